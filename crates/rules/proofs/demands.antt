@@ -1,0 +1,3 @@
+-- What was asked for in prose, as theorems over the definitions alone.
+pub mod Dozen
+pub mod WorkedSession

@@ -1,0 +1,2 @@
+-- Lemmas about the definitions, each stated once, over the width, the index or the list.
+pub mod Computing

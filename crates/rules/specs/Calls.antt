@@ -1,0 +1,168 @@
+-- The six exported calls, on any bytes, numbers and lengths: the number handed back, and every byte of image, answer area and event buffer afterwards.
+use mathlib.Core.Bool.{Bool, cond, not, _&&_}
+use mathlib.Core.List.{List, [], _∷_, _++_}
+use Prim.Native.Nat.{ℕ, _+_, _-_, _*_, _/_}
+use lib.Dec.{eqb, leb, ltb}
+use lib.ListN.{length, take, drop}
+use Rattle.rules.specs.Numbers.{bytesOf}
+use Rattle.rules.specs.Ring.{Event}
+use Rattle.rules.specs.Access.{Width, byte, word, dword, qword}
+use Rattle.rules.specs.Device.{Device, Call, Value, none, some, step, value}
+use Rattle.rules.specs.Device as device
+use Rattle.rules.specs.Window.{inside, offset}
+use Rattle.rules.specs.Image.{imageLength, ImageTest, imageTest, pairsOf, encode, decode}
+use Rattle.rules.specs.Image as image
+
+-- ---- refusals
+
+-- why a call is refused (01, Numbers handed back)
+pub data Refusal : Type 0 where
+  outside : ℕ → Refusal
+  noWidth noInput wrongLength wrongContents wrongBody noRoom : Refusal
+
+-- its number, and its value: of 1 the address (01, Numbers handed back)
+abbrev pub refusalNumber : Refusal → ℕ
+refusalNumber (outside address) = 1
+refusalNumber noWidth = 2
+refusalNumber noInput = 3
+refusalNumber wrongLength = 4
+refusalNumber wrongContents = 5
+refusalNumber wrongBody = 6
+refusalNumber noRoom = 7
+
+abbrev pub refusalValue : Refusal → Value
+refusalValue (outside address) = some address
+refusalValue noWidth = none
+refusalValue noInput = none
+refusalValue wrongLength = none
+refusalValue wrongContents = none
+refusalValue wrongBody = none
+refusalValue noRoom = none
+
+-- what a test answers: it passes and gives something, or it refuses
+pub data Tested (A : Type 0) : Type 0 where
+  pass : A → Tested A
+  refuse : Refusal → Tested A
+
+-- a refusal is handed straight up
+abbrev pub onPass : {A B : Type 0} → Tested A → (A → Tested B) → Tested B
+onPass (pass x) f = f x
+onPass (refuse r) f = refuse r
+
+-- ---- the tests
+
+-- 4, 5, 6: what the test of an image found, and the device of one that is accepted (01, Numbers handed back)
+abbrev pub imageAnswer : ImageTest → Device → Tested Device
+imageAnswer image.accepted d = pass d
+imageAnswer image.wrongLength d = refuse wrongLength
+imageAnswer image.wrongContents d = refuse wrongContents
+imageAnswer image.wrongBody d = refuse wrongBody
+
+-- 3: a call on an input asks for one below 64 (01, Numbers handed back)
+abbrev pub inputCall : ℕ → Call → Tested Call
+inputCall n c = cond (ltb n 64) (pass c) (refuse noInput)
+
+-- 2: a width is 1, 2, 4 or 8 (01, Numbers handed back)
+abbrev pub widthTest : ℕ → Tested Width
+widthTest w =
+    cond (eqb w 1) (pass byte) (cond (eqb w 2) (pass word) (cond (eqb w 4) (pass dword) (cond (eqb w 8) (pass qword) (refuse noWidth))))
+
+-- 1: an address inside the window, as an offset (01, Numbers handed back)
+abbrev pub addressTest : ℕ → ℕ → ℕ → Tested ℕ
+addressTest base size address = cond (inside base size address) (pass (offset base address)) (refuse (outside address))
+
+-- an access: 2 before 1 (01, Numbers handed back)
+abbrev pub accessCall : ℕ → ℕ → ℕ → ℕ → (Width → ℕ → Call) → Tested Call
+accessCall base size address width f = onPass (widthTest width) (λ w. onPass (addressTest base size address) (λ o. pass (f w o)))
+
+-- ---- the calls
+
+-- what a host asks: the numbers of each exported call in their order, and a drain's event buffer (01, The boundary)
+pub data Request : Type 0 where
+  reset : Request
+  read : (base size address width : ℕ) → Request
+  write : (base size address width value : ℕ) → Request
+  level : (input level : ℕ) → Request
+  poll : (input : ℕ) → Request
+  drain : (events : List ℕ) (place : ℕ) → Request
+
+-- what a call that was done gives
+pub record Done : Type 0 where
+  pub device : Device
+  pub value : Value
+  pub drained : List Event
+
+-- a call is done on the device of an accepted image (01, Numbers handed back: 4, 5, 6, then 3, or 2 before 1)
+abbrev pub onImage : List ℕ → Tested Call → Tested Done
+onImage i t = onPass (imageAnswer (imageTest i) (decode i)) (λ d. onPass t (λ c. pass (record { device = step d c .after; value = value d c; drained = step d c .drained })))
+
+-- reset takes any image of the right length; level 0 lowers, any other raises; a drain has room for the pairs that fit (01, The boundary)
+unfoldable pub performed : Request → List ℕ → Tested Done
+performed reset i = cond (eqb (length i) imageLength) (pass (record { device = device.reset; value = none; drained = [] })) (refuse wrongLength)
+performed (read base size address width) i = onImage i (accessCall base size address width device.read)
+performed (write base size address width v) i = onImage i (accessCall base size address width (λ w o. device.write w o v))
+performed (level n v) i = onImage i (inputCall n (device.level n (not (eqb v 0))))
+performed (poll n) i = onImage i (inputCall n (device.poll n))
+performed (drain events place) i = onImage i (pass (device.drain ((length events - place) / 2)))
+
+-- ---- the bytes afterwards
+
+-- the answer area: 16 bytes are written, those past them stay (01, The boundary)
+abbrev pub answerLength : ℕ
+answerLength = 16
+
+abbrev pub present : Value → ℕ
+present none = 0
+present (some v) = 1
+
+abbrev pub amount : Value → ℕ
+amount none = 0
+amount (some v) = v
+
+unfoldable pub answered : ℕ → Value → List ℕ → List ℕ
+answered number v a = (number ∷ present v ∷ 0 ∷ 0 ∷ 0 ∷ 0 ∷ 0 ∷ 0 ∷ bytesOf 8 (amount v)) ++ drop answerLength a
+
+-- the event buffer of a request; of any but a drain there is none
+abbrev pub bufferOf : Request → List ℕ
+bufferOf reset = []
+bufferOf (read base size address width) = []
+bufferOf (write base size address width v) = []
+bufferOf (level n v) = []
+bufferOf (poll n) = []
+bufferOf (drain events place) = events
+
+-- where in it a drain writes
+abbrev pub placeOf : Request → ℕ
+placeOf reset = 0
+placeOf (read base size address width) = 0
+placeOf (write base size address width v) = 0
+placeOf (level n v) = 0
+placeOf (poll n) = 0
+placeOf (drain events place) = place
+
+-- pairs are written from a place on, all other bytes stay (01, The ring)
+unfoldable pub written : List ℕ → ℕ → List Event → List ℕ
+written buffer place es = take place buffer ++ (pairsOf es ++ drop (place + 2 * length es) buffer)
+
+-- what a call leaves
+pub record Outcome : Type 0 where
+  pub number : ℕ
+  pub image : List ℕ
+  pub answer : List ℕ
+  pub events : List ℕ
+
+abbrev pub leaves : ℕ → List ℕ → List ℕ → List ℕ → Outcome
+leaves n i a e = record { number = n; image = i; answer = a; events = e }
+
+-- done, everything is written; refused, only the answer area is (01, Numbers handed back)
+abbrev pub settled : Request → List ℕ → List ℕ → Tested Done → Outcome
+settled q i a (pass x) = leaves 0 (encode (x .device)) (answered 0 (x .value) a) (written (bufferOf q) (placeOf q) (x .drained))
+settled q i a (refuse r) = leaves (refusalNumber r) i (answered (refusalNumber r) (refusalValue r) a) (bufferOf q)
+
+-- 7: the answer area has its 16 bytes, and a drain's place is not past the end of its buffer (01, Numbers handed back)
+abbrev pub hasRoom : Request → List ℕ → Bool
+hasRoom q a = leb answerLength (length a) && leb (placeOf q) (length (bufferOf q))
+
+-- what a request leaves of any image and answer area; refusal 7 comes first and leaves every byte (01, Numbers handed back; 00, demand 1)
+unfoldable pub outcome : Request → List ℕ → List ℕ → Outcome
+outcome q i a = cond (hasRoom q a) (settled q i a (performed q i)) (leaves (refusalNumber noRoom) i a (bufferOf q))

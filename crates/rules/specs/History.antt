@@ -1,0 +1,78 @@
+-- Histories of calls, what counts as a load, and the premises of demand 3.
+use mathlib.Core.Bool.{Bool, true, false, not, _&&_, _||_}
+use mathlib.Core.List.{List, [], _∷_, _++_}
+use mathlib.Core.Path.{_≡_}
+use Prim.Native.Nat.{ℕ, _+_, _-_, _%_, _<_}
+use lib.Dec.{eqb}
+use lib.ListN.{getD}
+use Rattle.rules.specs.Inputs.{on}
+use Rattle.rules.specs.Core.{Core}
+use Rattle.rules.specs.Map.{inBytes}
+use Rattle.rules.specs.Access.{Width, byte, word, dword, qword}
+use Rattle.rules.specs.Device.{Device, Call, level, poll, read, write, drain, Step, step}
+use Rattle.rules.specs.Device as device
+use Rattle.rules.specs.Image.{same}
+use Rattle.rules.specs.Calls.{Request}
+use Rattle.rules.specs.Calls as calls
+
+-- calls, one after another: the device after them, all events made and all drained, in order
+unfoldable pub history : Device → List Call → Step
+history d [] = record { after = d; made = []; drained = [] }
+history d (c ∷ cs) =
+    let one = step d c in
+    let two = history (one .after) cs in
+    record { after = two .after; made = one .made ++ two .made; drained = one .drained ++ two .drained }
+
+-- a history from reset (00, demand 3)
+abbrev pub fromReset : List Call → Step
+fromReset cs = history device.reset cs
+
+-- a request after the first, given an image, where the call before it left another: a load (01, Saved image)
+abbrev pub isReset : Request → Bool
+isReset calls.reset = true
+isReset (calls.read base size address width) = false
+isReset (calls.write base size address width v) = false
+isReset (calls.level n v) = false
+isReset (calls.poll n) = false
+isReset (calls.drain events place) = false
+
+abbrev pub isLoad : (left given : List ℕ) → Request → Bool
+isLoad left given q = isReset q || not (same left given)
+
+-- ---- demand 3's premises
+
+-- a write reaches a Dword of a set: a Byte by the Dword that it lies in, where it takes a Dword at all; a Word by either Byte, a Qword by either Dword (01, The four widths)
+abbrev pub byteReaches : (ℕ → Bool) → ℕ → Bool
+byteReaches at o = not (inBytes o) && at (o - o % 4)
+
+abbrev pub reaches : (ℕ → Bool) → Width → ℕ → Bool
+reaches at byte o = byteReaches at o
+reaches at word o = byteReaches at o || byteReaches at (o + 1)
+reaches at dword o = at o
+reaches at qword o = at o || at (o + 4)
+
+-- the ISR registers (01, Window and register map)
+abbrev pub isIsr : ℕ → Bool
+isIsr o = eqb o 0x3a0 || eqb o 0x3a4
+
+-- a call is a write that reaches the ISR registers (00, demand 3)
+abbrev pub writesIsr : Call → Bool
+writesIsr (level n b) = false
+writesIsr (poll n) = false
+writesIsr (read w o) = false
+writesIsr (write w o v) = reaches isIsr w o
+writesIsr (drain k) = false
+
+-- no vector byte changed from c to d whose input was in service in c, masked or not (00, demand 3)
+abbrev pub ServedVectorsStay : Core → Core → Type 0
+ServedVectorsStay c d = (n : ℕ) → n < 64 → on (c .lines .isr) n ≡ true → getD (d .vectors) n 0 ≡ getD (c .vectors) n 0
+
+-- a call that demand 3 admits
+pub record Admitted (d : Device) (c : Call) : Type 0 where
+  pub noIsrWrite : writesIsr c ≡ false
+  pub vectorsStay : ServedVectorsStay (d .core) (step d c .after .core)
+
+-- something that holds of each call at the device that it meets
+unfoldable pub Along : (Device → Call → Type 0) → Device → List Call → Type 0
+Along P d [] = Unit {0}
+Along P d (c ∷ cs) = P d c × Along P (step d c .after) cs
