@@ -1,0 +1,29 @@
+-- The ring: an offer by the room that it finds, and runs of offers and drains joined.
+use mathlib.Core.Path.{_≡_, refl, sym, ap, _∙_}
+use mathlib.Core.Bool.{Bool, true, false, cond}
+use mathlib.Core.List.{List, [], _∷_, _++_, append-assoc}
+use Prim.Native.Nat.{ℕ, _+_, _<_, _≤_, min}
+use lib.Dec.{ltb}
+use lib.ListN.{length}
+use borrow.Author.Tests.{lt-ltb, le-ltb}
+use Rattle.rules.specs.Ring.{capacity, stop, Event, Ring, RingAct, Drawn, offered, ringStep, ringRun}
+
+-- an event that finds room waits behind the others
+pub offered-room : (r : Ring) (e : Event) → length (r .waiting) < capacity → offered r e ≡ record { waiting = r .waiting ++ (e ∷ []); drops = r .drops }
+unfolding offered
+offered-room r e h = rw (lt-ltb (length (r .waiting)) capacity h)
+
+-- an event that finds none is dropped and counted
+pub offered-full : (r : Ring) (e : Event) → capacity ≤ length (r .waiting) → offered r e ≡ record { waiting = r .waiting; drops = min (r .drops + 1) stop }
+unfolding offered
+offered-full r e h = rw (le-ltb (length (r .waiting)) capacity h)
+
+-- a run of two parts is the second part's run after the first's
+pub run-append : (r : Ring) (xs ys : List RingAct)
+    → ringRun r (xs ++ ys) ≡ record { after = ringRun (ringRun r xs .after) ys .after; drained = ringRun r xs .drained ++ ringRun (ringRun r xs .after) ys .drained }
+unfolding ringRun
+run-append r [] ys = refl
+run-append r (a ∷ xs) ys =
+    ap (λ (t : Drawn). record { after = t .after; drained = ringStep r a .drained ++ t .drained }) (run-append (ringStep r a .after) xs ys)
+    ∙ ap (λ (es : List Event). record { after = ringRun (ringRun (ringStep r a .after) xs .after) ys .after; drained = es })
+    (sym (append-assoc (ringStep r a .drained) (ringRun (ringStep r a .after) xs .drained) (ringRun (ringRun (ringStep r a .after) xs .after) ys .drained)))
