@@ -2,3 +2,4 @@
 pub mod Computing
 pub mod Rings
 pub mod Acts
+pub mod Lists

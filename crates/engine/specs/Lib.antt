@@ -1,0 +1,2 @@
+-- What the engine's functions promise, in the rules' terms.
+pub mod Moves

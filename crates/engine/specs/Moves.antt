@@ -1,0 +1,55 @@
+-- What the engine's functions promise, in the rules' terms: the lines after, what is handed back, and the ring after the offers.
+use mathlib.Core.Path.{_≡_}
+use mathlib.Core.Bool.{Bool, true, false, not, _&&_}
+use mathlib.Core.List.{List, [], _∷_, map}
+use Prim.Native.Nat.{ℕ}
+use Rattle.rules.specs.Inputs.{on, inputs, only, without}
+use Rattle.rules.specs.Lines as lines
+use Rattle.rules.specs.Lines.{Turn, stay, withIsr, event, enter, raised, lowered}
+use Rattle.rules.specs.Ring as ring
+use Rattle.rules.specs.Ring.{ringRun}
+use Rattle.rules.specs.Device.{Value, none, some, offers, returned}
+use Rattle.state.specs.View.{WellLines, WellRing, linesView, ringView}
+use Rattle.engine.specs.declared.Answer.{Answer}
+use Rattle.engine.specs.declared.Answer.the-variants.{None, Vector}
+use Rattle.engine.specs.declared.Routed.{Routed}
+use Rattle.engine.specs.declared.Moved.{Moved}
+
+abbrev pub answerValue : Answer → Value
+answerValue None = none
+answerValue (Vector v) = some v
+
+-- in service and not latched
+abbrev pub inactiveIn : (ℕ → Bool) → lines.Lines → ℕ → Bool
+inactiveIn f l n = f n && (on (l .isr) n && not (on (l .irr) n))
+
+-- the first of a list of inputs leaves service
+abbrev pub retire : List ℕ → lines.Lines → List ℕ → Turn
+retire vs l [] = stay l
+retire vs l (n ∷ ns) = record { after = withIsr l (without (l .isr) (only n)); made = event vs false false n ∷ [] }
+
+-- what update_irq is asked for: of the inputs in m the lowest that waits enters, or the lowest inactive one leaves
+abbrev pub updated : List ℕ → lines.Lines → ℕ → Bool → Turn
+updated vs l m true = enter vs false (on m) l
+updated vs l m false = retire vs l (inputs (inactiveIn (on m) l))
+
+abbrev pub levelled : List ℕ → lines.Lines → ℕ → Bool → Turn
+levelled vs l n true = raised vs l n
+levelled vs l n false = lowered vs l n
+
+-- the ring after the offer of an event for each input in m
+abbrev pub queued : List ℕ → ring.Ring → ℕ → Bool → ring.Ring
+queued vs r m asserted = ringRun r (offers (map (event vs true asserted) (inputs (on m)))) .after
+
+-- a move that returns its event
+pub record Answers (r : Routed) (t : Turn) : Type 0 where
+  pub well : WellLines (r .lines)
+  pub after : linesView (r .lines) ≡ t .after
+  pub gives : answerValue (r .answer) ≡ returned (t .made)
+
+-- a move that offers its events
+pub record Moves (m : Moved) (before : ring.Ring) (t : Turn) : Type 0 where
+  pub wellLines : WellLines (m .lines)
+  pub wellRing : WellRing (m .ring)
+  pub lines : linesView (m .lines) ≡ t .after
+  pub ring : ringView (m .ring) ≡ ringRun before (offers (t .made)) .after

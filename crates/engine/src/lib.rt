@@ -1,0 +1,160 @@
+// What moves the input lines, after loongarch_pch_pic.rs of axdevice 0.8.5: the same functions, names and mask expressions.
+// A function takes the parts of the state that it reads or changes, and hands those back that it changes; the vector bytes are lent.
+use state::Lines;
+use state::PchPicOutputEvent;
+use state::Ring;
+ghost use mathlib.Core.Path.{_≡_};
+ghost use mathlib.Core.Bool.{Bool, true, false};
+ghost use Prim.Native.Nat.{_<_};
+ghost use lib.ListN.{length};
+ghost use Rattle.rules.specs.Inputs.{withHalf};
+ghost use Rattle.rules.specs.Lines.{polled, cleared, masked};
+ghost use Rattle.state.specs.View.{WellLines, WellRing, IsRing, linesView, ringView};
+ghost use Rattle.engine.specs.Moves.{Answers, Moves, updated, levelled, queued};
+
+// What update_irq hands back: the vector of the input that went into service or left it, if one did.
+pub enum Answer {
+    None,
+    Vector(u8),
+}
+
+pub struct Routed {
+    pub lines: Lines,
+    pub answer: Answer,
+}
+
+// The lines and the ring after a register write that moves them.
+pub struct Moved {
+    pub lines: Lines,
+    pub ring: Ring,
+}
+
+// Of the inputs in mask the lowest that can goes into service (level true), or leaves it.
+pub fn update_irq(lines: Lines, vectors: &[u8], mask: u64, level: bool) -> Routed
+    requires { ⌜ WellLines lines × (length (now vectors) ≡ 64) ⌝ }
+    ensures { λ r. ⌜ Answers r (updated (now (vectors .entry)) (linesView lines) mask level) ⌝ }
+{
+    let mut out = lines;
+    if level {
+        let pending = mask & out.intirr & !out.int_mask & !out.intisr;
+        if pending != 0 {
+            let irq = u64::trailing_zeros(pending) as usize;
+            out.intisr |= 1u64 << irq;
+            let vector = vectors[irq];
+            return Routed {
+                lines: out,
+                answer: Answer::Vector(vector),
+            };
+        }
+    } else {
+        let inactive = mask & out.intisr & !out.intirr;
+        if inactive != 0 {
+            let irq = u64::trailing_zeros(inactive) as usize;
+            out.intisr &= !(1u64 << irq);
+            let vector = vectors[irq];
+            return Routed {
+                lines: out,
+                answer: Answer::Vector(vector),
+            };
+        }
+    }
+    Routed {
+        lines: out,
+        answer: Answer::None,
+    }
+}
+
+// An event for each input in mask is offered to the ring, lowest first.
+pub fn queue_events_for_mask(ring: Ring, vectors: &[u8], mask: u64, asserted: bool) -> Ring
+    requires { ⌜ WellRing ring × (length (now vectors) ≡ 64) ⌝ }
+    ensures { λ r. ⌜ IsRing r (queued (now (vectors .entry)) (ringView ring) mask asserted) ⌝ }
+{
+    let mut out = ring;
+    let mut left = mask;
+    while left != 0 {
+        let irq = u64::trailing_zeros(left) as usize;
+        let vector = vectors[irq];
+        out = state::push_output_event(out, PchPicOutputEvent { vector, asserted });
+        left &= !(1u64 << irq);
+    }
+    out
+}
+
+// CLEAR: latches and service lose the inputs in mask, and each that was in service is deasserted.
+pub fn clear_irq(lines: Lines, ring: Ring, vectors: &[u8], mask: u64) -> Moved
+    requires { ⌜ WellLines lines × WellRing ring × (length (now vectors) ≡ 64) ⌝ }
+    ensures { λ r. ⌜ Moves r (ringView ring) (cleared (now (vectors .entry)) (linesView lines) mask) ⌝ }
+{
+    let mut out = lines;
+    let active = out.intisr & mask;
+    out.intirr &= !mask;
+    out.last_intirr &= !mask;
+    out.intisr &= !mask;
+    let queue = queue_events_for_mask(ring, vectors, active, false);
+    Moved {
+        lines: out,
+        ring: queue,
+    }
+}
+
+// MASK: a half is replaced; the lowest newly unmasked input that waits is asserted, and then the newly masked ones are deasserted.
+pub fn update_int_mask(lines: Lines, ring: Ring, vectors: &[u8], val: u32, high: bool) -> Moved
+    requires { ⌜ WellLines lines × WellRing ring × (length (now vectors) ≡ 64) ⌝ }
+    ensures { λ r. ⌜ Moves r (ringView ring) (masked (now (vectors .entry)) (linesView lines) (withHalf high (lines .«int_mask») val)) ⌝ }
+{
+    let mut out = lines;
+    let mut queue = ring;
+    let old = out.int_mask;
+    out.int_mask = bits::replace_u32(old, val, high);
+    let newly_unmasked = bits::newly_unmasked(old, val, high);
+    if newly_unmasked != 0 {
+        let routed = update_irq(out, vectors, newly_unmasked, true);
+        out = routed.lines;
+        let answer = routed.answer;
+        if let Answer::Vector(vector) = answer {
+            queue = state::push_output_event(
+                queue,
+                PchPicOutputEvent {
+                    vector,
+                    asserted: true,
+                },
+            );
+        }
+    }
+    let newly_masked = bits::newly_masked(old, val, high);
+    if newly_masked != 0 {
+        // Masking takes an input out of service though its line may stay high; its latch is kept, so that a later unmask can assert it again.
+        let active = out.intisr & newly_masked;
+        out.intisr &= !active;
+        queue = queue_events_for_mask(queue, vectors, active, false);
+    }
+    Moved {
+        lines: out,
+        ring: queue,
+    }
+}
+
+// Raise (level true) or lower input irq.
+pub fn set_irq_level(lines: Lines, vectors: &[u8], irq: usize, level: bool) -> Routed
+    requires { ⌜ WellLines lines × (length (now vectors) ≡ 64) × (irq < 64) ⌝ }
+    ensures { λ r. ⌜ Answers r (levelled (now (vectors .entry)) (linesView lines) irq level) ⌝ }
+{
+    let mut out = lines;
+    let mask = 1u64 << irq;
+    if level {
+        out.intirr |= mask;
+        out.last_intirr |= mask;
+    } else {
+        out.intirr &= !mask;
+        out.last_intirr &= !mask;
+    }
+    update_irq(out, vectors, mask, level)
+}
+
+// The vector of an input that is latched already.
+pub fn pending_vector(lines: Lines, vectors: &[u8], irq: usize) -> Routed
+    requires { ⌜ WellLines lines × (length (now vectors) ≡ 64) × (irq < 64) ⌝ }
+    ensures { λ r. ⌜ Answers r (polled (now (vectors .entry)) (linesView lines) irq) ⌝ }
+{
+    update_irq(lines, vectors, 1u64 << irq, true)
+}

@@ -1,0 +1,2 @@
+-- The state as the rules see it.
+pub mod View

@@ -1,0 +1,191 @@
+// The state of the PCH-PIC and its ring of output events, after loongarch_pch_pic.rs of axdevice 0.8.5.
+// The Rust's fields stand in four parts, which mirror the Device of the rules, so that a function takes only the part that it changes.
+ghost use mathlib.Core.Path.{_≡_};
+ghost use Rattle.rules.specs.Device.{reset};
+ghost use Rattle.rules.specs.Ring.{offered};
+ghost use Rattle.state.specs.View.{eventOf, ringView, view, WellRing, IsRing, Is, Pops};
+
+// The registers that move, of all 64 inputs.
+pub struct Lines {
+    pub int_mask: u64,
+    pub last_intirr: u64,
+    pub intirr: u64,
+    pub intisr: u64,
+}
+
+// The registers that are stored and change nothing else.
+pub struct Stored {
+    pub htmsi_en: u64,
+    pub intedge: u64,
+    pub int_polarity: u64,
+    pub auto_ctrl0: u64,
+    pub auto_ctrl1: u64,
+}
+
+// The bytes that each input has.
+pub struct Tables {
+    pub route_entry: [u8; 64],
+    pub htmsi_vector: [u8; 64],
+}
+
+// The output events that wait: output_len of them, from output_head on and round; and how many were dropped.
+pub struct Ring {
+    pub output_vectors: [u8; 16],
+    pub output_asserted: [bool; 16],
+    pub output_head: usize,
+    pub output_len: usize,
+    pub output_drops: u32,
+}
+
+pub struct PchPicState {
+    pub lines: Lines,
+    pub stored: Stored,
+    pub tables: Tables,
+    pub ring: Ring,
+}
+
+pub struct PchPicOutputEvent {
+    pub vector: u8,
+    pub asserted: bool,
+}
+
+// What pop_output_event takes out.
+pub enum Taken {
+    Nothing,
+    One(PchPicOutputEvent),
+}
+
+pub struct Popped {
+    pub ring: Ring,
+    pub event: Taken,
+}
+
+// The newest event waits last; where 16 wait it is dropped, and counted as far as the count goes.
+pub fn push_output_event(ring: Ring, event: PchPicOutputEvent) -> Ring
+    requires { ⌜ WellRing ring ⌝ }
+    ensures { λ r. ⌜ IsRing r (offered (ringView ring) (eventOf event)) ⌝ }
+{
+    let mut out = ring;
+    if out.output_len == 16 {
+        if out.output_drops < 0xffff_ffff {
+            out.output_drops += 1;
+        }
+        return out;
+    }
+    let index = (out.output_head + out.output_len) % 16;
+    out.output_vectors[index] = event.vector;
+    out.output_asserted[index] = event.asserted;
+    out.output_len += 1;
+    out
+}
+
+// The oldest event comes out.
+pub fn pop_output_event(ring: Ring) -> Popped
+    requires { ⌜ WellRing ring ⌝ }
+    ensures { λ r. ⌜ Pops r (ringView ring) ⌝ }
+{
+    let mut out = ring;
+    if out.output_len == 0 {
+        return Popped {
+            ring: out,
+            event: Taken::Nothing,
+        };
+    }
+    let head = out.output_head;
+    let vector = out.output_vectors[head];
+    let asserted = out.output_asserted[head];
+    out.output_head = (head + 1) % 16;
+    out.output_len -= 1;
+    Popped {
+        ring: out,
+        event: Taken::One(PchPicOutputEvent { vector, asserted }),
+    }
+}
+
+impl PchPicState {
+    pub const INT_ID_LO: usize = 0x000;
+
+    pub const INT_ID_HI: usize = 0x004;
+
+    pub const INT_MASK_LO: usize = 0x020;
+
+    pub const INT_MASK_HI: usize = 0x024;
+
+    pub const HTMSI_EN_LO: usize = 0x040;
+
+    pub const HTMSI_EN_HI: usize = 0x044;
+
+    pub const INT_EDGE_LO: usize = 0x060;
+
+    pub const INT_EDGE_HI: usize = 0x064;
+
+    pub const INT_CLEAR_LO: usize = 0x080;
+
+    pub const INT_CLEAR_HI: usize = 0x084;
+
+    pub const AUTO_CTRL0_LO: usize = 0x0c0;
+
+    pub const AUTO_CTRL0_HI: usize = 0x0c4;
+
+    pub const AUTO_CTRL1_LO: usize = 0x0e0;
+
+    pub const AUTO_CTRL1_HI: usize = 0x0e4;
+
+    pub const ROUTE_ENTRY_BASE: usize = 0x100;
+
+    pub const ROUTE_ENTRY_LAST: usize = 0x13f;
+
+    pub const HTMSI_VEC_BASE: usize = 0x200;
+
+    pub const HTMSI_VEC_LAST: usize = 0x23f;
+
+    pub const INT_IRR_LO: usize = 0x380;
+
+    pub const INT_IRR_HI: usize = 0x384;
+
+    pub const INT_ISR_LO: usize = 0x3a0;
+
+    pub const INT_ISR_HI: usize = 0x3a4;
+
+    pub const POL_LO: usize = 0x3e0;
+
+    pub const POL_HI: usize = 0x3e4;
+
+    // The state after reset.
+    pub fn reset() -> Self
+        ensures { λ r. ⌜ Is r reset ⌝ }
+    {
+        let mut vectors = [0u8; 64];
+        let mut irq = 0;
+        while irq < 64 {
+            vectors[irq] = irq as u8;
+            irq += 1;
+        }
+        PchPicState {
+            lines: Lines {
+                int_mask: 0xffff_ffff_ffff_ffff,
+                last_intirr: 0,
+                intirr: 0,
+                intisr: 0,
+            },
+            stored: Stored {
+                htmsi_en: 0,
+                intedge: 0,
+                int_polarity: 0,
+                auto_ctrl0: 0,
+                auto_ctrl1: 0,
+            },
+            tables: Tables {
+                route_entry: [1u8; 64],
+                htmsi_vector: vectors,
+            },
+            ring: Ring {
+                output_vectors: [0u8; 16],
+                output_asserted: [false; 16],
+                output_head: 0,
+                output_len: 0,
+                output_drops: 0,
+            },
+        }
+    }
+}
