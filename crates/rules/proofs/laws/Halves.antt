@@ -31,6 +31,10 @@ pub by-halves : (P : ℕ → Type 0) (h : Bool) → ((j : ℕ) → j < 32 → P 
 by-halves P true p q = low-or-high P q p
 by-halves P false p q = low-or-high P p q
 
+pub half-lt : (h : Bool) (x : ℕ) → x < 2 ^ 64 → half h x < 2 ^ 32
+half-lt true x l = omega arith
+half-lt false x l = omega arith
+
 pub on-half : (h : Bool) (x j : ℕ) → j < 32 → on (half h x) j ≡ on x (placed h j)
 on-half true x j l = on-down 32 x j
 on-half false x j l = on-mod 32 x j l
@@ -52,6 +56,15 @@ changed F same h x v w e =
     by-halves (λ i. on (asHalf h w) i ≡ F (on x i) (on (withHalf h x v) i)) h
     (λ j l. rw (on-new-half h 0 w j l, on-new-half h x v j l, ← on-half h x j l) (e j l))
     (λ j l. rw (on-kept-half h 0 w j l, on-kept-half h x v j l, on-none, same))
+
+-- a half & !v, and !(a half) & v, in their places
+pub newly-unmasked-is : (h : Bool) (x v : ℕ) → v < 2 ^ 32
+    → (i : ℕ) → i < 64 → on (asHalf h (bitAnd (half h x) ((2 ^ 32 - 1) - v))) i ≡ newlyUnmasked x (withHalf h x v) i
+newly-unmasked-is h x v hv = changed (λ a b. a && not b) and-not-self h x v _ (λ j l. simp (on-and, on-not 32))
+
+pub newly-masked-is : (h : Bool) (x v : ℕ) → x < 2 ^ 64
+    → (i : ℕ) → i < 64 → on (asHalf h (bitAnd ((2 ^ 32 - 1) - half h x) v)) i ≡ newlyMasked x (withHalf h x v) i
+newly-masked-is h x v hx = let e = half-lt h x hx in changed (λ a b. not a && b) not-and-self h x v _ (λ j l. simp (on-and, on-not 32))
 
 -- ---- a part replaced by masks
 -- the mask that keeps all but the part, where 1 + b stands above the bits below it and (1 + b) * (1 + c) above the part
@@ -102,7 +115,7 @@ low-placed v h = omega arith
 -- ---- bytes
 pub byte-place : (k : ℕ) → 2 ^ (k * 8) ≡ 256 ^ k
 byte-place zero = refl
-byte-place (suc k) = let e : suc k * 8 ≡ k * 8 + 8 = omega arith in rw (e, pow-add 2 (k * 8) 8, byte-place k, pow-suc)
+byte-place (suc k) = let e : suc k * 8 ≡ k * 8 + 8 = omega arith in rw (e, pow-add 2 (k * 8) 8, byte-place k, pow-suc 256 k)
 
 -- (x >> (k * 8)) & 0xff
 pub byte-taken : (x k : ℕ) → bitAnd (x / 2 ^ (k * 8)) 0xff ≡ byteOf x k

@@ -7,7 +7,6 @@ use mathlib.Core.List.{List, [], _∷_, map}
 use Prim.Native.Nat.{ℕ, zero, suc, _+_, _-_, _/_, _%_, _^_, _≤_, _<_, suc-le-suc, zero-le}
 use native.Mathlib.Nat.{eq-or-lt-of-le, le-of-suc-le-suc}
 use native.Mathlib.Omega.{arith}
-use lib.Dec.{eqb}
 use lib.Bits.{bitAnd}
 use lib.Count.{trailingZeros, under}
 use borrow.Author.Tests.{eq-eqb, ne-eqb, eqb-true}
@@ -71,7 +70,9 @@ no-common x f e = no-inputs _ (λ i l. rw (e, on-none i))
 pub only-input : (n : ℕ) (f : ℕ → Bool) → n < 64 → inputs (λ m. only n m && f m) ≡ cond (f n) (n ∷ []) []
 only-input n f h =
     test (f n)
-    (λ t. rw t (from-first 0 64 n _ zero-le h (rw (eq-eqb n n refl, t)) (λ i l. rw (ne-eqb i n (omega arith))) ∙ ap (λ (l : List ℕ). n ∷ l) (no-inputs _ (λ i l. twice (only n i) (f i)))))
+    (λ t. rw t
+    (from-first 0 64 n _ zero-le h (rw (eq-eqb n n refl, t)) (λ i l. rw (ne-eqb i n (omega arith)))
+    ∙ ap (λ (l : List ℕ). n ∷ l) (no-inputs _ (λ i l. twice (only n i) (f i)))))
     (λ t. rw t (no-inputs _ (λ i l. test (only n i) (λ e. rw (e, eqb-true i n e, t)) (λ e. rw e))))
   where
     twice : (a b : Bool) → ((a && b) && not a) ≡ false
@@ -95,7 +96,11 @@ lowest (suc k) x h n =
     (λ e. record { below = omega arith; has = on-zero x ∙ rw e; first = λ i l. absurd (omega arith) }) x refl
   where
     even : {t : ℕ} → x % 2 ≡ 0 → Lowest k (x / 2) t → Lowest (suc k) x (suc t)
-    even {t} e r = record { below = suc-le-suc (r .below); has = on-suc x t ∙ r .has; first = elim [ zero ↦ λ l. on-zero x ∙ rw e | suc i ↦ λ l. on-suc x i ∙ r .first i (le-of-suc-le-suc l) ] }
+    even {t} e r = record {
+      below = suc-le-suc (r .below);
+      has = on-suc x t ∙ r .has;
+      first = elim [ zero ↦ λ l. on-zero x ∙ rw e | suc i ↦ λ l. on-suc x i ∙ r .first i (le-of-suc-le-suc l) ];
+    }
 
 pub first-below : (x : ℕ) → x < 2 ^ 64 → (x ≡ 0 → ⊥) → trailingZeros 64 x < 64
 first-below x h n = lowest 64 x h n .below
