@@ -3,3 +3,4 @@ pub mod Computing
 pub mod Lists
 pub mod Bytes
 pub mod Parts
+pub mod Images

@@ -1,15 +1,17 @@
 -- A number and its bytes, little end first: each direction gives back what the other took, for any width.
 -- Then the number taken byte by byte from the front, the bytes of a part, and one byte of a number read and replaced.
 use mathlib.Core.Path.{_≡_, refl, sym, ap, _∙_, subst}
+use mathlib.Core.Bool.{true, and-eq-true-iff}
 use mathlib.Core.List.{List, [], _∷_, _++_}
 use Prim.Native.Nat.{ℕ, zero, suc, _+_, _*_, _/_, _%_, _^_, _<_, _≤_}
 use native.Mathlib.Nat.{pow-succ', pow-le-pow-right, lt-of-lt-of-le, mul-left-comm, div-div-eq-div-mul, div-add-mod', zero-div}
 use native.Mathlib.Numerals.{add-one}
 use native.Mathlib.Omega.{arith}
-use lib.Dec.{lit<}
+use lib.Dec.{ltb, lit<}
 use lib.ListN.{length, take, drop, getD, set, replicate}
-use lib.Pow.{shl-exact, pow-add}
+use lib.Pow.{shl-exact, pow-add, areBytes}
 use lib.Seq.{length-take-le, take-suc, getD-drop}
+use borrow.Author.Tests.{ltb-true}
 use Rattle.rules.specs.Numbers.{numberOf, bytesOf, byteOf, withByte, part, Bytes}
 use Rattle.rules.proofs.laws.Lists.{length-part}
 
@@ -49,6 +51,16 @@ bytes-take (x ∷ l) (suc n) h (suc i) = bytes-take l n (λ k. h (suc k)) i
 
 pub bytes-part : (l : List ℕ) (a n : ℕ) → Bytes l → Bytes (part a n l)
 bytes-part l a n h = bytes-take (drop a l) n (bytes-drop l a h)
+
+-- a list that is written out
+pub bytes-known : (l : List ℕ) → areBytes l ≡ true → Bytes l
+bytes-known [] e i = lit< tt
+bytes-known (x ∷ l) e zero = ltb-true x 256 (and-eq-true-iff (ltb x 256) (areBytes l) .0 e .0)
+bytes-known (x ∷ l) e (suc i) = bytes-known l (and-eq-true-iff (ltb x 256) (areBytes l) .0 e .1) i
+
+pub bytes-cons : (x : ℕ) (l : List ℕ) → x < 256 → Bytes l → Bytes (x ∷ l)
+bytes-cons x l h b zero = h
+bytes-cons x l h b (suc i) = b i
 
 pub bytes-append : (l m : List ℕ) → Bytes l → Bytes m → Bytes (l ++ m)
 bytes-append [] m h k i = k i
