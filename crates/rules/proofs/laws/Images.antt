@@ -4,22 +4,23 @@ use mathlib.Core.Path.{_≡_, refl, sym, ap, _∙_}
 use mathlib.Core.Bool.{Bool, true, false, cond, _&&_, and-eq-true-iff, and-assoc}
 use mathlib.Core.List.{List, [], _∷_, _++_, map}
 use Prim.Native.Nat.{ℕ, zero, suc, _+_, _-_, _*_, _^_, _<_, _≤_}
+use native.Mathlib.Nat.{zero-add}
 use native.Mathlib.Numerals.{add-one}
 use native.Mathlib.Omega.{arith}
 use lib.Dec.{eqb, leb, ltb, lit<, lit≤}
 use lib.ListN.{length, take, drop, getD, replicate, length-append, length-drop, length-replicate, drop-of-length-le}
-use lib.Seq.{drop-nil, take-all, take-at, drop-at, take-add, drop-drop, drop-cons, getD-drop}
+use lib.Seq.{drop-nil, take-all, take-at, drop-at, drop-drop, drop-cons, getD-drop}
 use borrow.Author.Tests.{lt-ltb, le-ltb, ltb-true, ltb-false, eq-eqb, ne-eqb, eqb-true, leb-true, le-leb}
 use Rattle.rules.specs.Numbers.{numberOf, bytesOf, part, Bytes}
-use Rattle.rules.specs.Ring.{Event, capacity, stop}
+use Rattle.rules.specs.Ring.{Event, capacity}
 use Rattle.rules.specs.Core.{Plain, plain, htmsiEn, edge, pol, auto0, auto1}
 use Rattle.rules.specs.Device.{Device, WellFormed, upFrom, reset}
 use Rattle.rules.specs.Image.{imageLength, registersAt, registersLength, routesAt, vectorsAt, bytesLength, ringAt, ringLength}
 use Rattle.rules.specs.Image.{maskAt, htmsiEnAt, edgeAt, lastIrrAt, irrAt, isrAt, polAt, auto0At, auto1At, dropsAt, pairsAt, pairsLength}
 use Rattle.rules.specs.Image.{contents, flag, pairsOf, registersBody, ringBody, encode, wordAt, countOf, eventsOf, decode}
 use Rattle.rules.specs.Image.{same, flagsGood, allZero, copyRule, countRule, flagRule, unusedRule, ImageTest, accepted, wrongLength, wrongContents, wrongBody, imageTest}
-use Rattle.rules.proofs.laws.Lists.{next-two, length-part, part-then, part-add, equal-same, differ-same, same-equal}
-use Rattle.rules.proofs.laws.Bytes.{length-bytesOf, numberOf-bytesOf, bytes-known, bytes-cons, bytes-append, bytes-part, bytes-replicate, bytes-bytesOf, part-number, part-known, part-below}
+use Rattle.rules.proofs.laws.Lists.{next-two, length-part, part-then, part-add, part-part, equal-same, differ-same, same-equal}
+use Rattle.rules.proofs.laws.Bytes.{numberOf-bytesOf, bytes-known, bytes-cons, bytes-append, bytes-part, bytes-replicate, bytes-bytesOf, part-number, part-known, part-below}
 
 -- ---- events and their pairs
 
@@ -134,6 +135,7 @@ pairsIn l = part pairsAt pairsLength l
 abbrev pub eventsIn : List ℕ → List Event
 eventsIn l = eventsOf (countOf l) (pairsIn l)
 
+-- each rule as a fact
 pub record Accepted (l : List ℕ) : Type 0 where
   pub sized : length l ≡ imageLength
   pub headed : part 0 registersAt l ≡ contents
@@ -146,16 +148,15 @@ pub record Accepted (l : List ℕ) : Type 0 where
 abbrev pub bodyRules : List ℕ → Bool
 bodyRules l = copyRule l && (countRule l && (flagRule l && unusedRule l))
 
--- the test, as a function of what it looks at
-abbrev verdict : (length contents body : Bool) → ImageTest
+-- the answer from the three tests: of the length, of the contents, of the bodies
+abbrev verdict : Bool → Bool → Bool → ImageTest
 verdict a b c = cond a (cond b (cond c accepted wrongBody) wrongContents) wrongLength
 
--- only where all is well it accepts
 all-well : (a b c : Bool) → verdict a b c ≡ accepted → (a ≡ true) × (b ≡ true) × (c ≡ true)
 all-well true true true e = (refl, refl, refl)
-all-well true true false e = absurd (let z : _≡_ {A = ℕ} 0 1 = cc in omega arith)
-all-well true false c e = absurd (let z : _≡_ {A = ℕ} 0 1 = cc in omega arith)
-all-well false b c e = absurd (let z : _≡_ {A = ℕ} 0 1 = cc in omega arith)
+all-well true true false e = (refl, refl, cc)
+all-well true false c e = (refl, cc, cc)
+all-well false b c e = (cc, cc, cc)
 
 pub accepted-has : (l : List ℕ) → imageTest l ≡ accepted → Accepted l
 unfolding imageTest
@@ -173,7 +174,7 @@ accepted-has l e =
       unused = allZero-zeros (drop (2 * countOf l) (pairsIn l)) (last .1);
     }
 
--- the test, answer by answer
+-- what the test answers, in the order in which it looks
 pub test-length : (l : List ℕ) → (length l ≡ imageLength → ⊥) → imageTest l ≡ wrongLength
 unfolding imageTest
 test-length l h = rw (ne-eqb (length l) imageLength h)
@@ -186,7 +187,10 @@ pub test-body : (l : List ℕ) → length l ≡ imageLength → part 0 registers
 unfolding imageTest
 test-body l s h = (λ i. verdict (eq-eqb (length l) imageLength s i) (equal-same (part 0 registersAt l) contents h i) (bodyRules l))
 
--- a head whose bytes spell the same numbers, eight, eight and six of them, is the contents
+-- the numbers that the contents spell, and the contents known by them: eight bytes, eight and six
+pub contents-number : (l : List ℕ) (a n : ℕ) → a + n ≤ registersAt → part 0 registersAt l ≡ contents → numberOf (part a n l) ≡ numberOf (part a n contents)
+contents-number l a n h e = ap numberOf (sym (rw zero-add at (part-part l 0 registersAt a n h)) ∙ ap (part a n) e)
+
 pub contents-known : (l : List ℕ) → Bytes l → registersAt ≤ length l → wordAt 0 l ≡ wordAt 0 contents → wordAt 8 l ≡ wordAt 8 contents
     → numberOf (part 16 6 l) ≡ numberOf (part 16 6 contents) → part 0 registersAt l ≡ contents
 contents-known l b h e f g =
@@ -195,8 +199,8 @@ contents-known l b h e f g =
     let third = part-known l 16 6 b (omega arith) (numberOf (part 16 6 contents)) g in
     sym (part-add l 0 8 14) ∙ ap (λ m. part 0 8 l ++ m) (sym (part-add l 8 8 6)) ∙ (λ i. first i ++ (second i ++ third i))
 
-pub has-accepted : (l : List ℕ) → Accepted l → imageTest l ≡ accepted
-has-accepted l a =
+pub accepted-if-has : (l : List ℕ) → Accepted l → imageTest l ≡ accepted
+accepted-if-has l a =
     let copy : copyRule l ≡ true = eq-eqb (wordAt lastIrrAt l) (wordAt irrAt l) (a .copied) in
     let count : countRule l ≡ true = le-leb (countOf l) capacity (a .counted) in
     let flags : flagRule l ≡ true = flags-flagsGood (countOf l) (pairsIn l) (a .flagged) in
@@ -246,7 +250,7 @@ pairsGood-end n i l h = ap (pairsGood (n - i)) (drop-of-length-le l h) ∙ empty
 -- ---- an accepted image, decoded and encoded
 
 -- the pairs that are left unused after n
-abbrev unusedAfter : ℕ → List ℕ
+abbrev pub unusedAfter : ℕ → List ℕ
 unusedAfter n = replicate (pairsLength - 2 * n) 0
 
 -- registers one after another, eight bytes each
@@ -317,7 +321,7 @@ module _ (l : List ℕ) (b : Bytes l) (e : imageTest l ≡ accepted) where
     mask = word maskAt (omega arith);
     irr = word irrAt (omega arith);
     isr = word isrAt (omega arith);
-    plains = λ p. elim p [ htmsiEn ↦ word htmsiEnAt (omega arith) | edge ↦ word edgeAt (omega arith) | pol ↦ word polAt (omega arith) | auto0 ↦ word auto0At (omega arith) | auto1 ↦ word auto1At (omega arith) ];
+    plains = plain-words;
     routeBytes = bytes-part l routesAt bytesLength b;
     routes = length-part l routesAt bytesLength (within routesAt bytesLength (omega arith));
     vectorBytes = bytes-part l vectorsAt bytesLength b;
@@ -329,6 +333,13 @@ module _ (l : List ℕ) (b : Bytes l) (e : imageTest l ≡ accepted) where
     where
       word : (at : ℕ) → at + 8 ≤ imageLength → wordAt at l < 2 ^ 64
       word at h = part-below l at 8 b (within at 8 h)
+
+      plain-words : (p : Plain) → plain (decode l .core .stored) p < 2 ^ 64
+      plain-words htmsiEn = word htmsiEnAt (omega arith)
+      plain-words edge = word edgeAt (omega arith)
+      plain-words pol = word polAt (omega arith)
+      plain-words auto0 = word auto0At (omega arith)
+      plain-words auto1 = word auto1At (omega arith)
 
 -- ---- a device, encoded and decoded
 
@@ -376,7 +387,8 @@ module _ (d : Device) (w : WellFormed d) where
   unfolding encode
   length-encode = simp length-append (omega (arith, length-registersBody d, length-ringBody d (w .waiting), w .routes, w .vectors))
 
-  routes-stand : part routesAt bytesLength (encode d) ≡ d .core .stored .routes
+  -- where each thing of the device stands in its image
+  pub routes-stand : part routesAt bytesLength (encode d) ≡ d .core .stored .routes
   unfolding encode registersBody
   routes-stand = take-at (d .core .stored .routes) (d .core .vectors ++ ringBody d) bytesLength (w .routes)
 
@@ -384,22 +396,22 @@ module _ (d : Device) (w : WellFormed d) where
   unfolding encode registersBody
   from-vectors = drop-at (d .core .stored .routes) (d .core .vectors ++ ringBody d) bytesLength (w .routes)
 
-  vectors-stand : part vectorsAt bytesLength (encode d) ≡ d .core .vectors
+  pub vectors-stand : part vectorsAt bytesLength (encode d) ≡ d .core .vectors
   vectors-stand = ap (take bytesLength) from-vectors ∙ take-at (d .core .vectors) (ringBody d) bytesLength (w .vectors)
 
   from-ring : drop ringAt (encode d) ≡ ringBody d
   from-ring =
       sym (drop-drop bytesLength vectorsAt (encode d)) ∙ ap (drop bytesLength) from-vectors ∙ drop-at (d .core .vectors) (ringBody d) bytesLength (w .vectors)
 
-  count-stands : countOf (encode d) ≡ length (d .ring .waiting)
+  pub count-stands : countOf (encode d) ≡ length (d .ring .waiting)
   unfolding ringBody
   count-stands = sym (getD-drop ringAt (encode d) 0 0) ∙ ap (λ m. getD m 0 0) from-ring
 
-  drops-stand : part dropsAt 4 (encode d) ≡ bytesOf 4 (d .ring .drops)
+  pub drops-stand : part dropsAt 4 (encode d) ≡ bytesOf 4 (d .ring .drops)
   unfolding ringBody
   drops-stand = ap (take 4) (sym (drop-drop 1 ringAt (encode d)) ∙ ap (drop 1) from-ring)
 
-  pairs-stand : pairsIn (encode d) ≡ pairsOf (d .ring .waiting) ++ unusedAfter (length (d .ring .waiting))
+  pub pairs-stand : pairsIn (encode d) ≡ pairsOf (d .ring .waiting) ++ unusedAfter (length (d .ring .waiting))
   unfolding ringBody
   pairs-stand =
       ap (take pairsLength) (sym (drop-drop 5 ringAt (encode d)) ∙ ap (drop 5) from-ring)
@@ -428,7 +440,7 @@ module _ (d : Device) (w : WellFormed d) where
 
   -- a device's image is accepted
   pub accepted-encode : imageTest (encode d) ≡ accepted
-  accepted-encode = has-accepted (encode d) encode-has
+  accepted-encode = accepted-if-has (encode d) encode-has
 
   pub decode-encode : decode (encode d) ≡ d
   unfolding decode encode registersBody
