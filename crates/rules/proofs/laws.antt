@@ -4,5 +4,8 @@ pub mod Bits
 pub mod Inputs
 pub mod Halves
 pub mod Lists
+pub mod Bytes
+pub mod Parts
+pub mod Images
 pub mod Rings
 pub mod Acts
