@@ -1,5 +1,5 @@
 -- What `update_int_mask` comes to, in its two stages: the lowest newly unmasked input that waits enters, then the newly masked ones leave.
-use mathlib.Core.Path.{_≡_, refl, sym, ap, subst, _∙_}
+use mathlib.Core.Path.{_≡_, refl, sym, ap, subst⁻¹, _∙_}
 use mathlib.Core.Bool.{Bool, true, false, _&&_, and-false}
 use mathlib.Core.List.{List, [], _∷_, map}
 use Prim.Native.Nat.{ℕ, _<_, _-_, _^_}
@@ -17,10 +17,10 @@ use Rattle.state.specs.declared.Ring.{Ring}
 use Rattle.engine.specs.Moves.{Answers, Moves, queued, answerValue}
 use Rattle.engine.specs.declared.Answer.the-variants.{None, Vector}
 use Rattle.engine.specs.declared.Routed.{Routed}
-use Rattle.engine.proofs.Turns.{serve-after, offers-one, offers-none, enter-none, leave-none, then-ring}
+use Rattle.engine.proofs.Turns.{serve-after, serve-isr, offers-one, offers-none, enter-none, leave-none, then-ring}
 
-module _ (vs : List ℕ) (l : Lines) (r : Ring) (new up down : ℕ)
-    (ups : (i : ℕ) → i < 64 → on up i ≡ newlyUnmasked (l .«int_mask») new i) (downs : (i : ℕ) → i < 64 → on down i ≡ newlyMasked (l .«int_mask») new i) where
+module _ (vs : List ℕ) (l : Lines) (r : Ring) (new up : ℕ) (ups : (i : ℕ) → i < 64 → on up i ≡ newlyUnmasked (l .«int_mask») new i)
+    (hisr : l .intisr < 2 ^ 64) where
   abbrev begun : lines.Lines
   begun = withMask (linesView l) new
 
@@ -33,7 +33,6 @@ module _ (vs : List ℕ) (l : Lines) (r : Ring) (new up down : ℕ)
     pub wellRing : WellRing q
     pub lines : linesView out ≡ first .after
     pub ring : ringView q ≡ ringRun (ringView r) (offers (first .made)) .after
-    pub isr : out .intisr < 2 ^ 64
 
   -- the input that entered and was returned to us is the one that the rules offer
   same : enter vs false (on up) begun ≡ enter vs false (newlyUnmasked (l .«int_mask») new) begun
@@ -42,7 +41,7 @@ module _ (vs : List ℕ) (l : Lines) (r : Ring) (new up down : ℕ)
   after-same : {out : lines.Lines} → out ≡ enter vs false (on up) begun .after → out ≡ first .after
   after-same e = e ∙ ap (λ (t : Turn). t .after) same ∙ sym (serve-after vs begun (inputs (waitingIn (newlyUnmasked (l .«int_mask») new) begun)))
 
-  module _ (a : Routed) (answers : Answers a (enter vs false (on up) begun)) (isr : a .lines .intisr < 2 ^ 64) where
+  module _ (a : Routed) (answers : Answers a (enter vs false (on up) begun)) where
     pub entered-one : (v : ℕ) (q : Ring) → a .answer ≡ Vector v → IsRing q (offered (ringView r) (record { vector = v; asserted = true })) → Entered (a .lines) q
     unfolding ringRun ringStep
     entered-one v q e pushed = record {
@@ -53,7 +52,6 @@ module _ (vs : List ℕ) (l : Lines) (r : Ring) (new up down : ℕ)
           pushed .shows
           ∙ sym (ap (λ (xs : List RingAct). ringRun (ringView r) xs .after)
           (offers-one vs begun (inputs (waitingIn (newlyUnmasked (l .«int_mask») new) begun)) v (sym (ap answerValue e) ∙ answers .gives ∙ ap (λ (t : Turn). returned (t .made)) same)));
-      isr = isr;
     }
 
     pub entered-none : a .answer ≡ None → WellRing r → Entered (a .lines) r
@@ -64,24 +62,25 @@ module _ (vs : List ℕ) (l : Lines) (r : Ring) (new up down : ℕ)
       lines = after-same (answers .after);
       ring = sym (ap (λ (xs : List RingAct). ringRun (ringView r) xs .after)
           (offers-none vs begun (inputs (waitingIn (newlyUnmasked (l .«int_mask») new) begun)) (sym (ap answerValue e) ∙ answers .gives ∙ ap (λ (t : Turn). returned (t .made)) same)));
-      isr = isr;
     }
 
   -- no input is newly unmasked
-  pub entered-skip : (out : Lines) → up ≡ 0 → WellLines out → WellRing r → linesView out ≡ begun → out .intisr < 2 ^ 64 → Entered out r
+  pub entered-skip : (out : Lines) → up ≡ 0 → WellLines out → WellRing r → linesView out ≡ begun → Entered out r
   unfolding offers ringRun
-  entered-skip out e wellOut well shows isr =
+  entered-skip out e wellOut well shows =
       let stays = enter-none vs true (newlyUnmasked (l .«int_mask») new) begun (λ i h. sym (ups i h) ∙ ap (λ (x : ℕ). on x i) e ∙ on-none i) in
       record {
         wellLines = wellOut;
         wellRing = well;
         lines = shows ∙ sym (ap (λ (t : Turn). t .after) stays);
         ring = sym (ap (λ (t : Turn). ringRun (ringView r) (offers (t .made)) .after) stays);
-        isr = isr;
       }
 
   -- the second stage
-  module _ (out : Lines) (q : Ring) (entered : Entered out q) where
+  module _ (down : ℕ) (downs : (i : ℕ) → i < 64 → on down i ≡ newlyMasked (l .«int_mask») new i) (out : Lines) (q : Ring) (entered : Entered out q) where
+    isr-lt : out .intisr < 2 ^ 64
+    isr-lt = subst⁻¹ (λ (k : lines.Lines). k .isr < 2 ^ 64) (entered .lines) (serve-isr vs true begun (inputs (waitingIn (newlyUnmasked (l .«int_mask») new) begun)) hisr)
+
     abbrev last : lines.Lines → Turn
     last = leave vs true (newlyMasked (l .«int_mask») new)
 
@@ -107,7 +106,7 @@ module _ (vs : List ℕ) (l : Lines) (r : Ring) (new up down : ℕ)
     left-some s pushed = record {
       wellLines = entered .wellLines;
       wellRing = pushed .well;
-      lines = lines-then (ap (withIsr (linesView out)) (without-common-is (out .intisr) down (entered .isr)) ∙ ap (λ (t : Turn). t .after) leaves);
+      lines = lines-then (ap (withIsr (linesView out)) (without-common-is (out .intisr) down isr-lt) ∙ ap (λ (t : Turn). t .after) leaves);
       ring = ring-then s _ (pushed .shows)
           (ap (λ (ns : List ℕ). offers (map (event vs true false) ns)) (served-is down (linesView out)) ∙ ap (λ (t : Turn). offers (t .made)) leaves);
     }
@@ -115,7 +114,7 @@ module _ (vs : List ℕ) (l : Lines) (r : Ring) (new up down : ℕ)
     pub left-none : down ≡ 0 → Moves (record { lines = out; ring = q }) (ringView r) (masked vs (linesView l) new)
     unfolding offers ringRun
     left-none e =
-        let stays = leave-none vs true (newlyMasked (l .«int_mask») new) (linesView out) (entered .isr) (λ i h. ap (λ (b : Bool). on (out .intisr) i && b) (sym (downs i h) ∙ ap (λ (x : ℕ). on x i) e ∙ on-none i) ∙ and-false (on (out .intisr) i)) in
+        let stays = leave-none vs true (newlyMasked (l .«int_mask») new) (linesView out) isr-lt (λ i h. ap (λ (b : Bool). on (out .intisr) i && b) (sym (downs i h) ∙ ap (λ (x : ℕ). on x i) e ∙ on-none i) ∙ and-false (on (out .intisr) i)) in
         record {
           wellLines = entered .wellLines;
           wellRing = entered .wellRing;

@@ -9,7 +9,7 @@ use Rattle.rules.specs.Inputs.{on, inputs, only, put, without}
 use Rattle.rules.specs.Lines.{Lines, Turn, Made, stay, withIsr, withIrr, event, serve, enter, leave, andThen, waitingIn, servedIn, raised, lowered, polled}
 use Rattle.rules.specs.Ring.{Ring, RingAct, Drawn, offer, ringRun}
 use Rattle.rules.specs.Device.{Value, none, some, offers, returned}
-use Rattle.rules.proofs.laws.Bits.{test, is-number, on-bit, on-without}
+use Rattle.rules.proofs.laws.Bits.{test, is-number, put-lt, on-bit, on-without}
 use Rattle.rules.proofs.laws.Inputs.{inputs-ext, no-inputs, only-served, only-unlatched, enter-ext, unlatchedIn}
 use Rattle.rules.proofs.laws.Acts.{offers-append}
 use Rattle.rules.proofs.laws.Rings.{run-append}
@@ -21,6 +21,11 @@ use Rattle.engine.specs.Moves.{retire, updated, levelled}
 pub serve-after : (vs : List ℕ) (l : Lines) (ns : List ℕ) → serve vs true l ns .after ≡ serve vs false l ns .after
 serve-after vs l [] = refl
 serve-after vs l (n ∷ ns) = refl
+
+-- service stays a register of 64 inputs
+pub serve-isr : (vs : List ℕ) (o : Bool) (l : Lines) (ns : List ℕ) → l .isr < 2 ^ 64 → serve vs o l ns .after .isr < 2 ^ 64
+serve-isr vs o l [] h = h
+serve-isr vs o l (n ∷ ns) h = put-lt (l .isr) n
 
 -- an assert that is returned is the one that is offered
 pub offers-one : (vs : List ℕ) (l : Lines) (ns : List ℕ) (v : ℕ) → some v ≡ returned (serve vs false l ns .made)
