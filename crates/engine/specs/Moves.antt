@@ -6,7 +6,7 @@ use Prim.Native.Nat.{ℕ, _+_, _*_, _/_}
 use lib.ListN.{length, drop, set}
 use Rattle.rules.specs.Inputs.{on, inputs, only, without}
 use Rattle.rules.specs.Lines as lines
-use Rattle.rules.specs.Lines.{Turn, stay, withIsr, event, enter, raised, lowered}
+use Rattle.rules.specs.Lines.{Turn, stay, withIsr, event, enter}
 use Rattle.rules.proofs.laws.Inputs.{unlatchedIn}
 use Rattle.rules.specs.Ring as ring
 use Rattle.rules.specs.Ring.{ringRun, drawn}
@@ -34,10 +34,6 @@ retire vs l (n ∷ ns) = record { after = withIsr l (without (l .isr) (only n));
 abbrev pub updated : List ℕ → lines.Lines → ℕ → Bool → Turn
 updated vs l m true = enter vs false (on m) l
 updated vs l m false = retire vs l (inputs (unlatchedIn (on m) l))
-
-abbrev pub levelled : List ℕ → lines.Lines → ℕ → Bool → Turn
-levelled vs l n true = raised vs l n
-levelled vs l n false = lowered vs l n
 
 -- the ring after the offer of an event for each input in m
 abbrev pub queued : List ℕ → ring.Ring → ℕ → Bool → ring.Ring

@@ -10,8 +10,9 @@ ghost use Prim.Native.Nat.{_+_, _*_, _/_, _<_, _≤_, min};
 ghost use lib.ListN.{length};
 ghost use Rattle.rules.specs.Inputs.{withHalf};
 ghost use Rattle.rules.specs.Lines.{polled, cleared, masked};
+ghost use Rattle.rules.proofs.laws.Steps.{levelled};
 ghost use Rattle.state.specs.View.{WellLines, WellRing, IsRing, linesView, ringView};
-ghost use Rattle.engine.specs.Moves.{Answers, Moves, Drains, updated, levelled, queued, pairPut};
+ghost use Rattle.engine.specs.Moves.{Answers, Moves, Drains, updated, queued, pairPut};
 
 // What update_irq hands back: the vector of the input that went into service or left it, if one did.
 pub enum Answer {

@@ -9,3 +9,5 @@ pub mod Parts
 pub mod Images
 pub mod Rings
 pub mod Acts
+pub mod Steps
+pub mod Outcomes
