@@ -3,3 +3,4 @@ pub mod Computing
 pub mod Rings
 pub mod Acts
 pub mod Lists
+pub mod Maps
