@@ -6,6 +6,7 @@ use Prim.Native.Nat.{ℕ}
 use Rattle.rules.specs.Inputs.{on, inputs, only, without}
 use Rattle.rules.specs.Lines as lines
 use Rattle.rules.specs.Lines.{Turn, stay, withIsr, event, enter, raised, lowered}
+use Rattle.rules.proofs.laws.Inputs.{unlatchedIn}
 use Rattle.rules.specs.Ring as ring
 use Rattle.rules.specs.Ring.{ringRun}
 use Rattle.rules.specs.Device.{Value, none, some, offers, returned}
@@ -19,10 +20,6 @@ abbrev pub answerValue : Answer → Value
 answerValue None = none
 answerValue (Vector v) = some v
 
--- in service and not latched
-abbrev pub inactiveIn : (ℕ → Bool) → lines.Lines → ℕ → Bool
-inactiveIn f l n = f n && (on (l .isr) n && not (on (l .irr) n))
-
 -- the first of a list of inputs leaves service
 abbrev pub retire : List ℕ → lines.Lines → List ℕ → Turn
 retire vs l [] = stay l
@@ -31,7 +28,7 @@ retire vs l (n ∷ ns) = record { after = withIsr l (without (l .isr) (only n));
 -- what update_irq is asked for: of the inputs in m the lowest that waits enters, or the lowest inactive one leaves
 abbrev pub updated : List ℕ → lines.Lines → ℕ → Bool → Turn
 updated vs l m true = enter vs false (on m) l
-updated vs l m false = retire vs l (inputs (inactiveIn (on m) l))
+updated vs l m false = retire vs l (inputs (unlatchedIn (on m) l))
 
 abbrev pub levelled : List ℕ → lines.Lines → ℕ → Bool → Turn
 levelled vs l n true = raised vs l n

@@ -1,6 +1,9 @@
 -- Lemmas about the definitions, each stated once, over the width, the index or the list.
 pub mod Computing
+pub mod Bits
+pub mod Inputs
+pub mod Halves
+pub mod Lists
 pub mod Rings
 pub mod Acts
-pub mod Lists
 pub mod Maps

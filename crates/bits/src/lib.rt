@@ -1,0 +1,70 @@
+// The leaves on numbers: a half of a register and a byte of a Dword, taken and replaced by the masks of loongarch_pch_pic.rs, and the inputs
+// that a new half of the mask unmasks or masks. Each is an equation with a definition of rules.
+ghost use mathlib.Core.Path.{_≡_};
+ghost use Prim.Native.Nat.{ℕ, _<_};
+ghost use Rattle.rules.specs.Numbers.{byteOf, withByte};
+ghost use Rattle.rules.specs.Inputs.{on, half, withHalf, asHalf};
+ghost use Rattle.rules.specs.Lines.{newlyUnmasked, newlyMasked};
+
+// old with its high or its low half replaced by val.
+pub fn replace_u32(old: u64, val: u32, high: bool) -> u64
+    ensures { λ r. ⌜ r ≡ withHalf high old val ⌝ }
+{
+    if high {
+        (old & 0x0000_0000_ffff_ffff) | ((val as u64) << 32)
+    } else {
+        (old & 0xffff_ffff_0000_0000) | (val as u64)
+    }
+}
+
+// The high or the low half of x. A cast must not lose bits, so the low half is masked out first.
+pub fn half(x: u64, high: bool) -> u32
+    ensures { λ r. ⌜ r ≡ half high x ⌝ }
+{
+    if high {
+        (x >> 32) as u32
+    } else {
+        (x & 0xffff_ffff) as u32
+    }
+}
+
+// The register that has v as its high or its low half, and nothing else.
+pub fn in_half(v: u32, high: bool) -> u64
+    ensures { λ r. ⌜ r ≡ asHalf high v ⌝ }
+{
+    if high { (v as u64) << 32 } else { v as u64 }
+}
+
+// Byte k of x, the low one being 0.
+pub fn byte_of(x: u32, k: usize) -> u8
+    requires { ⌜ k < 4 ⌝ }
+    ensures { λ r. ⌜ r ≡ byteOf x k ⌝ }
+{
+    let shift = k * 8;
+    ((x >> shift) & 0xff) as u8
+}
+
+// old with its byte k replaced by val.
+pub fn with_byte(old: u32, k: usize, val: u8) -> u32
+    requires { ⌜ k < 4 ⌝ }
+    ensures { λ r. ⌜ r ≡ withByte old k val ⌝ }
+{
+    let shift = k * 8;
+    (old & !(0xff << shift)) | ((val as u32) << shift)
+}
+
+// The inputs that are in old and, once the half is val, no longer.
+pub fn newly_unmasked(old: u64, val: u32, high: bool) -> u64
+    ensures { λ r. ⌜ ((i : ℕ) → i < 64 → on r i ≡ newlyUnmasked old (withHalf high old val) i) ⌝ }
+{
+    let old_part = half(old, high);
+    in_half(old_part & !val, high)
+}
+
+// The inputs that are not in old and, once the half is val, are.
+pub fn newly_masked(old: u64, val: u32, high: bool) -> u64
+    ensures { λ r. ⌜ ((i : ℕ) → i < 64 → on r i ≡ newlyMasked old (withHalf high old val) i) ⌝ }
+{
+    let old_part = half(old, high);
+    in_half(!old_part & val, high)
+}

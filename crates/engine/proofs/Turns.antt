@@ -1,0 +1,78 @@
+-- What the engine's functions come to, over the rules alone: a move that returns its event beside the same move that offers it, the moves over no input, one input.
+use mathlib.Core.Path.{_≡_, refl, sym, ap, ap₂, subst, _∙_}
+use mathlib.Core.Bool.{Bool, true, false, cond, not, _&&_, and-true, and-false}
+use mathlib.Core.List.{List, [], _∷_, _++_, map}
+use Prim.Native.Nat.{ℕ, _<_, _^_}
+use lib.Dec.{eqb}
+use borrow.Author.Tests.{eq-eqb, eqb-true}
+use Rattle.rules.specs.Inputs.{on, inputs, only, put, without}
+use Rattle.rules.specs.Lines.{Lines, Turn, Made, stay, withIsr, withIrr, event, serve, enter, leave, andThen, waitingIn, servedIn, raised, lowered, polled}
+use Rattle.rules.specs.Ring.{Ring, RingAct, Drawn, offer, ringRun}
+use Rattle.rules.specs.Device.{Value, none, some, offers, returned}
+use Rattle.rules.proofs.laws.Bits.{test, is-number, register-ext, on-without}
+use Rattle.rules.proofs.laws.Inputs.{inputs-ext, no-inputs, only-served, only-unlatched, enter-ext, unlatchedIn}
+use Rattle.rules.proofs.laws.Acts.{offers-append}
+use Rattle.rules.proofs.laws.Rings.{run-append}
+use Rattle.engine.specs.Moves.{retire, updated, levelled}
+
+-- ---- returned, or offered
+
+-- the lines are the same whether the event is returned or offered
+pub serve-after : (vs : List ℕ) (l : Lines) (ns : List ℕ) → serve vs true l ns .after ≡ serve vs false l ns .after
+serve-after vs l [] = refl
+serve-after vs l (n ∷ ns) = refl
+
+-- an assert that is returned is the one that is offered
+pub offers-one : (vs : List ℕ) (l : Lines) (ns : List ℕ) (v : ℕ) → some v ≡ returned (serve vs false l ns .made)
+    → offers (serve vs true l ns .made) ≡ offer (record { vector = v; asserted = true }) ∷ []
+unfolding offers
+offers-one vs l [] v e = cc
+offers-one vs l (n ∷ ns) v e = let h : event vs true true n .vector ≡ v = cc in ap (λ (w : ℕ). offer (record { vector = w; asserted = true }) ∷ []) h
+
+pub offers-none : (vs : List ℕ) (l : Lines) (ns : List ℕ) → none ≡ returned (serve vs false l ns .made) → offers (serve vs true l ns .made) ≡ []
+unfolding offers
+offers-none vs l [] e = refl
+offers-none vs l (n ∷ ns) e = cc
+
+-- ---- the moves over no input
+
+pub enter-none : (vs : List ℕ) (o : Bool) (f : ℕ → Bool) (l : Lines) → ((i : ℕ) → i < 64 → f i ≡ false) → enter vs o f l ≡ stay l
+enter-none vs o f l e = ap (serve vs o l) (no-inputs (waitingIn f l) (λ i h. rw (e i h)))
+
+-- a register without what it does not hold
+pub without-none : (x : ℕ) (f : ℕ → Bool) → x < 2 ^ 64 → ((i : ℕ) → i < 64 → (on x i && f i) ≡ false) → without x f ≡ x
+unfolding without
+without-none x f h e = sym (is-number 64 x (λ m. on x m && not (f m)) h (λ i l. keeps (on x i) (f i) (e i l)))
+  where
+    keeps : (a b : Bool) → (a && b) ≡ false → a ≡ (a && not b)
+    keeps true true e = e
+    keeps true false e = refl
+    keeps false b e = refl
+
+pub leave-none : (vs : List ℕ) (o : Bool) (f : ℕ → Bool) (l : Lines) → l .isr < 2 ^ 64 → ((i : ℕ) → i < 64 → (on (l .isr) i && f i) ≡ false) → leave vs o f l ≡ stay l
+leave-none vs o f l h e =
+    let isr = without-none (l .isr) f h e in
+    let left = no-inputs (servedIn f l) e in
+    λ t. record { after = withIsr l (isr t); made = map (event vs o false) (left t) }
+
+-- ---- one input
+
+-- of one input the lowest that leaves is the one that leaves
+pub retire-only : (vs : List ℕ) (l : Lines) (n : ℕ) → n < 64 → l .isr < 2 ^ 64 → on (l .irr) n ≡ false → retire vs l (inputs (unlatchedIn (only n) l)) ≡ leave vs false (only n) l
+retire-only vs l n h k e =
+    ap (retire vs l) (only-unlatched n l h e)
+    ∙ test (on (l .isr) n)
+    (λ t. rw t (sym (ap (λ (ns : List ℕ). record { after = withIsr l (without (l .isr) (only n)); made = map (event vs false false) ns }) (only-served n l h ∙ ap (λ (b : Bool). cond b (n ∷ []) []) t))))
+    (λ t. rw t (sym (leave-none vs false (only n) l k (λ i m. off t i))))
+  where
+    off : on (l .isr) n ≡ false → (i : ℕ) → (on (l .isr) i && only n i) ≡ false
+    off t i = test (eqb i n) (λ q. rw (q, eqb-true i n q, t)) (λ q. rw q (and-false (on (l .isr) i)))
+
+-- ---- a mask write: what enters and then what leaves
+
+module _ (r : Ring) (t : Turn) (f : Lines → Turn) where
+  -- the ring is offered what was made first, and then the rest
+  pub then-ring : ringRun r (offers (andThen t f .made)) .after ≡ ringRun (ringRun r (offers (t .made)) .after) (offers (f (t .after) .made)) .after
+  then-ring =
+      ap (λ (xs : List RingAct). ringRun r xs .after) (offers-append (t .made) (f (t .after) .made))
+      ∙ ap (λ (d : Drawn). d .after) (run-append r (offers (t .made)) (offers (f (t .after) .made)))

@@ -1,0 +1,153 @@
+-- The list of the inputs that have a property: what it depends on, its first one, when it is empty. trailing_zeros gives the first one.
+-- Then the sets that the engine masks out of the registers, as the sets that Lines speaks of.
+use mathlib.Core.Path.{_≡_, refl, sym, ap, ap₂, _∙_}
+use mathlib.Core.Logic.{⊎-elim}
+use mathlib.Core.Bool.{Bool, true, false, cond, not, _&&_, and-true, and-assoc, and-comm}
+use mathlib.Core.List.{List, [], _∷_, map}
+use Prim.Native.Nat.{ℕ, zero, suc, _+_, _-_, _/_, _%_, _^_, _≤_, _<_, suc-le-suc, zero-le}
+use native.Mathlib.Nat.{eq-or-lt-of-le, le-of-suc-le-suc}
+use native.Mathlib.Omega.{arith}
+use lib.Bits.{bitAnd}
+use lib.Count.{trailingZeros, under}
+use borrow.Author.Tests.{eq-eqb, ne-eqb, eqb-true}
+use Rattle.rules.specs.Inputs.{on, from, inputs, only, without}
+use Rattle.rules.specs.Lines.{Lines, waits, waitingIn, servedIn, withIsr, serve, event, enter, leave}
+use Rattle.rules.proofs.laws.Bits.{digit, test, on-zero, on-suc, on-none, on-and, on-and-not, on-without, without-ext}
+
+-- ---- lists
+pub from-ext : (n k : ℕ) (f g : ℕ → Bool) → ((i : ℕ) → n ≤ i → i < n + k → f i ≡ g i) → from n k f ≡ from n k g
+unfolding from
+from-ext n zero f g e = refl
+from-ext n (suc k) f g e =
+    ap₂ (λ (b : Bool) (l : List ℕ). cond b (n ∷ l) l) (e n (omega arith) (omega arith))
+    (from-ext (suc n) k f g (λ i p q. e i (omega arith) (omega arith)))
+
+pub from-none : (n k : ℕ) (f : ℕ → Bool) → ((i : ℕ) → n ≤ i → i < n + k → f i ≡ false) → from n k f ≡ []
+unfolding from
+from-none n zero f e = refl
+from-none n (suc k) f e = rw (e n (omega arith) (omega arith)) (from-none (suc n) k f (λ i p q. e i (omega arith) (omega arith)))
+
+-- the first is t, and then come the others
+from-here : (n k : ℕ) (f : ℕ → Bool) → f n ≡ true → from n (suc k) f ≡ n ∷ from n (suc k) (λ m. f m && not (only n m))
+unfolding from
+from-here n k f e =
+    rw (e, eq-eqb n n refl)
+    (ap (λ (l : List ℕ). n ∷ l) (from-ext (suc n) k f _ (λ i p q. sym (rw (ne-eqb i n (omega arith)) (and-true (f i))))))
+
+pub from-first : (n k t : ℕ) (f : ℕ → Bool) → n ≤ t → t < n + k → f t ≡ true → ((i : ℕ) → i < t → f i ≡ false)
+    → from n k f ≡ t ∷ from n k (λ m. f m && not (only t m))
+unfolding from
+from-first n zero t f p q e z = absurd (omega arith)
+from-first n (suc k) t f p q e z =
+    ⊎-elim (λ h. rw (← h) (from-here n k f (rw h e)))
+    (λ h. rw (z n h) (from-first (suc n) k t f h (omega arith) e z)) (eq-or-lt-of-le p)
+
+-- the first of the list has what the list is of
+pub first-has : (n k : ℕ) (f : ℕ → Bool) (m : ℕ) (ms : List ℕ) → from n k f ≡ m ∷ ms → (f m ≡ true) × (m < n + k)
+unfolding from
+first-has n zero f m ms e = absurd (let z : _≡_ {A = ℕ} 0 1 = cc in omega arith)
+first-has n (suc k) f m ms e =
+    test (f n) (λ t. here t (rw t at e)) (λ t. let r = first-has (suc n) k f m ms (rw t at e) in (r .0, omega arith))
+  where
+    here : f n ≡ true → n ∷ from (suc n) k f ≡ m ∷ ms → (f m ≡ true) × (m < n + suc k)
+    here t u = let z : n ≡ m = cc in (ap f (sym z) ∙ t, omega arith)
+
+-- ---- the inputs that have f
+pub inputs-ext : (f g : ℕ → Bool) → ((i : ℕ) → i < 64 → f i ≡ g i) → inputs f ≡ inputs g
+inputs-ext f g e = from-ext 0 64 f g (λ i p q. e i q)
+
+pub no-inputs : (f : ℕ → Bool) → ((i : ℕ) → i < 64 → f i ≡ false) → inputs f ≡ []
+no-inputs f e = from-none 0 64 f (λ i p q. e i q)
+
+-- an empty mask has no input, whatever else is asked
+pub no-input : (x : ℕ) → x ≡ 0 → inputs (on x) ≡ []
+no-input x e = no-inputs (on x) (λ i l. rw e (on-none i))
+
+pub no-common : (x : ℕ) (f : ℕ → Bool) → x ≡ 0 → inputs (λ n. on x n && f n) ≡ []
+no-common x f e = no-inputs _ (λ i l. rw (e, on-none i))
+
+-- the one input n, if it has f
+pub only-input : (n : ℕ) (f : ℕ → Bool) → n < 64 → inputs (λ m. only n m && f m) ≡ cond (f n) (n ∷ []) []
+only-input n f h =
+    test (f n)
+    (λ t. rw t
+    (from-first 0 64 n _ zero-le h (rw (eq-eqb n n refl, t)) (λ i l. rw (ne-eqb i n (omega arith)))
+    ∙ ap (λ (l : List ℕ). n ∷ l) (no-inputs _ (λ i l. twice (only n i) (f i)))))
+    (λ t. rw t (no-inputs _ (λ i l. test (only n i) (λ e. rw (e, eqb-true i n e, t)) (λ e. rw e))))
+  where
+    twice : (a b : Bool) → ((a && b) && not a) ≡ false
+    twice true true = refl
+    twice true false = refl
+    twice false b = refl
+
+-- ---- trailing_zeros
+-- t is the lowest of the bits of x below k
+pub record Lowest (k x t : ℕ) : Type 0 where
+  pub below : t < k
+  pub has : on x t ≡ true
+  pub first : (i : ℕ) → i < t → on x i ≡ false
+
+pub lowest : (k x : ℕ) → x < 2 ^ k → (x ≡ 0 → ⊥) → Lowest k x (trailingZeros k x)
+unfolding trailingZeros
+lowest zero x h n = absurd (n (omega arith))
+lowest (suc k) x h n =
+    digit (λ d. x % 2 ≡ d → Lowest (suc k) x (under d (trailingZeros k (x / 2))))
+    (λ e. even e (lowest k (x / 2) (omega arith) (λ z. n (omega arith))))
+    (λ e. record { below = omega arith; has = on-zero x ∙ rw e; first = λ i l. absurd (omega arith) }) x refl
+  where
+    even : {t : ℕ} → x % 2 ≡ 0 → Lowest k (x / 2) t → Lowest (suc k) x (suc t)
+    even {t} e r = record {
+      below = suc-le-suc (r .below);
+      has = on-suc x t ∙ r .has;
+      first = elim [ zero ↦ λ l. on-zero x ∙ rw e | suc i ↦ λ l. on-suc x i ∙ r .first i (le-of-suc-le-suc l) ];
+    }
+
+pub first-below : (x : ℕ) → x < 2 ^ 64 → (x ≡ 0 → ⊥) → trailingZeros 64 x < 64
+first-below x h n = lowest 64 x h n .below
+
+pub first-input : (x : ℕ) → x < 2 ^ 64 → (x ≡ 0 → ⊥) → inputs (on x) ≡ trailingZeros 64 x ∷ inputs (on (without x (only (trailingZeros 64 x))))
+first-input x h n =
+    let r = lowest 64 x h n in
+    let t = trailingZeros 64 x in
+    from-first 0 64 t (on x) zero-le (r .below) (r .has) (r .first)
+    ∙ ap (λ (l : List ℕ). t ∷ l) (inputs-ext _ _ (λ i q. sym (on-without x (only t) i q)))
+
+-- ---- the sets of the engine, as the code masks them
+-- the inputs that have f, are in service and are not latched
+abbrev pub unlatchedIn : (ℕ → Bool) → Lines → ℕ → Bool
+unlatchedIn f l n = f n && (on (l .isr) n && not (on (l .irr) n))
+
+-- m & irr & !mask & !isr; isr & m; m & isr & !irr
+module _ (m : ℕ) (l : Lines) where
+  pub waiting-is : l .mask < 2 ^ 64 → l .isr < 2 ^ 64
+      → inputs (on (bitAnd (bitAnd (bitAnd m (l .irr)) ((2 ^ 64 - 1) - l .mask)) ((2 ^ 64 - 1) - l .isr))) ≡ inputs (waitingIn (on m) l)
+  waiting-is hm hs = inputs-ext _ _ (λ i q. simp (on-and-not, on-and, and-assoc))
+
+  pub served-is : inputs (on (bitAnd (l .isr) m)) ≡ inputs (servedIn (on m) l)
+  served-is = inputs-ext _ _ (λ i q. on-and (l .isr) m i)
+
+  pub unlatched-is : l .irr < 2 ^ 64 → inputs (on (bitAnd (bitAnd m (l .isr)) ((2 ^ 64 - 1) - l .irr))) ≡ inputs (unlatchedIn (on m) l)
+  unlatched-is hr = inputs-ext _ _ (λ i q. simp (on-and-not, on-and, and-assoc))
+
+-- one input
+module _ (n : ℕ) (l : Lines) (h : n < 64) where
+  pub only-waiting : inputs (waitingIn (only n) l) ≡ cond (waits l n) (n ∷ []) []
+  only-waiting = only-input n (waits l) h
+
+  pub only-served : inputs (servedIn (only n) l) ≡ cond (on (l .isr) n) (n ∷ []) []
+  only-served = inputs-ext _ _ (λ i q. and-comm (on (l .isr) i) (only n i)) ∙ only-input n (on (l .isr)) h
+
+  -- in service, and its latch went off before
+  pub only-unlatched : on (l .irr) n ≡ false → inputs (unlatchedIn (only n) l) ≡ cond (on (l .isr) n) (n ∷ []) []
+  only-unlatched e = only-input n (λ i. on (l .isr) i && not (on (l .irr) i)) h ∙ rw (e, and-true)
+
+-- the two moves depend on their set below 64 only
+module _ (vs : List ℕ) (offered : Bool) (f g : ℕ → Bool) (l : Lines) (e : (i : ℕ) → i < 64 → f i ≡ g i) where
+  pub enter-ext : enter vs offered f l ≡ enter vs offered g l
+  enter-ext = ap (serve vs offered l) (inputs-ext _ _ (λ i q. rw (e i q)))
+
+  pub leave-ext : leave vs offered f l ≡ leave vs offered g l
+  leave-ext =
+      let isr = without-ext (l .isr) f g e in
+      let left = inputs-ext (servedIn f l) (servedIn g l) (λ i q. rw (e i q)) in
+      λ t. record { after = withIsr l (isr t); made = map (event vs offered false) (left t) }
