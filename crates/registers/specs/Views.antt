@@ -1,6 +1,7 @@
 -- The enums of the code as the rules see them.
 use mathlib.Core.Bool.{Bool, true, false}
-use Prim.Native.Nat.{ℕ}
+use Prim.Native.Nat.{ℕ, _-_}
+use lib.Dec.{ltb}
 use Rattle.rules.specs.Core as core
 use Rattle.rules.specs.Map as map
 use Rattle.rules.specs.Access as access
@@ -15,10 +16,17 @@ use Rattle.registers.specs.declared.Cell.the-variants as cell
 use Rattle.registers.specs.declared.Width.{Width}
 use Rattle.registers.specs.declared.Width.the-variants as width
 
--- the index, if the test holds
 abbrev pub indexIf : Bool → ℕ → Index
 indexIf true i = At i
 indexIf false i = None
+
+-- an offset as one where a Byte access meets only route and vector bytes, if it is
+unfoldable pub byteIndex : ℕ → Index
+byteIndex o = indexIf (map.inBytes o) o
+
+-- the input whose byte stands at an offset, of the 64 from base on
+unfoldable pub irqIndex : ℕ → ℕ → Index
+irqIndex o base = indexIf (ltb (o - base) 64) (o - base)
 
 abbrev pub plainView : Plain → core.Plain
 plainView plain.HtmsiEn = core.htmsiEn

@@ -1,10 +1,17 @@
 // The register file, after loongarch_pch_pic.rs of axdevice 0.8.5: what stands at an offset, the two cycles of readers and writers, the four widths.
 use state::PchPicState;
 ghost use mathlib.Core.Path.{_≡_};
-ghost use Prim.Native.Nat.{_-_, _≤_};
-ghost use lib.Dec.{ltb};
-ghost use Rattle.rules.specs.Map.{inBytes, cellAt};
-ghost use Rattle.registers.specs.Views.{indexIf, cellView};
+ghost use mathlib.Core.Bool.{false};
+ghost use Prim.Native.Nat.{ℕ, _+_, _^_, _≤_, _<_};
+ghost use Rattle.rules.specs.Core.{plain};
+ghost use Rattle.rules.specs.Map.{inBytes, bytes, cellAt};
+ghost use Rattle.rules.specs.Access.{entry, valueOf, readByte, readDword};
+ghost use Rattle.state.specs.View.{view};
+ghost use Rattle.registers.specs.Views.{byteIndex, irqIndex, plainView, registerView, cellView};
+ghost use Rattle.registers.specs.Bytes.{bytesRead};
+
+// ID as one register: above its low half the version, and above that the last input.
+const INT_ID: u64 = 0x003f_0001_0700_0000;
 
 // An index, where there is one.
 pub enum Index {
@@ -48,7 +55,7 @@ pub enum Width {
 // The input of a route or vector byte.
 pub fn pch_pic_irq_index(offset: usize, base: usize) -> Index
     requires { ⌜ base ≤ offset ⌝ }
-    ensures { λ r. ⌜ r ≡ indexIf (ltb (offset - base) 64) (offset - base) ⌝ }
+    ensures { λ r. ⌜ r ≡ irqIndex offset base ⌝ }
 {
     let irq = offset - base;
     if irq < 64 {
@@ -60,7 +67,7 @@ pub fn pch_pic_irq_index(offset: usize, base: usize) -> Index
 
 // The offset, where a Byte access meets only route and vector bytes.
 pub fn reg8_offset(offset: usize) -> Index
-    ensures { λ r. ⌜ r ≡ indexIf (inBytes offset) offset ⌝ }
+    ensures { λ r. ⌜ r ≡ byteIndex offset ⌝ }
 {
     if PchPicState::ROUTE_ENTRY_BASE <= offset && offset < PchPicState::INT_ISR_LO {
         Index::At(offset)
@@ -97,5 +104,91 @@ pub fn decode(offset: usize) -> Cell
         PchPicState::ROUTE_ENTRY_BASE..=PchPicState::ROUTE_ENTRY_LAST
         | PchPicState::HTMSI_VEC_BASE..=PchPicState::HTMSI_VEC_LAST => Cell::Bytes,
         _ => Cell::Nothing,
+    }
+}
+
+// A route or vector byte, and 0 at any other offset.
+fn read_entry(state: PchPicState, index: usize) -> u8
+    ensures { λ r. ⌜ r ≡ entry (view state .core) index ⌝ }
+{
+    let tables = state.tables;
+    match index {
+        PchPicState::ROUTE_ENTRY_BASE..=PchPicState::ROUTE_ENTRY_LAST => {
+            match pch_pic_irq_index(index, PchPicState::ROUTE_ENTRY_BASE) {
+                Index::At(irq) => tables.route_entry[irq],
+                Index::None => 0,
+            }
+        }
+        PchPicState::HTMSI_VEC_BASE..=PchPicState::HTMSI_VEC_LAST => {
+            match pch_pic_irq_index(index, PchPicState::HTMSI_VEC_BASE) {
+                Index::At(irq) => tables.htmsi_vector[irq],
+                Index::None => 0,
+            }
+        }
+        _ => 0,
+    }
+}
+
+fn plain_of(state: PchPicState, register: Plain) -> u64
+    ensures { λ r. ⌜ r ≡ plain (view state .core .stored) (plainView register) ⌝ }
+{
+    let stored = state.stored;
+    match register {
+        Plain::HtmsiEn => stored.htmsi_en,
+        Plain::Edge => stored.intedge,
+        Plain::Pol => stored.int_polarity,
+        Plain::Auto0 => stored.auto_ctrl0,
+        Plain::Auto1 => stored.auto_ctrl1,
+    }
+}
+
+// A register as it reads: CLEAR as 0, ISR without the masked bits.
+fn value_of(state: PchPicState, register: Register) -> u64
+    ensures { λ r. ⌜ r ≡ valueOf (view state .core) (registerView register) ⌝ }
+{
+    let lines = state.lines;
+    match register {
+        Register::Id => INT_ID,
+        Register::Mask => lines.int_mask,
+        Register::Clear => 0,
+        Register::Irr => lines.intirr,
+        Register::Isr => lines.intisr & !lines.int_mask,
+        Register::Plain(register) => plain_of(state, register),
+    }
+}
+
+// The readers. Each call has a smaller depth: a Byte outside 0x100..0x39f needs 1, a Dword among the bytes 2.
+pub fn read_byte(state: PchPicState, offset: usize, depth: usize) -> u8
+    requires { ⌜ (inBytes offset ≡ false → 1 ≤ depth) ⌝ }
+    ensures { λ r. ⌜ r ≡ readByte (view state .core) offset ⌝ }
+{
+    if let Index::At(index) = reg8_offset(offset) {
+        return read_entry(state, index);
+    }
+    let place = offset & 0x3;
+    bits::byte_of(read_dword(state, offset & !0x3, depth - 1), place)
+}
+
+pub fn read_split_bytes(state: PchPicState, offset: usize, len: usize, depth: usize) -> u32
+    requires { ⌜ (len ≤ 4) × (offset + len ≤ 2 ^ 64) ⌝ }
+    requires { ⌜ 1 ≤ depth ⌝ }
+    requires { ⌜ ((k : ℕ) → k < len → inBytes (offset + k) ≡ false → 2 ≤ depth) ⌝ }
+    ensures { λ r. ⌜ r ≡ bytesRead (view state .core) offset len ⌝ }
+{
+    let mut value = 0;
+    for idx in 0..len {
+        value |= (read_byte(state, offset + idx, depth - 1) as u32) << (idx * 8);
+    }
+    value
+}
+
+pub fn read_dword(state: PchPicState, offset: usize, depth: usize) -> u32
+    requires { ⌜ (cellAt offset ≡ bytes → 2 ≤ depth) ⌝ }
+    ensures { λ r. ⌜ r ≡ readDword (view state .core) offset ⌝ }
+{
+    match decode(offset) {
+        Cell::Half(register, high) => bits::half(value_of(state, register), high),
+        Cell::Bytes => read_split_bytes(state, offset, 4, depth - 1),
+        Cell::Nothing => 0,
     }
 }

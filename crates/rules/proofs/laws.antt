@@ -7,3 +7,4 @@ pub mod Lists
 pub mod Rings
 pub mod Acts
 pub mod Maps
+pub mod Widths

@@ -4,11 +4,12 @@ use mathlib.Core.Logic.{⊎-elim}
 use native.Mathlib.Omega.{arith}
 use borrow.Author.Tests.{ltb-true, ltb-false}
 use Rattle.rules.proofs.laws.Maps.{inside, outside}
-use Rattle.registers.specs.Views.{indexIf}
+use Rattle.registers.specs.Views.{indexIf, byteIndex}
 use Rattle.registers.proofs.reg8_offset.Statement.{statement}
 use Rattle.registers.proofs.reg8_offset.Tie as tie
 
 pub reg8-offset-spec : {M : Type 1} → statement M
+unfolding byteIndex
 reg8-offset-spec =
     tie.close
     (tie.spec
