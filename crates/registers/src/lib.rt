@@ -2,12 +2,12 @@
 use state::PchPicState;
 ghost use mathlib.Core.Path.{_≡_};
 ghost use mathlib.Core.Bool.{false};
-ghost use Prim.Native.Nat.{ℕ, _+_, _^_, _≤_, _<_};
+ghost use Prim.Native.Nat.{ℕ, _+_, _-_, _^_, _≤_, _<_};
 ghost use Rattle.rules.specs.Core.{plain};
 ghost use Rattle.rules.specs.Map.{inBytes, bytes, cellAt};
-ghost use Rattle.rules.specs.Access.{entry, valueOf, readByte, readDword};
+ghost use Rattle.rules.specs.Access.{qword, entry, valueOf, readByte, readDword, readAt};
 ghost use Rattle.state.specs.View.{view};
-ghost use Rattle.registers.specs.Views.{byteIndex, irqIndex, plainView, registerView, cellView};
+ghost use Rattle.registers.specs.Views.{byteIndex, irqIndex, plainView, registerView, cellView, widthView};
 ghost use Rattle.registers.specs.Bytes.{bytesRead};
 
 // ID as one register: above its low half the version, and above that the last input.
@@ -190,5 +190,31 @@ pub fn read_dword(state: PchPicState, offset: usize, depth: usize) -> u32
         Cell::Half(register, high) => bits::half(value_of(state, register), high),
         Cell::Bytes => read_split_bytes(state, offset, 4, depth - 1),
         Cell::Nothing => 0,
+    }
+}
+
+// The last offset from which a Qword's second Dword counts: past it the Rust panics or wraps.
+const LAST_QWORD: usize = 0xffff_ffff_ffff_fffb;
+
+fn read_qword(state: PchPicState, offset: usize) -> u64
+    ensures { λ r. ⌜ r ≡ readAt (view state .core) qword offset ⌝ }
+{
+    let low = read_dword(state, offset, 2) as u64;
+    if LAST_QWORD < offset {
+        return low;
+    }
+    low | ((read_dword(state, offset + 4, 2) as u64) << 32)
+}
+
+// What an access reads. The window ends before 2^64 - 1, so an offset is smaller.
+pub fn read_register(state: PchPicState, width: Width, offset: usize) -> u64
+    requires { ⌜ offset < 2 ^ 64 - 1 ⌝ }
+    ensures { λ r. ⌜ r ≡ readAt (view state .core) (widthView width) offset ⌝ }
+{
+    match width {
+        Width::Byte => read_byte(state, offset, 1) as u64,
+        Width::Word => read_split_bytes(state, offset, 2, 2) as u64,
+        Width::Dword => read_dword(state, offset, 2) as u64,
+        Width::Qword => read_qword(state, offset),
     }
 }

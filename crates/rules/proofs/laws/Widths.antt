@@ -4,12 +4,14 @@ use mathlib.Core.Bool.{Bool, true, false, cond}
 use mathlib.Core.List.{List, [], _∷_}
 use Prim.Native.Nat.{ℕ, _+_, _-_, _*_, _/_, _%_, _^_, _≤_, _<_}
 use native.Mathlib.Omega.{arith}
-use lib.Bits.{bitAnd, and-mask, and-high}
+use lib.Bits.{bitAnd, bitOr, and-mask, and-high, or-shifted-r}
+use lib.Pow.{shl-exact}
 use lib.ListN.{getD}
+use borrow.Author.Tests.{le-leb, lt-leb}
 use Rattle.rules.specs.Numbers.{byteOf, withByte}
 use Rattle.rules.specs.Core.{Core, Act, store, setRoute, setVector}
 use Rattle.rules.specs.Map.{Cell, bytes, routesAt, vectorsAt, inRoutes, inVectors, inBytes, cellAt}
-use Rattle.rules.specs.Access.{entry, readCell, readDword, readByte}
+use Rattle.rules.specs.Access.{qword, entry, readCell, readDword, readByte, readAt}
 use Rattle.rules.proofs.laws.Maps.{inside, outside, not-aligned}
 
 -- ---- o & 0x3 and o & !0x3
@@ -48,3 +50,12 @@ module _ (c : Core) (o : ℕ) where
   pub dword-of : {x : Cell} → x ≡ cellAt o → readCell c o x ≡ readDword c o
   unfolding readDword
   dword-of e = ap (readCell c o) e
+
+  -- a Qword is its first Dword where the second is out of reach, and else both, x | y << 32
+  pub qword-one : 2 ^ 64 - 1 < o + 4 → readDword c o ≡ readAt c qword o
+  unfolding readAt
+  qword-one h = rw (lt-leb (o + 4) (2 ^ 64 - 1) h) (omega arith)
+
+  pub qword-both : (x y : ℕ) → o + 4 ≤ 2 ^ 64 - 1 → x < 2 ^ 32 → y < 2 ^ 32 → x ≡ readDword c o → y ≡ readDword c (o + 4) → bitOr x (y * 2 ^ 32 % 2 ^ 64) ≡ readAt c qword o
+  unfolding readAt
+  qword-both x y h hx hy p q = rw (le-leb (o + 4) (2 ^ 64 - 1) h, shl-exact 32 32 64 hy (omega arith), or-shifted-r y 32 x hx) (omega arith)
