@@ -2,3 +2,4 @@
 pub mod Turns
 pub mod Queue
 pub mod Service
+pub mod MaskWrite

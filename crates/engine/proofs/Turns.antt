@@ -2,14 +2,14 @@
 use mathlib.Core.Path.{_≡_, refl, sym, ap, ap₂, subst, _∙_}
 use mathlib.Core.Bool.{Bool, true, false, cond, not, _&&_, and-true, and-false}
 use mathlib.Core.List.{List, [], _∷_, _++_, map}
-use Prim.Native.Nat.{ℕ, _<_, _^_}
+use Prim.Native.Nat.{ℕ, _*_, _%_, _^_, _<_}
 use lib.Dec.{eqb}
 use borrow.Author.Tests.{eq-eqb, eqb-true}
 use Rattle.rules.specs.Inputs.{on, inputs, only, put, without}
 use Rattle.rules.specs.Lines.{Lines, Turn, Made, stay, withIsr, withIrr, event, serve, enter, leave, andThen, waitingIn, servedIn, raised, lowered, polled}
 use Rattle.rules.specs.Ring.{Ring, RingAct, Drawn, offer, ringRun}
 use Rattle.rules.specs.Device.{Value, none, some, offers, returned}
-use Rattle.rules.proofs.laws.Bits.{test, is-number, register-ext, on-without}
+use Rattle.rules.proofs.laws.Bits.{test, is-number, put-lt, on-bit, on-without}
 use Rattle.rules.proofs.laws.Inputs.{inputs-ext, no-inputs, only-served, only-unlatched, enter-ext, unlatchedIn}
 use Rattle.rules.proofs.laws.Acts.{offers-append}
 use Rattle.rules.proofs.laws.Rings.{run-append}
@@ -21,6 +21,11 @@ use Rattle.engine.specs.Moves.{retire, updated, levelled}
 pub serve-after : (vs : List ℕ) (l : Lines) (ns : List ℕ) → serve vs true l ns .after ≡ serve vs false l ns .after
 serve-after vs l [] = refl
 serve-after vs l (n ∷ ns) = refl
+
+-- service stays a register of 64 inputs
+pub serve-isr : (vs : List ℕ) (o : Bool) (l : Lines) (ns : List ℕ) → l .isr < 2 ^ 64 → serve vs o l ns .after .isr < 2 ^ 64
+serve-isr vs o l [] h = h
+serve-isr vs o l (n ∷ ns) h = put-lt (l .isr) n
 
 -- an assert that is returned is the one that is offered
 pub offers-one : (vs : List ℕ) (l : Lines) (ns : List ℕ) (v : ℕ) → some v ≡ returned (serve vs false l ns .made)
@@ -68,11 +73,30 @@ retire-only vs l n h k e =
     off : on (l .isr) n ≡ false → (i : ℕ) → (on (l .isr) i && only n i) ≡ false
     off t i = test (eqb i n) (λ q. rw (q, eqb-true i n q, t)) (λ q. rw q (and-false (on (l .isr) i)))
 
--- ---- a mask write: what enters and then what leaves
+-- the bit of n, as the code makes it
+abbrev pub bit : ℕ → ℕ
+bit n = 1 * 2 ^ n % 2 ^ 64
 
-module _ (r : Ring) (t : Turn) (f : Lines → Turn) where
-  -- the ring is offered what was made first, and then the rest
-  pub then-ring : ringRun r (offers (andThen t f .made)) .after ≡ ringRun (ringRun r (offers (t .made)) .after) (offers (f (t .after) .made)) .after
-  then-ring =
-      ap (λ (xs : List RingAct). ringRun r xs .after) (offers-append (t .made) (f (t .after) .made))
-      ∙ ap (λ (d : Drawn). d .after) (run-append r (offers (t .made)) (offers (f (t .after) .made)))
+module _ (vs : List ℕ) (n : ℕ) (h : n < 64) where
+  pub poll-is : (l : Lines) → updated vs l (bit n) true ≡ polled vs l n
+  unfolding polled
+  poll-is l = enter-ext vs false (on (bit n)) (only n) l (λ i m. on-bit n h i)
+
+  pub raise-is : (l m : Lines) → m ≡ withIrr l (put (l .irr) n) → updated vs m (bit n) true ≡ raised vs l n
+  unfolding raised
+  raise-is l m e = poll-is m ∙ ap (λ (k : Lines). polled vs k n) e
+
+  pub lower-is : (l m : Lines) → l .isr < 2 ^ 64 → m ≡ withIrr l (without (l .irr) (only n)) → updated vs m (bit n) false ≡ lowered vs l n
+  unfolding lowered
+  lower-is l m k e =
+      ap (λ (p : Lines). updated vs p (bit n) false) e
+      ∙ ap (retire vs (withIrr l (without (l .irr) (only n)))) (inputs-ext _ _ (λ i q. rw (on-bit n h i)))
+      ∙ retire-only vs (withIrr l (without (l .irr) (only n))) n h k (on-without (l .irr) (only n) n h ∙ rw (eq-eqb n n refl) (and-false (on (l .irr) n)))
+
+-- ---- what enters, and then what leaves
+
+-- the ring is offered what was made first, and then the rest
+pub then-ring : (r : Ring) (t : Turn) (f : Lines → Turn) → ringRun r (offers (andThen t f .made)) .after ≡ ringRun (ringRun r (offers (t .made)) .after) (offers (f (t .after) .made)) .after
+then-ring r t f =
+    ap (λ (xs : List RingAct). ringRun r xs .after) (offers-append (t .made) (f (t .after) .made))
+    ∙ ap (λ (d : Drawn). d .after) (run-append r (offers (t .made)) (offers (f (t .after) .made)))

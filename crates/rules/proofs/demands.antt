@@ -1,3 +1,4 @@
 -- What was asked for in prose, as theorems over the definitions alone.
 pub mod Dozen
 pub mod WorkedSession
+pub mod RoundTrip

@@ -4,6 +4,9 @@ pub mod Bits
 pub mod Inputs
 pub mod Halves
 pub mod Lists
+pub mod Bytes
+pub mod Parts
+pub mod Images
 pub mod Rings
 pub mod Acts
 pub mod Maps

@@ -9,4 +9,6 @@ use Rattle.bits.proofs.byte_of.Tie as tie
 pub byte-of-spec : {M : Type 1} → statement M
 byte-of-spec =
     tie.close
-    (tie.spec (λ c. search needs) (λ c. search needs) (λ c. search needs) (λ c. record { fits = mask-lt (c .args .x / 2 ^ (c .args .k * 8)) 8 }) (λ c. byte-taken (c .args .x) (c .args .k)))
+    (tie.spec (λ c. search needs) (λ c. search needs) (λ c. search needs)
+    (λ c. record { fits = mask-lt (c .args .x / 2 ^ (c .args .k * 8)) 8 })
+    (λ c. byte-taken (c .args .x) (c .args .k)))

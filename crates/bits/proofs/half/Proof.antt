@@ -7,4 +7,5 @@ use Rattle.bits.proofs.half.Tie as tie
 pub half-spec : {M : Type 1} → statement M
 half-spec =
     tie.close
-    (tie.spec (λ c. search needs) (λ c. record { fits = mask-lt (c .before .args .x) 32 }) (λ c. rw (c .if1 .taken)) (λ c. rw (c .if1 .left) (and-mask (c .before .args .x) 32)))
+    (tie.spec (λ c. search needs) (λ c. record { fits = mask-lt (c .before .args .x) 32 }) (λ c. rw (c .if1 .taken))
+    (λ c. rw (c .if1 .left) (and-mask (c .before .args .x) 32)))

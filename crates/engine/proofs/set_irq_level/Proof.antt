@@ -1,21 +1,58 @@
+-- `set_irq_level` latches the input and polls it, or takes its latch off and lets it leave service.
+use mathlib.Core.Path.{_≡_, ap, subst, _∙_}
+use mathlib.Core.Logic.{⊎-elim}
+use mathlib.Core.Bool.{Bool, true, false}
+use mathlib.Core.List.{List}
+use Prim.Native.Nat.{ℕ, _-_, _<_, _^_}
+use lib.Bits.{bitAnd, bitOr}
+use Rattle.rules.specs.Lines.{withIrr}
+use Rattle.rules.proofs.laws.Bits.{put-is, without-only-is}
+use Rattle.state.specs.View.{linesView}
+use Rattle.state.specs.declared.Lines.{Lines}
+use Rattle.engine.specs.Moves.{Answers, updated, levelled}
+use Rattle.engine.specs.declared.Routed.{Routed}
+use Rattle.engine.proofs.Turns.{bit, raise-is, lower-is}
 use borrow.Author.Needs.{needs}
 use Rattle.engine.proofs.set_irq_level.Statement.{statement}
 use Rattle.engine.proofs.set_irq_level.Tie as tie
-use Rattle.engine.proofs.set_irq_level.Reads as reads
-use Rattle.engine.proofs.set_irq_level.Lts as lts
-use Rattle.engine.proofs.update_irq.Reads as update-irq-reads
 
--- src/lib.rt:143:16
+abbrev withLatches : Lines → ℕ → ℕ → Lines
+withLatches l x y = record { «int_mask» = l .«int_mask»; «last_intirr» = x; intirr = y; intisr = l .intisr }
+
+-- what the poll, or the leave, of the changed lines comes to
+module _ (vs : List ℕ) (l out : Lines) (n x : ℕ) (r : Routed) (level : Bool) (h : n < 64) (hirr : l .intirr < 2 ^ 64) (hisr : l .intisr < 2 ^ 64)
+    (answers : Answers r (updated vs (linesView out) (bit n) level)) where
+  raise-answers : level ≡ true → out ≡ withLatches l x (bitOr (l .intirr) (bit n)) → Answers r (levelled vs (linesView l) n level)
+  raise-answers e f =
+      rw e
+      (subst (Answers r) (raise-is vs n h (linesView l) (linesView out) (ap linesView f ∙ ap (withIrr (linesView l)) (put-is (l .intirr) n hirr h)))
+      (rw e at answers))
+
+  lower-answers : level ≡ false → out ≡ withLatches l x (bitAnd (l .intirr) ((2 ^ 64 - 1) - bit n)) → Answers r (levelled vs (linesView l) n level)
+  lower-answers e f =
+      rw e
+      (subst (Answers r) (lower-is vs n h (linesView l) (linesView out) hisr (ap linesView f ∙ ap (withIrr (linesView l)) (without-only-is (l .intirr) n hirr h)))
+      (rw e at answers))
+
 shl-mask : tie.Need-shl-mask
 shl-mask c = search needs
 
--- src/lib.rt:151:5
 update-irq-requires : tie.Need-update-irq-requires
-update-irq-requires c κs = ?
+update-irq-requires c κs =
+    let s = c .before .before in (
+      ⊎-elim (λ w. rw (w .3) (ap (λ (x : ℕ). bitOr x (bit (s .args .irq))) (s .pre .0)))
+          (λ w. rw (w .3) (ap (λ (x : ℕ). bitAnd x ((2 ^ 64 - 1) - bit (s .args .irq))) (s .pre .0))) (c .if1 .came),
+      search needs,
+    )
 
--- src/lib.rt:138:1
 returns : tie.Need-returns
-returns c = ?
+returns c =
+    let s = c .before .before .before in
+    let a = s .args in
+    ⊎-elim
+    (λ w. raise-answers (a .vectors .now) (a .lines) (c .before .if1 .out) (a .irq) _ (c .update-irq .result) (a .level) (search needs) (search needs) (search needs) (c .update-irq .ensures) (w .0 .taken) (w .3))
+    (λ w. lower-answers (a .vectors .now) (a .lines) (c .before .if1 .out) (a .irq) _ (c .update-irq .result) (a .level) (search needs) (search needs) (search needs) (c .update-irq .ensures) (w .0 .left) (w .3))
+    (c .before .if1 .came)
 
 pub set-irq-level-spec : {M : Type 1} → statement M
 set-irq-level-spec = tie.close (tie.spec shl-mask update-irq-requires returns)

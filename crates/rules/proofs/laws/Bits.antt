@@ -4,7 +4,8 @@ use mathlib.Core.Path.{_≡_, refl, sym, ap, _∙_}
 use mathlib.Core.Logic.{⊎-elim}
 use mathlib.Core.Bool.{Bool, true, false, cond, not, _&&_, _||_}
 use Prim.Native.Nat.{ℕ, zero, suc, _+_, _-_, _*_, _/_, _%_, _^_, _≤_, _<_, zero-le}
-use native.Mathlib.Nat.{mod-lt, add-zero, one-mul, div-eq-of-lt, lt-of-lt-of-le, lt-of-le-of-lt, mul-add-mod-self-right, eq-or-lt-of-le, le-of-suc-le-suc}
+use native.Mathlib.Nat.{mod-lt, add-zero, one-mul, div-eq-of-lt, mul-add-mod-self-right}
+use native.Mathlib.Nat.{lt-of-lt-of-le, lt-of-le-of-lt, eq-or-lt-of-le, le-of-suc-le-suc}
 use native.Mathlib.Numerals.{one-add}
 use native.Mathlib.Omega.{arith}
 use lib.Dec.{eqb, eqb·suc-suc}
@@ -65,18 +66,25 @@ on-below k b x i l = sym (on-mod k (b * 2 ^ k + x) i l) ∙ rw mul-add-mod-self-
 pub on-above : (k b x i : ℕ) → x < 2 ^ k → on (b * 2 ^ k + x) (k + i) ≡ on b i
 on-above k b x i h = sym (on-down k (b * 2 ^ k + x) i) ∙ rw (high b k h)
 
+pub on-up : (k x i : ℕ) → on (x * 2 ^ k) (k + i) ≡ on x i
+on-up k x i = rw add-zero at (on-above k x 0 i (pow-pos k))
+
+pub on-up-below : (k x i : ℕ) → i < k → on (x * 2 ^ k) i ≡ false
+on-up-below k x i l = rw add-zero at (on-below k x 0 i l) ∙ on-none i
+
 -- ---- mask operations
-pub on-and : (a b i : ℕ) → on (bitAnd a b) i ≡ (on a i && on b i)
+-- an operation that works digit by digit
+bitwise : (op : ℕ → ℕ → ℕ) (F : Bool → Bool → Bool) → ((a b k : ℕ) → op a b / 2 ^ k ≡ op (a / 2 ^ k) (b / 2 ^ k))
+    → ((a b k : ℕ) → op a b % 2 ^ k ≡ op (a % 2 ^ k) (b % 2 ^ k)) → ((a b : ℕ) → eqb (op (a % 2) (b % 2)) 1 ≡ F (eqb (a % 2) 1) (eqb (b % 2) 1))
+    → (a b i : ℕ) → on (op a b) i ≡ F (on a i) (on b i)
 unfolding on
-on-and a b i =
-    rw (and-shr, and-mod (a / 2 ^ i) (b / 2 ^ i) 1)
-    (digits (λ p q. eqb (bitAnd p q) 1 ≡ (eqb p 1 && eqb q 1)) refl refl refl refl (a / 2 ^ i) (b / 2 ^ i))
+bitwise op F shr low one a b i = rw (shr a b i, low (a / 2 ^ i) (b / 2 ^ i) 1) (one (a / 2 ^ i) (b / 2 ^ i))
+
+pub on-and : (a b i : ℕ) → on (bitAnd a b) i ≡ (on a i && on b i)
+on-and = bitwise bitAnd _&&_ and-shr and-mod (digits (λ p q. eqb (bitAnd p q) 1 ≡ (eqb p 1 && eqb q 1)) refl refl refl refl)
 
 pub on-or : (a b i : ℕ) → on (bitOr a b) i ≡ (on a i || on b i)
-unfolding on
-on-or a b i =
-    rw (or-shr, or-mod (a / 2 ^ i) (b / 2 ^ i) 1)
-    (digits (λ p q. eqb (bitOr p q) 1 ≡ (eqb p 1 || eqb q 1)) refl refl refl refl (a / 2 ^ i) (b / 2 ^ i))
+on-or = bitwise bitOr _||_ or-shr or-mod (digits (λ p q. eqb (bitOr p q) 1 ≡ (eqb p 1 || eqb q 1)) refl refl refl refl)
 
 pub on-not : (k a i : ℕ) → a < 2 ^ k → i < k → on ((2 ^ k - 1) - a) i ≡ not (on a i)
 on-not zero a i h l = absurd (omega arith)
@@ -91,14 +99,15 @@ pub on-and-not : (a b i : ℕ) → b < 2 ^ 64 → i < 64 → on (bitAnd a ((2 ^ 
 on-and-not a b i h l = on-and a _ i ∙ rw (on-not 64 b i h l)
 
 -- ---- equal bits, equal numbers
+same-lowest : (x y : ℕ) → on x 0 ≡ on y 0 → x % 2 ≡ y % 2
+same-lowest x y e =
+    digits (λ p q. eqb p 1 ≡ eqb q 1 → p ≡ q) (λ t. refl) (λ t. cc) (λ t. cc) (λ t. refl) x y (simp on-zero at e)
+
 pub on-ext : (k x y : ℕ) → x < 2 ^ k → y < 2 ^ k → ((i : ℕ) → i < k → on x i ≡ on y i) → x ≡ y
 on-ext zero x y hx hy e = omega arith
 on-ext (suc k) x y hx hy e =
-    let h : x / 2 ≡ y / 2 =
-    on-ext k (x / 2) (y / 2) (omega arith) (omega arith) (λ i l. sym (on-suc x i) ∙ e (suc i) (omega arith) ∙ on-suc y i) in
-    let p : x % 2 ≡ y % 2 =
-    digits (λ p q. eqb p 1 ≡ eqb q 1 → p ≡ q) (λ t. refl) (λ t. cc) (λ t. cc) (λ t. refl) x y (sym (on-zero x) ∙ e 0 (omega arith) ∙ on-zero y) in
-    omega arith
+    let above = on-ext k (x / 2) (y / 2) (omega arith) (omega arith) (λ i l. simp on-suc at (e (suc i) (omega arith))) in
+    omega (arith, same-lowest x y (e 0 (omega arith)))
 
 pub on-pow : (n i : ℕ) → on (2 ^ n) i ≡ only n i
 on-pow zero zero = on-zero 1
@@ -115,7 +124,7 @@ numberWith-suc k f = test (f k) (λ e. rw e (omega arith)) (λ e. rw e (omega ar
 pub numberWith-lt : (k : ℕ) (f : ℕ → Bool) → numberWith k f < 2 ^ k
 unfolding numberWith
 numberWith-lt zero f = omega arith
-numberWith-lt (suc k) f = test (f k) (λ e. rw e (omega (arith, numberWith-lt k f))) (λ e. rw e (omega (arith, numberWith-lt k f)))
+numberWith-lt (suc k) f = let h = numberWith-lt k f in test (f k) (λ e. rw e (omega arith)) (λ e. rw e (omega arith))
 
 pub on-number : (k : ℕ) (f : ℕ → Bool) (i : ℕ) → i < k → on (numberWith k f) i ≡ f i
 on-number zero f i l = absurd (omega arith)
@@ -155,7 +164,7 @@ pub on-without : (x : ℕ) (f : ℕ → Bool) (i : ℕ) → i < 64 → on (witho
 unfolding without
 on-without x f i l = on-number 64 _ i l
 
--- ---- the code's mask expressions: 1 << n, x | (1 << n), x & !b, x & !(1 << n)
+-- ---- the code's mask expressions: 1 << n, x | (1 << n), x & !b, x & !(1 << n), x & !(x & b)
 pub bit-is : (n : ℕ) → n < 64 → 1 * 2 ^ n % 2 ^ 64 ≡ 2 ^ n
 bit-is n h = shl-exact {a = 1} 1 n 64 (omega arith) (omega arith) ∙ one-mul (2 ^ n)
 
@@ -169,14 +178,26 @@ pub put-is : (x n : ℕ) → x < 2 ^ 64 → n < 64 → bitOr x (1 * 2 ^ n % 2 ^ 
 unfolding put
 put-is x n hx h = is-number 64 _ _ (or-lt 64 x _ hx (bit-lt n)) (λ i l. on-or x _ i ∙ rw (on-bit n h i))
 
+pub and-below : (x b : ℕ) → x < 2 ^ 64 → bitAnd x b < 2 ^ 64
+and-below x b h = lt-of-le-of-lt (and-le-l x b) h
+
 -- x & !b, for a b whose bits are f
-pub without-these : (x b : ℕ) (f : ℕ → Bool) → x < 2 ^ 64 → b < 2 ^ 64 → ((i : ℕ) → i < 64 → on b i ≡ f i) → bitAnd x ((2 ^ 64 - 1) - b) ≡ without x f
+pub without-these : (x b : ℕ) (f : ℕ → Bool) → x < 2 ^ 64 → b < 2 ^ 64 → ((i : ℕ) → i < 64 → on b i ≡ f i)
+    → bitAnd x ((2 ^ 64 - 1) - b) ≡ without x f
 unfolding without
-without-these x b f hx hb e =
-    is-number 64 _ _ (lt-of-le-of-lt (and-le-l x _) hx) (λ i l. on-and-not x b i hb l ∙ rw (e i l))
+without-these x b f hx hb e = is-number 64 _ _ (and-below x _ hx) (λ i l. on-and-not x b i hb l ∙ rw (e i l))
 
 pub without-is : (x b : ℕ) → x < 2 ^ 64 → b < 2 ^ 64 → bitAnd x ((2 ^ 64 - 1) - b) ≡ without x (on b)
 without-is x b hx hb = without-these x b (on b) hx hb (λ i l. refl)
 
 pub without-only-is : (x n : ℕ) → x < 2 ^ 64 → n < 64 → bitAnd x ((2 ^ 64 - 1) - 1 * 2 ^ n % 2 ^ 64) ≡ without x (only n)
 without-only-is x n hx h = without-these x _ (only n) hx (bit-lt n) (λ i l. on-bit n h i)
+
+pub without-common-is : (x b : ℕ) → x < 2 ^ 64 → bitAnd x ((2 ^ 64 - 1) - bitAnd x b) ≡ without x (on b)
+unfolding without
+without-common-is x b hx =
+    is-number 64 _ _ (and-below x _ hx) (λ i l. on-and-not x _ i (and-below x b hx) l ∙ rw (on-and x b i) (once (on x i) (on b i)))
+  where
+    once : (p q : Bool) → (p && not (p && q)) ≡ (p && not q)
+    once true q = refl
+    once false q = refl

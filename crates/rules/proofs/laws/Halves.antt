@@ -80,7 +80,8 @@ module _ (j w k x v : ℕ) (hx : x < 2 ^ (j + (k + w))) (hv : v < 2 ^ w) where
   rest-is =
       ap₂ bitAnd (sym (split x k)) mask-is
       ∙ and-block k (x / 2 ^ k) (2 ^ (j + w) - 2 ^ w) (x % 2 ^ k) (2 ^ k - 1) (mod-lt x (pow-pos k)) (ones-lt k)
-      ∙ ap₂ (λ (u r : ℕ). u * 2 ^ k + r) (and-high (x / 2 ^ k) j w ∙ rw (shr-shr, shr-mod j (k + w) hx)) (and-mask (x % 2 ^ k) k ∙ mod-mod x (2 ^ k))
+      ∙ ap₂ (λ (u r : ℕ). u * 2 ^ k + r) (and-high (x / 2 ^ k) j w ∙ rw (shr-shr, shr-mod j (k + w) hx))
+      (and-mask (x % 2 ^ k) k ∙ mod-mod x (2 ^ k))
 
   replaced-at : bitOr (bitAnd x ((2 ^ (j + (k + w)) - 1) - (2 ^ w - 1) * 2 ^ k)) (v * 2 ^ k)
       ≡ x / 2 ^ (k + w) * 2 ^ (k + w) + v * 2 ^ k + x % 2 ^ k
@@ -103,7 +104,8 @@ pub high-replaced : (x v : ℕ) → x < 2 ^ 64 → v < 2 ^ 32 → bitOr (bitAnd 
 high-replaced x v hx hv = replaced 64 32 32 x v (omega arith) hx hv ∙ omega arith
 
 pub low-replaced : (x v : ℕ) → x < 2 ^ 64 → v < 2 ^ 32 → bitOr (bitAnd x 0xffff_ffff_0000_0000) v ≡ withHalf false x v
-low-replaced x v hx hv = ap (λ (y : ℕ). bitOr (bitAnd x 0xffff_ffff_0000_0000) y) (omega arith) ∙ replaced 64 32 0 x v (omega arith) hx hv ∙ omega arith
+low-replaced x v hx hv =
+    ap (bitOr (bitAnd x 0xffff_ffff_0000_0000)) (omega arith) ∙ replaced 64 32 0 x v (omega arith) hx hv ∙ omega arith
 
 -- v << 32, and v
 pub high-placed : (v : ℕ) → v < 2 ^ 32 → v * 2 ^ 32 % 2 ^ 64 ≡ asHalf true v

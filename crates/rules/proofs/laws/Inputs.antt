@@ -4,7 +4,7 @@ use mathlib.Core.Path.{_≡_, refl, sym, ap, ap₂, _∙_}
 use mathlib.Core.Logic.{⊎-elim}
 use mathlib.Core.Bool.{Bool, true, false, cond, not, _&&_, and-true, and-assoc, and-comm}
 use mathlib.Core.List.{List, [], _∷_, map}
-use Prim.Native.Nat.{ℕ, zero, suc, _+_, _-_, _/_, _%_, _^_, _≤_, _<_, suc-le-suc, zero-le}
+use Prim.Native.Nat.{ℕ, zero, suc, _+_, _-_, _*_, _/_, _%_, _^_, _≤_, _<_, suc-le-suc, zero-le}
 use native.Mathlib.Nat.{eq-or-lt-of-le, le-of-suc-le-suc}
 use native.Mathlib.Omega.{arith}
 use lib.Bits.{bitAnd}
@@ -12,7 +12,7 @@ use lib.Count.{trailingZeros, under}
 use borrow.Author.Tests.{eq-eqb, ne-eqb, eqb-true}
 use Rattle.rules.specs.Inputs.{on, from, inputs, only, without}
 use Rattle.rules.specs.Lines.{Lines, waits, waitingIn, servedIn, withIsr, serve, event, enter, leave}
-use Rattle.rules.proofs.laws.Bits.{digit, test, on-zero, on-suc, on-none, on-and, on-and-not, on-without, without-ext}
+use Rattle.rules.proofs.laws.Bits.{digit, test, on-zero, on-suc, on-none, on-and, on-and-not, on-without, without-ext, without-only-is}
 
 -- ---- lists
 pub from-ext : (n k : ℕ) (f g : ℕ → Bool) → ((i : ℕ) → n ≤ i → i < n + k → f i ≡ g i) → from n k f ≡ from n k g
@@ -111,6 +111,11 @@ first-input x h n =
     let t = trailingZeros 64 x in
     from-first 0 64 t (on x) zero-le (r .below) (r .has) (r .first)
     ∙ ap (λ (l : List ℕ). t ∷ l) (inputs-ext _ _ (λ i q. sym (on-without x (only t) i q)))
+
+-- the same, with the first one dropped as the code drops it: x & !(1 << trailing_zeros)
+pub first-dropped : (x : ℕ) → x < 2 ^ 64 → (x ≡ 0 → ⊥)
+    → inputs (on x) ≡ trailingZeros 64 x ∷ inputs (on (bitAnd x ((2 ^ 64 - 1) - 1 * 2 ^ trailingZeros 64 x % 2 ^ 64)))
+first-dropped x h n = rw (without-only-is x (trailingZeros 64 x) h (first-below x h n)) (first-input x h n)
 
 -- ---- the sets of the engine, as the code masks them
 -- the inputs that have f, are in service and are not latched

@@ -3,12 +3,12 @@
 use mathlib.Core.Path.{_≡_, refl, sym, ap, _∙_}
 use mathlib.Core.Bool.{Bool, true, false, false≢true, and-eq-true-iff}
 use mathlib.Core.List.{List, [], _∷_, _++_, append-assoc, append-nil}
-use Prim.Native.Nat.{ℕ, suc, _+_, _-_, _/_, _%_, _<_, _≤_}
+use Prim.Native.Nat.{ℕ, zero, suc, _+_, _-_, _/_, _%_, _<_, _≤_}
 use native.Mathlib.Numerals.{add-one}
 use native.Mathlib.Omega.{arith}
 use lib.Dec.{eqb}
 use lib.ListN.{length, take, drop, getD, set, length-drop, drop-of-length-le, take-append-drop}
-use lib.Seq.{length-take-le, take-suc-set, take-all, drop-cons, drop-drop}
+use lib.Seq.{length-take-le, take-suc-set, take-all, take-take, take-add, drop-cons, drop-drop, getD-take, getD-drop}
 use borrow.Author.Tests.{eq-eqb, eqb-true}
 use Rattle.rules.specs.Numbers.{bytesOf, part}
 use Rattle.rules.specs.Image.{same}
@@ -28,6 +28,11 @@ module _ {A : Type 0} where
   -- the next of a list that is read in step
   pub next : (l : List A) (i : ℕ) (d : A) → i < length l → drop i l ≡ getD l i d ∷ drop (i + 1) l
   next l i d h = rw (add-one, ← drop-cons l i d)
+
+  pub next-two : (l : List A) (i : ℕ) (d : A) → i + 1 < length l → drop i l ≡ getD l i d ∷ getD l (i + 1) d ∷ drop (i + 2) l
+  next-two l i d h =
+      let s : i + 1 + 1 ≡ i + 2 = omega arith in
+      next l i d (omega arith) ∙ ap (λ m. getD l i d ∷ m) (rw s at (next l (i + 1) d h))
 
   -- a copy: what is to come is the rest of the source
   pub copied : (out src : List A) (i : ℕ) (d : A) → i < length out → i < length src → take i out ++ drop i src ≡ src
@@ -57,6 +62,23 @@ length-part l a n h = length-take-le n (drop a l) (simp length-drop (omega arith
 -- a part and what follows it
 pub part-then : (l : List ℕ) (a n : ℕ) → part a n l ++ drop (a + n) l ≡ drop a l
 part-then l a n = ap (λ m. part a n l ++ m) (sym (drop-drop n a l)) ∙ take-append-drop n (drop a l)
+
+-- two parts that meet
+pub part-add : (l : List ℕ) (a n m : ℕ) → part a n l ++ part (a + n) m l ≡ part a (n + m) l
+part-add l a n m = ap (λ k. part a n l ++ take m k) (sym (drop-drop n a l)) ∙ sym (take-add n m (drop a l))
+
+-- a part of a part
+pub part-part : (l : List ℕ) (a n b m : ℕ) → b + m ≤ n → part b m (part a n l) ≡ part (a + b) m l
+part-part l a n b m h = go (drop a l) b n h ∙ ap (take m) (drop-drop b a l)
+  where
+    go : (l : List ℕ) (b n : ℕ) → b + m ≤ n → part b m (take n l) ≡ part b m l
+    go l zero n h = take-take m n l (omega arith)
+    go l (suc b) zero h = absurd (omega arith)
+    go [] (suc b) (suc n) h = refl
+    go (x ∷ l) (suc b) (suc n) h = go l b n (omega arith)
+
+pub getD-part : (l : List ℕ) (a n i d : ℕ) → i < n → getD (part a n l) i d ≡ getD l (a + i) d
+getD-part l a n i d h = getD-take n (drop a l) i d h ∙ getD-drop a l i d
 
 -- ---- two lists tested for sameness
 
