@@ -2,11 +2,14 @@
 use state::PchPicState;
 ghost use mathlib.Core.Path.{_≡_};
 ghost use mathlib.Core.Bool.{false};
+ghost use mathlib.Core.List.{[], _∷_};
 ghost use Prim.Native.Nat.{ℕ, _+_, _-_, _^_, _≤_, _<_};
-ghost use Rattle.rules.specs.Core.{plain};
+ghost use Rattle.rules.specs.Inputs.{asHalf};
+ghost use Rattle.rules.specs.Core.{plain, move, clear, setMask, setIsr, store, setPlain};
 ghost use Rattle.rules.specs.Map.{inBytes, bytes, cellAt};
-ghost use Rattle.rules.specs.Access.{qword, entry, valueOf, readByte, readDword, readAt};
-ghost use Rattle.state.specs.View.{view};
+ghost use Rattle.rules.specs.Access.{qword, entry, valueOf, readByte, readDword, readAt, registerActs, entryActs};
+ghost use Rattle.rules.specs.Device.{acted};
+ghost use Rattle.state.specs.View.{view, Well, Is};
 ghost use Rattle.registers.specs.Views.{byteIndex, irqIndex, plainView, registerView, cellView, widthView};
 ghost use Rattle.registers.specs.Bytes.{bytesRead};
 
@@ -216,5 +219,127 @@ pub fn read_register(state: PchPicState, width: Width, offset: usize) -> u64
         Width::Word => read_split_bytes(state, offset, 2, 2) as u64,
         Width::Dword => read_dword(state, offset, 2) as u64,
         Width::Qword => read_qword(state, offset),
+    }
+}
+
+// ---- the writers' leaves
+
+// MASK: the engine moves the lines and offers their events.
+fn write_mask(state: PchPicState, val: u32, high: bool) -> PchPicState
+    requires { ⌜ Well state ⌝ }
+    ensures { λ r. ⌜ Is r (acted (view state) (move (setMask high val) ∷ [])) ⌝ }
+{
+    let mut out = state;
+    let tables = out.tables;
+    let moved = engine::update_int_mask(out.lines, out.ring, &tables.htmsi_vector, val, high);
+    let lines = moved.lines;
+    let ring = moved.ring;
+    out.lines = lines;
+    out.ring = ring;
+    out
+}
+
+// CLEAR: the bits stand in their half.
+fn write_clear(state: PchPicState, val: u32, high: bool) -> PchPicState
+    requires { ⌜ Well state ⌝ }
+    ensures { λ r. ⌜ Is r (acted (view state) (move (clear (asHalf high val)) ∷ [])) ⌝ }
+{
+    let mut out = state;
+    let tables = out.tables;
+    let mask = bits::in_half(val, high);
+    let moved = engine::clear_irq(out.lines, out.ring, &tables.htmsi_vector, mask);
+    let lines = moved.lines;
+    let ring = moved.ring;
+    out.lines = lines;
+    out.ring = ring;
+    out
+}
+
+// ISR: the stored half is replaced, and no event is made.
+fn write_isr(state: PchPicState, val: u32, high: bool) -> PchPicState
+    requires { ⌜ Well state ⌝ }
+    ensures { λ r. ⌜ Is r (acted (view state) (setIsr high val ∷ [])) ⌝ }
+{
+    let mut out = state;
+    let new = bits::replace_u32(out.lines.intisr, val, high);
+    out.lines.intisr = new;
+    out
+}
+
+// The other registers are stored.
+fn write_plain(state: PchPicState, register: Plain, val: u32, high: bool) -> PchPicState
+    requires { ⌜ Well state ⌝ }
+    ensures { λ r. ⌜ Is r (acted (view state) (store (setPlain (plainView register) high val) ∷ [])) ⌝ }
+{
+    let mut out = state;
+    let new = bits::replace_u32(plain_of(state, register), val, high);
+    match register {
+        Plain::HtmsiEn => {
+            out.stored.htmsi_en = new;
+            out
+        }
+        Plain::Edge => {
+            out.stored.intedge = new;
+            out
+        }
+        Plain::Pol => {
+            out.stored.int_polarity = new;
+            out
+        }
+        Plain::Auto0 => {
+            out.stored.auto_ctrl0 = new;
+            out
+        }
+        Plain::Auto1 => {
+            out.stored.auto_ctrl1 = new;
+            out
+        }
+    }
+}
+
+// A register's half; ID and IRR ignore it.
+fn write_half(state: PchPicState, register: Register, val: u32, high: bool) -> PchPicState
+    requires { ⌜ Well state ⌝ }
+    ensures { λ r. ⌜ Is r (acted (view state) (registerActs (registerView register) high val)) ⌝ }
+{
+    match register {
+        Register::Id => state,
+        Register::Mask => write_mask(state, val, high),
+        Register::Clear => write_clear(state, val, high),
+        Register::Irr => state,
+        Register::Isr => write_isr(state, val, high),
+        Register::Plain(register) => write_plain(state, register, val, high),
+    }
+}
+
+// A route or vector byte; at any other offset nothing.
+fn write_entry(state: PchPicState, index: usize, val: u8) -> PchPicState
+    requires { ⌜ Well state ⌝ }
+    ensures { λ r. ⌜ Is r (acted (view state) (entryActs index val)) ⌝ }
+{
+    let mut out = state;
+    let mut tables = out.tables;
+    match index {
+        PchPicState::ROUTE_ENTRY_BASE..=PchPicState::ROUTE_ENTRY_LAST => {
+            match pch_pic_irq_index(index, PchPicState::ROUTE_ENTRY_BASE) {
+                Index::At(irq) => {
+                    tables.route_entry[irq] = val;
+                    out.tables = tables;
+                    out
+                }
+                Index::None => out,
+            }
+        }
+        PchPicState::HTMSI_VEC_BASE..=PchPicState::HTMSI_VEC_LAST => {
+            match pch_pic_irq_index(index, PchPicState::HTMSI_VEC_BASE) {
+                Index::At(irq) => {
+                    tables.htmsi_vector[irq] = val;
+                    out.tables = tables;
+                    out
+                }
+                Index::None => out,
+            }
+        }
+        _ => out,
     }
 }

@@ -11,3 +11,4 @@ pub mod Rings
 pub mod Acts
 pub mod Maps
 pub mod Widths
+pub mod Writes
