@@ -1,18 +1,24 @@
 -- A state that shows a device after acts: by what was put into it, and acts after acts.
 use mathlib.Core.Path.{_≡_, refl, sym, ap, subst, _∙_}
-use mathlib.Core.Bool.{Bool}
+use mathlib.Core.Bool.{Bool, false}
 use mathlib.Core.List.{List, [], _∷_, _++_}
-use Prim.Native.Nat.{ℕ}
+use Prim.Native.Nat.{ℕ, _+_, _^_, _<_}
+use native.Mathlib.Numerals.{add-one}
+use lib.Bits.{bitAnd}
 use lib.ListN.{set}
+use Rattle.rules.specs.Numbers.{byteOf, withByte}
 use Rattle.rules.specs.Inputs.{withHalf}
 use Rattle.rules.specs.Core.{Act, Move, Plain, plain, withPlain, move, moved, setIsr, store, setPlain, setRoute, setVector}
+use Rattle.rules.specs.Map.{inBytes}
+use Rattle.rules.specs.Access.{readDword, dwordActs, byteActs}
 use Rattle.rules.specs.Device.{Device, acted}
 use Rattle.rules.proofs.laws.Acts.{acted-none, acted-append}
-use Rattle.rules.proofs.laws.Writes.{deviceOf, acted-move, acted-isr, acted-store, acted-vector}
+use Rattle.rules.proofs.laws.Writes.{byte-acts-outside, deviceOf, acted-move, acted-isr, acted-store, acted-vector}
 use Rattle.state.specs.declared.PchPicState.{PchPicState}
 use Rattle.state.specs.View.{linesView, storedView, ringView, view, Well, Is}
 use Rattle.engine.specs.declared.Moved.{Moved}
 use Rattle.engine.specs.Moves.{Moves}
+use Rattle.registers.specs.Bytes.{bytesWritten}
 
 -- the same device, said otherwise
 pub is-as : {s : PchPicState} {d e : Device} → Is s d → d ≡ e → Is s e
@@ -20,6 +26,22 @@ is-as r p = record { well = r .well; shows = r .shows ∙ p }
 
 pub is-acts : (d : Device) {s : PchPicState} {xs ys : List Act} → xs ≡ ys → Is s (acted d ys) → Is s (acted d xs)
 is-acts d p r = is-as r (ap (acted d) (sym p))
+
+-- acts after acts
+pub is-then : (ys : List Act) {d : Device} {s t : PchPicState} → Is s d → Is t (acted (view s) ys) → Is t (acted d ys)
+is-then ys p q = is-as q (ap (λ (e : Device). acted e ys) (p .shows))
+
+-- a Byte outside 0x100..0x39f: the Dword as read, with the byte replaced, is written
+pub is-outside : (d : Device) (o v old new : ℕ) {t : PchPicState} → o < 2 ^ 64 → inBytes o ≡ false
+    → old ≡ readDword (d .core) (bitAnd o 0xffff_ffff_ffff_fffc) → new ≡ withByte old (bitAnd o 0x3) v
+    → Is t (acted d (dwordActs (bitAnd o 0xffff_ffff_ffff_fffc) new)) → Is t (acted d (byteActs (d .core) o v))
+is-outside d o v old new l n p q r = is-acts d (byte-acts-outside o v (d .core) l n ∙ rw (← p, ← q)) r
+
+-- one byte more
+pub is-more : (d : Device) (o v n : ℕ) {s t : PchPicState} → Is s (bytesWritten d o v n) → Is t (acted (view s) (byteActs (view s .core) (o + n) (byteOf v n)))
+    → Is t (bytesWritten d o v (n + 1))
+unfolding bytesWritten
+is-more d o v n p q = is-as q (ap (λ (e : Device). acted e (byteActs (e .core) (o + n) (byteOf v n))) (p .shows) ∙ ap (bytesWritten d o v) (sym (add-one n)))
 
 module _ (s : PchPicState) (w : Well s) where
   pub is-none : Is s (acted (view s) [])

@@ -7,11 +7,11 @@ ghost use Prim.Native.Nat.{ℕ, _+_, _-_, _^_, _≤_, _<_};
 ghost use Rattle.rules.specs.Inputs.{asHalf};
 ghost use Rattle.rules.specs.Core.{plain, move, clear, setMask, setIsr, store, setPlain};
 ghost use Rattle.rules.specs.Map.{inBytes, bytes, cellAt};
-ghost use Rattle.rules.specs.Access.{qword, entry, valueOf, readByte, readDword, readAt, registerActs, entryActs};
+ghost use Rattle.rules.specs.Access.{qword, entry, valueOf, readByte, readDword, readAt, registerActs, entryActs, byteActs, dwordActs, writeActs};
 ghost use Rattle.rules.specs.Device.{acted};
 ghost use Rattle.state.specs.View.{view, Well, Is};
 ghost use Rattle.registers.specs.Views.{byteIndex, irqIndex, plainView, registerView, cellView, widthView};
-ghost use Rattle.registers.specs.Bytes.{bytesRead};
+ghost use Rattle.registers.specs.Bytes.{bytesRead, bytesWritten};
 
 // ID as one register: above its low half the version, and above that the last input.
 const INT_ID: u64 = 0x003f_0001_0700_0000;
@@ -341,5 +341,80 @@ fn write_entry(state: PchPicState, index: usize, val: u8) -> PchPicState
             }
         }
         _ => out,
+    }
+}
+
+// The writers, as the readers.
+pub fn write_byte(state: PchPicState, offset: usize, val: u8, depth: usize) -> PchPicState
+    requires { ⌜ Well state ⌝ }
+    requires { ⌜ (inBytes offset ≡ false → 1 ≤ depth) ⌝ }
+    ensures { λ r. ⌜ Is r (acted (view state) (byteActs (view state .core) offset val)) ⌝ }
+{
+    if let Index::At(index) = reg8_offset(offset) {
+        return write_entry(state, index, val);
+    }
+    let aligned = offset & !0x3;
+    let place = offset & 0x3;
+    // The Dword as it reads: of ISR the masked bits are lost.
+    let old = read_dword(state, aligned, depth);
+    let new = bits::with_byte(old, place, val);
+    write_dword(state, aligned, new, depth - 1)
+}
+
+pub fn write_split_bytes(
+    state: PchPicState,
+    offset: usize,
+    len: usize,
+    val: u32,
+    depth: usize,
+) -> PchPicState
+    requires { ⌜ Well state ⌝ }
+    requires { ⌜ (len ≤ 4) × (offset + len ≤ 2 ^ 64) ⌝ }
+    requires { ⌜ 1 ≤ depth ⌝ }
+    requires { ⌜ ((k : ℕ) → k < len → inBytes (offset + k) ≡ false → 2 ≤ depth) ⌝ }
+    ensures { λ r. ⌜ Is r (bytesWritten (view state) offset val len) ⌝ }
+{
+    let mut out = state;
+    for idx in 0..len {
+        out = write_byte(out, offset + idx, bits::byte_of(val, idx), depth - 1);
+    }
+    out
+}
+
+pub fn write_dword(state: PchPicState, offset: usize, val: u32, depth: usize) -> PchPicState
+    requires { ⌜ Well state ⌝ }
+    requires { ⌜ (cellAt offset ≡ bytes → 2 ≤ depth) ⌝ }
+    ensures { λ r. ⌜ Is r (acted (view state) (dwordActs offset val)) ⌝ }
+{
+    match decode(offset) {
+        Cell::Half(register, high) => write_half(state, register, val, high),
+        Cell::Bytes => write_split_bytes(state, offset, 4, val, depth - 1),
+        Cell::Nothing => state,
+    }
+}
+
+fn write_qword(state: PchPicState, offset: usize, val: u64) -> PchPicState
+    requires { ⌜ Well state ⌝ }
+    ensures { λ r. ⌜ Is r (acted (view state) (writeActs (view state .core) qword offset val)) ⌝ }
+{
+    let first = write_dword(state, offset, bits::half(val, false), 2);
+    if LAST_QWORD < offset {
+        return first;
+    }
+    write_dword(first, offset + 4, bits::half(val, true), 2)
+}
+
+// What an access writes; a value loses its bits above the width.
+pub fn write_register(state: PchPicState, width: Width, offset: usize, val: u64) -> PchPicState
+    requires { ⌜ Well state ⌝ }
+    requires { ⌜ offset < 2 ^ 64 - 1 ⌝ }
+    ensures { λ r. ⌜ Is r (acted (view state) (writeActs (view state .core) (widthView width) offset val)) ⌝ }
+{
+    let low = bits::half(val, false);
+    match width {
+        Width::Byte => write_byte(state, offset, bits::byte_of(low, 0), 1),
+        Width::Word => write_split_bytes(state, offset, 2, low, 2),
+        Width::Dword => write_dword(state, offset, low, 2),
+        Width::Qword => write_qword(state, offset, val),
     }
 }

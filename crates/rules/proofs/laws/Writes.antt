@@ -6,14 +6,16 @@ use Prim.Native.Nat.{ℕ, _+_, _-_, _%_, _^_, _≤_, _<_}
 use native.Mathlib.Omega.{arith}
 use lib.Bits.{bitAnd}
 use lib.ListN.{set}
+use borrow.Author.Tests.{le-leb, lt-leb}
 use Rattle.rules.specs.Numbers.{byteOf, withByte}
-use Rattle.rules.specs.Inputs.{withHalf}
+use Rattle.rules.specs.Inputs.{half, withHalf}
 use Rattle.rules.specs.Lines.{Lines, Made, withIsr}
 use Rattle.rules.specs.Ring.{Ring, ringRun}
 use Rattle.rules.specs.Core.{Core, Stored, Act, Move, Store, move, setIsr, store, setRoute, setVector, moved, lineTurn, vectorsAfter, storedBy, storedAfter, turns}
 use Rattle.rules.specs.Map.{Cell, routesAt, vectorsAt, inBytes, cellAt}
-use Rattle.rules.specs.Access.{readDword, entryActs, cellActs, dwordActs, byteActs}
+use Rattle.rules.specs.Access.{qword, readDword, entryActs, cellActs, dwordActs, byteActs, writeActs}
 use Rattle.rules.specs.Device.{Device, offers, acted}
+use Rattle.rules.proofs.laws.Acts.{acted-append}
 use Rattle.rules.proofs.laws.Maps.{inside, outside}
 use Rattle.rules.proofs.laws.Widths.{low-place, aligned}
 
@@ -69,3 +71,13 @@ module _ (o v : ℕ) where
   pub dword-acts-of : {x : Cell} → x ≡ cellAt o → cellActs o v x ≡ dwordActs o v
   unfolding dwordActs
   dword-acts-of e = ap (cellActs o v) e
+
+-- ---- a Qword: its first Dword where the second is out of reach, and else one after the other
+module _ (d : Device) (o v : ℕ) where
+  pub qword-first : 2 ^ 64 - 1 < o + 4 → acted d (dwordActs o (half false v)) ≡ acted d (writeActs (d .core) qword o v)
+  unfolding writeActs
+  qword-first h = rw (lt-leb (o + 4) (2 ^ 64 - 1) h, append-nil)
+
+  pub qword-second : o + 4 ≤ 2 ^ 64 - 1 → acted (acted d (dwordActs o (half false v))) (dwordActs (o + 4) (half true v)) ≡ acted d (writeActs (d .core) qword o v)
+  unfolding writeActs
+  qword-second h = rw (le-leb (o + 4) (2 ^ 64 - 1) h) (sym (acted-append d (dwordActs o (half false v)) (dwordActs (o + 4) (half true v))))
