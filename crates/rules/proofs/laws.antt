@@ -11,3 +11,6 @@ pub mod Rings
 pub mod Acts
 pub mod Steps
 pub mod Outcomes
+pub mod Maps
+pub mod Widths
+pub mod Writes

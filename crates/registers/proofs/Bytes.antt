@@ -1,0 +1,89 @@
+-- Bytes read and written one after another: one byte more, and the Dword and the Word that they make.
+use mathlib.Core.Path.{_≡_, refl, sym, ap, _∙_}
+use mathlib.Core.Bool.{true, false}
+use mathlib.Core.List.{List, [], _∷_, _++_, append-assoc}
+use Prim.Native.Nat.{ℕ, suc, _+_, _*_, _%_, _^_, _≤_, _<_}
+use native.Mathlib.Nat.{add-zero, mul-le-mul-left}
+use native.Mathlib.Numerals.{add-one}
+use native.Mathlib.Omega.{arith}
+use lib.Bits.{bitOr, or-shifted-r}
+use lib.Pow.{pow-add, shl-exact}
+use Rattle.rules.specs.Numbers.{byteOf}
+use Rattle.rules.specs.Inputs.{half}
+use Rattle.rules.specs.Core.{Core, Act, turns}
+use Rattle.rules.specs.Map.{inBytes, bytes, cellAt}
+use Rattle.rules.specs.Access.{word, entry, readCell, readByte, readDword, readAt, entryActs, cellActs, dwordActs, byteActs, writeActs}
+use Rattle.rules.specs.Device.{Device, acted}
+use Rattle.rules.proofs.laws.Acts.{acted-none, acted-append}
+use Rattle.rules.proofs.laws.Halves.{byte-place}
+use Rattle.rules.proofs.laws.Maps.{four-inside}
+use Rattle.rules.proofs.laws.Widths.{byte-inside, dword-of}
+use Rattle.rules.proofs.laws.Writes.{byte-acts-inside, dword-acts-of}
+use Rattle.registers.specs.Bytes.{bytesRead, bytesWritten}
+
+-- v | b << (i * 8), for a v of i bytes
+module _ (i v b : ℕ) (h : i < 4) (hv : v < 2 ^ (i * 8)) (hb : b < 2 ^ 8) where
+  on-top : bitOr v (b * 2 ^ (i * 8) % 2 ^ 32) ≡ b * 2 ^ (i * 8) + v
+  on-top = rw (shl-exact 8 (i * 8) 32 hb (omega arith)) (or-shifted-r b (i * 8) v hv)
+
+  pub more-lt : bitOr v (b * 2 ^ (i * 8) % 2 ^ 32) < 2 ^ ((i + 1) * 8)
+  more-lt =
+      let e : (i + 1) * 8 ≡ i * 8 + 8 = omega arith in
+      rw (on-top, e, pow-add 2 (i * 8) 8) (omega (arith, mul-le-mul-left (2 ^ (i * 8)) hb))
+
+  pub more : (c : Core) (o : ℕ) → v ≡ bytesRead c o i → b ≡ readByte c (o + i) → bitOr v (b * 2 ^ (i * 8) % 2 ^ 32) ≡ bytesRead c o (i + 1)
+  unfolding bytesRead
+  more c o p q =
+      let e : b * 256 ^ i ≡ readByte c (o + i) * 256 ^ i = ap (λ x. x * 256 ^ i) q in
+      rw (on-top, add-one i, byte-place i) (omega arith)
+
+module _ (c : Core) (o : ℕ) where
+  -- in the byte ranges a Dword is four Bytes by the Byte rule
+  pub four-read : cellAt o ≡ bytes → bytesRead c o 4 ≡ readDword c o
+  unfolding bytesRead readCell
+  four-read e =
+      let a : (k : ℕ) → k < 4 → readByte c (o + k) ≡ entry c (o + k) = λ k l. byte-inside c (o + k) (four-inside o e k l) in
+      let a0 = rw add-zero at (a 0 (omega arith)) in
+      let a1 = a 1 (omega arith) in
+      let a2 = a 2 (omega arith) in
+      let a3 = a 3 (omega arith) in
+      rw (add-zero o) (omega arith) ∙ dword-of c o (sym e)
+
+  pub word-read : bytesRead c o 2 ≡ readAt c word o
+  unfolding bytesRead readAt
+  word-read = rw add-zero (omega arith)
+
+-- ---- writing
+
+-- the low half keeps the low bytes
+pub low-bytes : (v w : ℕ) → w ≡ half false v → (byteOf w 0 ≡ byteOf v 0) × (byteOf w 1 ≡ byteOf v 1)
+low-bytes v w e = (omega arith, omega arith)
+
+module _ (d : Device) (o v : ℕ) where
+  -- one byte more, whose acts do not depend on what the bytes before it did
+  next-written : (n : ℕ) (xs ys : List Act) → bytesWritten d o v n ≡ acted d xs → ((c : Core) → byteActs c (o + n) (byteOf v n) ≡ ys)
+      → bytesWritten d o v (suc n) ≡ acted d (xs ++ ys)
+  unfolding bytesWritten
+  next-written n xs ys p q =
+      ap (λ (e : Device). acted e (byteActs (e .core) (o + n) (byteOf v n))) p
+      ∙ ap (acted (acted d xs)) (q (acted d xs .core)) ∙ sym (acted-append d xs ys)
+
+  -- in the byte ranges a Dword is four Bytes by the Byte rule
+  pub four-written : cellAt o ≡ bytes → bytesWritten d o v 4 ≡ acted d (dwordActs o v)
+  unfolding bytesWritten cellActs
+  four-written e =
+      let x : ℕ → List Act = λ k. entryActs (o + k) (byteOf v k) in
+      let a : (k : ℕ) → k < 4 → (c : Core) → byteActs c (o + k) (byteOf v k) ≡ x k = λ k l c. byte-acts-inside (o + k) (byteOf v k) c (four-inside o e k l) in
+      let b1 = next-written 0 [] (x 0) (sym (acted-none d)) (a 0 (omega arith)) in
+      let b2 = next-written 1 (x 0) (x 1) b1 (a 1 (omega arith)) in
+      let b3 = next-written 2 (x 0 ++ x 1) (x 2) b2 (a 2 (omega arith)) in
+      let b4 = next-written 3 ((x 0 ++ x 1) ++ x 2) (x 3) b3 (a 3 (omega arith)) in
+      let z : o + 0 ≡ o = add-zero o in
+      b4 ∙ ap (acted d) (simp append-assoc (ap (λ (p : ℕ). entryActs p (byteOf v 0) ++ (x 1 ++ (x 2 ++ x 3))) z) ∙ dword-acts-of o v (sym e))
+
+  -- a Word is two Bytes, the second after the first has taken effect
+  pub word-written : (w : ℕ) → byteOf w 0 ≡ byteOf v 0 → byteOf w 1 ≡ byteOf v 1 → bytesWritten d o w 2 ≡ acted d (writeActs (d .core) word o v)
+  unfolding bytesWritten writeActs acted
+  word-written w p q =
+      let one : List Act = byteActs (d .core) o (byteOf v 0) in
+      rw (add-zero o, p, q) (sym (acted-append d one (byteActs (turns (d .core) one .after) (o + 1) (byteOf v 1))))

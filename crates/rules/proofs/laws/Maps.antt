@@ -1,0 +1,101 @@
+-- The register map: an offset by its range, what stands at an offset that the table does not list, and where the bytes stand.
+use mathlib.Core.Path.{_≡_, refl, sym, ap, _∙_}
+use mathlib.Core.Bool.{Bool, true, false, cond, _&&_, _||_, true≢false, false≢true, and-eq-true-iff}
+use mathlib.Core.List.{List, [], _∷_}
+use Prim.Native.Nat.{ℕ, _+_, _-_, _%_, _≤_, _<_}
+use native.Mathlib.Omega.{arith}
+use lib.Dec.{eqb, leb, ltb}
+use borrow.Author.Tests.{le-leb, lt-ltb, leb-true, ltb-true, ne-eqb}
+use Rattle.rules.specs.Map.{Row, Cell, halfOf, bytes, nothing, table, lookup, within, routesAt, vectorsAt, inRoutes, inVectors, inBytes, cellAt}
+
+-- ---- ranges
+module _ (a e o : ℕ) where
+  pub inside : a ≤ o → o < e → within a e o ≡ true
+  inside h k = simp (le-leb a o h, lt-ltb o e k)
+
+  pub inside-from : within a e o ≡ true → (a ≤ o) × (o < e)
+  inside-from t =
+      let r = and-eq-true-iff (leb a o) (ltb o e) .0 t in
+      (leb-true a o (r .0), ltb-true o e (r .1))
+
+  pub outside : (a ≤ o → o < e → ⊥) → within a e o ≡ false
+  outside n = by (within a e o) refl
+    where
+      by : (t : Bool) → within a e o ≡ t → within a e o ≡ false
+      by true u = let r = inside-from u in absurd (n (r .0) (r .1))
+      by false u = u
+
+-- the two ranges of bytes
+module _ (o : ℕ) where
+  pub among-routes : 0x100 ≤ o → o < 0x140 → (inRoutes o || inVectors o) ≡ true
+  among-routes h k = rw (inside 0x100 0x140 o h k)
+
+  pub among-vectors : 0x200 ≤ o → o < 0x240 → (inRoutes o || inVectors o) ≡ true
+  among-vectors h k = rw (outside 0x100 0x140 o (λ p q. omega arith)) (inside 0x200 0x240 o h k)
+
+  pub among-neither : (0x100 ≤ o → o < 0x140 → ⊥) → (0x200 ≤ o → o < 0x240 → ⊥) → (inRoutes o || inVectors o) ≡ false
+  among-neither m n = rw (outside 0x100 0x140 o m) (outside 0x200 0x240 o n)
+
+  among-either : (inRoutes o || inVectors o) ≡ true → (0x100 ≤ o) × (o < 0x240)
+  among-either t = by (inRoutes o) (inVectors o) refl refl t
+    where
+      by : (p q : Bool) → inRoutes o ≡ p → inVectors o ≡ q → (p || q) ≡ true → (0x100 ≤ o) × (o < 0x240)
+      by true q u v t = omega (arith, inside-from 0x100 0x140 o u)
+      by false true u v t = omega (arith, inside-from 0x200 0x240 o v)
+      by false false u v t = absurd (false≢true t)
+
+-- ---- the table
+
+-- o is none of the offsets of the rows, said in the order of the rows
+abbrev pub Missed : Type 0 → List Row → ℕ → Type 0
+Missed A [] o = A
+Missed A (r ∷ rs) o = Missed ((A × (o ≡ r .low → ⊥)) × (o ≡ r .high → ⊥)) rs o
+
+missed-all : (A : Type 0) (rs : List Row) (other : Cell) (o : ℕ) → Missed A rs o → (lookup rs other o ≡ other) × A
+missed-all A [] other o m = (refl, m)
+missed-all A (r ∷ rs) other o m =
+    let t = missed-all ((A × (o ≡ r .low → ⊥)) × (o ≡ r .high → ⊥)) rs other o m in
+    (rw (ne-eqb o (r .low) (t .1 .0 .1), ne-eqb o (r .high) (t .1 .1)) (t .0), t .1 .0 .0)
+
+-- at an offset that rows do not list stands the other cell
+pub missed : (rs : List Row) (other : Cell) (o : ℕ) → Missed Unit rs o → lookup rs other o ≡ other
+missed rs other o m = missed-all Unit rs other o m .0
+
+-- rows list halves of registers alone
+pub lookup-bytes : (rs : List Row) (other : Cell) (o : ℕ) → lookup rs other o ≡ bytes → other ≡ bytes
+lookup-bytes [] other o e = e
+lookup-bytes (r ∷ rs) other o e = lookup-bytes rs other o (skip (eqb o (r .low)) (eqb o (r .high)) e)
+  where
+    skip : (a b : Bool) → cond a (halfOf (r .register) false) (cond b (halfOf (r .register) true) (lookup rs other o)) ≡ bytes → lookup rs other o ≡ bytes
+    skip true b e = absurd (let z : _≡_ {A = ℕ} 0 1 = cc in omega arith)
+    skip false true e = absurd (let z : _≡_ {A = ℕ} 0 1 = cc in omega arith)
+    skip false false e = e
+
+-- ---- what stands at an offset
+module _ (o : ℕ) where
+  -- not listed: bytes in the two ranges, nothing outside them
+  pub unlisted : Missed Unit table o → {b : Bool} → (inRoutes o || inVectors o) ≡ b → cellAt o ≡ cond b bytes nothing
+  unfolding cellAt
+  unlisted m e = missed table (cond (inRoutes o || inVectors o) bytes nothing) o m ∙ ap (λ (t : Bool). cond t bytes nothing) e
+
+  -- bytes stand in the two ranges only
+  pub at-bytes : cellAt o ≡ bytes → (0x100 ≤ o) × (o < 0x240)
+  unfolding cellAt
+  at-bytes e = among-either o (by (inRoutes o || inVectors o) (lookup-bytes table (cond (inRoutes o || inVectors o) bytes nothing) o e))
+    where
+      by : (b : Bool) → cond b bytes nothing ≡ bytes → b ≡ true
+      by true e = refl
+      by false e = absurd (let z : _≡_ {A = ℕ} 0 1 = cc in omega arith)
+
+module _ (o : ℕ) where
+  -- a Byte outside 0x100..0x39f is no byte of a Dword among the bytes
+  pub not-aligned : inBytes o ≡ false → cellAt (o - o % 4) ≡ bytes → ⊥
+  not-aligned h e =
+      let r = at-bytes (o - o % 4) e in
+      false≢true (sym h ∙ inside 0x100 0x3a0 o (omega arith) (omega arith))
+
+  -- the four bytes of a Dword among the bytes lie there
+  pub four-inside : cellAt o ≡ bytes → (k : ℕ) → k < 4 → inBytes (o + k) ≡ true
+  four-inside e k h =
+      let r = at-bytes o e in
+      inside 0x100 0x3a0 (o + k) (omega arith) (omega arith)

@@ -1,0 +1,61 @@
+-- The widths: an entry by its range, a Byte by where it lies, a Dword by what stands at its offset, and the masks that align an offset.
+use mathlib.Core.Path.{_≡_, refl, sym, ap, _∙_}
+use mathlib.Core.Bool.{Bool, true, false, cond}
+use mathlib.Core.List.{List, [], _∷_}
+use Prim.Native.Nat.{ℕ, _+_, _-_, _*_, _/_, _%_, _^_, _≤_, _<_}
+use native.Mathlib.Omega.{arith}
+use lib.Bits.{bitAnd, bitOr, and-mask, and-high, or-shifted-r}
+use lib.Pow.{shl-exact}
+use lib.ListN.{getD}
+use borrow.Author.Tests.{le-leb, lt-leb}
+use Rattle.rules.specs.Numbers.{byteOf, withByte}
+use Rattle.rules.specs.Core.{Core, Act, store, setRoute, setVector}
+use Rattle.rules.specs.Map.{Cell, bytes, routesAt, vectorsAt, inRoutes, inVectors, inBytes, cellAt}
+use Rattle.rules.specs.Access.{qword, entry, readCell, readDword, readByte, readAt}
+use Rattle.rules.proofs.laws.Maps.{inside, outside, not-aligned}
+
+-- ---- o & 0x3 and o & !0x3
+pub low-place : (o : ℕ) → bitAnd o 0x3 ≡ o % 4
+low-place o = and-mask o 2
+
+pub aligned : (o : ℕ) → o < 2 ^ 64 → bitAnd o 0xffff_ffff_ffff_fffc ≡ o - o % 4
+aligned o h = and-high o 62 2 ∙ omega arith
+
+-- a Byte outside 0x100..0x39f asks for a Dword that is not among the bytes
+pub aligned-no-bytes : {A : Type 0} (o : ℕ) → o < 2 ^ 64 → inBytes o ≡ false → cellAt (bitAnd o 0xffff_ffff_ffff_fffc) ≡ bytes → A
+aligned-no-bytes o h n e = absurd (not-aligned o n (ap cellAt (sym (aligned o h)) ∙ e))
+
+-- ---- reading
+module _ (c : Core) (o : ℕ) where
+  pub entry-route : routesAt ≤ o → o < 0x140 → entry c o ≡ getD (c .stored .routes) (o - routesAt) 0
+  unfolding entry
+  entry-route h k = rw (inside 0x100 0x140 o h k)
+
+  pub entry-vector : vectorsAt ≤ o → o < 0x240 → entry c o ≡ getD (c .vectors) (o - vectorsAt) 0
+  unfolding entry
+  entry-vector h k = rw (outside 0x100 0x140 o (λ p q. omega arith), inside 0x200 0x240 o h k)
+
+  pub entry-none : (routesAt ≤ o → o < 0x140 → ⊥) → (vectorsAt ≤ o → o < 0x240 → ⊥) → entry c o ≡ 0
+  unfolding entry
+  entry-none m n = rw (outside 0x100 0x140 o m, outside 0x200 0x240 o n)
+
+  pub byte-inside : inBytes o ≡ true → readByte c o ≡ entry c o
+  unfolding readByte
+  byte-inside h = rw h
+
+  pub byte-outside : o < 2 ^ 64 → inBytes o ≡ false → readByte c o ≡ byteOf (readDword c (bitAnd o 0xffff_ffff_ffff_fffc)) (bitAnd o 0x3)
+  unfolding readByte
+  byte-outside l h = rw (h, aligned o l, low-place o)
+
+  pub dword-of : {x : Cell} → x ≡ cellAt o → readCell c o x ≡ readDword c o
+  unfolding readDword
+  dword-of e = ap (readCell c o) e
+
+  -- a Qword is its first Dword where the second is out of reach, and else both, x | y << 32
+  pub qword-one : 2 ^ 64 - 1 < o + 4 → readDword c o ≡ readAt c qword o
+  unfolding readAt
+  qword-one h = rw (lt-leb (o + 4) (2 ^ 64 - 1) h) (omega arith)
+
+  pub qword-both : (x y : ℕ) → o + 4 ≤ 2 ^ 64 - 1 → x < 2 ^ 32 → y < 2 ^ 32 → x ≡ readDword c o → y ≡ readDword c (o + 4) → bitOr x (y * 2 ^ 32 % 2 ^ 64) ≡ readAt c qword o
+  unfolding readAt
+  qword-both x y h hx hy p q = rw (le-leb (o + 4) (2 ^ 64 - 1) h, shl-exact 32 32 64 hy (omega arith), or-shifted-r y 32 x hx) (omega arith)

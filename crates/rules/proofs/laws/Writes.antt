@@ -1,0 +1,83 @@
+-- What one act leaves of a device, and the acts of a write by where it lies.
+use mathlib.Core.Path.{_≡_, refl, sym, ap, _∙_}
+use mathlib.Core.Bool.{Bool, true, false}
+use mathlib.Core.List.{List, [], _∷_, _++_, append-nil}
+use Prim.Native.Nat.{ℕ, _+_, _-_, _%_, _^_, _≤_, _<_}
+use native.Mathlib.Omega.{arith}
+use lib.Bits.{bitAnd}
+use lib.ListN.{set}
+use borrow.Author.Tests.{le-leb, lt-leb}
+use Rattle.rules.specs.Numbers.{byteOf, withByte}
+use Rattle.rules.specs.Inputs.{half, withHalf}
+use Rattle.rules.specs.Lines.{Lines, Made, withIsr}
+use Rattle.rules.specs.Ring.{Ring, ringRun}
+use Rattle.rules.specs.Core.{Core, Stored, Act, Move, Store, move, setIsr, store, setRoute, setVector, moved, lineTurn, vectorsAfter, storedBy, storedAfter, turns}
+use Rattle.rules.specs.Map.{Cell, routesAt, vectorsAt, inBytes, cellAt}
+use Rattle.rules.specs.Access.{qword, readDword, entryActs, cellActs, dwordActs, byteActs, writeActs}
+use Rattle.rules.specs.Device.{Device, offers, acted}
+use Rattle.rules.proofs.laws.Acts.{acted-append}
+use Rattle.rules.proofs.laws.Maps.{inside, outside}
+use Rattle.rules.proofs.laws.Widths.{low-place, aligned}
+
+abbrev pub deviceOf : Lines → List ℕ → Stored → Ring → Device
+deviceOf l vs s r = record { core = record { lines = l; vectors = vs; stored = s }; ring = r }
+
+-- ---- one act
+module _ (d : Device) where
+  -- a move changes the lines, and the ring is offered what it makes
+  pub acted-move : (m : Move) → acted d (move m ∷ [])
+      ≡ deviceOf (moved (d .core .vectors) (d .core .lines) m .after) (d .core .vectors) (d .core .stored) (ringRun (d .ring) (offers (moved (d .core .vectors) (d .core .lines) m .made)) .after)
+  unfolding acted turns lineTurn vectorsAfter storedAfter
+  acted-move m =
+      let t = moved (d .core .vectors) (d .core .lines) m in
+      ap (λ (ms : List Made). deviceOf (t .after) (d .core .vectors) (d .core .stored) (ringRun (d .ring) (offers ms) .after)) (append-nil (t .made))
+
+  -- the other acts change one thing, and the ring stays
+  pub acted-isr : (h : Bool) (v : ℕ) → acted d (setIsr h v ∷ []) ≡ deviceOf (withIsr (d .core .lines) (withHalf h (d .core .lines .isr) v)) (d .core .vectors) (d .core .stored) (d .ring)
+  unfolding acted turns lineTurn vectorsAfter storedAfter offers ringRun
+  acted-isr h v = refl
+
+  pub acted-store : (s : Store) → acted d (store s ∷ []) ≡ deviceOf (d .core .lines) (d .core .vectors) (storedBy (d .core .stored) s) (d .ring)
+  unfolding acted turns lineTurn vectorsAfter storedAfter offers ringRun
+  acted-store s = refl
+
+  pub acted-vector : (n v : ℕ) → acted d (setVector n v ∷ []) ≡ deviceOf (d .core .lines) (set (d .core .vectors) n v) (d .core .stored) (d .ring)
+  unfolding acted turns lineTurn vectorsAfter storedAfter offers ringRun
+  acted-vector n v = refl
+
+-- ---- a Byte's acts, and a Dword's
+module _ (o v : ℕ) where
+  pub entry-acts-route : routesAt ≤ o → o < 0x140 → entryActs o v ≡ store (setRoute (o - routesAt) v) ∷ []
+  unfolding entryActs
+  entry-acts-route h k = rw (inside 0x100 0x140 o h k)
+
+  pub entry-acts-vector : vectorsAt ≤ o → o < 0x240 → entryActs o v ≡ setVector (o - vectorsAt) v ∷ []
+  unfolding entryActs
+  entry-acts-vector h k = rw (outside 0x100 0x140 o (λ p q. omega arith), inside 0x200 0x240 o h k)
+
+  pub entry-acts-none : (routesAt ≤ o → o < 0x140 → ⊥) → (vectorsAt ≤ o → o < 0x240 → ⊥) → entryActs o v ≡ []
+  unfolding entryActs
+  entry-acts-none m n = rw (outside 0x100 0x140 o m, outside 0x200 0x240 o n)
+
+  pub byte-acts-inside : (c : Core) → inBytes o ≡ true → byteActs c o v ≡ entryActs o v
+  unfolding byteActs
+  byte-acts-inside c h = rw h
+
+  pub byte-acts-outside : (c : Core) → o < 2 ^ 64 → inBytes o ≡ false
+      → byteActs c o v ≡ dwordActs (bitAnd o 0xffff_ffff_ffff_fffc) (withByte (readDword c (bitAnd o 0xffff_ffff_ffff_fffc)) (bitAnd o 0x3) v)
+  unfolding byteActs
+  byte-acts-outside c l h = rw (h, aligned o l, low-place o)
+
+  pub dword-acts-of : {x : Cell} → x ≡ cellAt o → cellActs o v x ≡ dwordActs o v
+  unfolding dwordActs
+  dword-acts-of e = ap (cellActs o v) e
+
+-- ---- a Qword: its first Dword where the second is out of reach, and else one after the other
+module _ (d : Device) (o v : ℕ) where
+  pub qword-first : 2 ^ 64 - 1 < o + 4 → acted d (dwordActs o (half false v)) ≡ acted d (writeActs (d .core) qword o v)
+  unfolding writeActs
+  qword-first h = rw (lt-leb (o + 4) (2 ^ 64 - 1) h, append-nil)
+
+  pub qword-second : o + 4 ≤ 2 ^ 64 - 1 → acted (acted d (dwordActs o (half false v))) (dwordActs (o + 4) (half true v)) ≡ acted d (writeActs (d .core) qword o v)
+  unfolding writeActs
+  qword-second h = rw (le-leb (o + 4) (2 ^ 64 - 1) h) (sym (acted-append d (dwordActs o (half false v)) (dwordActs (o + 4) (half true v))))
