@@ -36,10 +36,10 @@ decided c =
     (c .body-good .result) (c .body-good .ensures)
 
 returns-3 : tie.Need-returns-3
-returns-3 c = sym (decided (c .before) ∙ ap (λ t. cond t accepted wrongBody) (not-true _ (c .if3 .taken)))
+returns-3 c = sym (decided (c .before) ∙ ap (λ t. cond t accepted wrongBody) (not-true (c .before .body-good .result) (c .if3 .taken)))
 
 returns-4 : tie.Need-returns-4
-returns-4 c = sym (decided (c .before) ∙ ap (λ t. cond t accepted wrongBody) (not-false _ (c .if3 .left)))
+returns-4 c = sym (decided (c .before) ∙ ap (λ t. cond t accepted wrongBody) (not-false (c .before .body-good .result) (c .if3 .left)))
 
 pub check-spec : {M : Type 1} → statement M
 check-spec = tie.close (tie.spec returns (λ c κs. search needs) returns-2 (λ c κs. search needs) returns-3 returns-4)
