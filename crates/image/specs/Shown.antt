@@ -1,7 +1,14 @@
 -- What the functions of this crate hand back, as the rules see it.
+use mathlib.Core.Path.{_≡_}
 use mathlib.Core.List.{List, [], _∷_}
 use Prim.Native.Nat.{ℕ, zero, suc}
+use Rattle.rules.specs.Lines as rules-lines
+use Rattle.rules.specs.Core as rules-core
 use Rattle.rules.specs.Image.{ImageTest, accepted, wrongLength, wrongContents, wrongBody}
+use Rattle.state.specs.View.{linesView, storedView, WellLines}
+use Rattle.state.specs.declared.Lines.{Lines}
+use Rattle.state.specs.declared.Stored.{Stored}
+use Rattle.state.specs.declared.Tables.{Tables}
 use Rattle.image.specs.declared.check.Checked.{Checked}
 use Rattle.image.specs.declared.check.Checked.the-variants.{Accepted, WrongLength, WrongContents, WrongBody}
 
@@ -16,3 +23,15 @@ abbrev pub barred : ℕ → ℕ → List ℕ
 barred n zero = []
 barred zero (suc k) = 255 ∷ 255 ∷ barred zero k
 barred (suc n) (suc k) = 0 ∷ 254 ∷ barred n k
+
+-- what a function that hands back a part of the state promises, beside IsRing and Is: it is well formed, and shows what the rules say
+pub record IsLines (l : Lines) (shown : rules-lines.Lines) : Type 0 where
+  pub well : WellLines l
+  pub shows : linesView l ≡ shown
+
+abbrev pub IsStored : Stored → rules-core.Stored → Type 0
+IsStored s shown = storedView s (shown .routes) ≡ shown
+
+pub record IsTables (t : Tables) (shown : rules-core.Core) : Type 0 where
+  pub routes : t .«route_entry» ≡ shown .stored .routes
+  pub vectors : t .«htmsi_vector» ≡ shown .vectors

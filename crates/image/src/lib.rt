@@ -1,3 +1,4 @@
 // The boundary's bytes: the saved image checked, loaded and saved, and the answer area.
 pub mod bytes;
 pub mod check;
+pub mod load;
