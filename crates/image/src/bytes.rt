@@ -1,8 +1,9 @@
 // Numbers and runs of bytes: the leaves that read and write parts of the image.
 ghost use mathlib.Core.Path.{_≡_};
-ghost use Prim.Native.Nat.{_≤_};
+ghost use Prim.Native.Nat.{_*_, _≤_};
 ghost use lib.ListN.{length, replicate};
 ghost use Rattle.rules.specs.Numbers.{numberOf, bytesOf};
+ghost use Rattle.image.specs.Shown.{spelled};
 
 pub fn wide(x: u8) -> u64
     ensures { λ r. ⌜ r ≡ x ⌝ }
@@ -33,6 +34,20 @@ pub fn put_number(dst: &mut [u8], x: u64)
     while i < dst.len() {
         dst[i] = (y % 256) as u8;
         y = y / 256;
+        i += 1;
+    }
+}
+
+// Words, eight bytes each.
+pub fn put_words(dst: &mut [u8], words: &[u64])
+    requires { ⌜ length (now dst) ≡ 8 * length (now words) ⌝ }
+    ensures { λ _. ⌜ now (dst .exit) ≡ spelled (now (words .entry)) ⌝ }
+{
+    let mut i = 0;
+    while i < words.len() {
+        let at = 8 * i;
+        let end = at + 8;
+        put_number(&mut dst[at..end], words[i]);
         i += 1;
     }
 }

@@ -1,10 +1,11 @@
 // Whether an image may be loaded. Bytes are compared as numbers, eight at a time, and the ring's pairs with no early end.
 use crate::bytes::number;
+use crate::contents::contents_good;
 ghost use mathlib.Core.Path.{_≡_};
-ghost use Prim.Native.Nat.{_≤_, _-_};
+ghost use Prim.Native.Nat.{_-_};
 ghost use lib.ListN.{length};
-ghost use Rattle.rules.specs.Numbers.{numberOf, part};
-ghost use Rattle.rules.specs.Image.{imageLength, registersAt, contents, pairsLength, same, imageTest};
+ghost use Rattle.rules.specs.Numbers.{numberOf};
+ghost use Rattle.rules.specs.Image.{imageLength, pairsLength, imageTest};
 ghost use Rattle.rules.proofs.laws.Images.{bodyRules, pairsGood};
 ghost use Rattle.image.specs.Shown.{checkedView, barred};
 
@@ -14,20 +15,6 @@ pub enum Checked {
     WrongLength,
     WrongContents,
     WrongBody,
-}
-
-// Form 1 and the places of its four bodies: eight bytes, eight and six.
-fn contents_good(image: &[u8]) -> bool
-    requires { ⌜ registersAt ≤ length (now image) ⌝ }
-    ensures { λ r. ⌜ r ≡ same (part 0 registersAt (now (image .entry))) contents ⌝ }
-{
-    if number(&image[0..8]) != 0x0200_4800_1601_0401 {
-        return false;
-    }
-    if number(&image[8..16]) != 0x4000_9e03_0040_005e {
-        return false;
-    }
-    number(&image[16..22]) == 0x0025_00de_0400
 }
 
 // The bits that the four pairs from `from` on must not have where count wait.

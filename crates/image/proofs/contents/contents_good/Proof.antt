@@ -13,8 +13,8 @@ use Rattle.rules.specs.Image.{registersAt, contents, wordAt, same}
 use Rattle.rules.proofs.laws.Bits.{test}
 use Rattle.rules.proofs.laws.Lists.{equal-same, differ-same}
 use Rattle.rules.proofs.laws.Images.{contents-known, contents-number}
-use Rattle.image.proofs.check.contents_good.Statement.{statement}
-use Rattle.image.proofs.check.contents_good.Tie as tie
+use Rattle.image.proofs.contents.contents_good.Statement.{statement}
+use Rattle.image.proofs.contents.contents_good.Tie as tie
 
 module _ (l : List ℕ) where
   -- a number that differs
