@@ -7,6 +7,7 @@ use Rattle.rules.specs.Lines as rules-lines
 use Rattle.rules.specs.Ring as rules-ring
 use Rattle.rules.specs.Core as rules-core
 use Rattle.rules.specs.Device.{Device, WellFormed}
+use Rattle.rules.specs.Device as device
 use Rattle.rules.specs.Image.{encode, ImageTest, accepted, wrongLength, wrongContents, wrongBody}
 use Rattle.state.specs.View.{linesView, storedView, WellLines}
 use Rattle.state.specs.declared.Lines.{Lines}
@@ -14,6 +15,8 @@ use Rattle.state.specs.declared.Stored.{Stored}
 use Rattle.state.specs.declared.Tables.{Tables}
 use Rattle.image.specs.declared.check.Checked.{Checked}
 use Rattle.image.specs.declared.check.Checked.the-variants.{Accepted, WrongLength, WrongContents, WrongBody}
+use Rattle.image.specs.declared.answer.Value.{Value}
+use Rattle.image.specs.declared.answer.Value.the-variants.{Absent, Present}
 
 abbrev pub checkedView : Checked → ImageTest
 checkedView Accepted = accepted
@@ -54,3 +57,7 @@ withRing r d = record { core = d .core; ring = r }
 -- what a function that saves a part promises: it turns the image of a device into that of the device with the part replaced
 abbrev pub Saves : List ℕ → List ℕ → (Device → Device) → Type 0
 Saves entry exit f = (d : Device) → WellFormed d → entry ≡ encode d → exit ≡ encode (f d)
+
+abbrev pub valueView : Value → device.Value
+valueView Absent = device.none
+valueView (Present v) = device.some v
