@@ -1,22 +1,21 @@
 -- What one act leaves of a device, and the acts of a write by where it lies.
-use mathlib.Core.Path.{_≡_, refl, sym, ap, _∙_}
+use mathlib.Core.Path.{_≡_, refl, sym, ap}
 use mathlib.Core.Bool.{Bool, true, false}
-use mathlib.Core.List.{List, [], _∷_, _++_, append-nil}
-use Prim.Native.Nat.{ℕ, _+_, _-_, _%_, _^_, _≤_, _<_}
-use native.Mathlib.Omega.{arith}
+use mathlib.Core.List.{List, [], _∷_, append-nil}
+use Prim.Native.Nat.{ℕ, _+_, _-_, _^_, _≤_, _<_}
 use lib.Bits.{bitAnd}
 use lib.ListN.{set}
 use borrow.Author.Tests.{le-leb, lt-leb}
-use Rattle.rules.specs.Numbers.{byteOf, withByte}
+use Rattle.rules.specs.Numbers.{withByte}
 use Rattle.rules.specs.Inputs.{half, withHalf}
 use Rattle.rules.specs.Lines.{Lines, Made, withIsr}
 use Rattle.rules.specs.Ring.{Ring, ringRun}
-use Rattle.rules.specs.Core.{Core, Stored, Act, Move, Store, move, setIsr, store, setRoute, setVector, moved, lineTurn, vectorsAfter, storedBy, storedAfter, turns}
+use Rattle.rules.specs.Core.{Core, Stored, Move, Store, move, setIsr, store, setRoute, setVector, moved, lineTurn, vectorsAfter, storedBy, storedAfter, turns}
 use Rattle.rules.specs.Map.{Cell, routesAt, vectorsAt, inBytes, cellAt}
 use Rattle.rules.specs.Access.{qword, readDword, entryActs, cellActs, dwordActs, byteActs, writeActs}
 use Rattle.rules.specs.Device.{Device, offers, acted}
 use Rattle.rules.proofs.laws.Acts.{acted-append}
-use Rattle.rules.proofs.laws.Maps.{inside, outside}
+use Rattle.rules.proofs.laws.Maps.{inside, Elsewhere, not-route}
 use Rattle.rules.proofs.laws.Widths.{low-place, aligned}
 
 abbrev pub deviceOf : Lines → List ℕ → Stored → Ring → Device
@@ -53,11 +52,11 @@ module _ (o v : ℕ) where
 
   pub entry-acts-vector : vectorsAt ≤ o → o < 0x240 → entryActs o v ≡ setVector (o - vectorsAt) v ∷ []
   unfolding entryActs
-  entry-acts-vector h k = rw (outside 0x100 0x140 o (λ p q. omega arith), inside 0x200 0x240 o h k)
+  entry-acts-vector h k = rw (not-route o h, inside 0x200 0x240 o h k)
 
-  pub entry-acts-none : (routesAt ≤ o → o < 0x140 → ⊥) → (vectorsAt ≤ o → o < 0x240 → ⊥) → entryActs o v ≡ []
+  pub entry-acts-none : Elsewhere o → entryActs o v ≡ []
   unfolding entryActs
-  entry-acts-none m n = rw (outside 0x100 0x140 o m, outside 0x200 0x240 o n)
+  entry-acts-none e = rw (e .routes, e .vectors)
 
   pub byte-acts-inside : (c : Core) → inBytes o ≡ true → byteActs c o v ≡ entryActs o v
   unfolding byteActs
