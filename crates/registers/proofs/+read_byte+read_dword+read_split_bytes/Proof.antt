@@ -114,7 +114,7 @@ unfolding readCell bytesRead
     (λ c κs.
     let e = sym (c .before .before .decode .ensures) ∙ ap cellView (c .enum-told .given .1) in
     let h = c .before .before .before .pre .1 e in
-    (omega (arith, h), ((omega arith, omega (arith, at-bytes _ e)), (omega (arith, h), λ k l n. absurd (true≢false (sym (four-inside _ e k l) ∙ n))))))
+    (omega (arith, h), ((omega arith, omega (arith, at-bytes _ e)), (omega (arith, h), λ k l n. absurd (true≢false (sym (four-inside _ e k (omega arith)) ∙ n))))))
     (λ c. search needs)
     (λ c.
     let d = c .before .before .before .before .before in
