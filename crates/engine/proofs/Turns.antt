@@ -13,7 +13,7 @@ use Rattle.rules.proofs.laws.Bits.{test, is-number, put-lt, on-bit, on-without}
 use Rattle.rules.proofs.laws.Inputs.{inputs-ext, no-inputs, only-served, only-unlatched, enter-ext, unlatchedIn}
 use Rattle.rules.proofs.laws.Acts.{offers-append}
 use Rattle.rules.proofs.laws.Rings.{run-append}
-use Rattle.engine.specs.Moves.{retire, updated, levelled}
+use Rattle.engine.specs.Moves.{retire, updated}
 
 -- ---- returned, or offered
 

@@ -1,20 +1,25 @@
 -- What the engine's functions promise, in the rules' terms: the lines after, what is handed back, and the ring after the offers.
 use mathlib.Core.Path.{_≡_}
 use mathlib.Core.Bool.{Bool, true, false, not, _&&_}
-use mathlib.Core.List.{List, [], _∷_, map}
-use Prim.Native.Nat.{ℕ}
+use mathlib.Core.List.{List, [], _∷_, _++_, map}
+use Prim.Native.Nat.{ℕ, _+_, _*_, _/_}
+use lib.ListN.{length, drop, set}
 use Rattle.rules.specs.Inputs.{on, inputs, only, without}
 use Rattle.rules.specs.Lines as lines
-use Rattle.rules.specs.Lines.{Turn, stay, withIsr, event, enter, raised, lowered}
+use Rattle.rules.specs.Lines.{Turn, stay, withIsr, event, enter}
 use Rattle.rules.proofs.laws.Inputs.{unlatchedIn}
 use Rattle.rules.specs.Ring as ring
-use Rattle.rules.specs.Ring.{ringRun}
+use Rattle.rules.specs.Ring.{ringRun, drawn}
 use Rattle.rules.specs.Device.{Value, none, some, offers, returned}
+use Rattle.rules.specs.Image.{flag, pairsOf}
+use Rattle.state.specs.declared.Taken.{Taken}
+use Rattle.state.specs.declared.Taken.the-variants.{Nothing, One}
 use Rattle.state.specs.View.{WellLines, WellRing, linesView, ringView}
 use Rattle.engine.specs.declared.Answer.{Answer}
 use Rattle.engine.specs.declared.Answer.the-variants.{None, Vector}
 use Rattle.engine.specs.declared.Routed.{Routed}
 use Rattle.engine.specs.declared.Moved.{Moved}
+use Rattle.engine.specs.declared.Drained.{Drained}
 
 abbrev pub answerValue : Answer → Value
 answerValue None = none
@@ -29,10 +34,6 @@ retire vs l (n ∷ ns) = record { after = withIsr l (without (l .isr) (only n));
 abbrev pub updated : List ℕ → lines.Lines → ℕ → Bool → Turn
 updated vs l m true = enter vs false (on m) l
 updated vs l m false = retire vs l (inputs (unlatchedIn (on m) l))
-
-abbrev pub levelled : List ℕ → lines.Lines → ℕ → Bool → Turn
-levelled vs l n true = raised vs l n
-levelled vs l n false = lowered vs l n
 
 -- the ring after the offer of an event for each input in m
 abbrev pub queued : List ℕ → ring.Ring → ℕ → Bool → ring.Ring
@@ -50,3 +51,15 @@ pub record Moves (m : Moved) (before : ring.Ring) (t : Turn) : Type 0 where
   pub wellRing : WellRing (m .ring)
   pub lines : linesView (m .lines) ≡ t .after
   pub ring : ringView (m .ring) ≡ ringRun before (offers (t .made)) .after
+
+-- an event as a pair at its place; nothing where there is none
+abbrev pub pairPut : List ℕ → ℕ → Taken → List ℕ
+pairPut l i Nothing = l
+pairPut l i (One e) = set (set l (2 * i) (e .vector)) (2 * i + 1) (flag (e .asserted))
+
+-- a drain into a buffer: what the ring draws for the room that there is, as pairs in front, and every other byte as it was
+pub record Drains (r : Drained) (before : ring.Ring) (entry exit : List ℕ) : Type 0 where
+  pub wellRing : WellRing (r .ring)
+  pub ring : ringView (r .ring) ≡ drawn before (length entry / 2) .after
+  pub count : r .count ≡ length (drawn before (length entry / 2) .drained)
+  pub pairs : exit ≡ pairsOf (drawn before (length entry / 2) .drained) ++ drop (2 * r .count) entry

@@ -2,3 +2,4 @@
 pub mod Dozen
 pub mod WorkedSession
 pub mod RoundTrip
+pub mod EasyToGetWrong

@@ -9,6 +9,8 @@ pub mod Parts
 pub mod Images
 pub mod Rings
 pub mod Acts
+pub mod Steps
+pub mod Outcomes
 pub mod Maps
 pub mod Widths
 pub mod Writes

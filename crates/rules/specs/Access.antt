@@ -1,7 +1,7 @@
 -- The four widths: what a read gives, and a write as a list of acts.
 use mathlib.Core.Bool.{Bool, true, false, cond}
 use mathlib.Core.List.{List, [], _∷_, _++_}
-use Prim.Native.Nat.{ℕ, _+_, _*_, _-_, _/_, _%_, _^_}
+use Prim.Native.Nat.{ℕ, _+_, _*_, _-_, _%_, _^_}
 use lib.Dec.{leb}
 use lib.ListN.{getD}
 use Rattle.rules.specs.Numbers.{numberOf, byteOf, withByte}
@@ -10,10 +10,11 @@ use Rattle.rules.specs.Core.{Core, Act, move, store, clear, setMask, set
 use Rattle.rules.specs.Map as map
 use Rattle.rules.specs.Map.{Register, Cell, cellAt, routesAt, vectorsAt, inRoutes, inVectors, inBytes}
 
+-- one, two, four and eight bytes (01, The four widths)
 pub data Width : Type 0 where
   byte word dword qword : Width
 
--- a Qword's second half counts where its offset does not pass 2 ^ 64 - 1 (01, The four widths: Qword)
+-- a Qword's second half counts where its offset does not pass 2 ^ 64 - 1; no register stands past that anyway (01, The four widths: Qword)
 abbrev pub reachable : ℕ → Bool
 reachable o = leb o (2 ^ 64 - 1)
 
@@ -36,6 +37,7 @@ valueOf c (map.plain p) = plain (c .stored) p
 unfoldable pub entry : Core → ℕ → ℕ
 entry c o = cond (inRoutes o) (getD (c .stored .routes) (o - routesAt) 0) (cond (inVectors o) (getD (c .vectors) (o - vectorsAt) 0) 0)
 
+-- a Dword of a cell; in the byte ranges four bytes by the Byte rule, which there is entry (01, The four widths: Dword)
 unfoldable pub readCell : Core → ℕ → Cell → ℕ
 readCell c o (map.halfOf r h) = half h (valueOf c r)
 readCell c o map.bytes = numberOf (entry c o ∷ entry c (o + 1) ∷ entry c (o + 2) ∷ entry c (o + 3) ∷ [])
@@ -71,6 +73,7 @@ registerActs (map.plain p) h v = store (setPlain p h v) ∷ []
 unfoldable pub entryActs : ℕ → ℕ → List Act
 entryActs o v = cond (inRoutes o) (store (setRoute (o - routesAt) v) ∷ []) (cond (inVectors o) (setVector (o - vectorsAt) v ∷ []) [])
 
+-- a Dword written to a cell; in the byte ranges four bytes by the Byte rule, low first (01, The four widths: Dword)
 unfoldable pub cellActs : ℕ → ℕ → Cell → List Act
 cellActs o v (map.halfOf r h) = registerActs r h v
 cellActs o v map.bytes = entryActs o (byteOf v 0) ++ (entryActs (o + 1) (byteOf v 1) ++ (entryActs (o + 2) (byteOf v 2) ++ entryActs (o + 3) (byteOf v 3)))

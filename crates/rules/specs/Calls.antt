@@ -86,24 +86,33 @@ pub data Request : Type 0 where
   poll : (input : ℕ) → Request
   drain : (events : List ℕ) (place : ℕ) → Request
 
+-- what is asked of the device: to start afresh, or a call, which may be refused
+pub data Asked : Type 0 where
+  afresh : Asked
+  calls : Tested Call → Asked
+
+-- level 0 lowers, any other raises; a drain has room for the pairs that fit behind its place (01, The boundary; 01, The ring)
+abbrev pub askedBy : Request → Asked
+askedBy reset = afresh
+askedBy (read base size address width) = calls (accessCall base size address width device.read)
+askedBy (write base size address width v) = calls (accessCall base size address width (λ w o. device.write w o v))
+askedBy (level n v) = calls (inputCall n (device.level n (not (eqb v 0))))
+askedBy (poll n) = calls (inputCall n (device.poll n))
+askedBy (drain events place) = calls (pass (device.drain ((length events - place) / 2)))
+
 -- what a call that was done gives
 pub record Done : Type 0 where
   pub device : Device
   pub value : Value
   pub drained : List Event
 
--- a call is done on the device of an accepted image (01, Numbers handed back: 4, 5, 6, then 3, or 2 before 1)
-abbrev pub onImage : List ℕ → Tested Call → Tested Done
-onImage i t = onPass (imageAnswer (imageTest i) (decode i)) (λ d. onPass t (λ c. pass (record { device = step d c .after; value = value d c; drained = step d c .drained })))
+abbrev pub doneOn : Device → Call → Done
+doneOn d c = record { device = step d c .after; value = value d c; drained = step d c .drained }
 
--- reset takes any image of the right length; level 0 lowers, any other raises; a drain has room for the pairs that fit (01, The boundary)
-unfoldable pub performed : Request → List ℕ → Tested Done
-performed reset i = cond (eqb (length i) imageLength) (pass (record { device = device.reset; value = none; drained = [] })) (refuse wrongLength)
-performed (read base size address width) i = onImage i (accessCall base size address width device.read)
-performed (write base size address width v) i = onImage i (accessCall base size address width (λ w o. device.write w o v))
-performed (level n v) i = onImage i (inputCall n (device.level n (not (eqb v 0))))
-performed (poll n) i = onImage i (inputCall n (device.poll n))
-performed (drain events place) i = onImage i (pass (device.drain ((length events - place) / 2)))
+-- reset takes any 259 bytes; a call wants an accepted image, and then what it asks is tested (01, Numbers handed back: 4, 5, 6, then 3, or 2 before 1)
+unfoldable pub performed : Asked → List ℕ → Tested Done
+performed afresh i = cond (eqb (length i) imageLength) (pass (record { device = device.reset; value = none; drained = [] })) (refuse wrongLength)
+performed (calls t) i = onPass (imageAnswer (imageTest i) (decode i)) (λ d. onPass t (λ c. pass (doneOn d c)))
 
 -- ---- the bytes afterwards
 
@@ -111,6 +120,7 @@ performed (drain events place) i = onImage i (pass (device.drain ((length events
 abbrev pub answerLength : ℕ
 answerLength = 16
 
+-- 1 where a value is present, and the value, 0 where it is absent (01, The boundary)
 abbrev pub present : Value → ℕ
 present none = 0
 present (some v) = 1
@@ -119,6 +129,7 @@ abbrev pub amount : Value → ℕ
 amount none = 0
 amount (some v) = v
 
+-- byte 0 the number, 1 whether a value is present, 2..7 zero, 8..15 the value; the rest stay (01, The boundary)
 unfoldable pub answered : ℕ → Value → List ℕ → List ℕ
 answered number v a = (number ∷ present v ∷ 0 ∷ 0 ∷ 0 ∷ 0 ∷ 0 ∷ 0 ∷ bytesOf 8 (amount v)) ++ drop answerLength a
 
@@ -144,7 +155,7 @@ placeOf (drain events place) = place
 unfoldable pub written : List ℕ → ℕ → List Event → List ℕ
 written buffer place es = take place buffer ++ (pairsOf es ++ drop (place + 2 * length es) buffer)
 
--- what a call leaves
+-- what a call leaves: the number handed back, and every byte lent
 pub record Outcome : Type 0 where
   pub number : ℕ
   pub image : List ℕ
@@ -154,7 +165,7 @@ pub record Outcome : Type 0 where
 abbrev pub leaves : ℕ → List ℕ → List ℕ → List ℕ → Outcome
 leaves n i a e = record { number = n; image = i; answer = a; events = e }
 
--- done, everything is written; refused, only the answer area is (01, Numbers handed back)
+-- done: image, answer area and the drained pairs are written; refused: only the answer area (01, Numbers handed back)
 abbrev pub settled : Request → List ℕ → List ℕ → Tested Done → Outcome
 settled q i a (pass x) = leaves 0 (encode (x .device)) (answered 0 (x .value) a) (written (bufferOf q) (placeOf q) (x .drained))
 settled q i a (refuse r) = leaves (refusalNumber r) i (answered (refusalNumber r) (refusalValue r) a) (bufferOf q)
@@ -165,4 +176,4 @@ hasRoom q a = leb answerLength (length a) && leb (placeOf q) (length (bufferOf q
 
 -- what a request leaves of any image and answer area; refusal 7 comes first and leaves every byte (01, Numbers handed back; 00, demand 1)
 unfoldable pub outcome : Request → List ℕ → List ℕ → Outcome
-outcome q i a = cond (hasRoom q a) (settled q i a (performed q i)) (leaves (refusalNumber noRoom) i a (bufferOf q))
+outcome q i a = cond (hasRoom q a) (settled q i a (performed (askedBy q) i)) (leaves (refusalNumber noRoom) i a (bufferOf q))

@@ -10,6 +10,7 @@ use Rattle.rules.specs.Lines.{Lines, Made, Turn, stay, withIsr, polled, 
 pub data Plain : Type 0 where
   htmsiEn edge pol auto0 auto1 : Plain
 
+-- they and the route bytes
 pub record Stored : Type 0 where
   pub htmsiEn : ℕ
   pub edge : ℕ
@@ -18,6 +19,7 @@ pub record Stored : Type 0 where
   pub auto1 : ℕ
   pub routes : List ℕ
 
+-- the device but for its ring
 pub record Core : Type 0 where
   pub lines : Lines
   pub vectors : List ℕ
@@ -80,6 +82,7 @@ withPlain s auto1 x = record { htmsiEn = s .htmsiEn; edge = s .edge; pol = s .po
 abbrev pub withRoutes : Stored → List ℕ → Stored
 withRoutes s l = record { htmsiEn = s .htmsiEn; edge = s .edge; pol = s .pol; auto0 = s .auto0; auto1 = s .auto1; routes = l }
 
+-- what a store leaves
 abbrev pub storedBy : Stored → Store → Stored
 storedBy s (setPlain p h v) = withPlain s p (withHalf h (plain s p) v)
 storedBy s (setRoute n v) = withRoutes s (set (s .routes) n v)

@@ -1,13 +1,11 @@
--- The saved image, form 1: its contents, what it encodes, which bytes are accepted, and the device that they are. Each offset and length stands here once.
+-- The saved image, form 1: its contents, what it encodes, which bytes are accepted, and the device that they hold. Each offset and length stands here once.
 use mathlib.Core.Bool.{Bool, true, false, cond, _&&_}
 use mathlib.Core.List.{List, [], _∷_, _++_}
 use Prim.Native.Nat.{ℕ, zero, suc, _+_, _-_, _*_}
 use lib.Dec.{eqb, leb}
 use lib.ListN.{length, drop, getD, replicate}
 use Rattle.rules.specs.Numbers.{numberOf, bytesOf, part}
-use Rattle.rules.specs.Lines.{Lines}
 use Rattle.rules.specs.Ring.{Event, capacity}
-use Rattle.rules.specs.Core.{Core}
 use Rattle.rules.specs.Device.{Device}
 
 -- ---- where things stand (01, Saved image)

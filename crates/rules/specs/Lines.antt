@@ -1,4 +1,4 @@
--- The 64 input lines: latched (irr), masked (mask), in service (isr). The whole engine is two moves over a set of inputs, enter and leave.
+-- The 64 input lines: latched (irr), masked (mask), in service (isr). The whole engine is two steps over a set of inputs, enter and leave.
 use mathlib.Core.Bool.{Bool, true, false, not, _&&_}
 use mathlib.Core.List.{List, [], _∷_, _++_, map}
 use Prim.Native.Nat.{ℕ}
@@ -18,11 +18,12 @@ pub record Made : Type 0 where
   pub asserted : Bool
   pub offered : Bool
 
--- what a move gives: the lines after it, and the events in the order of making
+-- what a step gives: the lines after it, and the events in the order of making
 pub record Turn : Type 0 where
   pub after : Lines
   pub made : List Made
 
+-- the lines with one register replaced
 abbrev pub withMask : Lines → ℕ → Lines
 withMask l x = record { mask = x; irr = l .irr; isr = l .isr }
 
@@ -36,7 +37,7 @@ withIsr l x = record { mask = l .mask; irr = l .irr; isr = x }
 abbrev pub stay : Lines → Turn
 stay l = record { after = l; made = [] }
 
--- one move and then another
+-- one step and then another
 abbrev pub andThen : Turn → (Lines → Turn) → Turn
 andThen t f = record { after = f (t .after) .after; made = t .made ++ f (t .after) .made }
 
@@ -76,7 +77,7 @@ polled vs l n = enter vs false (only n) l
 unfoldable pub raised : List ℕ → Lines → ℕ → Turn
 raised vs l n = polled vs (withIrr l (put (l .irr) n)) n
 
--- lower n: its latch goes off; in service, masked or not, it leaves and its deassert is returned (01, Inputs: lower)
+-- lower n: its latch goes off; if it is in service, masked or not, it leaves and its deassert is returned (01, Inputs: lower)
 unfoldable pub lowered : List ℕ → Lines → ℕ → Turn
 lowered vs l n = leave vs false (only n) (withIrr l (without (l .irr) (only n)))
 

@@ -5,6 +5,7 @@ use Prim.Native.Nat.{ℕ}
 use lib.Dec.{eqb, leb, ltb}
 use Rattle.rules.specs.Core.{Plain, htmsiEn, edge, pol, auto0, auto1}
 
+-- the registers of the map (01, Window and register map)
 pub data Register : Type 0 where
   id mask clear irr isr : Register
   plain : Plain → Register

@@ -42,6 +42,7 @@ offered r e =
 unfoldable pub drawn : Ring → ℕ → Drawn
 drawn r k = record { after = record { waiting = drop k (r .waiting); drops = r .drops }; drained = take k (r .waiting) }
 
+-- one offer or drain
 unfoldable pub ringStep : Ring → RingAct → Drawn
 ringStep r (offer e) = record { after = offered r e; drained = [] }
 ringStep r (draw k) = drawn r k

@@ -25,6 +25,7 @@ abbrev pub digits : ℕ → ℕ → List ℕ
 digits zero x = []
 digits (suc n) x = digits n (x / 16) ++ (digit (x % 16) ∷ [])
 
+-- a number, if both are numbers
 abbrev pub ifSome : Value → (ℕ → Value) → Value
 ifSome none f = none
 ifSome (some x) f = f x
@@ -36,17 +37,61 @@ spelled x (b ∷ l) = ifSome (digitOf b) (λ d. spelled (16 * x + d) l)
 
 -- ---- lines
 
+-- the bytes of the marks and letters
+abbrev pub newline : ℕ
+newline = 10
+
 abbrev pub space : ℕ
 space = 0x20
 
-abbrev pub newline : ℕ
-newline = 10
+abbrev pub plus : ℕ
+plus = 0x2b
+
+abbrev pub minus : ℕ
+minus = 0x2d
+
+abbrev pub equals : ℕ
+equals = 0x3d
+
+abbrev pub question : ℕ
+question = 0x3f
+
+abbrev pub letter-d : ℕ
+letter-d = 0x64
+
+abbrev pub letter-e : ℕ
+letter-e = 0x65
+
+abbrev pub letter-k : ℕ
+letter-k = 0x6b
+
+abbrev pub letter-l : ℕ
+letter-l = 0x6c
+
+abbrev pub letter-o : ℕ
+letter-o = 0x6f
+
+abbrev pub letter-p : ℕ
+letter-p = 0x70
+
+abbrev pub letter-r : ℕ
+letter-r = 0x72
+
+abbrev pub letter-s : ℕ
+letter-s = 0x73
+
+abbrev pub letter-v : ℕ
+letter-v = 0x76
+
+abbrev pub letter-w : ℕ
+letter-w = 0x77
 
 -- the numbers of a line's fields, or a line that is not of that shape
 pub data Fields : Type 0 where
   wrong : Fields
   right : List ℕ → Fields
 
+-- a field in front of the others
 abbrev pub joined : Value → Fields → Fields
 joined none fs = wrong
 joined (some x) wrong = wrong
@@ -59,11 +104,12 @@ fields [] (b ∷ l) = wrong
 fields (n ∷ ns) [] = wrong
 fields (n ∷ ns) (b ∷ l) = cond (eqb b space && leb n (length l)) (joined (spelled 0 (take n l)) (fields ns (drop n l))) wrong
 
--- a line asks for a call, which may be refused, or it is no line
+-- a line asks for a call, which may be refused, or is of no form in 01
 pub data Line : Type 0 where
   asks : Tested Call → Line
   unknown : Line
 
+-- what the fields of a line ask for, if it has its shape
 abbrev pub ifRight : Fields → (List ℕ → Line) → Line
 ifRight wrong f = unknown
 ifRight (right xs) f = f xs
@@ -101,31 +147,31 @@ drainLine xs = asks (pass (drain capacity))
 unfoldable pub lineOf : List ℕ → Line
 lineOf [] = unknown
 lineOf (c ∷ l) =
-    cond (eqb c 0x6c) (ifRight (fields (2 ∷ 1 ∷ []) l) levelLine)
-    (cond (eqb c 0x70) (ifRight (fields (2 ∷ []) l) pollLine)
-    (cond (eqb c 0x72) (ifRight (fields (1 ∷ 4 ∷ []) l) readLine)
-    (cond (eqb c 0x77) (ifRight (fields (1 ∷ 4 ∷ 16 ∷ []) l) writeLine)
-    (cond (eqb c 0x64) (ifRight (fields [] l) drainLine) unknown))))
+    cond (eqb c letter-l) (ifRight (fields (2 ∷ 1 ∷ []) l) levelLine)
+    (cond (eqb c letter-p) (ifRight (fields (2 ∷ []) l) pollLine)
+    (cond (eqb c letter-r) (ifRight (fields (1 ∷ 4 ∷ []) l) readLine)
+    (cond (eqb c letter-w) (ifRight (fields (1 ∷ 4 ∷ 16 ∷ []) l) writeLine)
+    (cond (eqb c letter-d) (ifRight (fields [] l) drainLine) unknown))))
 
 -- ---- answers
 
 -- v and the vector, or - (01, The session program)
 abbrev pub vectorSaid : Value → List ℕ
-vectorSaid none = 0x2d ∷ []
-vectorSaid (some v) = 0x76 ∷ space ∷ digits 2 v
+vectorSaid none = minus ∷ []
+vectorSaid (some v) = letter-v ∷ space ∷ digits 2 v
 
 -- for each event a space, + or -, and the vector (01, The session program)
 abbrev pub eventsSaid : List Event → List ℕ
 eventsSaid [] = []
-eventsSaid (e ∷ es) = space ∷ cond (e .asserted) 0x2b 0x2d ∷ (digits 2 (e .vector) ++ eventsSaid es)
+eventsSaid (e ∷ es) = space ∷ cond (e .asserted) plus minus ∷ (digits 2 (e .vector) ++ eventsSaid es)
 
 -- what a call that was done prints (01, The session program)
 unfoldable pub said : Device → Call → List ℕ
 said d (level n b) = vectorSaid (value d (level n b))
 said d (poll n) = vectorSaid (value d (poll n))
-said d (read w o) = 0x3d ∷ space ∷ digits 16 (readAt (d .core) w o)
-said d (write w o v) = 0x6f ∷ 0x6b ∷ []
-said d (drain k) = 0x64 ∷ eventsSaid (step d (drain k) .drained)
+said d (read w o) = equals ∷ space ∷ digits 16 (readAt (d .core) w o)
+said d (write w o v) = letter-o ∷ letter-k ∷ []
+said d (drain k) = letter-d ∷ eventsSaid (step d (drain k) .drained)
 
 -- the device after a line, and the line's answer without its ending
 pub record Played : Type 0 where
@@ -135,15 +181,16 @@ pub record Played : Type 0 where
 -- a refusal prints e and its number, any other line ? (01, The session program)
 abbrev pub playedLine : Device → Line → Played
 playedLine d (asks (pass c)) = record { after = step d c .after; answer = said d c }
-playedLine d (asks (refuse r)) = record { after = d; answer = 0x65 ∷ digit (refusalNumber r) ∷ [] }
-playedLine d unknown = record { after = d; answer = 0x3f ∷ [] }
+playedLine d (asks (refuse r)) = record { after = d; answer = letter-e ∷ digit (refusalNumber r) ∷ [] }
+playedLine d unknown = record { after = d; answer = question ∷ [] }
 
+-- a line played (01, The session program)
 unfoldable pub played : Device → List ℕ → Played
 played d l = playedLine d (lineOf l)
 
 -- the end prints drops and 8 digits (01, The session program)
 abbrev pub ending : Device → List ℕ
-ending d = 0x64 ∷ 0x72 ∷ 0x6f ∷ 0x70 ∷ 0x73 ∷ space ∷ digits 8 (d .ring .drops)
+ending d = letter-d ∷ letter-r ∷ letter-o ∷ letter-p ∷ letter-s ∷ space ∷ digits 8 (d .ring .drops)
 
 -- ---- the whole
 

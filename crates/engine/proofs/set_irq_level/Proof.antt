@@ -9,7 +9,8 @@ use Rattle.rules.specs.Lines.{withIrr}
 use Rattle.rules.proofs.laws.Bits.{put-is, without-only-is}
 use Rattle.state.specs.View.{linesView}
 use Rattle.state.specs.declared.Lines.{Lines}
-use Rattle.engine.specs.Moves.{Answers, updated, levelled}
+use Rattle.rules.proofs.laws.Steps.{levelled}
+use Rattle.engine.specs.Moves.{Answers, updated}
 use Rattle.engine.specs.declared.Routed.{Routed}
 use Rattle.engine.proofs.Turns.{bit, raise-is, lower-is}
 use borrow.Author.Needs.{needs}

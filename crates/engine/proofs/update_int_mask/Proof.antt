@@ -12,8 +12,6 @@ use Rattle.engine.proofs.MaskWrite.{Entered, entered-one, entered-none,
 use borrow.Author.Needs.{needs}
 use Rattle.engine.proofs.update_int_mask.Statement.{statement}
 use Rattle.engine.proofs.update_int_mask.Tie as tie
-use Rattle.engine.proofs.update_int_mask.Reads as reads
-use Rattle.engine.proofs.update_int_mask.Lts as lts
 
 isr-fits : (s : tie.Start) → s .args .lines .intisr < 2 ^ 64
 isr-fits s = search needs

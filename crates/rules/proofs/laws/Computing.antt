@@ -1,4 +1,4 @@
--- One name that opens every definition which has to compute for a device to run on closed numbers.
+-- One name that opens every definition that has to compute for a device, or an exported call, to run on closed numbers.
 use Prim.Native.Nat.{ℕ}
 use Rattle.rules.specs.Inputs.{on, numberWith, from, put, without}
 use Rattle.rules.specs.Lines.{polled, raised, lowered, cleared, masked}
@@ -7,7 +7,9 @@ use Rattle.rules.specs.Core.{moved, lineTurn, vectorsAfter, storedAfter,
 use Rattle.rules.specs.Map.{cellAt}
 use Rattle.rules.specs.Access.{valueOf, entry, readCell, readDword, readByte, readAt, entryActs, cellActs, dwordActs, byteActs, writeActs}
 use Rattle.rules.specs.Device.{upFrom, actsOf, offers, acted, step, value}
-use Rattle.rules.specs.History.{history}
+use Rattle.rules.specs.Image.{registersBody, ringBody, encode, decode, imageTest}
+use Rattle.rules.specs.Calls.{performed, answered, written, outcome}
+use Rattle.rules.specs.History.{history, carriedOn}
 use Rattle.rules.specs.Session.{spelled, fields, lineOf, said, played, linesOf, answers, session}
 use Rattle.rules.specs.Dozen.{found, raises}
 
@@ -15,5 +17,5 @@ unfoldable pub computing : ℕ
 unfolding
     on numberWith from put without polled raised lowered cleared masked offered drawn ringStep ringRun moved lineTurn vectorsAfter storedAfter turns
     cellAt valueOf entry readCell readDword readByte readAt entryActs cellActs dwordActs byteActs writeActs upFrom actsOf offers acted step value
-    history spelled fields lineOf said played linesOf answers session found raises
+    registersBody ringBody encode decode imageTest performed answered written outcome history carriedOn spelled fields lineOf said played linesOf answers session found raises
 computing = 0

@@ -1,0 +1,111 @@
+-- One call of the device, in terms of the lines or of the ring alone: a level or poll call moves the lines and returns its event, a drain draws from the ring, a read changes nothing.
+use mathlib.Core.Path.{_≡_, refl, sym, ap, _∙_}
+use mathlib.Core.Bool.{Bool, true, false}
+use mathlib.Core.List.{List, [], _∷_, _++_, map, append-nil}
+use Prim.Native.Nat.{ℕ}
+use lib.ListN.{length}
+use Rattle.rules.specs.Inputs.{inputs, only, put, without}
+use Rattle.rules.specs.Lines.{Lines, Made, Turn, withIrr, event, serve, enter, leave, waitingIn, servedIn, polled, raised, lowered}
+use Rattle.rules.specs.Ring.{Ring, RingAct, drawn, ringStep, ringRun}
+use Rattle.rules.specs.Core.{Core, Act, move, Move, poll, raise, lower, CoreTurn, turn, turns, lineTurn, moved, vectorsAfter, storedAfter}
+use Rattle.rules.specs.Access.{Width, readAt, writeActs}
+use Rattle.rules.specs.Device.{Device, level, read, write, drain, Value, none, some, actsOf, offers, acted, Step, step, value, returned}
+use Rattle.rules.specs.Device as device
+use Rattle.rules.proofs.laws.Acts.{acted-none, step-acted}
+
+-- a device with other lines, or another ring
+abbrev pub withLines : Device → Lines → Device
+withLines d l = record { core = record { lines = l; vectors = d .core .vectors; stored = d .core .stored }; ring = d .ring }
+
+abbrev pub withRing : Device → Ring → Device
+withRing d r = record { core = d .core; ring = r }
+
+-- one act
+pub turns-one : (c : Core) (a : Act) → turns c (a ∷ []) ≡ turn c a
+unfolding turns
+turns-one c a = ap (λ (ms : List Made). record { after = turn c a .after; made = ms }) (append-nil (turn c a .made))
+
+pub acted-one : (d : Device) (a : Act) → acted d (a ∷ []) ≡ record { core = turn (d .core) a .after; ring = ringRun (d .ring) (offers (turn (d .core) a .made)) .after }
+unfolding acted
+acted-one d a = ap (λ (t : CoreTurn). record { core = t .after; ring = ringRun (d .ring) (offers (t .made)) .after }) (turns-one (d .core) a)
+
+-- ---- what is returned is not offered
+
+serve-offers : (vs : List ℕ) (l : Lines) (ns : List ℕ) → offers (serve vs false l ns .made) ≡ []
+unfolding offers
+serve-offers vs l [] = refl
+serve-offers vs l (n ∷ ns) = refl
+
+enter-offers : (vs : List ℕ) (f : ℕ → Bool) (l : Lines) → offers (enter vs false f l .made) ≡ []
+enter-offers vs f l = serve-offers vs l (inputs (waitingIn f l))
+
+deasserts-offers : (vs ns : List ℕ) → offers (map (event vs false false) ns) ≡ []
+unfolding offers
+deasserts-offers vs [] = refl
+deasserts-offers vs (n ∷ ns) = deasserts-offers vs ns
+
+leave-offers : (vs : List ℕ) (f : ℕ → Bool) (l : Lines) → offers (leave vs false f l .made) ≡ []
+leave-offers vs f l = deasserts-offers vs (inputs (servedIn f l))
+
+-- ---- moves that return their event
+
+-- what a level or poll call does to the lines
+abbrev pub levelled : List ℕ → Lines → ℕ → Bool → Turn
+levelled vs l n true = raised vs l n
+levelled vs l n false = lowered vs l n
+
+levelled-offers : (vs : List ℕ) (l : Lines) (n : ℕ) (b : Bool) → offers (levelled vs l n b .made) ≡ []
+unfolding raised lowered polled
+levelled-offers vs l n true = enter-offers vs (only n) (withIrr l (put (l .irr) n))
+levelled-offers vs l n false = leave-offers vs (only n) (withIrr l (without (l .irr) (only n)))
+
+polled-offers : (vs : List ℕ) (l : Lines) (n : ℕ) → offers (polled vs l n .made) ≡ []
+unfolding polled
+polled-offers vs l n = enter-offers vs (only n) l
+
+-- a call of one move that offers nothing
+module _ (d : Device) (m : Move) (none-offered : offers (moved (d .core .vectors) (d .core .lines) m .made) ≡ []) where
+  pub moved-device : acted d (move m ∷ []) ≡ withLines d (moved (d .core .vectors) (d .core .lines) m .after)
+  unfolding lineTurn vectorsAfter storedAfter ringRun
+  moved-device = acted-one d (move m) ∙ ap (λ (os : List RingAct). withRing (withLines d (moved (d .core .vectors) (d .core .lines) m .after)) (ringRun (d .ring) os .after)) none-offered
+
+  pub moved-made : turns (d .core) (move m ∷ []) .made ≡ moved (d .core .vectors) (d .core .lines) m .made
+  unfolding lineTurn
+  moved-made = ap (λ (t : CoreTurn). t .made) (turns-one (d .core) (move m))
+
+module _ (d : Device) (n : ℕ) where
+  pub level-device : (b : Bool) → step d (level n b) .after ≡ withLines d (levelled (d .core .vectors) (d .core .lines) n b .after)
+  unfolding actsOf moved
+  level-device true = step-acted d (level n true) refl ∙ moved-device d (raise n) (levelled-offers (d .core .vectors) (d .core .lines) n true)
+  level-device false = step-acted d (level n false) refl ∙ moved-device d (lower n) (levelled-offers (d .core .vectors) (d .core .lines) n false)
+
+  pub level-value : (b : Bool) → value d (level n b) ≡ returned (levelled (d .core .vectors) (d .core .lines) n b .made)
+  unfolding value step actsOf moved
+  level-value true = ap returned (moved-made d (raise n) (levelled-offers (d .core .vectors) (d .core .lines) n true))
+  level-value false = ap returned (moved-made d (lower n) (levelled-offers (d .core .vectors) (d .core .lines) n false))
+
+  pub poll-device : step d (device.poll n) .after ≡ withLines d (polled (d .core .vectors) (d .core .lines) n .after)
+  unfolding actsOf moved
+  poll-device = step-acted d (device.poll n) refl ∙ moved-device d (poll n) (polled-offers (d .core .vectors) (d .core .lines) n)
+
+  pub poll-value : value d (device.poll n) ≡ returned (polled (d .core .vectors) (d .core .lines) n .made)
+  unfolding value step actsOf moved
+  poll-value = ap returned (moved-made d (poll n) (polled-offers (d .core .vectors) (d .core .lines) n))
+
+-- ---- the others
+
+pub drain-device : (d : Device) (k : ℕ) → step d (drain k) .after ≡ withRing d (drawn (d .ring) k .after)
+unfolding step actsOf acted turns offers ringRun ringStep
+drain-device d k = refl
+
+pub drain-drained : (d : Device) (k : ℕ) → step d (drain k) .drained ≡ drawn (d .ring) k .drained
+unfolding step actsOf acted turns offers ringRun ringStep
+drain-drained d k = append-nil (drawn (d .ring) k .drained)
+
+pub read-device : (d : Device) (w : Width) (o : ℕ) → step d (read w o) .after ≡ d
+unfolding actsOf
+read-device d w o = step-acted d (read w o) refl ∙ acted-none d
+
+pub write-device : (d : Device) (w : Width) (o v : ℕ) → step d (write w o v) .after ≡ acted d (writeActs (d .core) w o v)
+unfolding actsOf
+write-device d w o v = step-acted d (write w o v) refl

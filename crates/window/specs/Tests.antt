@@ -1,0 +1,18 @@
+-- The answers of the width's and the window's test as the rules see them.
+use Prim.Native.Nat.{ℕ}
+use Rattle.rules.specs.Access.{Width}
+use Rattle.rules.specs.Calls.{Tested, pass, refuse, noWidth, outside}
+use Rattle.registers.specs.Views.{widthView}
+use Rattle.window.specs.declared.Known.{Known}
+use Rattle.window.specs.declared.Known.the-variants.{As, Unknown}
+use Rattle.window.specs.declared.Located.{Located}
+use Rattle.window.specs.declared.Located.the-variants.{At, Outside}
+
+abbrev pub knownView : Known → Tested Width
+knownView (As w) = pass (widthView w)
+knownView Unknown = refuse noWidth
+
+-- of an address outside, the address is the refusal's value
+abbrev pub locatedView : ℕ → Located → Tested ℕ
+locatedView address (At o) = pass o
+locatedView address Outside = refuse (outside address)
