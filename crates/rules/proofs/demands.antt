@@ -3,3 +3,6 @@ pub mod Dozen
 pub mod WorkedSession
 pub mod RoundTrip
 pub mod EasyToGetWrong
+pub mod Account
+pub mod Service
+pub mod Order

@@ -9,3 +9,6 @@ pub mod Parts
 pub mod Images
 pub mod Rings
 pub mod Acts
+pub mod Reach
+pub mod Folds
+pub mod Counts

@@ -1,0 +1,123 @@
+-- What demand 3 counts, and what it asks of a history beside History's `Admitted`. Each stands here once, for the theorems of proofs/demands.
+use mathlib.Core.Bool.{Bool, true, false, cond, not, _&&_}
+use mathlib.Core.List.{List, [], _∷_, _++_}
+use mathlib.Core.Path.{_≡_}
+use Prim.Native.Nat.{ℕ, _+_}
+use lib.Dec.{eqb, ltb}
+use lib.ListN.{length, getD}
+use Rattle.rules.specs.Inputs.{on, inputs, only, asHalf}
+use Rattle.rules.specs.Lines.{Lines, Made, servedIn}
+use Rattle.rules.specs.Core.{Core, Act, move, poll, raise, lower, clear, setMask, setIsr, store, setVector}
+use Rattle.rules.specs.Ring.{Event, Ring, RingAct, offer, draw, ringStep, ringRun}
+use Rattle.rules.specs.Device.{Device, Call, actsOf, offers, draws, step}
+use Rattle.rules.specs.Device as call
+use Rattle.rules.specs.History.{writesIsr}
+
+-- ---- the account
+
+-- how many of the events have q
+unfoldable pub tally : (Made → Bool) → List Made → ℕ
+tally q [] = 0
+tally q (m ∷ ms) = cond (q m) 1 0 + tally q ms
+
+-- how many asserts, and how many deasserts, there are among the events that have q
+abbrev pub assertsWith : (Made → Bool) → List Made → ℕ
+assertsWith q ms = tally (λ m. m .asserted && q m) ms
+
+abbrev pub deassertsWith : (Made → Bool) → List Made → ℕ
+deassertsWith q ms = tally (λ m. not (m .asserted) && q m) ms
+
+-- how many of the inputs that have p are in service, masked or not
+abbrev pub servedWith : (ℕ → Bool) → Lines → ℕ
+servedWith p l = length (inputs (servedIn p l))
+
+-- an event of the vector v; an input that carries v in the vector bytes vs
+abbrev pub hasVector : ℕ → Made → Bool
+hasVector v m = eqb (m .vector) v
+
+abbrev pub carries : ℕ → List ℕ → ℕ → Bool
+carries v vs n = eqb (getD vs n 0) v
+
+-- asserts made of the vector v, and deasserts: returned and offered alike, kept or dropped (00, demand 3)
+abbrev pub asserts : ℕ → List Made → ℕ
+asserts v = assertsWith (hasVector v)
+
+abbrev pub deasserts : ℕ → List Made → ℕ
+deasserts v = deassertsWith (hasVector v)
+
+-- the number of in-service inputs that now carry v (00, demand 3)
+abbrev pub carrying : ℕ → Core → ℕ
+carrying v c = servedWith (carries v (c .vectors)) (c .lines)
+
+-- ---- service
+
+-- each act of a list has T
+pub data Each (T : Act → Type 0) : List Act → Type 0 where
+  done : Each T []
+  also : {a : Act} {xs : List Act} → T a → Each T xs → Each T (a ∷ xs)
+
+-- the input n is in service: its stored ISR bit is on, masked or not
+abbrev pub inService : ℕ → Lines → Bool
+inService n l = on (l .isr) n
+
+-- the input n is latched and unmasked (00, demand 3)
+pub record Ready (n : ℕ) (l : Lines) : Type 0 where
+  pub latched : on (l .irr) n ≡ true
+  pub unmasked : on (l .mask) n ≡ false
+
+-- an act lowers n, clears it (CLEAR has its bit), or masks it (a half of MASK brings a 1 to its place) (00, demand 3)
+abbrev pub disturbs : ℕ → Act → Bool
+disturbs n (move (poll m)) = false
+disturbs n (move (raise m)) = false
+disturbs n (move (lower m)) = only m n
+disturbs n (move (clear b)) = on b n
+disturbs n (move (setMask h v)) = on (asHalf h v) n
+disturbs n (setIsr h v) = false
+disturbs n (store s) = false
+disturbs n (setVector m v) = false
+
+-- a call by which n is not lowered, cleared or masked, and which is no write that reaches the ISR registers (00, demand 3)
+pub record Undisturbed (n : ℕ) (d : Device) (c : Call) : Type 0 where
+  pub noIsrWrite : writesIsr c ≡ false
+  pub notDisturbed : Each (λ a. disturbs n a ≡ false) (actsOf (d .core) c)
+
+-- a call is a poll or a raise of n (00, demand 3)
+abbrev pub asks : ℕ → Call → Bool
+asks n (call.level m true) = only n m
+asks n (call.level m false) = false
+asks n (call.poll m) = only n m
+asks n (call.read w o) = false
+asks n (call.write w o v) = false
+asks n (call.drain k) = false
+
+-- ---- order
+
+-- an event as the ring holds it
+abbrev pub asEvent : Made → Event
+asEvent m = record { vector = m .vector; asserted = m .asserted }
+
+-- the ring that an event finds: those that its call made before it have been offered (01, Inputs: in the order of making)
+abbrev pub foundBy : Device → List Made → Ring
+foundBy d earlier = ringRun (d .ring) (offers earlier) .after
+
+-- all that calls do to the ring, in order: what each call offers, then what it draws
+unfoldable pub ringActs : Device → List Call → List RingAct
+ringActs d [] = []
+ringActs d (c ∷ cs) = offers (step d c .made) ++ (draws c ++ ringActs (step d c .after) cs)
+
+-- of the events that are offered: those that find fewer than 16 waiting are kept, the others dropped (01, The ring)
+abbrev pub keptBy : Ring → RingAct → List Event
+keptBy r (offer e) = cond (ltb (length (r .waiting)) 16) (e ∷ []) []
+keptBy r (draw k) = []
+
+abbrev pub droppedBy : Ring → RingAct → List Event
+droppedBy r (offer e) = cond (ltb (length (r .waiting)) 16) [] (e ∷ [])
+droppedBy r (draw k) = []
+
+unfoldable pub kept : Ring → List RingAct → List Event
+kept r [] = []
+kept r (a ∷ xs) = keptBy r a ++ kept (ringStep r a .after) xs
+
+unfoldable pub dropped : Ring → List RingAct → List Event
+dropped r [] = []
+dropped r (a ∷ xs) = droppedBy r a ++ dropped (ringStep r a .after) xs
