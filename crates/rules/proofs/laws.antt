@@ -12,3 +12,4 @@ pub mod Acts
 pub mod Reach
 pub mod Folds
 pub mod Counts
+pub mod WellFormed
