@@ -6,3 +6,5 @@ pub mod EasyToGetWrong
 pub mod Account
 pub mod Service
 pub mod Order
+pub mod OneOutcome
+pub mod FromCalls

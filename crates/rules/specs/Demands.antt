@@ -11,7 +11,9 @@ use Rattle.rules.specs.Core.{Core, Act, move, poll, raise, lower, clear,
 use Rattle.rules.specs.Ring.{Event, Ring, RingAct, offer, draw, ringStep, ringRun}
 use Rattle.rules.specs.Device.{Device, Call, actsOf, offers, draws, step}
 use Rattle.rules.specs.Device as call
-use Rattle.rules.specs.History.{writesIsr}
+use Rattle.rules.specs.Image.{encode}
+use Rattle.rules.specs.Calls.{Request, askedBy, Outcome, outcome}
+use Rattle.rules.specs.History.{Exported, isDone, isLoad, callOf, Underway, carriedOn, writesIsr}
 
 -- ---- the account
 
@@ -121,3 +123,30 @@ kept r (a ∷ xs) = keptBy r a ++ kept (ringStep r a .after) xs
 unfoldable pub dropped : Ring → List RingAct → List Event
 dropped r [] = []
 dropped r (a ∷ xs) = droppedBy r a ++ dropped (ringStep r a .after) xs
+
+-- ---- exported calls
+
+-- exported calls, one after another: the history under way after them (01, Saved image)
+unfoldable pub carriedThrough : Underway → List Exported → Underway
+carriedThrough h [] = h
+carriedThrough h (x ∷ xs) = carriedThrough (carriedOn h x) xs
+
+-- none of them is a load: each done one is no reset, and is given the image that the last done one left (01, Saved image)
+unfoldable pub NoLoads : Underway → List Exported → Type 0
+NoLoads h [] = Unit {0}
+NoLoads h (x ∷ xs) = (isLoad (h .left) x ≡ false) × NoLoads (carriedOn h x) xs
+
+-- the calls of the device that they are; a refused call counts as no call (01, Saved image)
+unfoldable pub doneCalls : List Exported → List Call
+doneCalls [] = []
+doneCalls (x ∷ xs) = cond (isDone x) (callOf (askedBy (x .asked))) [] ++ doneCalls xs
+
+-- the history that a done reset begins
+abbrev pub afterReset : Underway
+afterReset = record { began = call.reset; calls = []; left = encode call.reset }
+
+-- ---- promises
+
+-- what a call's promise says of what it leaves: number, image, answer area and event buffer are those of `outcome` (01, How tight the promises are)
+abbrev pub Promised : Request → List ℕ → List ℕ → Outcome → Type 0
+Promised q image answer x = x ≡ outcome q image answer
