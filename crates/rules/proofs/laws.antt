@@ -13,3 +13,4 @@ pub mod Reach
 pub mod Folds
 pub mod Counts
 pub mod WellFormed
+pub mod Chains

@@ -5,15 +5,16 @@ use mathlib.Core.Path.{_≡_}
 use Prim.Native.Nat.{ℕ, _+_}
 use lib.Dec.{eqb, ltb}
 use lib.ListN.{length, getD}
+use Rattle.rules.specs.Numbers.{Bytes}
 use Rattle.rules.specs.Inputs.{on, inputs, only, asHalf}
 use Rattle.rules.specs.Lines.{Lines, Made, servedIn}
 use Rattle.rules.specs.Core.{Core, Act, move, poll, raise, lower, clear, setMask, setIsr, store, setVector}
 use Rattle.rules.specs.Ring.{Event, Ring, RingAct, offer, draw, ringStep, ringRun}
-use Rattle.rules.specs.Device.{Device, Call, actsOf, offers, draws, step}
+use Rattle.rules.specs.Device.{Device, WellFormed, Call, actsOf, offers, draws, step}
 use Rattle.rules.specs.Device as call
 use Rattle.rules.specs.Image.{encode}
 use Rattle.rules.specs.Calls.{Request, askedBy, Outcome, outcome}
-use Rattle.rules.specs.History.{Exported, isDone, isLoad, callOf, Underway, carriedOn, writesIsr}
+use Rattle.rules.specs.History.{Exported, isDone, isLoad, callOf, Underway, carriedOn, history, writesIsr}
 
 -- ---- the account
 
@@ -136,10 +137,27 @@ unfoldable pub NoLoads : Underway → List Exported → Type 0
 NoLoads h [] = Unit {0}
 NoLoads h (x ∷ xs) = (isLoad (h .left) x ≡ false) × NoLoads (carriedOn h x) xs
 
--- the calls of the device that they are; a refused call counts as no call (01, Saved image)
+-- the call of the device that an exported call is, if it is one; a refused call counts as no call (01, Saved image)
+abbrev pub doneCall : Exported → List Call
+doneCall x = cond (isDone x) (callOf (askedBy (x .asked))) []
+
 unfoldable pub doneCalls : List Exported → List Call
 doneCalls [] = []
-doneCalls (x ∷ xs) = cond (isDone x) (callOf (askedBy (x .asked))) [] ++ doneCalls xs
+doneCalls (x ∷ xs) = doneCall x ++ doneCalls xs
+
+-- the images that they are given are bytes
+abbrev pub GivenBytes : List Exported → Type 0
+GivenBytes [] = Unit {0}
+GivenBytes (x ∷ xs) = Bytes (x .given) × GivenBytes xs
+
+-- the device to which a history under way has come
+abbrev pub current : Underway → Device
+current h = history (h .began) (h .calls) .after
+
+-- a history under way is that of the image left last: it began with a device that an image can hold, and that image holds the device to which it has come
+pub record Faithful (h : Underway) : Type 0 where
+  pub began : WellFormed (h .began)
+  pub left : h .left ≡ encode (current h)
 
 -- the history that a done reset begins
 abbrev pub afterReset : Underway

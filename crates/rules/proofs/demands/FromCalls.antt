@@ -1,185 +1,81 @@
--- From exported calls to histories: exported calls, each given the image that the last done one left, are a history of the device. The image left is that
--- of the history's device, and what a done call hands back is what the history's step gives; so the account, service and order hold of exported calls.
+-- From exported calls to histories: exported calls of which each done one is given the image that the last done one left are a history of the device.
+-- A done call hands back what its step gives, and the image that it leaves holds the device after it; so the theorems on histories hold of exported calls.
 use mathlib.Core.Path.{_≡_, refl, sym, ap, _∙_}
-use mathlib.Core.Bool.{Bool, true, false, cond, not, _&&_, _||_, true≢false, Bool·not-not}
-use mathlib.Core.List.{List, [], _∷_, _++_}
+use mathlib.Core.Bool.{true, false, cond, not, _&&_, _||_, true≢false}
+use mathlib.Core.List.{List, [], _∷_, _++_, append-nil, append-assoc}
 use Prim.Native.Nat.{ℕ}
-use native.Mathlib.Omega.{arith}
-use lib.Dec.{eqb}
-use lib.ListN.{length}
 use Rattle.rules.specs.Numbers.{Bytes}
-use Rattle.rules.specs.Device.{Device, WellFormed, Call, value, step, reset}
-use Rattle.rules.specs.Image.{imageLength, ImageTest, imageTest, same, encode, decode}
-use Rattle.rules.specs.Image as image
-use Rattle.rules.specs.Calls.{Refusal, outside, noWidth, noInput, wrongLength, wrongContents, wrongBody, noRoom, refusalNumber, Tested, pass, refuse, onPass, imageAnswer}
-use Rattle.rules.specs.Calls.{Request, Asked, afresh, calls, askedBy, Done, doneOn, performed, answered, bufferOf, placeOf, written, Outcome, leaves, settled, hasRoom, outcome}
+use Rattle.rules.specs.Device.{Device, WellFormed, Call, Step, step, value, reset}
+use Rattle.rules.specs.Image.{same, encode, decode}
+use Rattle.rules.specs.Calls.{afresh, askedBy, answered, bufferOf, placeOf, written, Outcome, leaves}
 use Rattle.rules.specs.History.{history, fromReset, Exported, leftBy, isDone, isReset, isLoad, callOf, Underway, carriedOn}
-use Rattle.rules.specs.Demands.{carriedThrough, NoLoads, afterReset}
-use Rattle.rules.proofs.laws.Bits.{test}
-use Rattle.rules.proofs.laws.Lists.{same-equal}
-use Rattle.rules.proofs.laws.Images.{decode-encode, decode-well-formed, reset-well-formed}
-use Rattle.rules.proofs.laws.Folds.{history-append}
-use Rattle.rules.proofs.laws.WellFormed.{step-well, history-well}
+use Rattle.rules.specs.Demands.{carriedThrough, NoLoads, doneCall, doneCalls, GivenBytes, Faithful, afterReset}
+use Rattle.rules.proofs.laws.Lists.{equal-same}
+use Rattle.rules.proofs.laws.Images.{decode-encode, reset-well-formed}
+use Rattle.rules.proofs.laws.WellFormed.{history-well}
+use Rattle.rules.proofs.laws.Chains.{handed, faithful-on, carried-on, reset-begins, faithful-after-reset}
 
--- ---- a done call
+-- ---- one call
 
--- a refusal has a number that is not 0
-refused-not-done : (r : Refusal) → eqb (refusalNumber r) 0 ≡ false
-refused-not-done (outside address) = refl
-refused-not-done noWidth = refl
-refused-not-done noInput = refl
-refused-not-done wrongLength = refl
-refused-not-done wrongContents = refl
-refused-not-done wrongBody = refl
-refused-not-done noRoom = refl
-
--- its tests passed, and it left what it gives
-record DidPass (x : Exported) : Type 0 where
-  gives : Done
-  passed : performed (askedBy (x .asked)) (x .given) ≡ pass gives
-  left : leftBy x ≡ settled (x .asked) (x .given) (x .answer) (pass gives)
-
-did-pass : (x : Exported) → isDone x ≡ true → DidPass x
-unfolding outcome
-did-pass x e =
-    test (hasRoom (x .asked) (x .answer)) (λ t. go t (performed (askedBy (x .asked)) (x .given)) refl)
-    (λ t. absurd (true≢false (sym e ∙ rw t)))
-  where
-    go : hasRoom (x .asked) (x .answer) ≡ true → (p : Tested Done) → performed (askedBy (x .asked)) (x .given) ≡ p → DidPass x
-    go t (pass y) f = record { gives = y; passed = f; left = rw (t, f) }
-    go t (refuse r) f = absurd (true≢false (sym e ∙ rw (t, f) (refused-not-done r)))
-
--- a done call of the device: its image was accepted, and it gives what the call does to the device there
-record DidCall (t : Tested Call) (i : List ℕ) (y : Done) : Type 0 where
-  call : Call
-  asks : t ≡ pass call
-  accepted : imageTest i ≡ image.accepted
-  gives : y ≡ doneOn (decode i) call
-
-never : {A : Type 0} (r : Refusal) (y : Done) → refuse r ≡ pass y → A
-never r y e = absurd (let z : _≡_ {A = ℕ} 0 1 = cc in omega arith)
-
-passed : {x y : Done} → pass x ≡ pass y → x ≡ y
-passed e = cc
-
-did-call : (t : Tested Call) (i : List ℕ) (y : Done) → performed (calls t) i ≡ pass y → DidCall t i y
-unfolding performed
-did-call t i y e = go (imageTest i) refl t refl
-  where
-    go : (r : ImageTest) → imageTest i ≡ r → (u : Tested Call) → t ≡ u → DidCall t i y
-    go image.accepted f (pass c) g = record { call = c; asks = g; accepted = f; gives = sym (passed (rw (f, g) at e)) }
-    go image.accepted f (refuse r) g = never r y (rw (f, g) at e)
-    go image.wrongLength f u g = never wrongLength y (rw f at e)
-    go image.wrongContents f u g = never wrongContents y (rw f at e)
-    go image.wrongBody f u g = never wrongBody y (rw f at e)
-
-did-reset : (i : List ℕ) (y : Done) → performed afresh i ≡ pass y → y .device ≡ reset
-unfolding performed
-did-reset i y e =
-    test (eqb (length i) imageLength) (λ t. ap (λ (z : Done). z .device) (sym (passed (rw t at e)))) (λ t. never wrongLength y (rw t at e))
-
--- ---- one exported call more
-
--- carriedOn, by whether the call is done, whether it is a reset, and the calls of the device that it is
-abbrev continued : Bool → Bool → List Call → Underway → Exported → Underway
-continued d r cs h x =
-    let new = d && (r || not (same (h .left) (x .given))) in
-    cond d (record { began = cond new (cond r reset (decode (x .given))) (h .began); calls = cond new [] (h .calls) ++ cs; left = leftBy x .image }) h
-
--- the history under way stands for the device: its image is the last one left
-pub record Faithful (h : Underway) : Type 0 where
-  pub began : WellFormed (h .began)
-  pub left : h .left ≡ encode (history (h .began) (h .calls) .after)
-
--- the device that it has come to
-abbrev pub current : Underway → Device
-current h = history (h .began) (h .calls) .after
-
-history-snoc : (d : Device) (cs : List Call) (c : Call) → history d (cs ++ (c ∷ [])) .after ≡ step (history d cs .after) c .after
+-- An exported call that is given the image of d, is no reset and is done, is one call c of the device: the image that it leaves is that of d after c, the
+-- answer area has c's value, and the event buffer has the pairs that c drained.
+pub a-call-is-a-step : (d : Device) → WellFormed d → (x : Exported) → x .given ≡ encode d → isReset (askedBy (x .asked)) ≡ false → isDone x ≡ true
+    → (c : Call) × (doneCall x ≡ c ∷ []) × (leftBy x ≡ leaves 0 (encode (step d c .after)) (answered 0 (value d c) (x .answer)) (written (bufferOf (x .asked)) (placeOf (x .asked)) (step d c .drained)))
 unfolding history
-history-snoc d cs c = ap (λ s. s .after) (history-append d cs (c ∷ []))
+a-call-is-a-step d w x g n t =
+    let h : Underway = record { began = d; calls = []; left = encode d } in
+    let no : isLoad (encode d) x ≡ false = (λ i. t i && (n i || not (equal-same (encode d) (x .given) (sym g) i))) in
+    let r = handed h x (record { began = w; left = refl }) t no in
+    (r .call, (λ i. cond (t i) (callOf (r .asks i)) []), r .left)
 
-module _ (h : Underway) (x : Exported) where
-  carried-refused : isDone x ≡ false → carriedOn h x ≡ h
-  unfolding carriedOn
-  carried-refused t i = continued (t i) (isReset (askedBy (x .asked))) (callOf (askedBy (x .asked))) h x
+-- A done reset begins the history from reset, whatever was under way and whatever bytes it is given.
+pub a-reset-begins : (h : Underway) (x : Exported) → askedBy (x .asked) ≡ afresh → isDone x ≡ true → carriedOn h x ≡ afterReset
+a-reset-begins h x e t = reset-begins h x t e
 
-  carried-done : isDone x ≡ true → (k : Asked) → askedBy (x .asked) ≡ k → carriedOn h x ≡ continued true (isReset k) (callOf k) h x
-  unfolding carriedOn
-  carried-done t k e i = continued (t i) (isReset (e i)) (callOf (e i)) h x
+-- ---- calls, one after another
 
-  faithful-reset : isDone x ≡ true → askedBy (x .asked) ≡ afresh → Faithful (carriedOn h x)
-  unfolding history
-  faithful-reset t e =
-      let p = did-pass x t in
-      let is = did-reset (x .given) (p .gives) (rw e at (p .passed)) in
-      rw (carried-done t afresh e) (record { began = reset-well-formed; left = ap (λ (o : Outcome). o .image) (p .left) ∙ ap encode is })
+record Chain (h : Underway) (xs : List Exported) : Type 0 where
+  faithful : Faithful (carriedThrough h xs)
+  began : carriedThrough h xs .began ≡ h .began
+  calls : carriedThrough h xs .calls ≡ h .calls ++ doneCalls xs
 
-  -- a done call that is no reset: what it asks of the device, and what it leaves
-  record Did : Type 0 where
-    call : Call
-    asks : askedBy (x .asked) ≡ calls (pass call)
-    accepted : imageTest (x .given) ≡ image.accepted
-    left : leftBy x ≡ settled (x .asked) (x .given) (x .answer) (pass (doneOn (decode (x .given)) call))
+chain : (h : Underway) (xs : List Exported) → Faithful h → NoLoads h xs → Chain h xs
+unfolding carriedThrough NoLoads doneCalls
+chain h [] f n = record { faithful = f; began = refl; calls = sym (append-nil (h .calls)) }
+chain h (x ∷ xs) f n =
+    let one = carried-on h x f (n .0) in
+    let two = chain (carriedOn h x) xs (faithful-on h x f (λ t. absurd (true≢false (sym t ∙ n .0)))) (n .1) in
+    record {
+      faithful = two .faithful;
+      began = two .began ∙ one .began;
+      calls = two .calls ∙ ap (λ cs. cs ++ doneCalls xs) (one .calls) ∙ append-assoc (h .calls) (doneCall x) (doneCalls xs);
+    }
 
-  did : isDone x ≡ true → (u : Tested Call) → askedBy (x .asked) ≡ calls u → Did
-  did t u e =
-      let p = did-pass x t in
-      let c = did-call u (x .given) (p .gives) (rw e at (p .passed)) in
-      record {
-        call = c .call;
-        asks = e ∙ ap calls (c .asks);
-        accepted = c .accepted;
-        left = p .left ∙ ap (λ y. settled (x .asked) (x .given) (x .answer) (pass y)) (c .gives);
-      }
+-- Exported calls after a done reset, none of them a load, are the history of the calls that were done; the image left last is that of the history's device.
+pub calls-are-a-history : (xs : List Exported) → NoLoads afterReset xs
+    → carriedThrough afterReset xs ≡ record { began = reset; calls = doneCalls xs; left = encode (fromReset (doneCalls xs) .after) }
+calls-are-a-history xs n =
+    let c = chain afterReset xs faithful-after-reset n in
+    (λ i. record { began = c .began i; calls = c .calls i; left = (c .faithful .left ∙ (λ j. encode (history (c .began j) (c .calls j) .after))) i })
 
-  -- given the image that the history left, it meets the history's device
-  meets : Faithful h → same (h .left) (x .given) ≡ true → decode (x .given) ≡ current h
-  meets f e = ap decode (sym (same-equal (h .left) (x .given) e) ∙ f .left) ∙ decode-encode (current h) (history-well (h .began) (h .calls) (f .began))
+-- so the image left last, loaded, is the history's device
+pub image-holds-history : (xs : List Exported) → NoLoads afterReset xs → decode (carriedThrough afterReset xs .left) ≡ fromReset (doneCalls xs) .after
+image-holds-history xs n =
+    ap (λ (h : Underway). decode (h .left)) (calls-are-a-history xs n)
+    ∙ decode-encode (fromReset (doneCalls xs) .after) (history-well reset (doneCalls xs) reset-well-formed)
 
-  faithful-call : Faithful h → (isLoad (h .left) x ≡ true → Bytes (x .given)) → isDone x ≡ true → Did → Faithful (carriedOn h x)
-  unfolding history
-  faithful-call f b t r =
-      let c = r .call in
-      let image-is : leftBy x .image ≡ encode (step (decode (x .given)) c .after) = ap (λ (o : Outcome). o .image) (r .left) in
-      rw (carried-done t (calls (pass c)) (r .asks))
-      (test (same (h .left) (x .given))
-      (λ e. rw e (record {
-        began = f .began;
-        left = image-is ∙ ap (λ d. encode (step d c .after)) (meets f e) ∙ ap encode (sym (history-snoc (h .began) (h .calls) c));
-      }))
-      (λ e. rw e (record { began = decode-well-formed (x .given) (b (λ i. t i && (isReset (r .asks i) || not (e i)))) (r .accepted); left = image-is })))
+-- With loads and resets among them, exported calls are what History says: whatever they are, the image left last is that of the device to which the
+-- history under way has come since it began, at the last load or reset. A load has to be given bytes.
+pub history-since-load : (h : Underway) (xs : List Exported) → Faithful h → GivenBytes xs → Faithful (carriedThrough h xs)
+unfolding carriedThrough
+history-since-load h [] f b = f
+history-since-load h (x ∷ xs) f b = history-since-load (carriedOn h x) xs (faithful-on h x f (λ t. b .0)) (b .1)
 
-  -- any exported call, refused, a load or neither; only a load has to be given bytes
-  pub faithful-on : Faithful h → (isLoad (h .left) x ≡ true → Bytes (x .given)) → Faithful (carriedOn h x)
-  faithful-on f b = test (isDone x) (λ t. go t (askedBy (x .asked)) refl) (λ t. rw (carried-refused t) f)
-    where
-      go : isDone x ≡ true → (k : Asked) → askedBy (x .asked) ≡ k → Faithful (carriedOn h x)
-      go t afresh e = faithful-reset t e
-      go t (calls u) e = faithful-call f b t (did t u e)
+-- ---- 'A state saved and loaded answers every later call as the unsaved one would' (01, Saved image)
 
-  -- a done call that is no load: it is given the history's image, is one call more of it, and hands back what that call's step gives
-  pub record Handed : Type 0 where
-    pub call : Call
-    pub asks : askedBy (x .asked) ≡ calls (pass call)
-    pub left : leftBy x ≡ leaves 0 (encode (step (current h) call .after)) (answered 0 (value (current h) call) (x .answer))
-        (written (bufferOf (x .asked)) (placeOf (x .asked)) (step (current h) call .drained))
-    pub carried : carriedOn h x ≡ record { began = h .began; calls = h .calls ++ (call ∷ []); left = leftBy x .image }
+-- d: reset, or any loaded device (RoundTrip); before: any calls; what is saved then and loaded is the same device, so all that follows is the same
+pub saved-answers-alike : (d : Device) → WellFormed d → (before later : List Call) → let s = history d before .after in history (decode (encode s)) later ≡ history s later
+saved-answers-alike d w before later = ap (λ s. history s later) (decode-encode (history d before .after) (history-well d before w))
 
-  pub handed : Faithful h → isDone x ≡ true → isLoad (h .left) x ≡ false → Handed
-  handed f t n = go (askedBy (x .asked)) refl
-    where
-      no-load : (k : Asked) → askedBy (x .asked) ≡ k → (isReset k || not (same (h .left) (x .given))) ≡ false
-      no-load k e = sym (λ i. t i && (isReset (e i) || not (same (h .left) (x .given)))) ∙ n
-
-      go : (k : Asked) → askedBy (x .asked) ≡ k → Handed
-      go afresh e = absurd (true≢false (no-load afresh e))
-      go (calls u) e =
-          let r = did t u e in
-          let s : same (h .left) (x .given) ≡ true = sym (Bool·not-not (same (h .left) (x .given))) ∙ ap not (no-load (calls u) e) in
-          record {
-            call = r .call;
-            asks = r .asks;
-            left = r .left ∙ ap (λ d. settled (x .asked) (x .given) (x .answer) (pass (doneOn d (r .call)))) (meets f s);
-            carried = carried-done t (calls (pass (r .call))) (r .asks) ∙ rw s;
-          }
+pub saved-answers-value : (d : Device) → WellFormed d → (before : List Call) (c : Call) → let s = history d before .after in value (decode (encode s)) c ≡ value s c
+saved-answers-value d w before c = ap (λ s. value s c) (decode-encode (history d before .after) (history-well d before w))
