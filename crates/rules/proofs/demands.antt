@@ -8,3 +8,5 @@ pub mod Service
 pub mod Order
 pub mod OneOutcome
 pub mod FromCalls
+pub mod HandedBack
+pub mod PremisesMet

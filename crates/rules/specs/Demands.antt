@@ -4,24 +4,25 @@ use mathlib.Core.List.{List, [], _∷_, _++_}
 use mathlib.Core.Path.{_≡_}
 use Prim.Native.Nat.{ℕ, _+_}
 use lib.Dec.{eqb, ltb}
-use lib.ListN.{length, getD}
-use Rattle.rules.specs.Numbers.{Bytes}
+use lib.ListN.{length, drop, getD}
+use Rattle.rules.specs.Numbers.{numberOf, part, Bytes}
 use Rattle.rules.specs.Inputs.{on, inputs, only, asHalf}
 use Rattle.rules.specs.Lines.{Lines, Made, servedIn}
 use Rattle.rules.specs.Core.{Core, Act, move, poll, raise, lower, clear, setMask, setIsr, store, setVector}
 use Rattle.rules.specs.Ring.{Event, Ring, RingAct, offer, draw, ringStep, ringRun}
 use Rattle.rules.specs.Device.{Device, WellFormed, Call, actsOf, offers, draws, step}
 use Rattle.rules.specs.Device as call
-use Rattle.rules.specs.Image.{encode}
+use Rattle.rules.specs.Image.{encode, eventsOf}
+use Rattle.rules.specs.Calls as request
 use Rattle.rules.specs.Calls.{Request, askedBy, Outcome, outcome}
-use Rattle.rules.specs.History.{Exported, isDone, isLoad, callOf, Underway, carriedOn, history, writesIsr}
+use Rattle.rules.specs.History.{Exported, leftBy, isDone, isReset, isLoad, callOf, Underway, carriedOn, history, writesIsr}
 
 -- ---- the account
 
--- how many of the events have q
-unfoldable pub tally : (Made → Bool) → List Made → ℕ
+-- how many of a list have q
+unfoldable pub tally : {A : Type 0} → (A → Bool) → List A → ℕ
 tally q [] = 0
-tally q (m ∷ ms) = cond (q m) 1 0 + tally q ms
+tally q (x ∷ xs) = cond (q x) 1 0 + tally q xs
 
 -- how many asserts, and how many deasserts, there are among the events that have q
 abbrev pub assertsWith : (Made → Bool) → List Made → ℕ
@@ -125,6 +126,11 @@ unfoldable pub dropped : Ring → List RingAct → List Event
 dropped r [] = []
 dropped r (a ∷ xs) = droppedBy r a ++ dropped (ringStep r a .after) xs
 
+-- those of the events that are returned and not offered, in the order of making (01, Inputs)
+unfoldable pub returnedIn : List Made → List Event
+returnedIn [] = []
+returnedIn (m ∷ ms) = cond (m .offered) (returnedIn ms) (asEvent m ∷ returnedIn ms)
+
 -- ---- exported calls
 
 -- exported calls, one after another: the history under way after them (01, Saved image)
@@ -136,6 +142,11 @@ carriedThrough h (x ∷ xs) = carriedThrough (carriedOn h x) xs
 unfoldable pub NoLoads : Underway → List Exported → Type 0
 NoLoads h [] = Unit {0}
 NoLoads h (x ∷ xs) = (isLoad (h .left) x ≡ false) × NoLoads (carriedOn h x) xs
+
+-- each is given the image that the one before it left, done or refused, and none is a reset (01, Saved image: handing that same image on is no load)
+unfoldable pub HandedOn : List ℕ → List Exported → Type 0
+HandedOn left [] = Unit {0}
+HandedOn left (x ∷ xs) = (x .given ≡ left) × (isReset (askedBy (x .asked)) ≡ false) × HandedOn (leftBy x .image) xs
 
 -- the call of the device that an exported call is, if it is one; a refused call counts as no call (01, Saved image)
 abbrev pub doneCall : Exported → List Call
@@ -162,6 +173,53 @@ pub record Faithful (h : Underway) : Type 0 where
 -- the history that a done reset begins
 abbrev pub afterReset : Underway
 afterReset = record { began = call.reset; calls = []; left = encode call.reset }
+
+-- ---- what a host reads
+
+-- in an answer area: whether a value is present, and the value (01, The boundary)
+abbrev pub presentIn : List ℕ → Bool
+presentIn a = eqb (getD a 1 0) 1
+
+abbrev pub valueIn : List ℕ → ℕ
+valueIn a = numberOf (part 8 8 a)
+
+-- the event whose vector an answer area holds, if it holds one: an assert (true) or a deassert
+abbrev pub eventIn : Bool → List ℕ → List Event
+eventIn b a = cond (presentIn a) (record { vector = valueIn a; asserted = b } ∷ []) []
+
+-- the event that a request returned: level 0 a deassert, any other level and a poll an assert (01, Inputs; 01, The boundary)
+abbrev pub returnedTo : Request → List ℕ → List Event
+returnedTo request.reset a = []
+returnedTo (request.read base size address width) a = []
+returnedTo (request.write base size address width v) a = []
+returnedTo (request.level n v) a = eventIn (not (eqb v 0)) a
+returnedTo (request.poll n) a = eventIn true a
+returnedTo (request.drain buffer place) a = []
+
+-- the events that a request drained: as many pairs from its place on as its answer says (01, The ring)
+abbrev pub drainedTo : Request → (answer events : List ℕ) → List Event
+drainedTo request.reset a e = []
+drainedTo (request.read base size address width) a e = []
+drainedTo (request.write base size address width v) a e = []
+drainedTo (request.level n v) a e = []
+drainedTo (request.poll n) a e = []
+drainedTo (request.drain buffer place) a e = eventsOf (valueIn a) (drop place e)
+
+-- all that exported calls handed back, in order: in answer areas, and in event buffers; a refused call nothing
+unfoldable pub returnedBy : List Exported → List Event
+returnedBy [] = []
+returnedBy (x ∷ xs) = cond (isDone x) (returnedTo (x .asked) (leftBy x .answer)) [] ++ returnedBy xs
+
+unfoldable pub drainedBy : List Exported → List Event
+drainedBy [] = []
+drainedBy (x ∷ xs) = cond (isDone x) (drainedTo (x .asked) (leftBy x .answer) (leftBy x .events)) [] ++ drainedBy xs
+
+-- how many asserts of the vector v there are among these events, and how many deasserts
+abbrev pub assertsAmong : ℕ → List Event → ℕ
+assertsAmong v es = tally (λ e. e .asserted && eqb (e .vector) v) es
+
+abbrev pub deassertsAmong : ℕ → List Event → ℕ
+deassertsAmong v es = tally (λ e. not (e .asserted) && eqb (e .vector) v) es
 
 -- ---- promises
 

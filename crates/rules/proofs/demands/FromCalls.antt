@@ -1,19 +1,18 @@
 -- From exported calls to histories: exported calls of which each done one is given the image that the last done one left are a history of the device.
 -- A done call hands back what its step gives, and the image that it leaves holds the device after it; so the theorems on histories hold of exported calls.
 use mathlib.Core.Path.{_≡_, refl, sym, ap, _∙_}
-use mathlib.Core.Bool.{true, false, cond, not, _&&_, _||_, true≢false}
+use mathlib.Core.Bool.{true, false, cond, not, _&&_, _||_, true≢false, and-false}
 use mathlib.Core.List.{List, [], _∷_, _++_, append-nil, append-assoc}
-use Prim.Native.Nat.{ℕ}
-use Rattle.rules.specs.Numbers.{Bytes}
 use Rattle.rules.specs.Device.{Device, WellFormed, Call, Step, step, value, reset}
-use Rattle.rules.specs.Image.{same, encode, decode}
-use Rattle.rules.specs.Calls.{afresh, askedBy, answered, bufferOf, placeOf, written, Outcome, leaves}
+use Rattle.rules.specs.Image.{encode, decode}
+use Rattle.rules.specs.Calls.{afresh, askedBy, answered, bufferOf, placeOf, written, leaves}
 use Rattle.rules.specs.History.{history, fromReset, Exported, leftBy, isDone, isReset, isLoad, callOf, Underway, carriedOn}
-use Rattle.rules.specs.Demands.{carriedThrough, NoLoads, doneCall, doneCalls, GivenBytes, Faithful, afterReset}
+use Rattle.rules.specs.Demands.{carriedThrough, NoLoads, HandedOn, doneCall, doneCalls, GivenBytes, current, Faithful, afterReset}
 use Rattle.rules.proofs.laws.Lists.{equal-same}
-use Rattle.rules.proofs.laws.Images.{decode-encode, reset-well-formed}
+use Rattle.rules.proofs.laws.Images.{decode-encode}
+use Rattle.rules.proofs.laws.Folds.{history-append}
 use Rattle.rules.proofs.laws.WellFormed.{history-well}
-use Rattle.rules.proofs.laws.Chains.{handed, faithful-on, carried-on, reset-begins, faithful-after-reset}
+use Rattle.rules.proofs.laws.Chains.{handed, faithful-on, carried-on, left-last, reset-begins, faithful-after-reset}
 
 -- ---- one call
 
@@ -51,18 +50,34 @@ chain h (x ∷ xs) f n =
       calls = two .calls ∙ ap (λ cs. cs ++ doneCalls xs) (one .calls) ∙ append-assoc (h .calls) (doneCall x) (doneCalls xs);
     }
 
--- Exported calls after a done reset, none of them a load, are the history of the calls that were done; the image left last is that of the history's device.
+-- 'Handing that same image on is no load' (01, Saved image): where each call is given the image that the one before it left, none is a load but a reset.
+pub handed-on-is-no-load : (h : Underway) (xs : List Exported) → HandedOn (h .left) xs → NoLoads h xs
+unfolding HandedOn NoLoads
+handed-on-is-no-load h [] c = tt
+handed-on-is-no-load h (x ∷ xs) c = (
+  rw (c .1, equal-same (h .left) (x .given) (sym (c .0))) (and-false (isDone x)),
+  handed-on-is-no-load (carriedOn h x) xs (rw (left-last h x (c .0)) (c .2)),
+)
+
+-- Exported calls, none of them a load, are the history of the calls that were done: it began where it began, and the image left last is that of its device.
+pub calls-carry-on : (h : Underway) → Faithful h → (xs : List Exported) → NoLoads h xs
+    → carriedThrough h xs ≡ record { began = h .began; calls = h .calls ++ doneCalls xs; left = encode (history (current h) (doneCalls xs) .after) }
+calls-carry-on h f xs n =
+    let c = chain h xs f n in
+    let left-is = c .faithful .left ∙ (λ j. encode (history (c .began j) (c .calls j) .after)) ∙ ap (λ (s : Step). encode (s .after)) (history-append (h .began) (h .calls) (doneCalls xs)) in
+    (λ i. record { began = c .began i; calls = c .calls i; left = left-is i })
+
+-- and that image, loaded, is the device
+pub image-holds-history : (h : Underway) → Faithful h → (xs : List Exported) → NoLoads h xs → decode (carriedThrough h xs .left) ≡ history (current h) (doneCalls xs) .after
+image-holds-history h f xs n =
+    ap (λ (u : Underway). decode (u .left)) (calls-carry-on h f xs n)
+    ∙ decode-encode (history (current h) (doneCalls xs) .after) (history-well (current h) (doneCalls xs) (history-well (h .began) (h .calls) (f .began)))
+
+-- The same after a done reset: the history is one from reset.
 pub calls-are-a-history : (xs : List Exported) → NoLoads afterReset xs
     → carriedThrough afterReset xs ≡ record { began = reset; calls = doneCalls xs; left = encode (fromReset (doneCalls xs) .after) }
-calls-are-a-history xs n =
-    let c = chain afterReset xs faithful-after-reset n in
-    (λ i. record { began = c .began i; calls = c .calls i; left = (c .faithful .left ∙ (λ j. encode (history (c .began j) (c .calls j) .after))) i })
-
--- so the image left last, loaded, is the history's device
-pub image-holds-history : (xs : List Exported) → NoLoads afterReset xs → decode (carriedThrough afterReset xs .left) ≡ fromReset (doneCalls xs) .after
-image-holds-history xs n =
-    ap (λ (h : Underway). decode (h .left)) (calls-are-a-history xs n)
-    ∙ decode-encode (fromReset (doneCalls xs) .after) (history-well reset (doneCalls xs) reset-well-formed)
+unfolding history
+calls-are-a-history = calls-carry-on afterReset faithful-after-reset
 
 -- With loads and resets among them, exported calls are what History says: whatever they are, the image left last is that of the device to which the
 -- history under way has come since it began, at the last load or reset. A load has to be given bytes.

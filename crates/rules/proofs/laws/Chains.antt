@@ -1,25 +1,26 @@
 -- Exported calls and the history that they carry on: what a done call was asked and what it leaves, and that the history's device is always the one
 -- that the image last left holds. A refused call changes nothing; a load begins anew from what it was given.
 use mathlib.Core.Path.{_≡_, refl, sym, ap, _∙_}
-use mathlib.Core.Bool.{Bool, true, false, cond, not, _&&_, _||_, true≢false, Bool·not-not}
+use mathlib.Core.Bool.{Bool, true, false, cond, not, _&&_, _||_, true≢false, and-eq-true-iff, Bool·not-not}
 use mathlib.Core.List.{List, [], _∷_, _++_, append-nil}
-use Prim.Native.Nat.{ℕ}
+use Prim.Native.Nat.{ℕ, _≤_}
 use native.Mathlib.Omega.{arith}
-use lib.Dec.{eqb}
+use lib.Dec.{eqb, leb}
 use lib.ListN.{length}
+use borrow.Author.Tests.{leb-true}
 use Rattle.rules.specs.Numbers.{Bytes}
-use Rattle.rules.specs.Device.{Device, WellFormed, Call, value, step, reset}
+use Rattle.rules.specs.Device.{Device, Call, value, step, reset}
 use Rattle.rules.specs.Image.{imageLength, ImageTest, imageTest, same, encode, decode}
 use Rattle.rules.specs.Image as image
-use Rattle.rules.specs.Calls.{Refusal, outside, noWidth, noInput, wrongLength, wrongContents, wrongBody, noRoom, refusalNumber, Tested, pass, refuse, onPass, imageAnswer}
-use Rattle.rules.specs.Calls.{Request, Asked, afresh, calls, askedBy, Done, doneOn, performed, answered, bufferOf, placeOf, written, Outcome, leaves, settled, hasRoom, outcome}
-use Rattle.rules.specs.History.{history, fromReset, Exported, leftBy, isDone, isReset, isLoad, callOf, Underway, carriedOn}
+use Rattle.rules.specs.Calls.{Refusal, outside, noWidth, noInput, wrongLength, wrongContents, wrongBody, noRoom, refusalNumber, Tested, pass, refuse}
+use Rattle.rules.specs.Calls.{Request, Asked, afresh, calls, askedBy, Done, doneOn, performed, answered, bufferOf, placeOf, written, Outcome, leaves, settled, answerLength, hasRoom, outcome}
+use Rattle.rules.specs.History.{history, Exported, leftBy, isDone, isReset, isLoad, callOf, Underway, carriedOn}
 use Rattle.rules.specs.Demands.{doneCall, afterReset, current, Faithful}
 use Rattle.rules.proofs.laws.Bits.{test}
 use Rattle.rules.proofs.laws.Lists.{same-equal}
 use Rattle.rules.proofs.laws.Images.{decode-encode, decode-well-formed, reset-well-formed}
 use Rattle.rules.proofs.laws.Folds.{history-append}
-use Rattle.rules.proofs.laws.WellFormed.{step-well, history-well}
+use Rattle.rules.proofs.laws.WellFormed.{history-well}
 
 -- ---- a done call
 
@@ -35,9 +36,13 @@ refused-not-done noRoom = refl
 
 -- its tests passed, and it left what it gives
 record DidPass (x : Exported) : Type 0 where
+  room : hasRoom (x .asked) (x .answer) ≡ true
   gives : Done
   passed : performed (askedBy (x .asked)) (x .given) ≡ pass gives
   left : leftBy x ≡ settled (x .asked) (x .given) (x .answer) (pass gives)
+
+place-fits : (q : Request) (a : List ℕ) → hasRoom q a ≡ true → placeOf q ≤ length (bufferOf q)
+place-fits q a t = leb-true (placeOf q) (length (bufferOf q)) (and-eq-true-iff (leb answerLength (length a)) (leb (placeOf q) (length (bufferOf q))) .0 t .1)
 
 did-pass : (x : Exported) → isDone x ≡ true → DidPass x
 unfolding outcome
@@ -46,8 +51,17 @@ did-pass x e =
     (λ t. absurd (true≢false (sym e ∙ rw t)))
   where
     go : hasRoom (x .asked) (x .answer) ≡ true → (p : Tested Done) → performed (askedBy (x .asked)) (x .given) ≡ p → DidPass x
-    go t (pass y) f = record { gives = y; passed = f; left = rw (t, f) }
+    go t (pass y) f = record { room = t; gives = y; passed = f; left = rw (t, f) }
     go t (refuse r) f = absurd (true≢false (sym e ∙ rw (t, f) (refused-not-done r)))
+
+-- a refused call leaves the image as it was given
+pub refused-leaves : (x : Exported) → isDone x ≡ false → leftBy x .image ≡ x .given
+unfolding outcome
+refused-leaves x e = test (hasRoom (x .asked) (x .answer)) (λ t. go t (performed (askedBy (x .asked)) (x .given)) refl) (λ t. rw t)
+  where
+    go : hasRoom (x .asked) (x .answer) ≡ true → (p : Tested Done) → performed (askedBy (x .asked)) (x .given) ≡ p → leftBy x .image ≡ x .given
+    go t (pass y) f = absurd (true≢false (sym (rw (t, f)) ∙ e))
+    go t (refuse r) f = rw (t, f)
 
 -- a done call of the device: its image was accepted, and it gives what the call does to the device there
 record DidCall (t : Tested Call) (i : List ℕ) (y : Done) : Type 0 where
@@ -56,10 +70,11 @@ record DidCall (t : Tested Call) (i : List ℕ) (y : Done) : Type 0 where
   accepted : imageTest i ≡ image.accepted
   gives : y ≡ doneOn (decode i) call
 
-never : {A : Type 0} (r : Refusal) (y : Done) → refuse r ≡ pass y → A
+-- the tests' answers: a refusal is no pass, and a pass gives one thing
+pub never : {A B : Type 0} (r : Refusal) (y : A) → refuse r ≡ pass y → B
 never r y e = absurd (let z : _≡_ {A = ℕ} 0 1 = cc in omega arith)
 
-passed : {x y : Done} → pass x ≡ pass y → x ≡ y
+pub passed : {A : Type 0} {x y : A} → pass x ≡ pass y → x ≡ y
 passed e = cc
 
 did-call : (t : Tested Call) (i : List ℕ) (y : Done) → performed (calls t) i ≡ pass y → DidCall t i y
@@ -102,6 +117,12 @@ module _ (h : Underway) (x : Exported) where
   carried-done : isDone x ≡ true → (k : Asked) → askedBy (x .asked) ≡ k → carriedOn h x ≡ continued true (isReset k) (callOf k) h x
   unfolding carriedOn
   carried-done t k e i = continued (t i) (isReset (e i)) (callOf (e i)) h x
+
+  -- given the image left last, it leaves the one left last now
+  pub left-last : x .given ≡ h .left → carriedOn h x .left ≡ leftBy x .image
+  left-last g =
+      test (isDone x) (λ t. ap (λ (u : Underway). u .left) (carried-done t (askedBy (x .asked)) refl))
+      (λ t. ap (λ (u : Underway). u .left) (carried-refused t) ∙ sym g ∙ sym (refused-leaves x t))
 
   -- a done reset leaves the image of the reset device
   pub reset-begins : isDone x ≡ true → askedBy (x .asked) ≡ afresh → carriedOn h x ≡ afterReset
@@ -159,6 +180,7 @@ module _ (h : Underway) (x : Exported) where
     pub asks : askedBy (x .asked) ≡ calls (pass call)
     pub left : leftBy x ≡ leaves 0 (encode (step (current h) call .after)) (answered 0 (value (current h) call) (x .answer))
         (written (bufferOf (x .asked)) (placeOf (x .asked)) (step (current h) call .drained))
+    pub fits : placeOf (x .asked) ≤ length (bufferOf (x .asked))
     pub carried : carriedOn h x ≡ record { began = h .began; calls = h .calls ++ (call ∷ []); left = leftBy x .image }
 
   pub handed : Faithful h → isDone x ≡ true → isLoad (h .left) x ≡ false → Handed
@@ -176,6 +198,7 @@ module _ (h : Underway) (x : Exported) where
             call = r .call;
             asks = r .asks;
             left = r .left ∙ ap (λ d. settled (x .asked) (x .given) (x .answer) (pass (doneOn d (r .call)))) (meets f s);
+            fits = place-fits (x .asked) (x .answer) (did-pass x t .room);
             carried = carried-done t (calls (pass (r .call))) (r .asks) ∙ rw s;
           }
 
@@ -190,17 +213,17 @@ module _ (h : Underway) (x : Exported) where
   carried-on f n =
       test (isDone x)
       (λ t.
-        let r = handed f t n in
-        let one : doneCall x ≡ r .call ∷ [] = (λ i. cond (t i) (callOf (r .asks i)) []) in
-        record {
-          began = ap (λ (u : Underway). u .began) (r .carried);
-          calls = rw one (ap (λ (u : Underway). u .calls) (r .carried));
-          current = rw one (ap current (r .carried) ∙ history-snoc (h .began) (h .calls) (r .call));
-        })
+      let r = handed f t n in
+      let one : doneCall x ≡ r .call ∷ [] = (λ i. cond (t i) (callOf (r .asks i)) []) in
+      record {
+        began = ap (λ (u : Underway). u .began) (r .carried);
+        calls = rw one (ap (λ (u : Underway). u .calls) (r .carried));
+        current = rw one (ap current (r .carried) ∙ history-snoc (h .began) (h .calls) (r .call));
+      })
       (λ t.
-        let none : doneCall x ≡ [] = (λ i. cond (t i) (callOf (askedBy (x .asked))) []) in
-        record {
-          began = ap (λ (u : Underway). u .began) (carried-refused t);
-          calls = rw none (ap (λ (u : Underway). u .calls) (carried-refused t) ∙ sym (append-nil (h .calls)));
-          current = rw none (ap current (carried-refused t));
-        })
+      let none : doneCall x ≡ [] = (λ i. cond (t i) (callOf (askedBy (x .asked))) []) in
+      record {
+        began = ap (λ (u : Underway). u .began) (carried-refused t);
+        calls = rw none (ap (λ (u : Underway). u .calls) (carried-refused t) ∙ sym (append-nil (h .calls)));
+        current = rw none (ap current (carried-refused t));
+      })

@@ -49,12 +49,12 @@ only-size n f b = ap length (only-input n f b) ∙ counted (f n)
 
 -- ---- how many events
 
-pub tally-append : (q : Made → Bool) (xs ys : List Made) → tally q (xs ++ ys) ≡ tally q xs + tally q ys
+pub tally-append : {A : Type 0} (q : A → Bool) (xs ys : List A) → tally q (xs ++ ys) ≡ tally q xs + tally q ys
 unfolding tally
 tally-append q [] ys = omega arith
 tally-append q (x ∷ xs) ys = omega (arith, tally-append q xs ys)
 
-pub tally-nil : (q : Made → Bool) → tally q [] ≡ 0
+pub tally-nil : {A : Type 0} (q : A → Bool) → tally q [] ≡ 0
 unfolding tally
 tally-nil q = refl
 

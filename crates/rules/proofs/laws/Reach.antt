@@ -11,11 +11,12 @@ use lib.Dec.{eqb, leb, ltb}
 use borrow.Author.Tests.{eqb-true, lt-ltb, le-ltb, lt-leb, le-leb, ltb-true, ltb-false}
 use Rattle.rules.specs.Numbers.{byteOf}
 use Rattle.rules.specs.Inputs.{half}
-use Rattle.rules.specs.Core.{Core, Plain, Move, Act, move, setIsr, store, setPlain, setRoute, setVector}
+use Rattle.rules.specs.Core.{Core, Plain, Move, poll, raise, lower, clear, setMask, Act, move, setIsr, store, setPlain, setRoute, setVector}
 use Rattle.rules.specs.Map.{Register, Cell, halfOf, bytes, nothing, Row, table, lookup, routesAt, vectorsAt, inRoutes, inVectors, inBytes, cellAt}
 use Rattle.rules.specs.Map as map
 use Rattle.rules.specs.Access.{Width, byte, word, dword, qword, reachable, registerActs, entryActs, cellActs, dwordActs, byteActs, writeActs}
-use Rattle.rules.specs.Device.{Call, level, poll, read, write, drain, actsOf}
+use Rattle.rules.specs.Device.{Call, actsOf}
+use Rattle.rules.specs.Device as call
 use Rattle.rules.specs.History.{byteReaches, reaches, isIsr, writesIsr}
 use Rattle.rules.specs.Demands.{Each, done, also}
 use Rattle.rules.proofs.laws.Bits.{test}
@@ -80,15 +81,15 @@ module _ (T : Act → Type 0) where
   unfolding entryActs
   entry-has i p q b h = test (inRoutes i) (λ e. rw e (also (p b h) done)) (λ e. rw e (test (inVectors i) (λ f. rw f (also (q f b h) done)) (λ f. rw f done)))
 
-  -- a register's half, where T holds of every move and every store
-  pub register-has : ((m : Move) → T (move m)) → ((p : Plain) (h : Bool) (v : ℕ) → T (store (setPlain p h v)))
+  -- a register's half: MASK, CLEAR, a plain register, ISR
+  pub register-has : ((h : Bool) (v : ℕ) → T (move (setMask h v))) → ((b : ℕ) → T (move (clear b))) → ((p : Plain) (h : Bool) (v : ℕ) → T (store (setPlain p h v)))
       → (r : Register) (h : Bool) (v : ℕ) → (r ≡ map.isr → T (setIsr h v)) → Each T (registerActs r h v)
-  register-has p q map.id h v i = done
-  register-has p q map.mask h v i = also (p _) done
-  register-has p q map.clear h v i = also (p _) done
-  register-has p q map.irr h v i = done
-  register-has p q map.isr h v i = also (i refl) done
-  register-has p q (map.plain x) h v i = also (q x h v) done
+  register-has m c p map.id h v i = done
+  register-has m c p map.mask h v i = also (m h v) done
+  register-has m c p map.clear h v i = also (c _) done
+  register-has m c p map.irr h v i = done
+  register-has m c p map.isr h v i = also (i refl) done
+  register-has m c p (map.plain x) h v i = also (p x h v) done
 
   pub dword-has : (o v : ℕ) → ((r : Register) (h : Bool) → cellAt o ≡ halfOf r h → Each T (registerActs r h v)) → ((i : ℕ) → o ≤ i → i < o + 4 → Passes i)
       → Each T (dwordActs o v)
@@ -125,16 +126,34 @@ module _ (T : Act → Type 0) where
         second true = dwords (o + 4) (half true v) (f .1)
         second false = done
 
+-- a write, where T holds of whatever it meets
+pub any-write : (T : Act → Type 0) → ((r : Register) (h : Bool) (v : ℕ) → Each T (registerActs r h v)) → ((n b : ℕ) → b < 256 → T (store (setRoute n b)))
+    → ((n b : ℕ) → b < 256 → T (setVector n b)) → (c : Core) (w : Width) (o v : ℕ) → Each T (writeActs c w o v)
+any-write T p q s c w o v =
+    write-has T (λ i. Unit {0}) (λ i. Unit {0}) (λ i x u. dword-has T i x (λ r h e. p r h x) (λ k f g. entry k)) (λ i u. entry i) c w o v (fine w)
+  where
+    entry : (i : ℕ) → Passes T i
+    entry i = entry-has T i (λ b h. q (i - routesAt) b h) (λ e b h. s (i - vectorsAt) b h)
+
+    fine-byte : (i : ℕ) → FineByte (λ k. Unit {0}) (λ k. Unit {0}) i
+    fine-byte i = record { single = λ s. tt; inDword = λ s. tt }
+
+    fine : (w : Width) → Fine (λ i. Unit {0}) (λ i. Unit {0}) w o
+    fine byte = fine-byte o
+    fine word = (fine-byte o, fine-byte (o + 1))
+    fine dword = tt
+    fine qword = (tt, tt)
+
 -- a call, where T holds of every move, and of each act if the call is a write
-pub call-has : (T : Act → Type 0) → ((m : Move) → T (move m)) → (c : Core) (x : Call) → ((w : Width) (o v : ℕ) → x ≡ write w o v → Each T (writeActs c w o v))
+pub call-has : (T : Act → Type 0) → ((m : Move) → T (move m)) → (c : Core) (x : Call) → ((w : Width) (o v : ℕ) → x ≡ call.write w o v → Each T (writeActs c w o v))
     → Each T (actsOf c x)
 unfolding actsOf
-call-has T p c (level n true) q = also (p _) done
-call-has T p c (level n false) q = also (p _) done
-call-has T p c (poll n) q = also (p _) done
-call-has T p c (read w o) q = done
-call-has T p c (write w o v) q = q w o v refl
-call-has T p c (drain k) q = done
+call-has T p c (call.level n true) q = also (p _) done
+call-has T p c (call.level n false) q = also (p _) done
+call-has T p c (call.poll n) q = also (p _) done
+call-has T p c (call.read w o) q = done
+call-has T p c (call.write w o v) q = q w o v refl
+call-has T p c (call.drain k) q = done
 
 -- ---- no write of ISR
 
@@ -165,7 +184,7 @@ isr-entry i = entry-has NotIsr i (λ b h. tt) (λ e b h. tt)
 
 isr-write : (c : Core) (w : Width) (o v : ℕ) → reaches isIsr w o ≡ false → Each NotIsr (writeActs c w o v)
 isr-write c w o v e =
-    write-has NotIsr (λ i. isIsr i ≡ false) (λ i. Unit {0}) (λ i x n. dword-has NotIsr i x (λ r h s. register-has NotIsr (λ m. tt) (λ p g y. tt) r h x (λ e. isr-stands i r h n s e)) (λ k p q. isr-entry k))
+    write-has NotIsr (λ i. isIsr i ≡ false) (λ i. Unit {0}) (λ i x n. dword-has NotIsr i x (λ r h s. register-has NotIsr (λ g y. tt) (λ y. tt) (λ p g y. tt) r h x (λ e. isr-stands i r h n s e)) (λ k p q. isr-entry k))
     (λ i u. isr-entry i) c w o v (fine w e)
   where
     both-false : (a b : Bool) → (a || b) ≡ false → (a ≡ false) × (b ≡ false)
@@ -236,7 +255,7 @@ NoVector i = (k : ℕ) → i ≤ k → k < i + 4 → inVectors k ≡ false
 
 vectors-left : (c : Core) (w : Width) (o v : ℕ) → ((i : ℕ) → o - o % 4 ≤ i → i < o + 8 → inVectors i ≡ false) → Each LeavesVectors (writeActs c w o v)
 vectors-left c w o v n =
-    write-has LeavesVectors NoVector NoVector (λ i x m. dword-has LeavesVectors i x (λ r h s. register-has LeavesVectors (λ m. tt) (λ p g y. tt) r h x (λ e. tt)) (λ k p q. entry k (m k p q)))
+    write-has LeavesVectors NoVector NoVector (λ i x m. dword-has LeavesVectors i x (λ r h s. register-has LeavesVectors (λ g y. tt) (λ y. tt) (λ p g y. tt) r h x (λ e. tt)) (λ k p q. entry k (m k p q)))
     (λ i m. entry i (m i (le-refl i) (omega arith))) c w o v (fine w)
   where
     entry : (i : ℕ) → inVectors i ≡ false → Passes LeavesVectors i
@@ -266,12 +285,12 @@ write-leaves c w o v =
 
 pub lines-or-vectors : (c : Core) (x : Call) → Each LeavesLines (actsOf c x) ⊎ Each LeavesVectors (actsOf c x)
 unfolding actsOf
-lines-or-vectors c (level n true) = inr (also tt done)
-lines-or-vectors c (level n false) = inr (also tt done)
-lines-or-vectors c (poll n) = inr (also tt done)
-lines-or-vectors c (read w o) = inr done
-lines-or-vectors c (write w o v) = write-leaves c w o v
-lines-or-vectors c (drain k) = inr done
+lines-or-vectors c (call.level n true) = inr (also tt done)
+lines-or-vectors c (call.level n false) = inr (also tt done)
+lines-or-vectors c (call.poll n) = inr (also tt done)
+lines-or-vectors c (call.read w o) = inr done
+lines-or-vectors c (call.write w o v) = write-leaves c w o v
+lines-or-vectors c (call.drain k) = inr done
 
 -- ---- bytes
 
@@ -284,20 +303,23 @@ StoresBytes (store (setRoute n v)) = v < 256
 StoresBytes (setVector n v) = v < 256
 
 byte-write : (c : Core) (w : Width) (o v : ℕ) → Each StoresBytes (writeActs c w o v)
-byte-write c w o v =
-    write-has StoresBytes (λ i. Unit {0}) (λ i. Unit {0}) (λ i x u. dword-has StoresBytes i x (λ r h s. register-has StoresBytes (λ m. tt) (λ p g y. tt) r h x (λ e. tt)) (λ k p q. entry k)) (λ i u. entry i) c w o v (fine w)
-  where
-    entry : (i : ℕ) → Passes StoresBytes i
-    entry i = entry-has StoresBytes i (λ b h. h) (λ e b h. h)
-
-    fine-byte : (i : ℕ) → FineByte (λ k. Unit {0}) (λ k. Unit {0}) i
-    fine-byte i = record { single = λ s. tt; inDword = λ s. tt }
-
-    fine : (w : Width) → Fine (λ i. Unit {0}) (λ i. Unit {0}) w o
-    fine byte = fine-byte o
-    fine word = (fine-byte o, fine-byte (o + 1))
-    fine dword = tt
-    fine qword = (tt, tt)
+byte-write = any-write StoresBytes (λ r h v. register-has StoresBytes (λ g y. tt) (λ y. tt) (λ p g y. tt) r h v (λ e. tt)) (λ i b h. h) (λ i b h. h)
 
 pub byte-acts : (c : Core) (x : Call) → Each StoresBytes (actsOf c x)
 byte-acts c x = call-has StoresBytes (λ m. tt) c x (λ w o v f. byte-write c w o v)
+
+-- ---- what a write makes is offered
+
+-- an act that returns no event
+abbrev pub ReturnsNone : Act → Type 0
+ReturnsNone (move (poll n)) = ⊥
+ReturnsNone (move (raise n)) = ⊥
+ReturnsNone (move (lower n)) = ⊥
+ReturnsNone (move (clear b)) = Unit {0}
+ReturnsNone (move (setMask h v)) = Unit {0}
+ReturnsNone (setIsr h v) = Unit {0}
+ReturnsNone (store s) = Unit {0}
+ReturnsNone (setVector n v) = Unit {0}
+
+pub write-returns-none : (c : Core) (w : Width) (o v : ℕ) → Each ReturnsNone (writeActs c w o v)
+write-returns-none = any-write ReturnsNone (λ r h v. register-has ReturnsNone (λ g y. tt) (λ y. tt) (λ p g y. tt) r h v (λ e. tt)) (λ i b h. tt) (λ i b h. tt)

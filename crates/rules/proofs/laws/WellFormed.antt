@@ -257,6 +257,11 @@ acted-well d {xs} e w =
     let t = turns-well (d .core) e (core-of d w) in
     device-of (acted d xs) (t .0) (offers-well (d .ring) (turns (d .core) xs .made) (t .1) (ring-of d w))
 
+-- the events that a call makes have bytes for vectors
+pub step-events : (d : Device) (c : Call) → WellFormed d → ByteEvents (step d c .made)
+unfolding step
+step-events d c w = turns-well (d .core) (byte-acts (d .core) c) (core-of d w) .1
+
 pub step-well : (d : Device) (c : Call) → WellFormed d → WellFormed (step d c .after)
 unfolding step
 step-well d c w =
