@@ -93,13 +93,26 @@ unfolding performed
 did-reset i y e =
     test (eqb (length i) imageLength) (λ t. ap (λ (z : Done). z .device) (sym (passed (rw t at e)))) (λ t. never wrongLength y (rw t at e))
 
+-- ---- loads
+
+module _ (left : List ℕ) (x : Exported) (t : isDone x ≡ true) where
+  -- a done reset is a load
+  reset-loads : askedBy (x .asked) ≡ afresh → isLoad left x ≡ true
+  reset-loads e i = t i && (isReset (e i) || not (same left (x .given)))
+
+  -- a done call that is no load is no reset, and is given the image left last
+  no-load : isLoad left x ≡ false → (isReset (askedBy (x .asked)) || not (same left (x .given))) ≡ false
+  no-load n = sym (λ i. t i && (isReset (askedBy (x .asked)) || not (same left (x .given)))) ∙ n
+
+  given-left : (u : Tested Call) → askedBy (x .asked) ≡ calls u → isLoad left x ≡ false → left ≡ x .given
+  given-left u e n = same-equal left (x .given) (sym (Bool·not-not (same left (x .given))) ∙ ap not (rw e at (no-load n)))
+
 -- ---- one exported call more
 
--- carriedOn, by whether the call is done, whether it is a reset, and the calls of the device that it is
-abbrev continued : Bool → Bool → List Call → Underway → Exported → Underway
-continued d r cs h x =
-    let new = d && (r || not (same (h .left) (x .given))) in
-    cond d (record { began = cond new (cond r reset (decode (x .given))) (h .began); calls = cond new [] (h .calls) ++ cs; left = leftBy x .image }) h
+-- carriedOn, by whether the call is done, whether it is a load and whether it is a reset, and the calls of the device that it is
+abbrev continued : (done load reset : Bool) → List Call → Underway → Exported → Underway
+continued d n r cs h x =
+    cond d (record { began = cond n (cond r reset (decode (x .given))) (h .began); calls = cond n [] (h .calls) ++ cs; left = leftBy x .image }) h
 
 pub faithful-after-reset : Faithful afterReset
 unfolding history
@@ -112,16 +125,17 @@ history-snoc d cs c = ap (λ s. s .after) (history-append d cs (c ∷ []))
 module _ (h : Underway) (x : Exported) where
   carried-refused : isDone x ≡ false → carriedOn h x ≡ h
   unfolding carriedOn
-  carried-refused t i = continued (t i) (isReset (askedBy (x .asked))) (callOf (askedBy (x .asked))) h x
+  carried-refused t i = continued (t i) (isLoad (h .left) x) (isReset (askedBy (x .asked))) (callOf (askedBy (x .asked))) h x
 
-  carried-done : isDone x ≡ true → (k : Asked) → askedBy (x .asked) ≡ k → carriedOn h x ≡ continued true (isReset k) (callOf k) h x
+  carried-done : isDone x ≡ true → {n : Bool} → isLoad (h .left) x ≡ n → {k : Asked} → askedBy (x .asked) ≡ k
+      → carriedOn h x ≡ continued true n (isReset k) (callOf k) h x
   unfolding carriedOn
-  carried-done t k e i = continued (t i) (isReset (e i)) (callOf (e i)) h x
+  carried-done t n k i = continued (t i) (n i) (isReset (k i)) (callOf (k i)) h x
 
   -- given the image left last, it leaves the one left last now
   pub left-last : x .given ≡ h .left → carriedOn h x .left ≡ leftBy x .image
   left-last g =
-      test (isDone x) (λ t. ap (λ (u : Underway). u .left) (carried-done t (askedBy (x .asked)) refl))
+      test (isDone x) (λ t. ap (λ (u : Underway). u .left) (carried-done t refl refl))
       (λ t. ap (λ (u : Underway). u .left) (carried-refused t) ∙ sym g ∙ sym (refused-leaves x t))
 
   -- a done reset leaves the image of the reset device
@@ -129,7 +143,7 @@ module _ (h : Underway) (x : Exported) where
   reset-begins t e =
       let p = did-pass x t in
       let is = ap (λ (o : Outcome). o .image) (p .left) ∙ ap encode (did-reset (x .given) (p .gives) (rw e at (p .passed))) in
-      carried-done t afresh e ∙ (λ i. record { began = reset; calls = []; left = is i })
+      carried-done t (reset-loads (h .left) x t e) e ∙ (λ i. record { began = reset; calls = []; left = is i })
 
   -- a done call that is no reset: what it asks of the device, and what it leaves
   record Did : Type 0 where
@@ -150,21 +164,20 @@ module _ (h : Underway) (x : Exported) where
       }
 
   -- given the image that the history left, it meets the history's device
-  meets : Faithful h → same (h .left) (x .given) ≡ true → decode (x .given) ≡ current h
-  meets f e = ap decode (sym (same-equal (h .left) (x .given) e) ∙ f .left) ∙ decode-encode (current h) (history-well (h .began) (h .calls) (f .began))
+  meets : Faithful h → h .left ≡ x .given → decode (x .given) ≡ current h
+  meets f e = ap decode (sym e ∙ f .left) ∙ decode-encode (current h) (history-well (h .began) (h .calls) (f .began))
 
   faithful-call : Faithful h → (isLoad (h .left) x ≡ true → Bytes (x .given)) → isDone x ≡ true → Did → Faithful (carriedOn h x)
   unfolding history
   faithful-call f b t r =
       let c = r .call in
       let image-is : leftBy x .image ≡ encode (step (decode (x .given)) c .after) = ap (λ (o : Outcome). o .image) (r .left) in
-      rw (carried-done t (calls (pass c)) (r .asks))
-      (test (same (h .left) (x .given))
-      (λ e. rw e (record {
+      test (isLoad (h .left) x)
+      (λ n. rw (carried-done t n (r .asks)) (record { began = decode-well-formed (x .given) (b n) (r .accepted); left = image-is }))
+      (λ n. rw (carried-done t n (r .asks)) (record {
         began = f .began;
-        left = image-is ∙ ap (λ d. encode (step d c .after)) (meets f e) ∙ ap encode (sym (history-snoc (h .began) (h .calls) c));
+        left = image-is ∙ ap (λ d. encode (step d c .after)) (meets f (given-left (h .left) x t (pass c) (r .asks) n)) ∙ ap encode (sym (history-snoc (h .began) (h .calls) c));
       }))
-      (λ e. rw e (record { began = decode-well-formed (x .given) (b (λ i. t i && (isReset (r .asks i) || not (e i)))) (r .accepted); left = image-is })))
 
   -- any exported call, refused, a load or neither; only a load has to be given bytes
   pub faithful-on : Faithful h → (isLoad (h .left) x ≡ true → Bytes (x .given)) → Faithful (carriedOn h x)
@@ -186,20 +199,16 @@ module _ (h : Underway) (x : Exported) where
   pub handed : Faithful h → isDone x ≡ true → isLoad (h .left) x ≡ false → Handed
   handed f t n = go (askedBy (x .asked)) refl
     where
-      no-load : (k : Asked) → askedBy (x .asked) ≡ k → (isReset k || not (same (h .left) (x .given))) ≡ false
-      no-load k e = sym (λ i. t i && (isReset (e i) || not (same (h .left) (x .given)))) ∙ n
-
       go : (k : Asked) → askedBy (x .asked) ≡ k → Handed
-      go afresh e = absurd (true≢false (no-load afresh e))
+      go afresh e = absurd (true≢false (sym (reset-loads (h .left) x t e) ∙ n))
       go (calls u) e =
           let r = did t u e in
-          let s : same (h .left) (x .given) ≡ true = sym (Bool·not-not (same (h .left) (x .given))) ∙ ap not (no-load (calls u) e) in
           record {
             call = r .call;
             asks = r .asks;
-            left = r .left ∙ ap (λ d. settled (x .asked) (x .given) (x .answer) (pass (doneOn d (r .call)))) (meets f s);
+            left = r .left ∙ ap (λ d. settled (x .asked) (x .given) (x .answer) (pass (doneOn d (r .call)))) (meets f (given-left (h .left) x t u e n));
             fits = place-fits (x .asked) (x .answer) (did-pass x t .room);
-            carried = carried-done t (calls (pass (r .call))) (r .asks) ∙ rw s;
+            carried = carried-done t n (r .asks);
           }
 
   -- so an exported call that is no load carries the history on by the calls that it is, none or one
