@@ -12,5 +12,7 @@ pub mod Acts
 pub mod Reach
 pub mod Folds
 pub mod Counts
+pub mod Draining
 pub mod WellFormed
 pub mod Chains
+pub mod Readings

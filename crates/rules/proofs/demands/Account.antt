@@ -1,6 +1,6 @@
 -- Demand 3, the account: for each vector, asserts made less deasserts made follow the in-service inputs that carry it.
--- A call moves the lines or changes vector bytes, never both (Reach). Where it moves lines each act is in balance (Counts); where it changes vectors it
--- makes no event, and the premise keeps the vectors of the inputs in service.
+-- A call moves the lines or changes vector bytes, never both (Reach). Where it moves the lines each act is in balance (Counts); where it changes vectors
+-- it makes no event, and the premise keeps the vectors of the inputs in service.
 use mathlib.Core.Path.{_≡_, refl, sym, ap, _∙_}
 use mathlib.Core.Logic.{⊎-elim}
 use mathlib.Core.Bool.{Bool, true, false, not, _&&_}
@@ -54,9 +54,14 @@ module _ (v : ℕ) where
   accounted-call : (d : Device) (c : Call) → Admitted d c → Accounted (d .core) (step d c .made) (step d c .after .core)
   unfolding step acted
   accounted-call d c p =
-      let xs = actsOf (d .core) c in
-      ⊎-elim (λ e. let s = still (d .core) e in rw (s .0) (omega (arith, accounted-none (d .core), carrying-stays (d .core) (turns (d .core) xs .after) (s .1) (p .vectorsStay))))
-      (λ e. fold-acts Accounted accounted-none accounted-next (λ a. NotIsr a × LeavesVectors a) accounted-act (d .core) (each-both (no-isr-act (d .core) c (p .noIsrWrite)) e))
+      let after = turns (d .core) (actsOf (d .core) c) .after in
+      ⊎-elim
+      (λ e.
+      let s = still (d .core) e in
+      rw (s .0) (omega (arith, accounted-none (d .core), carrying-stays (d .core) after (s .1) (p .vectorsStay))))
+      (λ e.
+      fold-acts Accounted accounted-none accounted-next (λ a. NotIsr a × LeavesVectors a) accounted-act (d .core)
+      (each-both (no-isr-act (d .core) c (p .noIsrWrite)) e))
       (lines-or-vectors (d .core) c)
 
   none-served : carrying v (reset .core) ≡ 0

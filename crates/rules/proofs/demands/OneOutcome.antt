@@ -1,5 +1,6 @@
 -- 01, How tight the promises are: 'Each public call's promise settles its number, its value and every byte of image, answer area and event buffer
--- afterwards, on any input, refused or done. Show that no second outcome satisfies it.' The promise of a call is an equation with `outcome` of its request.
+-- afterwards, on any input, refused or done. Show that no second outcome satisfies it.' The promise of a call is an equation with `outcome` of its
+-- request.
 use mathlib.Core.Path.{_≡_, refl, sym, _∙_}
 use mathlib.Core.List.{List}
 use Prim.Native.Nat.{ℕ}

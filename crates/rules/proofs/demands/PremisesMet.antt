@@ -20,7 +20,8 @@ use Rattle.rules.specs.Image.{encode}
 use Rattle.rules.specs.Calls.{Request, askedBy}
 use Rattle.rules.specs.Calls as request
 use Rattle.rules.specs.History.{history, fromReset, Along, Admitted, writesIsr, Exported, leftBy, isReset}
-use Rattle.rules.specs.Demands.{tally, asserts, deasserts, carrying, Each, done, also, inService, Ready, disturbs, Undisturbed, foundBy, NoLoads, HandedOn, doneCalls, afterReset, returnedBy, drainedBy}
+use Rattle.rules.specs.Demands.{tally, asserts, deasserts, carrying, Each, done, also, inService, Ready, disturbs, Undisturbed, foundBy}
+use Rattle.rules.specs.Demands.{NoLoads, HandedOn, doneCalls, afterReset, returnedBy, drainedBy}
 use Rattle.rules.specs.Dozen.{raises}
 use Rattle.rules.proofs.laws.Computing.{computing}
 use Rattle.rules.proofs.demands.Account.{asserts-match-service}
@@ -89,7 +90,8 @@ all-undisturbed n d [] e = tt
 all-undisturbed n d (c ∷ cs) e =
     let both = and-eq-true-iff (not (writesIsr c) && spared n (actsOf (d .core) c)) (sparedAll n (step d c .after) cs) .0 e in
     let here = and-eq-true-iff (not (writesIsr c)) (spared n (actsOf (d .core) c)) .0 (both .0) in
-    (record { noIsrWrite = not-true (writesIsr c) (here .0); notDisturbed = each-spared n (actsOf (d .core) c) (here .1) }, all-undisturbed n (step d c .after) cs (both .1))
+    let one : Undisturbed n d c = record { noIsrWrite = not-true (writesIsr c) (here .0); notDisturbed = each-spared n (actsOf (d .core) c) (here .1) } in
+    (one, all-undisturbed n (step d c .after) cs (both .1))
 
 -- ---- the account
 
@@ -104,9 +106,17 @@ unfolding computing
 worked-admitted = all-admitted reset worked refl
 
 -- of the vector 5, three asserts and two deasserts, and one input in service that carries it: 9
-worked-counts : (asserts 5 (fromReset worked .made) ≡ 3) × (deasserts 5 (fromReset worked .made) ≡ 2) × (carrying 5 (fromReset worked .after .core) ≡ 1)
+worked-asserts : asserts 5 (fromReset worked .made) ≡ 3
 unfolding computing tally
-worked-counts = (refl, refl, refl)
+worked-asserts = refl
+
+worked-deasserts : deasserts 5 (fromReset worked .made) ≡ 2
+unfolding computing tally
+worked-deasserts = refl
+
+worked-carrying : carrying 5 (fromReset worked .after .core) ≡ 1
+unfolding computing
+worked-carrying = refl
 
 worked-account : asserts 5 (fromReset worked .made) ≡ deasserts 5 (fromReset worked .made) + carrying 5 (fromReset worked .after .core)
 worked-account = asserts-match-service 5 worked worked-admitted
@@ -140,25 +150,29 @@ five-served = in-service-from-then-on 5 (lit< tt) (fromReset begun .after) befor
 
 -- ---- order
 
--- unmask all and raise 0 to 16, so that seventeen are in service; then mask all: seventeen deasserts are offered
+-- unmask 0 to 31 and raise 0 to 16, so that seventeen are in service; then mask them: seventeen deasserts are offered, lowest first
 abbrev seventeen : Device
 seventeen = fromReset (write dword 0x020 0 ∷ raises 0 17) .after
 
 abbrev maskAll : Call
 maskAll = write dword 0x020 0xffffffff
 
-abbrev deassertsOf : ℕ → ℕ → List Made
-deassertsOf n k = map (event (upFrom 0 64) true false) (upFrom n k)
+abbrev deassertOf : ℕ → Made
+deassertOf n = event (upFrom 0 64) true false n
+
+abbrev deassertsFrom : ℕ → ℕ → List Made
+deassertsFrom n k = map deassertOf (upFrom n k)
 
 -- the third finds two waiting, and is the third that two drains of room for two drain
 third-drained : (x : Event) → getD (history seventeen (maskAll ∷ drain 2 ∷ drain 2 ∷ []) .drained) 2 x ≡ record { vector = 2; asserted = false }
 unfolding computing
-third-drained = drained-in-turn seventeen maskAll (deassertsOf 0 2) (event (upFrom 0 64) true false 2) (deassertsOf 3 14) refl refl 2 refl (lit< tt) (drain 2 ∷ drain 2 ∷ []) (lit< tt)
+third-drained =
+    drained-in-turn seventeen maskAll (deassertsFrom 0 2) (deassertOf 2) (deassertsFrom 3 14) refl refl 2 refl (lit< tt) (drain 2 ∷ drain 2 ∷ []) (lit< tt)
 
 -- the seventeenth finds sixteen, and is dropped and counted
-seventeenth-dropped : foundBy seventeen (deassertsOf 0 17) .drops ≡ 1
+seventeenth-dropped : foundBy seventeen (deassertsFrom 0 17) .drops ≡ 1
 unfolding computing
-seventeenth-dropped = ap (λ r. r .drops) (else-dropped seventeen maskAll (deassertsOf 0 16) (event (upFrom 0 64) true false 16) [] refl refl 16 refl (lit≤ tt))
+seventeenth-dropped = ap (λ r. r .drops) (else-dropped seventeen maskAll (deassertsFrom 0 16) (deassertOf 16) [] refl refl 16 refl (lit≤ tt))
 
 -- ---- exported calls
 
@@ -196,6 +210,10 @@ unfolding computing doneCalls
 exported-calls = refl
 
 -- a deassert of 5 comes back in an answer area, its assert in the event buffer
-exported-events : (returnedBy exported ≡ record { vector = 5; asserted = false } ∷ []) × (drainedBy exported ≡ record { vector = 5; asserted = true } ∷ [])
-unfolding computing returnedBy drainedBy
-exported-events = (refl, refl)
+exported-returned : returnedBy exported ≡ record { vector = 5; asserted = false } ∷ []
+unfolding computing returnedBy
+exported-returned = refl
+
+exported-drained : drainedBy exported ≡ record { vector = 5; asserted = true } ∷ []
+unfolding computing drainedBy
+exported-drained = refl

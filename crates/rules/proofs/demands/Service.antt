@@ -1,12 +1,14 @@
 -- Demand 3, service: an input that is latched and unmasked, and stays undisturbed, is in service from the first poll or raise of it on.
--- Entering adds inputs to service, and leaving takes only those of its set; so an undisturbed input stays latched, unmasked, and in service once it is.
+-- Entering takes no input out of service, and leaving only those of its set; so an undisturbed input stays latched and unmasked, and in service once
+-- it is.
 use mathlib.Core.Path.{_≡_, refl, sym, _∙_}
 use mathlib.Core.Bool.{Bool, true, false, not, true≢false, and-false, or-true}
 use mathlib.Core.List.{List, [], _∷_, _++_}
 use Prim.Native.Nat.{ℕ, _<_}
 use borrow.Author.Tests.{eq-eqb, eqb-true}
 use Rattle.rules.specs.Inputs.{on, inputs, only, put, without, withHalf, asHalf}
-use Rattle.rules.specs.Lines.{Lines, Made, withIrr, withMask, waitingIn, serve, leave, newlyUnmasked, newlyMasked, polled, raised, lowered, cleared, masked}
+use Rattle.rules.specs.Lines.{Lines, Made, withIrr, withMask, waitingIn, serve, leave, newlyUnmasked, newlyMasked}
+use Rattle.rules.specs.Lines.{polled, raised, lowered, cleared, masked}
 use Rattle.rules.specs.Core.{Core, Move, poll, raise, lower, clear, setMask, Act, move, setIsr, store, setVector, moved, lineTurn, turn, turns}
 use Rattle.rules.specs.Device.{Device, Call, actsOf, acted, step}
 use Rattle.rules.specs.Device as call
@@ -32,23 +34,32 @@ module _ (n : ℕ) (b : n < 64) where
 
   serve-goes : (vs : List ℕ) (o : Bool) (l : Lines) (ns : List ℕ) → Ready n l → Goes l (serve vs o l ns .after)
   serve-goes vs o l [] r = record { ready = r; served = λ e. e }
-  serve-goes vs o l (m ∷ ns) r = record { ready = record { latched = r .latched; unmasked = r .unmasked }; served = λ e. rw (on-put (l .isr) m n b, e) }
+  serve-goes vs o l (m ∷ ns) r =
+      record { ready = record { latched = r .latched; unmasked = r .unmasked }; served = λ e. rw (on-put (l .isr) m n b, e) }
 
   leave-goes : (vs : List ℕ) (o : Bool) (f : ℕ → Bool) (l : Lines) → f n ≡ false → Ready n l → Goes l (leave vs o f l .after)
-  leave-goes vs o f l e r = record { ready = record { latched = r .latched; unmasked = r .unmasked }; served = λ s. rw (on-without (l .isr) f n b, s, e) }
+  leave-goes vs o f l e r =
+      record { ready = record { latched = r .latched; unmasked = r .unmasked }; served = λ s. rw (on-without (l .isr) f n b, s, e) }
+
+  -- a latch more, or other latches fewer
+  latch-ready : (l : Lines) (m : ℕ) → Ready n l → Ready n (withIrr l (put (l .irr) m))
+  latch-ready l m r = record { latched = rw (on-put (l .irr) m n b, r .latched); unmasked = r .unmasked }
+
+  unlatch-ready : (l : Lines) (f : ℕ → Bool) → f n ≡ false → Ready n l → Ready n (withIrr l (without (l .irr) f))
+  unlatch-ready l f e r = record { latched = rw (on-without (l .irr) f n b, r .latched, e); unmasked = r .unmasked }
 
   move-goes : (vs : List ℕ) (l : Lines) (m : Move) → disturbs n (move m) ≡ false → Ready n l → Goes l (moved vs l m .after)
   unfolding moved polled raised lowered cleared masked
   move-goes vs l (poll m) e r = serve-goes vs false l (inputs (waitingIn (only m) l)) r
   move-goes vs l (raise m) e r =
       let k = withIrr l (put (l .irr) m) in
-      let g = serve-goes vs false k (inputs (waitingIn (only m) k)) (record { latched = rw (on-put (l .irr) m n b, r .latched); unmasked = r .unmasked }) in
+      let g = serve-goes vs false k (inputs (waitingIn (only m) k)) (latch-ready l m r) in
       record { ready = g .ready; served = g .served }
   move-goes vs l (lower m) e r =
-      let g = leave-goes vs false (only m) (withIrr l (without (l .irr) (only m))) e (record { latched = rw (on-without (l .irr) (only m) n b, r .latched, e); unmasked = r .unmasked }) in
+      let g = leave-goes vs false (only m) (withIrr l (without (l .irr) (only m))) e (unlatch-ready l (only m) e r) in
       record { ready = g .ready; served = g .served }
   move-goes vs l (clear x) e r =
-      let g = leave-goes vs true (on x) (withIrr l (without (l .irr) (on x))) e (record { latched = rw (on-without (l .irr) (on x) n b, r .latched, e); unmasked = r .unmasked }) in
+      let g = leave-goes vs true (on x) (withIrr l (without (l .irr) (on x))) e (unlatch-ready l (on x) e r) in
       record { ready = g .ready; served = g .served }
   move-goes vs l (setMask h v) e r =
       let new = withHalf h (l .mask) v in
@@ -119,9 +130,9 @@ module _ (n : ℕ) (b : n < 64) where
   ask-serves d (call.write w o v) e r = absurd (true≢false (sym e))
   ask-serves d (call.drain k) e r = absurd (true≢false (sym e))
 
--- 'An input latched and unmasked, and after that not lowered, cleared or masked, is in service from the first poll or raise of it on.' In d the input n is
--- ready; among the calls from there on, all undisturbed, c is a poll or raise of it, the first or another; whatever the calls are that lie before and
--- after c, n is in service at their end.
+-- 'An input latched and unmasked, and after that not lowered, cleared or masked, is in service from the first poll or raise of it on.' In d the input n
+-- is ready, and the calls from there on leave it undisturbed; c among them is a poll or raise of it, the first or another. Then n is in service at their
+-- end, whatever other calls lie before and after c.
 pub in-service-from-then-on : (n : ℕ) → n < 64 → (d : Device) (before : List Call) (c : Call) (later : List Call) → Ready n (d .core .lines)
     → Along (Undisturbed n) d (before ++ (c ∷ later)) → asks n c ≡ true → inService n (history d (before ++ (c ∷ later)) .after .core .lines) ≡ true
 unfolding history Along
@@ -138,5 +149,6 @@ pub in-service-once-raised : (n : ℕ) → n < 64 → (d : Device) (later : List
     → Along (Undisturbed n) d (call.level n true ∷ later) → inService n (history d (call.level n true ∷ later) .after .core .lines) ≡ true
 unfolding history Along step acted actsOf turns lineTurn moved
 in-service-once-raised n b d later e p =
+    let vs = d .core .vectors in
     let l = d .core .lines in
-    calls-go n b (step d (call.level n true) .after) later (p .1) (raise-readies n b (d .core .vectors) l e) .served (raise-serves n b (d .core .vectors) l e)
+    calls-go n b (step d (call.level n true) .after) later (p .1) (raise-readies n b vs l e) .served (raise-serves n b vs l e)

@@ -1,7 +1,7 @@
 -- Exported calls and the history that they carry on: what a done call was asked and what it leaves, and that the history's device is always the one
 -- that the image last left holds. A refused call changes nothing; a load begins anew from what it was given.
 use mathlib.Core.Path.{_≡_, refl, sym, ap, _∙_}
-use mathlib.Core.Bool.{Bool, true, false, cond, not, _&&_, _||_, true≢false, and-eq-true-iff, Bool·not-not}
+use mathlib.Core.Bool.{Bool, true, false, cond, not, true≢false, and-eq-true-iff, Bool·not-not}
 use mathlib.Core.List.{List, [], _∷_, _++_, append-nil}
 use Prim.Native.Nat.{ℕ, _≤_}
 use native.Mathlib.Omega.{arith}
@@ -12,7 +12,8 @@ use Rattle.rules.specs.Numbers.{Bytes}
 use Rattle.rules.specs.Device.{Device, Call, value, step, reset}
 use Rattle.rules.specs.Image.{imageLength, ImageTest, imageTest, same, encode, decode}
 use Rattle.rules.specs.Image as image
-use Rattle.rules.specs.Calls.{Refusal, outside, noWidth, noInput, wrongLength, wrongContents, wrongBody, noRoom, refusalNumber, Tested, pass, refuse}
+use Rattle.rules.specs.Calls.{Refusal, outside, noWidth, noInput, wrongLength, wrongContents, wrongBody, noRoom, refusalNumber}
+use Rattle.rules.specs.Calls.{Tested, pass, refuse}
 use Rattle.rules.specs.Calls.{Request, Asked, afresh, calls, askedBy, Done, doneOn, performed, answered, bufferOf, placeOf, written, Outcome, leaves, settled, answerLength, hasRoom, outcome}
 use Rattle.rules.specs.History.{history, Exported, leftBy, isDone, isReset, isLoad, callOf, Underway, carriedOn}
 use Rattle.rules.specs.Demands.{doneCall, afterReset, current, Faithful}
@@ -42,7 +43,8 @@ record DidPass (x : Exported) : Type 0 where
   left : leftBy x ≡ settled (x .asked) (x .given) (x .answer) (pass gives)
 
 place-fits : (q : Request) (a : List ℕ) → hasRoom q a ≡ true → placeOf q ≤ length (bufferOf q)
-place-fits q a t = leb-true (placeOf q) (length (bufferOf q)) (and-eq-true-iff (leb answerLength (length a)) (leb (placeOf q) (length (bufferOf q))) .0 t .1)
+place-fits q a t =
+    leb-true (placeOf q) (length (bufferOf q)) (and-eq-true-iff (leb answerLength (length a)) (leb (placeOf q) (length (bufferOf q))) .0 t .1)
 
 did-pass : (x : Exported) → isDone x ≡ true → DidPass x
 unfolding outcome
@@ -98,14 +100,11 @@ did-reset i y e =
 module _ (left : List ℕ) (x : Exported) (t : isDone x ≡ true) where
   -- a done reset is a load
   reset-loads : askedBy (x .asked) ≡ afresh → isLoad left x ≡ true
-  reset-loads e i = t i && (isReset (e i) || not (same left (x .given)))
+  reset-loads e = rw (t, e)
 
-  -- a done call that is no load is no reset, and is given the image left last
-  no-load : isLoad left x ≡ false → (isReset (askedBy (x .asked)) || not (same left (x .given))) ≡ false
-  no-load n = sym (λ i. t i && (isReset (askedBy (x .asked)) || not (same left (x .given)))) ∙ n
-
+  -- a done call that is no reset and no load is given the image left last
   given-left : (u : Tested Call) → askedBy (x .asked) ≡ calls u → isLoad left x ≡ false → left ≡ x .given
-  given-left u e n = same-equal left (x .given) (sym (Bool·not-not (same left (x .given))) ∙ ap not (rw e at (no-load n)))
+  given-left u e n = same-equal left (x .given) (sym (Bool·not-not (same left (x .given))) ∙ ap not (rw (t, e) at n))
 
 -- ---- one exported call more
 
@@ -176,7 +175,9 @@ module _ (h : Underway) (x : Exported) where
       (λ n. rw (carried-done t n (r .asks)) (record { began = decode-well-formed (x .given) (b n) (r .accepted); left = image-is }))
       (λ n. rw (carried-done t n (r .asks)) (record {
         began = f .began;
-        left = image-is ∙ ap (λ d. encode (step d c .after)) (meets f (given-left (h .left) x t (pass c) (r .asks) n)) ∙ ap encode (sym (history-snoc (h .began) (h .calls) c));
+        left =
+            let met = meets f (given-left (h .left) x t (pass c) (r .asks) n) in
+            image-is ∙ ap (λ d. encode (step d c .after)) met ∙ ap encode (sym (history-snoc (h .began) (h .calls) c));
       }))
 
   -- any exported call, refused, a load or neither; only a load has to be given bytes
@@ -203,10 +204,11 @@ module _ (h : Underway) (x : Exported) where
       go afresh e = absurd (true≢false (sym (reset-loads (h .left) x t e) ∙ n))
       go (calls u) e =
           let r = did t u e in
+          let met = meets f (given-left (h .left) x t u e n) in
           record {
             call = r .call;
             asks = r .asks;
-            left = r .left ∙ ap (λ d. settled (x .asked) (x .given) (x .answer) (pass (doneOn d (r .call)))) (meets f (given-left (h .left) x t u e n));
+            left = r .left ∙ ap (λ d. settled (x .asked) (x .given) (x .answer) (pass (doneOn d (r .call)))) met;
             fits = place-fits (x .asked) (x .answer) (did-pass x t .room);
             carried = carried-done t n (r .asks);
           }

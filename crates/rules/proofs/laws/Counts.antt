@@ -8,8 +8,8 @@ use native.Mathlib.Omega.{arith}
 use lib.ListN.{length}
 use borrow.Author.Tests.{eqb-true}
 use Rattle.rules.specs.Inputs.{on, from, inputs, only, put, without, withHalf}
-use Rattle.rules.specs.Lines.{Lines, Made, Turn, stay, andThen, event, waitingIn, servedIn, serve, enter, leave, withIrr, withMask, newlyUnmasked, newlyMasked}
-use Rattle.rules.specs.Lines.{polled, raised, lowered, cleared, masked}
+use Rattle.rules.specs.Lines.{Lines, Made, Turn, stay, andThen, event, waitingIn, servedIn, serve, enter, leave, withIrr, withMask}
+use Rattle.rules.specs.Lines.{newlyUnmasked, newlyMasked, polled, raised, lowered, cleared, masked}
 use Rattle.rules.specs.Core.{Move, poll, raise, lower, clear, setMask, Act, move, setIsr, store, setVector, moved, lineTurn}
 use Rattle.rules.specs.Demands.{tally, assertsWith, deassertsWith, servedWith}
 use Rattle.rules.proofs.laws.Bits.{test, on-put, on-without}
@@ -35,7 +35,9 @@ pub split : (n k : ℕ) (f g : ℕ → Bool) → length (from n k f) ≡ length 
 unfolding from
 split n zero f g = refl
 split n (suc k) f g =
-    omega (arith, length-from n k f, length-from n k (λ m. f m && g m), length-from n k (λ m. f m && not (g m)), one-split (f n) (g n), split (suc n) k f g)
+    let with-g = length-from n k (λ m. f m && g m) in
+    let without-g = length-from n k (λ m. f m && not (g m)) in
+    omega (arith, length-from n k f, with-g, without-g, one-split (f n) (g n), split (suc n) k f g)
 
 pub size-ext : (f g : ℕ → Bool) → ((i : ℕ) → i < 64 → f i ≡ g i) → length (inputs f) ≡ length (inputs g)
 size-ext f g e = ap length (inputs-ext f g e)

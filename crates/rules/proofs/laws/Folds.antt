@@ -1,5 +1,5 @@
--- What holds of each act holds of acts, and what holds of each call holds of a history: once for every relation between what was, the events made, and
--- what is. Then histories in two parts, and what acts leave that leave the lines or the vector bytes.
+-- What holds of each act holds of acts, and what holds of each call holds of a history: once for every relation between what was, the events made and
+-- what is. Then histories in two parts, and what stays where acts leave the lines or the vector bytes.
 use mathlib.Core.Path.{_≡_, refl, sym, ap, ap₂, _∙_}
 use mathlib.Core.List.{List, [], _∷_, _++_, append-assoc}
 use Prim.Native.Nat.{ℕ}

@@ -1,5 +1,6 @@
--- Which acts a write can do. What holds of the register halves and of the route and vector bytes that a write meets holds of each of its acts (write-has).
--- Hence: no write of ISR where none reaches it; a write moves the lines or changes vector bytes, never both; what is stored in a byte's place is a byte.
+-- Which acts a write can do. What holds of the register halves and of the route and vector bytes that it meets holds of each of its acts (write-has).
+-- Hence: no act on ISR where a write does not reach it; a write moves the lines or changes vector bytes, never both; a byte is stored where one belongs;
+-- and what a write makes is offered.
 use mathlib.Core.Path.{_≡_, refl, sym, ap, _∙_}
 use mathlib.Core.Logic.{_⊎_, inl, inr}
 use mathlib.Core.Bool.{Bool, true, false, cond, not, _&&_, _||_, true≢false, and-eq-true-iff, and-false}
@@ -12,7 +13,8 @@ use borrow.Author.Tests.{eqb-true, lt-ltb, le-ltb, lt-leb, le-leb, ltb-true, ltb
 use Rattle.rules.specs.Numbers.{byteOf}
 use Rattle.rules.specs.Inputs.{half}
 use Rattle.rules.specs.Core.{Core, Plain, Move, poll, raise, lower, clear, setMask, Act, move, setIsr, store, setPlain, setRoute, setVector}
-use Rattle.rules.specs.Map.{Register, Cell, halfOf, bytes, nothing, Row, table, lookup, routesAt, vectorsAt, inRoutes, inVectors, inBytes, cellAt}
+use Rattle.rules.specs.Map.{Register, Cell, halfOf, bytes, nothing, Row, table, lookup}
+use Rattle.rules.specs.Map.{routesAt, vectorsAt, inRoutes, inVectors, inBytes, cellAt}
 use Rattle.rules.specs.Map as map
 use Rattle.rules.specs.Access.{Width, byte, word, dword, qword, reachable, registerActs, entryActs, cellActs, dwordActs, byteActs, writeActs}
 use Rattle.rules.specs.Device.{Call, actsOf}
@@ -77,13 +79,15 @@ module _ (T : Act → Type 0) where
   abbrev pub Passes : ℕ → Type 0
   Passes i = (b : ℕ) → b < 256 → Each T (entryActs i b)
 
-  pub entry-has : (i : ℕ) → ((b : ℕ) → b < 256 → T (store (setRoute (i - routesAt) b))) → (inVectors i ≡ true → (b : ℕ) → b < 256 → T (setVector (i - vectorsAt) b)) → Passes i
+  pub entry-has : (i : ℕ) → ((b : ℕ) → b < 256 → T (store (setRoute (i - routesAt) b)))
+      → (inVectors i ≡ true → (b : ℕ) → b < 256 → T (setVector (i - vectorsAt) b)) → Passes i
   unfolding entryActs
-  entry-has i p q b h = test (inRoutes i) (λ e. rw e (also (p b h) done)) (λ e. rw e (test (inVectors i) (λ f. rw f (also (q f b h) done)) (λ f. rw f done)))
+  entry-has i p q b h =
+      test (inRoutes i) (λ e. rw e (also (p b h) done)) (λ e. rw e (test (inVectors i) (λ f. rw f (also (q f b h) done)) (λ f. rw f done)))
 
   -- a register's half: MASK, CLEAR, a plain register, ISR
-  pub register-has : ((h : Bool) (v : ℕ) → T (move (setMask h v))) → ((b : ℕ) → T (move (clear b))) → ((p : Plain) (h : Bool) (v : ℕ) → T (store (setPlain p h v)))
-      → (r : Register) (h : Bool) (v : ℕ) → (r ≡ map.isr → T (setIsr h v)) → Each T (registerActs r h v)
+  pub register-has : ((h : Bool) (v : ℕ) → T (move (setMask h v))) → ((b : ℕ) → T (move (clear b)))
+      → ((p : Plain) (h : Bool) (v : ℕ) → T (store (setPlain p h v))) → (r : Register) (h : Bool) (v : ℕ) → (r ≡ map.isr → T (setIsr h v)) → Each T (registerActs r h v)
   register-has m c p map.id h v i = done
   register-has m c p map.mask h v i = also (m h v) done
   register-has m c p map.clear h v i = also (c _) done
@@ -91,8 +95,8 @@ module _ (T : Act → Type 0) where
   register-has m c p map.isr h v i = also (i refl) done
   register-has m c p (map.plain x) h v i = also (p x h v) done
 
-  pub dword-has : (o v : ℕ) → ((r : Register) (h : Bool) → cellAt o ≡ halfOf r h → Each T (registerActs r h v)) → ((i : ℕ) → o ≤ i → i < o + 4 → Passes i)
-      → Each T (dwordActs o v)
+  pub dword-has : (o v : ℕ) → ((r : Register) (h : Bool) → cellAt o ≡ halfOf r h → Each T (registerActs r h v))
+      → ((i : ℕ) → o ≤ i → i < o + 4 → Passes i) → Each T (dwordActs o v)
   unfolding dwordActs cellActs
   dword-has o v p q = go (cellAt o) refl
     where
@@ -127,10 +131,11 @@ module _ (T : Act → Type 0) where
         second false = done
 
 -- a write, where T holds of whatever it meets
-pub any-write : (T : Act → Type 0) → ((r : Register) (h : Bool) (v : ℕ) → Each T (registerActs r h v)) → ((n b : ℕ) → b < 256 → T (store (setRoute n b)))
-    → ((n b : ℕ) → b < 256 → T (setVector n b)) → (c : Core) (w : Width) (o v : ℕ) → Each T (writeActs c w o v)
+pub any-write : (T : Act → Type 0) → ((r : Register) (h : Bool) (v : ℕ) → Each T (registerActs r h v))
+    → ((n b : ℕ) → b < 256 → T (store (setRoute n b))) → ((n b : ℕ) → b < 256 → T (setVector n b)) → (c : Core) (w : Width) (o v : ℕ) → Each T (writeActs c w o v)
 any-write T p q s c w o v =
-    write-has T (λ i. Unit {0}) (λ i. Unit {0}) (λ i x u. dword-has T i x (λ r h e. p r h x) (λ k f g. entry k)) (λ i u. entry i) c w o v (fine w)
+    write-has T (λ i. Unit {0}) (λ i. Unit {0}) (λ i x u. dword-has T i x (λ r h e. p r h x) (λ k f g. entry k)) (λ i u. entry i)
+    c w o v (fine w)
   where
     entry : (i : ℕ) → Passes T i
     entry i = entry-has T i (λ b h. q (i - routesAt) b h) (λ e b h. s (i - vectorsAt) b h)
@@ -145,8 +150,8 @@ any-write T p q s c w o v =
     fine qword = (tt, tt)
 
 -- a call, where T holds of every move, and of each act if the call is a write
-pub call-has : (T : Act → Type 0) → ((m : Move) → T (move m)) → (c : Core) (x : Call) → ((w : Width) (o v : ℕ) → x ≡ call.write w o v → Each T (writeActs c w o v))
-    → Each T (actsOf c x)
+pub call-has : (T : Act → Type 0) → ((m : Move) → T (move m)) → (c : Core) (x : Call)
+    → ((w : Width) (o v : ℕ) → x ≡ call.write w o v → Each T (writeActs c w o v)) → Each T (actsOf c x)
 unfolding actsOf
 call-has T p c (call.level n true) q = also (p _) done
 call-has T p c (call.level n false) q = also (p _) done
@@ -177,16 +182,20 @@ isrHalf nothing = false
 -- the halves of ISR stand where isIsr says, and nowhere else
 isr-stands : (o : ℕ) (r : Register) (h : Bool) → isIsr o ≡ false → cellAt o ≡ halfOf r h → r ≡ map.isr → ⊥
 isr-stands o r h n e f =
-    true≢false (sym (ap (λ x. isrHalf (halfOf x h)) f) ∙ ruled-out (isrHalf (halfOf r h)) (rw (e, n) at (cell-has (λ i d. not (isrHalf d) || isIsr i) refl o refl refl)))
-
-isr-entry : (i : ℕ) → Passes NotIsr i
-isr-entry i = entry-has NotIsr i (λ b h. tt) (λ e b h. tt)
+    let off = ruled-out (isrHalf (halfOf r h)) (rw (e, n) at (cell-has (λ i d. not (isrHalf d) || isIsr i) refl o refl refl)) in
+    true≢false (sym (ap (λ x. isrHalf (halfOf x h)) f) ∙ off)
 
 isr-write : (c : Core) (w : Width) (o v : ℕ) → reaches isIsr w o ≡ false → Each NotIsr (writeActs c w o v)
 isr-write c w o v e =
-    write-has NotIsr (λ i. isIsr i ≡ false) (λ i. Unit {0}) (λ i x n. dword-has NotIsr i x (λ r h s. register-has NotIsr (λ g y. tt) (λ y. tt) (λ p g y. tt) r h x (λ e. isr-stands i r h n s e)) (λ k p q. isr-entry k))
-    (λ i u. isr-entry i) c w o v (fine w e)
+    write-has NotIsr (λ i. isIsr i ≡ false) (λ i. Unit {0}) (λ i x n. dword-has NotIsr i x (λ r h s. half-at i x r h n s) (λ k p q. entry k))
+    (λ i u. entry i) c w o v (fine w e)
   where
+    half-at : (i x : ℕ) (r : Register) (h : Bool) → isIsr i ≡ false → cellAt i ≡ halfOf r h → Each NotIsr (registerActs r h x)
+    half-at i x r h n s = register-has NotIsr (λ g y. tt) (λ y. tt) (λ p g y. tt) r h x (isr-stands i r h n s)
+
+    entry : (i : ℕ) → Passes NotIsr i
+    entry i = entry-has NotIsr i (λ b h. tt) (λ e b h. tt)
+
     both-false : (a b : Bool) → (a || b) ≡ false → (a ≡ false) × (b ≡ false)
     both-false true b u = absurd (true≢false u)
     both-false false b u = (refl, u)
@@ -226,7 +235,8 @@ isHalf nothing = false
 -- between the route bytes and IRR no half stands
 no-half : (o : ℕ) → 0x100 ≤ o → o < 0x380 → isHalf (cellAt o) ≡ false
 no-half o a b =
-    ruled-out (isHalf (cellAt o)) (rw (le-leb 0x100 o a, lt-ltb o 0x380 b) at (cell-has (λ i d. not (isHalf d) || not (leb 0x100 i && ltb i 0x380)) refl o refl refl))
+    let there = cell-has (λ i d. not (isHalf d) || not (leb 0x100 i && ltb i 0x380)) refl o refl refl in
+    ruled-out (isHalf (cellAt o)) (rw (le-leb 0x100 o a, lt-ltb o 0x380 b) at there)
 
 -- a write that starts here meets vector bytes, if any, and no half
 abbrev Middle : ℕ → Type 0
@@ -235,7 +245,8 @@ Middle i = (0x100 ≤ i) × (i < 0x380)
 lines-left : (c : Core) (w : Width) (o v : ℕ) → 0x1f0 ≤ o → o < 0x240 → Each LeavesLines (writeActs c w o v)
 lines-left c w o v a b =
     write-has LeavesLines Middle (λ i. Unit {0})
-    (λ i x m. dword-has LeavesLines i x (λ r h s. absurd (true≢false (sym (ap isHalf s) ∙ no-half i (m .0) (m .1)))) (λ k p q. entry k)) (λ i u. entry i) c w o v (fine w)
+    (λ i x m. dword-has LeavesLines i x (λ r h s. absurd (true≢false (sym (ap isHalf s) ∙ no-half i (m .0) (m .1)))) (λ k p q. entry k))
+    (λ i u. entry i) c w o v (fine w)
   where
     entry : (i : ℕ) → Passes LeavesLines i
     entry i = entry-has LeavesLines i (λ b h. tt) (λ e b h. tt)
@@ -253,11 +264,15 @@ lines-left c w o v a b =
 abbrev NoVector : ℕ → Type 0
 NoVector i = (k : ℕ) → i ≤ k → k < i + 4 → inVectors k ≡ false
 
-vectors-left : (c : Core) (w : Width) (o v : ℕ) → ((i : ℕ) → o - o % 4 ≤ i → i < o + 8 → inVectors i ≡ false) → Each LeavesVectors (writeActs c w o v)
+vectors-left : (c : Core) (w : Width) (o v : ℕ) → ((i : ℕ) → o - o % 4 ≤ i → i < o + 8 → inVectors i ≡ false)
+    → Each LeavesVectors (writeActs c w o v)
 vectors-left c w o v n =
-    write-has LeavesVectors NoVector NoVector (λ i x m. dword-has LeavesVectors i x (λ r h s. register-has LeavesVectors (λ g y. tt) (λ y. tt) (λ p g y. tt) r h x (λ e. tt)) (λ k p q. entry k (m k p q)))
+    write-has LeavesVectors NoVector NoVector (λ i x m. dword-has LeavesVectors i x (λ r h s. half-of r h x) (λ k p q. entry k (m k p q)))
     (λ i m. entry i (m i (le-refl i) (omega arith))) c w o v (fine w)
   where
+    half-of : (r : Register) (h : Bool) (v : ℕ) → Each LeavesVectors (registerActs r h v)
+    half-of r h v = register-has LeavesVectors (λ g y. tt) (λ y. tt) (λ p g y. tt) r h v (λ e. tt)
+
     entry : (i : ℕ) → inVectors i ≡ false → Passes LeavesVectors i
     entry i e = entry-has LeavesVectors i (λ b h. tt) (λ t. absurd (true≢false (sym t ∙ e)))
 
@@ -303,7 +318,8 @@ StoresBytes (store (setRoute n v)) = v < 256
 StoresBytes (setVector n v) = v < 256
 
 byte-write : (c : Core) (w : Width) (o v : ℕ) → Each StoresBytes (writeActs c w o v)
-byte-write = any-write StoresBytes (λ r h v. register-has StoresBytes (λ g y. tt) (λ y. tt) (λ p g y. tt) r h v (λ e. tt)) (λ i b h. h) (λ i b h. h)
+byte-write =
+    any-write StoresBytes (λ r h v. register-has StoresBytes (λ g y. tt) (λ y. tt) (λ p g y. tt) r h v (λ e. tt)) (λ i b h. h) (λ i b h. h)
 
 pub byte-acts : (c : Core) (x : Call) → Each StoresBytes (actsOf c x)
 byte-acts c x = call-has StoresBytes (λ m. tt) c x (λ w o v f. byte-write c w o v)
@@ -322,4 +338,5 @@ ReturnsNone (store s) = Unit {0}
 ReturnsNone (setVector n v) = Unit {0}
 
 pub write-returns-none : (c : Core) (w : Width) (o v : ℕ) → Each ReturnsNone (writeActs c w o v)
-write-returns-none = any-write ReturnsNone (λ r h v. register-has ReturnsNone (λ g y. tt) (λ y. tt) (λ p g y. tt) r h v (λ e. tt)) (λ i b h. tt) (λ i b h. tt)
+write-returns-none =
+    any-write ReturnsNone (λ r h v. register-has ReturnsNone (λ g y. tt) (λ y. tt) (λ p g y. tt) r h v (λ e. tt)) (λ i b h. tt) (λ i b h. tt)

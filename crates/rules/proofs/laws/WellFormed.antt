@@ -1,5 +1,5 @@
--- Acts, calls and histories keep a device well formed: registers of 64 bits, 64 route and 64 vector bytes, at most 16 waiting, the count up to its stop.
--- A write's own value needs no bound: halves take 32 bits of it, and a byte of it is below 256. Acts given by themselves must store bytes (StoresBytes).
+-- Acts, calls and histories keep a device well formed: registers of 64 bits, 64 route and 64 vector bytes, at most 16 waiting, the count up to its
+-- stop. What a write is given needs no bound: a half takes 32 bits of it, and its bytes are below 256. Of acts by themselves a byte's must be a byte.
 use mathlib.Core.Path.{_≡_, refl, _∙_}
 use mathlib.Core.Bool.{Bool, true, false}
 use mathlib.Core.List.{List, [], _∷_, _++_, map}
@@ -18,7 +18,7 @@ use Rattle.rules.specs.Core.{Move, poll, raise, lower, clear, setMask, s
 use Rattle.rules.specs.Device.{Device, WellFormed, Call, offers, draws, actsOf, acted, step}
 use Rattle.rules.specs.Device as call
 use Rattle.rules.specs.History.{history}
-use Rattle.rules.specs.Demands.{Each}
+use Rattle.rules.specs.Demands.{Each, asEvent}
 use Rattle.rules.proofs.laws.Bits.{test, put-lt, without-lt}
 use Rattle.rules.proofs.laws.Reach.{StoresBytes, byte-acts}
 use Rattle.rules.proofs.laws.Folds.{fold-acts}
@@ -74,7 +74,8 @@ withHalf-lt false x v l = omega arith
 module _ (vs : List ℕ) (b : Bytes vs) where
   serve-well : (o : Bool) (l : Lines) (ns : List ℕ) → WellLines l → WellTurn (serve vs o l ns)
   serve-well o l [] w = record { after = w; made = λ i. lit< tt }
-  serve-well o l (n ∷ ns) w = record { after = record { mask = w .mask; irr = w .irr; isr = put-lt (l .isr) n }; made = bytes-events vs o true (n ∷ []) b }
+  serve-well o l (n ∷ ns) w =
+      record { after = record { mask = w .mask; irr = w .irr; isr = put-lt (l .isr) n }; made = bytes-events vs o true (n ∷ []) b }
 
   enter-well : (o : Bool) (f : ℕ → Bool) (l : Lines) → WellLines l → WellTurn (enter vs o f l)
   enter-well o f l w = serve-well o l (inputs (waitingIn f l)) w
@@ -91,13 +92,16 @@ module _ (vs : List ℕ) (b : Bytes vs) where
   move-well l (raise n) w = enter-well false (only n) (withIrr l (put (l .irr) n)) (record { mask = w .mask; irr = put-lt (l .irr) n; isr = w .isr })
   move-well l (lower n) w =
       leave-well false (only n) (withIrr l (without (l .irr) (only n))) (record { mask = w .mask; irr = without-lt (l .irr) (only n); isr = w .isr })
-  move-well l (clear x) w = leave-well true (on x) (withIrr l (without (l .irr) (on x))) (record { mask = w .mask; irr = without-lt (l .irr) (on x); isr = w .isr })
+  move-well l (clear x) w =
+      leave-well true (on x) (withIrr l (without (l .irr) (on x))) (record { mask = w .mask; irr = without-lt (l .irr) (on x); isr = w .isr })
   move-well l (setMask h v) w =
       let new = withHalf h (l .mask) v in
-      let one = enter-well true (newlyUnmasked (l .mask) new) (withMask l new) (record { mask = withHalf-lt h (l .mask) v (w .mask); irr = w .irr; isr = w .isr }) in
+      let masks = newlyMasked (l .mask) new in
       let begun = enter vs true (newlyUnmasked (l .mask) new) (withMask l new) in
-      let two = leave-well true (newlyMasked (l .mask) new) (begun .after) (one .after) in
-      record { after = two .after; made = events-append (begun .made) (leave vs true (newlyMasked (l .mask) new) (begun .after) .made) (one .made) (two .made) }
+      let fresh : WellLines (withMask l new) = record { mask = withHalf-lt h (l .mask) v (w .mask); irr = w .irr; isr = w .isr } in
+      let one = enter-well true (newlyUnmasked (l .mask) new) (withMask l new) fresh in
+      let two = leave-well true masks (begun .after) (one .after) in
+      record { after = two .after; made = events-append (begun .made) (leave vs true masks (begun .after) .made) (one .made) (two .made) }
 
 -- ---- the core
 
@@ -123,6 +127,17 @@ with-plain-routes s pol x = refl
 with-plain-routes s auto0 x = refl
 with-plain-routes s auto1 x = refl
 
+-- other lines, and all else as it was
+with-lines : (c : Core) {l : Lines} → WellCore c → WellLines l → WellCore (record { lines = l; vectors = c .vectors; stored = c .stored })
+with-lines c w l = record {
+  lines = l;
+  plains = w .plains;
+  routeBytes = w .routeBytes;
+  routes = w .routes;
+  vectorBytes = w .vectorBytes;
+  vectors = w .vectors;
+}
+
 -- from a core that is well, to one that is well, by events of byte vectors
 abbrev KeptWell : Core → List Made → Core → Type 0
 KeptWell c ms d = WellCore c → WellCore d × ByteEvents ms
@@ -131,10 +146,9 @@ turn-well : (c : Core) (a : Act) → StoresBytes a → KeptWell c (turn c a .mad
 unfolding lineTurn vectorsAfter storedAfter
 turn-well c (move m) t w =
     let r = move-well (c .vectors) (w .vectorBytes) (c .lines) m (w .lines) in
-    (record { lines = r .after; plains = w .plains; routeBytes = w .routeBytes; routes = w .routes; vectorBytes = w .vectorBytes; vectors = w .vectors }, r .made)
+    (with-lines c w (r .after), r .made)
 turn-well c (setIsr h v) t w =
-    let l : WellLines _ = record { mask = w .lines .mask; irr = w .lines .irr; isr = withHalf-lt h (c .lines .isr) v (w .lines .isr) } in
-    (record { lines = l; plains = w .plains; routeBytes = w .routeBytes; routes = w .routes; vectorBytes = w .vectorBytes; vectors = w .vectors }, λ i. lit< tt)
+    (with-lines c w (record { mask = w .lines .mask; irr = w .lines .irr; isr = withHalf-lt h (c .lines .isr) v (w .lines .isr) }), λ i. lit< tt)
 turn-well c (store (setPlain p h v)) t w =
     let s = c .stored in
     let x = withHalf h (plain s p) v in
@@ -203,15 +217,18 @@ offered-well r e h w =
 
 drawn-well : (r : Ring) (k : ℕ) → WellRing r → WellRing (drawn r k .after)
 unfolding drawn
-drawn-well r k w =
-    record { eventBytes = bytes-map-drop (λ (x : Event). x .vector) k (r .waiting) (w .eventBytes); waiting = simp length-drop (omega (arith, w .waiting)); drops = w .drops }
+drawn-well r k w = record {
+  eventBytes = bytes-map-drop (λ (x : Event). x .vector) k (r .waiting) (w .eventBytes);
+  waiting = simp length-drop (omega (arith, w .waiting));
+  drops = w .drops;
+}
 
 offers-well : (r : Ring) (ms : List Made) → ByteEvents ms → WellRing r → WellRing (ringRun r (offers ms) .after)
 unfolding offers ringRun ringStep
 offers-well r [] b w = w
 offers-well r (m ∷ ms) b w =
-    let e : Event = record { vector = m .vector; asserted = m .asserted } in
-    test (m .offered) (λ t. rw t (offers-well (offered r e) ms (λ i. b (suc i)) (offered-well r e (b 0) w))) (λ t. rw t (offers-well r ms (λ i. b (suc i)) w))
+    let rest : ByteEvents ms = λ i. b (suc i) in
+    test (m .offered) (λ t. rw t (offers-well (offered r (asEvent m)) ms rest (offered-well r (asEvent m) (b 0) w))) (λ t. rw t (offers-well r ms rest w))
 
 draws-well : (r : Ring) (c : Call) → WellRing r → WellRing (ringRun r (draws c) .after)
 unfolding ringRun ringStep
