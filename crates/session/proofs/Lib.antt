@@ -1,0 +1,5 @@
+-- The laws that the proofs of this crate cite.
+pub mod Digits
+pub mod Fields
+pub mod Writing
+pub mod Playing
