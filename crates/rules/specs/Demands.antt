@@ -233,6 +233,10 @@ deassertsAmong v es = tally (λ e. not (e .asserted) && eqb (e .vector) v) es
 
 -- ---- promises
 
--- what a call's promise says of what it leaves: number, image, answer area and event buffer are those of `outcome` (01, How tight the promises are)
-abbrev pub Promised : Request → List ℕ → List ℕ → Outcome → Type 0
-Promised q image answer x = x ≡ outcome q image answer
+-- a call's promise: what it leaves of the image i and the answer area a, where q is asked, is `outcome` in its number and in every byte of image, answer
+-- area and event buffer (01, How tight the promises are)
+pub record Promised (q : Request) (i a : List ℕ) (x : Outcome) : Type 0 where
+  pub number : x .number ≡ outcome q i a .number
+  pub image : x .image ≡ outcome q i a .image
+  pub answer : x .answer ≡ outcome q i a .answer
+  pub events : x .events ≡ outcome q i a .events
