@@ -10,11 +10,11 @@ use Rattle.rules.specs.Inputs.{on, inputs, only, asHalf}
 use Rattle.rules.specs.Lines.{Lines, Made, servedIn}
 use Rattle.rules.specs.Core.{Core, Act, move, poll, raise, lower, clear, setMask, setIsr, store, setVector}
 use Rattle.rules.specs.Ring.{Event, Ring, RingAct, offer, draw, ringStep, ringRun}
-use Rattle.rules.specs.Device.{Device, WellFormed, Call, actsOf, offers, draws, step}
+use Rattle.rules.specs.Device.{Device, WellFormed, Call, actsOf, offers, draws, step, value}
 use Rattle.rules.specs.Device as call
 use Rattle.rules.specs.Image.{encode, eventsOf}
 use Rattle.rules.specs.Calls as request
-use Rattle.rules.specs.Calls.{Request, askedBy, Outcome, outcome}
+use Rattle.rules.specs.Calls.{Request, askedBy, answered, bufferOf, placeOf, written, Outcome, outcome}
 use Rattle.rules.specs.History.{Exported, leftBy, isDone, isReset, isLoad, callOf, Underway, carriedOn, history, writesIsr}
 
 -- ---- the account
@@ -156,6 +156,16 @@ unfoldable pub doneCalls : List Exported → List Call
 doneCalls [] = []
 doneCalls (x ∷ xs) = doneCall x ++ doneCalls xs
 
+-- an exported call is one call of the device d: it is done, its image is that of d after the call, its answer area has the call's value, and its event
+-- buffer the pairs that the call drained (01, The boundary; 01, The ring)
+pub record IsStep (d : Device) (x : Exported) : Type 0 where
+  pub call : Call
+  pub is : doneCall x ≡ call ∷ []
+  pub number : leftBy x .number ≡ 0
+  pub image : leftBy x .image ≡ encode (step d call .after)
+  pub answer : leftBy x .answer ≡ answered 0 (value d call) (x .answer)
+  pub events : leftBy x .events ≡ written (bufferOf (x .asked)) (placeOf (x .asked)) (step d call .drained)
+
 -- the images that they are given are bytes
 abbrev pub GivenBytes : List Exported → Type 0
 GivenBytes [] = Unit {0}
@@ -223,6 +233,10 @@ deassertsAmong v es = tally (λ e. not (e .asserted) && eqb (e .vector) v) es
 
 -- ---- promises
 
--- what a call's promise says of what it leaves: number, image, answer area and event buffer are those of `outcome` (01, How tight the promises are)
-abbrev pub Promised : Request → List ℕ → List ℕ → Outcome → Type 0
-Promised q image answer x = x ≡ outcome q image answer
+-- a call's promise: what it leaves of the image i and the answer area a, where q is asked, is `outcome` in its number and in every byte of image, answer
+-- area and event buffer (01, How tight the promises are)
+pub record Promised (q : Request) (i a : List ℕ) (x : Outcome) : Type 0 where
+  pub number : x .number ≡ outcome q i a .number
+  pub image : x .image ≡ outcome q i a .image
+  pub answer : x .answer ≡ outcome q i a .answer
+  pub events : x .events ≡ outcome q i a .events

@@ -4,34 +4,39 @@
 use mathlib.Core.Path.{_≡_, refl, sym, ap, _∙_}
 use mathlib.Core.Bool.{true, false, cond, true≢false, and-false}
 use mathlib.Core.List.{List, [], _∷_, _++_, append-nil, append-assoc}
-use Rattle.rules.specs.Device.{Device, WellFormed, Call, Step, step, value, reset}
+use Rattle.rules.specs.Device.{Device, WellFormed, Call, Step, value, reset}
 use Rattle.rules.specs.Image.{encode, decode}
-use Rattle.rules.specs.Calls.{afresh, askedBy, answered, bufferOf, placeOf, written, leaves}
+use Rattle.rules.specs.Calls.{afresh, askedBy, Outcome}
 use Rattle.rules.specs.History.{history, fromReset, Exported, leftBy, isDone, isReset, isLoad, callOf, Underway, carriedOn}
-use Rattle.rules.specs.Demands.{carriedThrough, NoLoads, HandedOn, doneCall, doneCalls, GivenBytes, current, Faithful, afterReset}
+use Rattle.rules.specs.Demands.{carriedThrough, NoLoads, HandedOn, doneCall, doneCalls, IsStep, GivenBytes, current, Faithful, afterReset}
 use Rattle.rules.proofs.laws.Lists.{equal-same}
 use Rattle.rules.proofs.laws.Images.{decode-encode}
 use Rattle.rules.proofs.laws.Folds.{history-append}
 use Rattle.rules.proofs.laws.WellFormed.{history-well}
-use Rattle.rules.proofs.laws.Chains.{handed, faithful-on, carried-on, left-last, reset-begins, faithful-after-reset}
+use Rattle.rules.proofs.laws.Chains.{handed, faithful-on, carried-on, left-last, reset-leaves, reset-begins, faithful-after-reset}
 
 -- ---- one call
 
--- An exported call that is given the image of d, is no reset and is done, is one call c of the device: the image that it leaves is that of d after c,
--- the answer area has c's value, and the event buffer has the pairs that c drained.
-pub a-call-is-a-step : (d : Device) → WellFormed d → (x : Exported) → x .given ≡ encode d → isReset (askedBy (x .asked)) ≡ false → isDone x ≡ true
-    → (c : Call) × (doneCall x ≡ c ∷ [])
-    × (leftBy x ≡ leaves 0 (encode (step d c .after)) (answered 0 (value d c) (x .answer)) (written (bufferOf (x .asked)) (placeOf (x .asked)) (step d c .drained)))
+-- An exported call that is given the image of d, is no reset and is done, is one call of d: it hands back what that call's step gives.
+pub a-call-is-a-step : (d : Device) → WellFormed d → (x : Exported) → x .given ≡ encode d → isReset (askedBy (x .asked)) ≡ false → isDone x ≡ true → IsStep d x
 unfolding history
 a-call-is-a-step d w x g n t =
     let h : Underway = record { began = d; calls = []; left = encode d } in
     let no : isLoad (encode d) x ≡ false = rw (n, equal-same (encode d) (x .given) (sym g)) (and-false (isDone x)) in
     let r = handed h x (record { began = w; left = refl }) t no in
-    (r .call, (λ i. cond (t i) (callOf (r .asks i)) []), r .left)
+    record {
+      call = r .call;
+      is = (λ i. cond (t i) (callOf (r .asks i)) []);
+      number = ap (λ (o : Outcome). o .number) (r .left);
+      image = ap (λ (o : Outcome). o .image) (r .left);
+      answer = ap (λ (o : Outcome). o .answer) (r .left);
+      events = ap (λ (o : Outcome). o .events) (r .left);
+    }
 
--- A done reset begins the history from reset, whatever was under way and whatever bytes it is given.
-pub a-reset-begins : (h : Underway) (x : Exported) → askedBy (x .asked) ≡ afresh → isDone x ≡ true → carriedOn h x ≡ afterReset
-a-reset-begins h x e t = reset-begins h x t e
+-- A done reset leaves the image of the reset device and begins the history from reset, whatever was under way and whatever bytes it is given.
+pub a-reset-begins : (h : Underway) (x : Exported) → askedBy (x .asked) ≡ afresh → isDone x ≡ true
+    → (leftBy x .image ≡ encode reset) × (carriedOn h x ≡ afterReset)
+a-reset-begins h x e t = (reset-leaves x t e, reset-begins h x t e)
 
 -- ---- calls, one after another
 
@@ -78,11 +83,15 @@ image-holds-history h f xs n =
     let well = history-well (current h) (doneCalls xs) (history-well (h .began) (h .calls) (f .began)) in
     ap (λ (u : Underway). decode (u .left)) (calls-carry-on h f xs n) ∙ decode-encode (history (current h) (doneCalls xs) .after) well
 
--- The same after a done reset: the history is one from reset.
-pub calls-are-a-history : (xs : List Exported) → NoLoads afterReset xs
-    → carriedThrough afterReset xs ≡ record { began = reset; calls = doneCalls xs; left = encode (fromReset (doneCalls xs) .after) }
-unfolding history
-calls-are-a-history = calls-carry-on afterReset faithful-after-reset
+-- So a done reset x, and after it exported calls each given the image that the one before it left, are the history from reset of the calls that were
+-- done; and the image left last is that of the history's device.
+pub calls-are-a-history : (h : Underway) (x : Exported) → askedBy (x .asked) ≡ afresh → isDone x ≡ true → (xs : List Exported) → HandedOn (leftBy x .image) xs
+    → carriedThrough h (x ∷ xs) ≡ record { began = reset; calls = doneCalls xs; left = encode (fromReset (doneCalls xs) .after) }
+unfolding history carriedThrough
+calls-are-a-history h x e t xs o =
+    let begins = a-reset-begins h x e t in
+    ap (λ u. carriedThrough u xs) (begins .1)
+    ∙ calls-carry-on afterReset faithful-after-reset xs (handed-on-is-no-load afterReset xs (rw (begins .0) at o))
 
 -- With loads and resets among them, exported calls are what History says: whatever they are, the image left last is that of the device to which the
 -- history under way has come since it began, at the last load or reset. A load has to be given bytes.

@@ -1,6 +1,5 @@
 -- 01, How tight the promises are: 'Each public call's promise settles its number, its value and every byte of image, answer area and event buffer
--- afterwards, on any input, refused or done. Show that no second outcome satisfies it.' The promise of a call is an equation with `outcome` of its
--- request.
+-- afterwards, on any input, refused or done. Show that no second outcome satisfies it.' The value stands in the answer area.
 use mathlib.Core.Path.{_≡_, refl, sym, _∙_}
 use mathlib.Core.List.{List}
 use Prim.Native.Nat.{ℕ}
@@ -9,11 +8,17 @@ use Rattle.rules.specs.Demands.{Promised}
 
 -- whatever is asked, of any image and any answer area: two outcomes that keep the promise are one
 pub one-outcome : (q : Request) (image answer : List ℕ) (x y : Outcome) → Promised q image answer x → Promised q image answer y → x ≡ y
-one-outcome q image answer x y e f = e ∙ sym f
+one-outcome q image answer x y p r =
+    (λ i. record {
+      number = (p .number ∙ sym (r .number)) i;
+      image = (p .image ∙ sym (r .image)) i;
+      answer = (p .answer ∙ sym (r .answer)) i;
+      events = (p .events ∙ sym (r .events)) i;
+    })
 
--- and there is one
+-- and one does
 pub some-outcome : (q : Request) (image answer : List ℕ) → Promised q image answer (outcome q image answer)
-some-outcome q image answer = refl
+some-outcome q image answer = record { number = refl; image = refl; answer = refl; events = refl }
 
 -- so of each of the six calls, with any numbers, and of a drain with any event buffer
 abbrev Once : Request → Type 0

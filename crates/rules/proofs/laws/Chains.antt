@@ -13,8 +13,8 @@ use Rattle.rules.specs.Device.{Device, Call, value, step, reset}
 use Rattle.rules.specs.Image.{imageLength, ImageTest, imageTest, same, encode, decode}
 use Rattle.rules.specs.Image as image
 use Rattle.rules.specs.Calls.{Refusal, outside, noWidth, noInput, wrongLength, wrongContents, wrongBody, noRoom, refusalNumber}
-use Rattle.rules.specs.Calls.{Tested, pass, refuse}
-use Rattle.rules.specs.Calls.{Request, Asked, afresh, calls, askedBy, Done, doneOn, performed, answered, bufferOf, placeOf, written, Outcome, leaves, settled, answerLength, hasRoom, outcome}
+use Rattle.rules.specs.Calls.{Tested, pass, refuse, Request, Asked, afresh, calls, askedBy, Done, doneOn, performed}
+use Rattle.rules.specs.Calls.{answered, bufferOf, placeOf, written, Outcome, leaves, settled, answerLength, hasRoom, outcome}
 use Rattle.rules.specs.History.{history, Exported, leftBy, isDone, isReset, isLoad, callOf, Underway, carriedOn}
 use Rattle.rules.specs.Demands.{doneCall, afterReset, current, Faithful}
 use Rattle.rules.proofs.laws.Bits.{test}
@@ -95,6 +95,12 @@ unfolding performed
 did-reset i y e =
     test (eqb (length i) imageLength) (λ t. ap (λ (z : Done). z .device) (sym (passed (rw t at e)))) (λ t. never wrongLength y (rw t at e))
 
+-- a done reset leaves the image of the reset device
+pub reset-leaves : (x : Exported) → isDone x ≡ true → askedBy (x .asked) ≡ afresh → leftBy x .image ≡ encode reset
+reset-leaves x t e =
+    let p = did-pass x t in
+    ap (λ (o : Outcome). o .image) (p .left) ∙ ap encode (did-reset (x .given) (p .gives) (rw e at (p .passed)))
+
 -- ---- loads
 
 module _ (left : List ℕ) (x : Exported) (t : isDone x ≡ true) where
@@ -137,12 +143,8 @@ module _ (h : Underway) (x : Exported) where
       test (isDone x) (λ t. ap (λ (u : Underway). u .left) (carried-done t refl refl))
       (λ t. ap (λ (u : Underway). u .left) (carried-refused t) ∙ sym g ∙ sym (refused-leaves x t))
 
-  -- a done reset leaves the image of the reset device
   pub reset-begins : isDone x ≡ true → askedBy (x .asked) ≡ afresh → carriedOn h x ≡ afterReset
-  reset-begins t e =
-      let p = did-pass x t in
-      let is = ap (λ (o : Outcome). o .image) (p .left) ∙ ap encode (did-reset (x .given) (p .gives) (rw e at (p .passed))) in
-      carried-done t (reset-loads (h .left) x t e) e ∙ (λ i. record { began = reset; calls = []; left = is i })
+  reset-begins t e = carried-done t (reset-loads (h .left) x t e) e ∙ (λ i. record { began = reset; calls = []; left = reset-leaves x t e i })
 
   -- a done call that is no reset: what it asks of the device, and what it leaves
   record Did : Type 0 where

@@ -87,7 +87,8 @@ module _ (T : Act → Type 0) where
 
   -- a register's half: MASK, CLEAR, a plain register, ISR
   pub register-has : ((h : Bool) (v : ℕ) → T (move (setMask h v))) → ((b : ℕ) → T (move (clear b)))
-      → ((p : Plain) (h : Bool) (v : ℕ) → T (store (setPlain p h v))) → (r : Register) (h : Bool) (v : ℕ) → (r ≡ map.isr → T (setIsr h v)) → Each T (registerActs r h v)
+      → ((p : Plain) (h : Bool) (v : ℕ) → T (store (setPlain p h v)))
+      → (r : Register) (h : Bool) (v : ℕ) → (r ≡ map.isr → T (setIsr h v)) → Each T (registerActs r h v)
   register-has m c p map.id h v i = done
   register-has m c p map.mask h v i = also (m h v) done
   register-has m c p map.clear h v i = also (c _) done
@@ -132,7 +133,8 @@ module _ (T : Act → Type 0) where
 
 -- a write, where T holds of whatever it meets
 pub any-write : (T : Act → Type 0) → ((r : Register) (h : Bool) (v : ℕ) → Each T (registerActs r h v))
-    → ((n b : ℕ) → b < 256 → T (store (setRoute n b))) → ((n b : ℕ) → b < 256 → T (setVector n b)) → (c : Core) (w : Width) (o v : ℕ) → Each T (writeActs c w o v)
+    → ((n b : ℕ) → b < 256 → T (store (setRoute n b))) → ((n b : ℕ) → b < 256 → T (setVector n b))
+    → (c : Core) (w : Width) (o v : ℕ) → Each T (writeActs c w o v)
 any-write T p q s c w o v =
     write-has T (λ i. Unit {0}) (λ i. Unit {0}) (λ i x u. dword-has T i x (λ r h e. p r h x) (λ k f g. entry k)) (λ i u. entry i)
     c w o v (fine w)
