@@ -13,10 +13,15 @@ ghost use Rattle.state.specs.View.{view, Well, Is};
 ghost use Rattle.registers.specs.Views.{byteIndex, irqIndex, plainView, registerView, cellView, widthView};
 ghost use Rattle.registers.specs.Bytes.{bytesRead, bytesWritten};
 
-// ID as one register: above its low half the version, and above that the last input.
+const IRQ_COUNT: usize = 64;
+
+// ID as one register: INT_ID_VAL is its low half; the version and the last input are its high one.
 const INT_ID: u64 = 0x003f_0001_0700_0000;
 
-// An index, where there is one.
+// The last offset from which a Qword's second Dword counts: past it the Rust panics or wraps.
+const LAST_QWORD: usize = 0xffff_ffff_ffff_fffb;
+
+// An index, where there is one: the Rust's Option<usize>.
 pub enum Index {
     None,
     At(usize),
@@ -47,7 +52,6 @@ pub enum Cell {
     Nothing,
 }
 
-// The width of an access.
 pub enum Width {
     Byte,
     Word,
@@ -61,7 +65,7 @@ pub fn pch_pic_irq_index(offset: usize, base: usize) -> Index
     ensures { λ r. ⌜ r ≡ irqIndex offset base ⌝ }
 {
     let irq = offset - base;
-    if irq < 64 {
+    if irq < IRQ_COUNT {
         Index::At(irq)
     } else {
         Index::None
@@ -79,7 +83,7 @@ pub fn reg8_offset(offset: usize) -> Index
     }
 }
 
-// The one place that tells offsets apart for a Dword.
+// What stands at an offset: the one place that tells the offsets of registers apart.
 pub fn decode(offset: usize) -> Cell
     ensures { λ r. ⌜ cellView r ≡ cellAt offset ⌝ }
 {
@@ -132,6 +136,7 @@ fn read_entry(state: PchPicState, index: usize) -> u8
     }
 }
 
+// A stored register.
 fn plain_of(state: PchPicState, register: Plain) -> u64
     ensures { λ r. ⌜ r ≡ plain (view state .core .stored) (plainView register) ⌝ }
 {
@@ -160,7 +165,7 @@ fn value_of(state: PchPicState, register: Register) -> u64
     }
 }
 
-// The readers. Each call has a smaller depth: a Byte outside 0x100..0x39f needs 1, a Dword among the bytes 2.
+// The three readers call one another, each time at a smaller depth: a Byte outside 0x100..0x39f needs 1, a Dword among the bytes 2.
 pub fn read_byte(state: PchPicState, offset: usize, depth: usize) -> u8
     requires { ⌜ (inBytes offset ≡ false → 1 ≤ depth) ⌝ }
     ensures { λ r. ⌜ r ≡ readByte (view state .core) offset ⌝ }
@@ -196,9 +201,7 @@ pub fn read_dword(state: PchPicState, offset: usize, depth: usize) -> u32
     }
 }
 
-// The last offset from which a Qword's second Dword counts: past it the Rust panics or wraps.
-const LAST_QWORD: usize = 0xffff_ffff_ffff_fffb;
-
+// Dword and then Dword.
 fn read_qword(state: PchPicState, offset: usize) -> u64
     ensures { λ r. ⌜ r ≡ readAt (view state .core) qword offset ⌝ }
 {
@@ -222,9 +225,7 @@ pub fn read_register(state: PchPicState, width: Width, offset: usize) -> u64
     }
 }
 
-// ---- the writers' leaves
-
-// MASK: the engine moves the lines and offers their events.
+// MASK: the engine moves the lines and offers their events to the ring.
 fn write_mask(state: PchPicState, val: u32, high: bool) -> PchPicState
     requires { ⌜ Well state ⌝ }
     ensures { λ r. ⌜ Is r (acted (view state) (move (setMask high val) ∷ [])) ⌝ }
@@ -344,7 +345,7 @@ fn write_entry(state: PchPicState, index: usize, val: u8) -> PchPicState
     }
 }
 
-// The writers, as the readers.
+// The three writers call one another as the readers do.
 pub fn write_byte(state: PchPicState, offset: usize, val: u8, depth: usize) -> PchPicState
     requires { ⌜ Well state ⌝ }
     requires { ⌜ (inBytes offset ≡ false → 1 ≤ depth) ⌝ }
@@ -393,6 +394,7 @@ pub fn write_dword(state: PchPicState, offset: usize, val: u32, depth: usize) ->
     }
 }
 
+// Dword and then Dword, which meets what the first left.
 fn write_qword(state: PchPicState, offset: usize, val: u64) -> PchPicState
     requires { ⌜ Well state ⌝ }
     ensures { λ r. ⌜ Is r (acted (view state) (writeActs (view state .core) qword offset val)) ⌝ }

@@ -1,0 +1,67 @@
+-- `contents_good`: the contents spell these three numbers, and bytes that spell them are the contents.
+use mathlib.Core.Path.{_≡_, sym, ap, _∙_}
+use mathlib.Core.Bool.{Bool, true, false}
+use mathlib.Core.List.{List}
+use Prim.Native.Nat.{ℕ, _+_, _≤_}
+use native.Mathlib.Omega.{arith}
+use borrow.Author.Needs.{needs}
+use borrow.Author.Tests.{eqb-true, eqb-false}
+use lib.Dec.{eqb}
+use lib.ListN.{length}
+use Rattle.rules.specs.Numbers.{numberOf, part, Bytes}
+use Rattle.rules.specs.Image.{registersAt, contents, wordAt, same}
+use Rattle.rules.proofs.laws.Bits.{test}
+use Rattle.rules.proofs.laws.Lists.{equal-same, differ-same}
+use Rattle.rules.proofs.laws.Images.{contents-known, contents-number}
+use Rattle.image.proofs.contents.contents_good.Statement.{statement}
+use Rattle.image.proofs.contents.contents_good.Tie as tie
+
+module _ (l : List ℕ) where
+  -- a number that differs
+  differs : (a n x : ℕ) → a + n ≤ registersAt → x ≡ numberOf (part a n l) → (x ≡ numberOf (part a n contents) → ⊥) → false ≡ same (part 0 registersAt l) contents
+  differs a n x h e f = sym (differ-same (part 0 registersAt l) contents (λ q. f (e ∙ contents-number l a n h q)))
+
+  -- the first two agree, and the third is the last to be looked at
+  agrees : (x : ℕ) → Bytes l → registersAt ≤ length l → wordAt 0 l ≡ wordAt 0 contents → wordAt 8 l ≡ wordAt 8 contents → x ≡ numberOf (part 16 6 l)
+      → eqb x (numberOf (part 16 6 contents)) ≡ same (part 0 registersAt l) contents
+  agrees x b h e f g =
+      test (eqb x (numberOf (part 16 6 contents))) (λ t. t ∙ sym (equal-same _ _ (contents-known l b h e f (sym g ∙ eqb-true x _ t))))
+      (λ t. t ∙ differs 16 6 x (omega arith) g (eqb-false x _ t))
+
+returns : tie.Need-returns
+returns c =
+    let n = c .before in
+    differs (n .before .before .before .args .image .now) 0 8 (n .number .result) (omega arith) (n .number .ensures) (c .if1 .taken)
+
+returns-2 : tie.Need-returns-2
+returns-2 c =
+    let n = c .before in
+    differs (n .before .before .before .before .before .before .args .image .now) 8 8 (n .number2 .result) (omega arith) (n .number2 .ensures) (c .if2 .taken)
+
+returns-3 : tie.Need-returns-3
+returns-3 c =
+    let two = c .before .before in
+    let one = two .before .before .before in
+    let k = one .before .before .before in
+    agrees (k .before .args .image .now) (c .number3 .result) (λ j. omega (arith, k .shared-slice-known .given j)) (k .before .pre)
+    (sym (one .before .number .ensures) ∙ one .if1 .left) (sym (two .before .number2 .ensures) ∙ two .if2 .left) (c .number3 .ensures)
+
+pub contents-good-spec : {M : Type 1} → statement M
+contents-good-spec =
+    tie.close
+    (tie.spec
+    (λ c. search needs)
+    (λ c. search needs)
+    (λ c. search needs)
+    (λ c κs. search needs)
+    returns
+    (λ c. search needs)
+    (λ c. search needs)
+    (λ c. search needs)
+    (λ c κs. search needs)
+    returns-2
+    (λ c. search needs)
+    (λ c. search needs)
+    (λ c. search needs)
+    (λ c κs. search needs)
+    returns-3)

@@ -1,0 +1,35 @@
+-- `load`: the four parts show the four parts of the device.
+use mathlib.Core.Path.{ap, _∙_}
+use Rattle.rules.specs.Image.{decode}
+use Rattle.state.specs.View.{storedView}
+use borrow.Author.Needs.{needs}
+use Rattle.image.proofs.load.load.Statement.{statement}
+use Rattle.image.proofs.load.load.Tie as tie
+
+returns : tie.Need-returns
+unfolding decode
+returns c =
+    let tables = c .before in
+    let stored = tables .before in
+    let lines = stored .before in
+    record {
+      well = record { copy = lines .load-lines .ensures .well; ring = c .load-ring .ensures .well };
+      shows = λ i. record {
+        core = record {
+          lines = lines .load-lines .ensures .shows i;
+          vectors = tables .load-tables .ensures .vectors i;
+          stored = (ap (storedView (stored .load-stored .result)) (tables .load-tables .ensures .routes) ∙ stored .load-stored .ensures) i;
+        };
+        ring = c .load-ring .ensures .shows i;
+      };
+    }
+
+pub load-spec : {M : Type 1} → statement M
+load-spec =
+    tie.close
+    (tie.spec
+    (λ c κs. search needs)
+    (λ c κs. search needs)
+    (λ c κs. search needs)
+    (λ c κs. search needs)
+    returns)

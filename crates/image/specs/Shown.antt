@@ -1,0 +1,63 @@
+-- What the functions of this crate hand back, as the rules see it.
+use mathlib.Core.Path.{_≡_}
+use mathlib.Core.List.{List, [], _∷_, _++_}
+use Prim.Native.Nat.{ℕ, zero, suc}
+use Rattle.rules.specs.Numbers.{bytesOf}
+use Rattle.rules.specs.Lines as rules-lines
+use Rattle.rules.specs.Ring as rules-ring
+use Rattle.rules.specs.Core as rules-core
+use Rattle.rules.specs.Device.{Device, WellFormed}
+use Rattle.rules.specs.Device as device
+use Rattle.rules.specs.Image.{encode, ImageTest, accepted, wrongLength, wrongContents, wrongBody}
+use Rattle.state.specs.View.{linesView, storedView, WellLines}
+use Rattle.state.specs.declared.Lines.{Lines}
+use Rattle.state.specs.declared.Stored.{Stored}
+use Rattle.state.specs.declared.Tables.{Tables}
+use Rattle.image.specs.declared.check.Checked.{Checked}
+use Rattle.image.specs.declared.check.Checked.the-variants.{Accepted, WrongLength, WrongContents, WrongBody}
+use Rattle.image.specs.declared.answer.Value.{Value}
+use Rattle.image.specs.declared.answer.Value.the-variants.{Absent, Present}
+
+abbrev pub checkedView : Checked → ImageTest
+checkedView Accepted = accepted
+checkedView WrongLength = wrongLength
+checkedView WrongContents = wrongContents
+checkedView WrongBody = wrongBody
+
+-- the bits that k pairs must not have where n wait: in a waiting pair those of the flag above its lowest, in an unused one all
+abbrev pub barred : ℕ → ℕ → List ℕ
+barred n zero = []
+barred zero (suc k) = 255 ∷ 255 ∷ barred zero k
+barred (suc n) (suc k) = 0 ∷ 254 ∷ barred n k
+
+-- words one after another, eight bytes each
+abbrev pub spelled : List ℕ → List ℕ
+spelled [] = []
+spelled (x ∷ xs) = bytesOf 8 x ++ spelled xs
+
+-- what a function that hands back a part of the state promises, beside IsRing and Is: it is well formed, and shows what the rules say
+pub record IsLines (l : Lines) (shown : rules-lines.Lines) : Type 0 where
+  pub well : WellLines l
+  pub shows : linesView l ≡ shown
+
+abbrev pub IsStored : Stored → rules-core.Stored → Type 0
+IsStored s shown = storedView s (shown .routes) ≡ shown
+
+pub record IsTables (t : Tables) (shown : rules-core.Core) : Type 0 where
+  pub routes : t .«route_entry» ≡ shown .stored .routes
+  pub vectors : t .«htmsi_vector» ≡ shown .vectors
+
+-- a device with other lines, and with another ring
+abbrev pub withLines : rules-lines.Lines → Device → Device
+withLines l d = record { core = record { lines = l; vectors = d .core .vectors; stored = d .core .stored }; ring = d .ring }
+
+abbrev pub withRing : rules-ring.Ring → Device → Device
+withRing r d = record { core = d .core; ring = r }
+
+-- what a function that saves a part promises: it turns the image of a device into that of the device with the part replaced
+abbrev pub Saves : List ℕ → List ℕ → (Device → Device) → Type 0
+Saves entry exit f = (d : Device) → WellFormed d → entry ≡ encode d → exit ≡ encode (f d)
+
+abbrev pub valueView : Value → device.Value
+valueView Absent = device.none
+valueView (Present v) = device.some v

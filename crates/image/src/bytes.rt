@@ -1,0 +1,86 @@
+// Numbers and runs of bytes: the leaves that read and write parts of the image.
+ghost use mathlib.Core.Path.{_≡_};
+ghost use Prim.Native.Nat.{_*_, _≤_};
+ghost use lib.ListN.{length, replicate};
+ghost use Rattle.rules.specs.Numbers.{numberOf, bytesOf};
+ghost use Rattle.image.specs.Shown.{spelled};
+
+pub fn wide(x: u8) -> u64
+    ensures { λ r. ⌜ r ≡ x ⌝ }
+{
+    x as u64
+}
+
+// The number that at most eight bytes spell, the low one first. Read from the front, so that eight bytes become one load.
+pub fn number(b: &[u8]) -> u64
+    requires { ⌜ length (now b) ≤ 8 ⌝ }
+    ensures { λ r. ⌜ r ≡ numberOf (now (b .entry)) ⌝ }
+{
+    let mut x = 0u64;
+    let mut i = 0;
+    while i < b.len() {
+        x = x + (wide(b[i]) << (8 * i));
+        i += 1;
+    }
+    x
+}
+
+// The low bytes of x, as many as there are places.
+pub fn put_number(dst: &mut [u8], x: u64)
+    ensures { λ _. ⌜ now (dst .exit) ≡ bytesOf (length (now (dst .entry))) x ⌝ }
+{
+    let mut y = x;
+    let mut i = 0;
+    while i < dst.len() {
+        dst[i] = (y % 256) as u8;
+        y = y / 256;
+        i += 1;
+    }
+}
+
+// Words, eight bytes each.
+pub fn put_words(dst: &mut [u8], words: &[u64])
+    requires { ⌜ length (now dst) ≡ 8 * length (now words) ⌝ }
+    ensures { λ _. ⌜ now (dst .exit) ≡ spelled (now (words .entry)) ⌝ }
+{
+    let mut i = 0;
+    while i < words.len() {
+        let at = 8 * i;
+        let end = at + 8;
+        put_number(&mut dst[at..end], words[i]);
+        i += 1;
+    }
+}
+
+// All of src over all of dst.
+pub fn copy(dst: &mut [u8], src: &[u8])
+    requires { ⌜ length (now dst) ≡ length (now src) ⌝ }
+    ensures { λ _. ⌜ now (dst .exit) ≡ now (src .entry) ⌝ }
+{
+    let mut i = 0;
+    while i < src.len() {
+        dst[i] = src[i];
+        i += 1;
+    }
+}
+
+// Every byte becomes zero.
+pub fn put_zeros(dst: &mut [u8])
+    ensures { λ _. ⌜ now (dst .exit) ≡ replicate (length (now (dst .entry))) 0 ⌝ }
+{
+    let mut i = 0;
+    while i < dst.len() {
+        dst[i] = 0;
+        i += 1;
+    }
+}
+
+// The 64 entries that a part of the image holds, a byte for each input.
+pub fn fill_entries(part: &[u8]) -> [u8; 64]
+    requires { ⌜ length (now part) ≡ 64 ⌝ }
+    ensures { λ r. ⌜ r ≡ now (part .entry) ⌝ }
+{
+    let mut out = [0u8; 64];
+    copy(&mut out, part);
+    out
+}

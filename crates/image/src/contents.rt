@@ -1,0 +1,37 @@
+// The contents of an image: form 1, and the kind, place and length of each of its four bodies.
+use crate::bytes::number;
+use crate::bytes::put_number;
+ghost use mathlib.Core.Path.{_≡_};
+ghost use Prim.Native.Nat.{_≤_};
+ghost use lib.ListN.{length};
+ghost use Rattle.rules.specs.Numbers.{part};
+ghost use Rattle.rules.specs.Image.{registersAt, contents, same};
+
+// The 22 bytes as numbers: eight bytes, eight and six.
+const FIRST: u64 = 0x0200_4800_1601_0401;
+
+const SECOND: u64 = 0x4000_9e03_0040_005e;
+
+const THIRD: u64 = 0x0025_00de_0400;
+
+pub fn contents_good(image: &[u8]) -> bool
+    requires { ⌜ registersAt ≤ length (now image) ⌝ }
+    ensures { λ r. ⌜ r ≡ same (part 0 registersAt (now (image .entry))) contents ⌝ }
+{
+    if number(&image[0..8]) != FIRST {
+        return false;
+    }
+    if number(&image[8..16]) != SECOND {
+        return false;
+    }
+    number(&image[16..22]) == THIRD
+}
+
+pub fn put_contents(dst: &mut [u8])
+    requires { ⌜ length (now dst) ≡ registersAt ⌝ }
+    ensures { λ _. ⌜ now (dst .exit) ≡ contents ⌝ }
+{
+    put_number(&mut dst[0..8], FIRST);
+    put_number(&mut dst[8..16], SECOND);
+    put_number(&mut dst[16..22], THIRD);
+}

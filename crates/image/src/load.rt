@@ -1,0 +1,107 @@
+// Loading: each part of the state from its bytes. What is asked of an image is its length, and of its ring the count.
+use crate::bytes::fill_entries;
+use crate::bytes::number;
+use state::Lines;
+use state::PchPicState;
+use state::Ring;
+use state::Stored;
+use state::Tables;
+ghost use mathlib.Core.Path.{_≡_};
+ghost use Prim.Native.Nat.{_≤_};
+ghost use lib.ListN.{length};
+ghost use Rattle.rules.specs.Ring.{capacity};
+ghost use Rattle.rules.specs.Image.{imageLength, pairsLength, countOf, eventsOf, decode};
+ghost use Rattle.state.specs.View.{IsRing, Is};
+ghost use Rattle.image.specs.Shown.{IsLines, IsStored, IsTables};
+
+pub fn load_lines(image: &[u8]) -> Lines
+    requires { ⌜ length (now image) ≡ imageLength ⌝ }
+    ensures { λ r. ⌜ IsLines r (decode (now (image .entry)) .core .lines) ⌝ }
+{
+    let int_mask = number(&image[22..30]);
+    let intirr = number(&image[54..62]);
+    let intisr = number(&image[62..70]);
+    Lines {
+        int_mask,
+        last_intirr: intirr,
+        intirr,
+        intisr,
+    }
+}
+
+pub fn load_stored(image: &[u8]) -> Stored
+    requires { ⌜ length (now image) ≡ imageLength ⌝ }
+    ensures { λ r. ⌜ IsStored r (decode (now (image .entry)) .core .stored) ⌝ }
+{
+    let htmsi_en = number(&image[30..38]);
+    let intedge = number(&image[38..46]);
+    let int_polarity = number(&image[70..78]);
+    let auto_ctrl0 = number(&image[78..86]);
+    let auto_ctrl1 = number(&image[86..94]);
+    Stored {
+        htmsi_en,
+        intedge,
+        int_polarity,
+        auto_ctrl0,
+        auto_ctrl1,
+    }
+}
+
+pub fn load_tables(image: &[u8]) -> Tables
+    requires { ⌜ length (now image) ≡ imageLength ⌝ }
+    ensures { λ r. ⌜ IsTables r (decode (now (image .entry)) .core) ⌝ }
+{
+    let route_entry = fill_entries(&image[94..158]);
+    let htmsi_vector = fill_entries(&image[158..222]);
+    Tables {
+        route_entry,
+        htmsi_vector,
+    }
+}
+
+// The ring of the events that pairs spell, from the first slot on.
+fn ring_of(pairs: &[u8], len: usize, drops: u32) -> Ring
+    requires { ⌜ (length (now pairs) ≡ pairsLength) × (len ≤ capacity) ⌝ }
+    ensures { λ r. ⌜ IsRing r (record { waiting = eventsOf len (now (pairs .entry)); drops = drops }) ⌝ }
+{
+    let mut output_vectors = [0u8; 16];
+    let mut output_asserted = [false; 16];
+    let mut i = 0;
+    while i < 16 {
+        output_vectors[i] = pairs[2 * i];
+        output_asserted[i] = pairs[2 * i + 1] == 1;
+        i += 1;
+    }
+    Ring {
+        output_vectors,
+        output_asserted,
+        output_head: 0,
+        output_len: len,
+        output_drops: drops,
+    }
+}
+
+pub fn load_ring(image: &[u8]) -> Ring
+    requires { ⌜ (length (now image) ≡ imageLength) × (countOf (now image) ≤ capacity) ⌝ }
+    ensures { λ r. ⌜ IsRing r (decode (now (image .entry)) .ring) ⌝ }
+{
+    let len = image[222] as usize;
+    let drops = number(&image[223..227]) as u32;
+    ring_of(&image[227..259], len, drops)
+}
+
+pub fn load(image: &[u8]) -> PchPicState
+    requires { ⌜ (length (now image) ≡ imageLength) × (countOf (now image) ≤ capacity) ⌝ }
+    ensures { λ r. ⌜ Is r (decode (now (image .entry))) ⌝ }
+{
+    let lines = load_lines(image);
+    let stored = load_stored(image);
+    let tables = load_tables(image);
+    let ring = load_ring(image);
+    PchPicState {
+        lines,
+        stored,
+        tables,
+        ring,
+    }
+}

@@ -1,0 +1,90 @@
+// Saving: each part of the state into its bytes, and no other byte.
+use crate::bytes::copy;
+use crate::bytes::put_number;
+use crate::bytes::put_words;
+use crate::bytes::put_zeros;
+use crate::contents::put_contents;
+use state::Lines;
+use state::PchPicState;
+use state::Ring;
+ghost use mathlib.Core.Path.{_≡_};
+ghost use mathlib.Core.List.{_++_};
+ghost use Prim.Native.Nat.{_*_, _≤_};
+ghost use lib.ListN.{length, take, drop};
+ghost use Rattle.rules.specs.Device.{reset};
+ghost use Rattle.rules.specs.Image.{imageLength, ringLength, flag, pairsOf, ringBody, encode};
+ghost use Rattle.state.specs.View.{WellLines, WellRing, Well, linesView, ringView, view};
+ghost use Rattle.image.specs.Shown.{withLines, withRing, Saves};
+
+fn flag_byte(asserted: bool) -> u8
+    ensures { λ r. ⌜ r ≡ flag asserted ⌝ }
+{
+    if asserted { 1 } else { 0 }
+}
+
+// The n oldest events as pairs, from the front of dst; every other byte stays.
+pub fn put_events(dst: &mut [u8], ring: Ring, n: usize)
+    requires { ⌜ WellRing ring × (n ≤ ring .«output_len») × (2 * n ≤ length (now dst)) ⌝ }
+    ensures { λ _. ⌜ now (dst .exit) ≡ pairsOf (take n (ringView ring .waiting)) ++ drop (2 * n) (now (dst .entry)) ⌝ }
+{
+    let mut i = 0;
+    while i < n {
+        let at = (ring.output_head + i) % 16;
+        dst[2 * i] = ring.output_vectors[at];
+        dst[2 * i + 1] = flag_byte(ring.output_asserted[at]);
+        i += 1;
+    }
+}
+
+// Body 4: the unused pairs are zeroed with all the others, before the waiting ones are written.
+fn put_ring(dst: &mut [u8], ring: Ring)
+    requires { ⌜ (length (now dst) ≡ ringLength) × WellRing ring ⌝ }
+    ensures { λ _. ⌜ now (dst .exit) ≡ ringBody (withRing (ringView ring) reset) ⌝ }
+{
+    let len = ring.output_len;
+    put_number(&mut dst[0..1], len as u64);
+    put_number(&mut dst[1..5], ring.output_drops as u64);
+    put_zeros(&mut dst[5..37]);
+    put_events(&mut dst[5..37], ring, len);
+}
+
+pub fn save_lines(image: &mut [u8], lines: Lines)
+    requires { ⌜ (length (now image) ≡ imageLength) × WellLines lines ⌝ }
+    ensures { λ _. ⌜ Saves (now (image .entry)) (now (image .exit)) (withLines (linesView lines)) ⌝ }
+{
+    put_number(&mut image[22..30], lines.int_mask);
+    put_number(&mut image[46..54], lines.last_intirr);
+    put_number(&mut image[54..62], lines.intirr);
+    put_number(&mut image[62..70], lines.intisr);
+}
+
+pub fn save_ring(image: &mut [u8], ring: Ring)
+    requires { ⌜ (length (now image) ≡ imageLength) × WellRing ring ⌝ }
+    ensures { λ _. ⌜ Saves (now (image .entry)) (now (image .exit)) (withRing (ringView ring)) ⌝ }
+{
+    put_ring(&mut image[222..259], ring);
+}
+
+pub fn save(image: &mut [u8], state: PchPicState)
+    requires { ⌜ (length (now image) ≡ imageLength) × Well state ⌝ }
+    ensures { λ _. ⌜ now (image .exit) ≡ encode (view state) ⌝ }
+{
+    let lines = state.lines;
+    let stored = state.stored;
+    let words = [
+        lines.int_mask,
+        stored.htmsi_en,
+        stored.intedge,
+        lines.last_intirr,
+        lines.intirr,
+        lines.intisr,
+        stored.int_polarity,
+        stored.auto_ctrl0,
+        stored.auto_ctrl1,
+    ];
+    put_contents(&mut image[0..22]);
+    put_words(&mut image[22..94], &words);
+    copy(&mut image[94..158], &state.tables.route_entry);
+    copy(&mut image[158..222], &state.tables.htmsi_vector);
+    put_ring(&mut image[222..259], state.ring);
+}

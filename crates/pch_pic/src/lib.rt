@@ -1,0 +1,198 @@
+// The six calls that a host makes, over a lent image, numbers and a lent answer area. None requires anything: every input has its outcome.
+// The order of the tests is 01's: 7, then 4, 5, 6 by the image, then 3, or 2 before 1.
+
+use image::check::Checked;
+use image::answer::Value;
+use state::PchPicState;
+use window::Known;
+use window::Located;
+ghost use mathlib.Core.Path.{_≡_};
+ghost use mathlib.Core.List.{[]};
+ghost use Prim.Native.Nat.{_≤_};
+ghost use lib.ListN.{length};
+ghost use Rattle.rules.specs.Calls.{answered, leaves, outcome};
+ghost use Rattle.rules.specs.Calls as asked;
+ghost use Rattle.rules.proofs.laws.Outcomes.{imageNumber};
+ghost use Rattle.image.specs.Shown.{checkedView, valueView};
+ghost use Rattle.engine.specs.Moves.{answerValue};
+
+// A refusal: its number goes into the answer area with its value, and is handed back.
+fn refuse(answer: &mut [u8], number: u8, value: Value) -> u8
+    requires { ⌜ 16 ≤ length (now answer) ⌝ }
+    ensures { λ r. ⌜ (r ≡ number) × (now (answer .exit) ≡ answered number (valueView value) (now (answer .entry))) ⌝ }
+{
+    image::answer::put_answer(answer, number, value);
+    number
+}
+
+// 01's number for what the test of an image found.
+fn image_number(checked: Checked) -> u8
+    ensures { λ r. ⌜ r ≡ imageNumber (checkedView checked) ⌝ }
+{
+    match checked {
+        Checked::Accepted => 0,
+        Checked::WrongLength => 4,
+        Checked::WrongContents => 5,
+        Checked::WrongBody => 6,
+    }
+}
+
+// The vector that a level or poll call returns, as a value.
+fn vector_value(answer: engine::Answer) -> Value
+    ensures { λ r. ⌜ valueView r ≡ answerValue answer ⌝ }
+{
+    match answer {
+        engine::Answer::Vector(vector) => Value::Present(vector as u64),
+        engine::Answer::None => Value::Absent,
+    }
+}
+
+#[no_mangle]
+pub extern "C" fn pch_pic_reset(image: &mut [u8], answer: &mut [u8]) -> u8
+    ensures { λ r. ⌜ leaves r (now (image .exit)) (now (answer .exit)) [] ≡ outcome asked.reset (now (image .entry)) (now (answer .entry)) ⌝ }
+{
+    if answer.len() < 16 {
+        return 7;
+    }
+    if image.len() != 259 {
+        return refuse(answer, 4, Value::Absent);
+    }
+    image::save::save(image, PchPicState::reset());
+    image::answer::put_answer(answer, 0, Value::Absent);
+    0
+}
+
+#[no_mangle]
+pub extern "C" fn pch_pic_read(
+    image: &[u8],
+    base: u64,
+    size: u64,
+    address: u64,
+    width: u64,
+    answer: &mut [u8],
+) -> u8
+    ensures { λ r. ⌜ leaves r (now (image .entry)) (now (answer .exit)) [] ≡ outcome (asked.read base size address width) (now (image .entry)) (now (answer .entry)) ⌝ }
+{
+    if answer.len() < 16 {
+        return 7;
+    }
+    let checked = image::check::check(image);
+    let Checked::Accepted = checked else {
+        return refuse(answer, image_number(checked), Value::Absent);
+    };
+    let Known::As(known) = window::width_of(width) else {
+        return refuse(answer, 2, Value::Absent);
+    };
+    let Located::At(offset) = window::locate(base, size, address) else {
+        return refuse(answer, 1, Value::Present(address));
+    };
+    let state = image::load::load(image);
+    let value = registers::read_register(state, known, offset);
+    image::answer::put_answer(answer, 0, Value::Present(value));
+    0
+}
+
+#[no_mangle]
+pub extern "C" fn pch_pic_write(
+    image: &mut [u8],
+    base: u64,
+    size: u64,
+    address: u64,
+    width: u64,
+    value: u64,
+    answer: &mut [u8],
+) -> u8
+    ensures { λ r. ⌜ leaves r (now (image .exit)) (now (answer .exit)) [] ≡ outcome (asked.write base size address width value) (now (image .entry)) (now (answer .entry)) ⌝ }
+{
+    if answer.len() < 16 {
+        return 7;
+    }
+    let checked = image::check::check(image);
+    let Checked::Accepted = checked else {
+        return refuse(answer, image_number(checked), Value::Absent);
+    };
+    let Known::As(known) = window::width_of(width) else {
+        return refuse(answer, 2, Value::Absent);
+    };
+    let Located::At(offset) = window::locate(base, size, address) else {
+        return refuse(answer, 1, Value::Present(address));
+    };
+    let state = image::load::load(image);
+    let written = registers::write_register(state, known, offset, value);
+    image::save::save(image, written);
+    image::answer::put_answer(answer, 0, Value::Absent);
+    0
+}
+
+#[no_mangle]
+pub extern "C" fn pch_pic_level(image: &mut [u8], input: u64, level: u64, answer: &mut [u8]) -> u8
+    ensures { λ r. ⌜ leaves r (now (image .exit)) (now (answer .exit)) [] ≡ outcome (asked.level input level) (now (image .entry)) (now (answer .entry)) ⌝ }
+{
+    if answer.len() < 16 {
+        return 7;
+    }
+    let checked = image::check::check(image);
+    let Checked::Accepted = checked else {
+        return refuse(answer, image_number(checked), Value::Absent);
+    };
+    if 64 <= input {
+        return refuse(answer, 3, Value::Absent);
+    }
+    let lines = image::load::load_lines(image);
+    let routed = engine::set_irq_level(lines, &image[158..222], input as usize, level != 0);
+    let moved = routed.lines;
+    let returned = routed.answer;
+    image::save::save_lines(image, moved);
+    image::answer::put_answer(answer, 0, vector_value(returned));
+    0
+}
+
+#[no_mangle]
+pub extern "C" fn pch_pic_poll(image: &mut [u8], input: u64, answer: &mut [u8]) -> u8
+    ensures { λ r. ⌜ leaves r (now (image .exit)) (now (answer .exit)) [] ≡ outcome (asked.poll input) (now (image .entry)) (now (answer .entry)) ⌝ }
+{
+    if answer.len() < 16 {
+        return 7;
+    }
+    let checked = image::check::check(image);
+    let Checked::Accepted = checked else {
+        return refuse(answer, image_number(checked), Value::Absent);
+    };
+    if 64 <= input {
+        return refuse(answer, 3, Value::Absent);
+    }
+    let lines = image::load::load_lines(image);
+    let routed = engine::pending_vector(lines, &image[158..222], input as usize);
+    let moved = routed.lines;
+    let returned = routed.answer;
+    image::save::save_lines(image, moved);
+    image::answer::put_answer(answer, 0, vector_value(returned));
+    0
+}
+
+#[no_mangle]
+pub extern "C" fn pch_pic_drain(
+    image: &mut [u8],
+    events: &mut [u8],
+    place: usize,
+    answer: &mut [u8],
+) -> u8
+    ensures { λ r. ⌜ leaves r (now (image .exit)) (now (answer .exit)) (now (events .exit)) ≡ outcome (asked.drain (now (events .entry)) place) (now (image .entry)) (now (answer .entry)) ⌝ }
+{
+    if answer.len() < 16 {
+        return 7;
+    }
+    if events.len() < place {
+        return 7;
+    }
+    let checked = image::check::check(image);
+    let Checked::Accepted = checked else {
+        return refuse(answer, image_number(checked), Value::Absent);
+    };
+    let ring = image::load::load_ring(image);
+    let drained = engine::drain_output_events(ring, &mut events[place..]);
+    let left = drained.ring;
+    image::save::save_ring(image, left);
+    image::answer::put_answer(answer, 0, Value::Present(drained.count as u64));
+    0
+}

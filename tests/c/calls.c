@@ -1,0 +1,138 @@
+/* Each of the six calls, and each refusal, once, from C: what is handed back, and which bytes change. Prints 'N passed, M failed' last. */
+#include "pch_pic.h"
+
+#include <stdio.h>
+#include <string.h>
+
+enum { ANSWER = PCH_PIC_ANSWER_LEN, GUARD = 8, IMAGE = PCH_PIC_IMAGE_LEN };
+
+static int passed, failed;
+
+static void expect(const char *what, int ok)
+{
+    if (ok) {
+        passed++;
+    } else {
+        failed++;
+        printf("FAILED: %s\n", what);
+    }
+}
+
+/* Buffers with a guard behind each: a byte written past the end shows. */
+static uint8_t image[IMAGE + GUARD], answer[ANSWER + GUARD], events[8 + GUARD];
+
+static void guard(void)
+{
+    memset(image + IMAGE, 0xa5, GUARD);
+    memset(answer, 0x5a, sizeof answer);
+    memset(events, 0xc3, sizeof events);
+}
+
+static int guarded(void)
+{
+    for (int i = 0; i < GUARD; i++) {
+        if (image[IMAGE + i] != 0xa5 || answer[ANSWER + i] != 0x5a || events[8 + i] != 0xc3) {
+            return 0;
+        }
+    }
+    return 1;
+}
+
+/* Whether the answer area says so, and nothing else of it was written. */
+static int answers(uint8_t number, uint8_t present, uint64_t value)
+{
+    uint8_t want[ANSWER] = {0};
+    want[0] = number;
+    want[1] = present;
+    for (int i = 0; i < 8; i++) {
+        want[8 + i] = (uint8_t)(value >> (8 * i));
+    }
+    return memcmp(answer, want, ANSWER) == 0 && guarded();
+}
+
+static int untouched(void)
+{
+    for (size_t i = 0; i < sizeof answer; i++) {
+        if (answer[i] != 0x5a) {
+            return 0;
+        }
+    }
+    return guarded();
+}
+
+int main(void)
+{
+    uint8_t before[IMAGE];
+    uint8_t n;
+
+    memset(image, 0x77, sizeof image);
+    guard();
+    n = pch_pic_reset(image, IMAGE, answer, ANSWER);
+    expect("reset takes any 259 bytes", n == 0 && answers(0, 0, 0));
+    expect("the image says form 1, four bodies", image[0] == 1 && image[1] == 4 && image[3] == 22 && image[5] == 72);
+    expect("vector 63 is 63", image[158 + 63] == 63);
+
+    guard();
+    n = pch_pic_read(image, IMAGE, 0x10000000, 0x400, 0x10000020, 4, answer, ANSWER);
+    expect("MASK reads all ones", n == 0 && answers(0, 1, 0xffffffff));
+
+    guard();
+    n = pch_pic_level(image, IMAGE, 5, 1, answer, ANSWER);
+    expect("a masked input that is raised returns nothing", n == 0 && answers(0, 0, 0));
+
+    guard();
+    n = pch_pic_write(image, IMAGE, 0x10000000, 0x400, 0x10000020, 4, 0xffffffdf, answer, ANSWER);
+    expect("MASK is written", n == 0 && answers(0, 0, 0));
+
+    guard();
+    n = pch_pic_poll(image, IMAGE, 5, answer, ANSWER);
+    expect("an input in service returns nothing to a poll", n == 0 && answers(0, 0, 0));
+
+    guard();
+    n = pch_pic_drain(image, IMAGE, events, 8, 3, answer, ANSWER);
+    expect("the assert is drained at its place", n == 0 && answers(0, 1, 1) && events[2] == 0xc3 && events[3] == 5 && events[4] == 1 && events[5] == 0xc3);
+
+    guard();
+    n = pch_pic_level(image, IMAGE, 5, 0, answer, ANSWER);
+    expect("lowering it returns its vector", n == 0 && answers(0, 1, 5));
+
+    memcpy(before, image, IMAGE);
+    guard();
+    n = pch_pic_read(image, IMAGE, 0x10000000, 0x400, 0x10000400, 4, answer, ANSWER);
+    expect("1: outside the window, with the address", n == 1 && answers(1, 1, 0x10000400));
+    guard();
+    n = pch_pic_write(image, IMAGE, 0x10000000, 0x400, 0x10000400, 3, 0, answer, ANSWER);
+    expect("2 before 1: no such width", n == 2 && answers(2, 0, 0));
+    guard();
+    n = pch_pic_poll(image, IMAGE, 64, answer, ANSWER);
+    expect("3: no such input", n == 3 && answers(3, 0, 0));
+    guard();
+    n = pch_pic_level(image, IMAGE - 1, 64, 1, answer, ANSWER);
+    expect("4 before 3: not 259 bytes", n == 4 && answers(4, 0, 0));
+    guard();
+    n = pch_pic_reset(NULL, 0, answer, ANSWER);
+    expect("4: an empty image", n == 4 && answers(4, 0, 0));
+    guard();
+    n = pch_pic_drain(image, IMAGE, events, 8, 9, answer, ANSWER);
+    expect("7: the place is past the end, and nothing is written", n == 7 && untouched());
+    guard();
+    n = pch_pic_reset(image, IMAGE, answer, ANSWER - 1);
+    expect("7: the answer area is short, and nothing is written", n == 7 && untouched());
+    guard();
+    n = pch_pic_drain(image, IMAGE, NULL, 0, 0, answer, ANSWER);
+    expect("no room moves none", n == 0 && answers(0, 1, 0));
+    expect("no refusal changed the image", memcmp(before, image, IMAGE) == 0);
+
+    image[0] = 2;
+    guard();
+    n = pch_pic_poll(image, IMAGE, 0, answer, ANSWER);
+    expect("5: other contents", n == 5 && answers(5, 0, 0));
+    image[0] = 1;
+    image[222] = 17;
+    guard();
+    n = pch_pic_read(image, IMAGE, 0, 0x400, 0, 3, answer, ANSWER);
+    expect("6 before 2: seventeen waiting", n == 6 && answers(6, 0, 0));
+
+    printf("%d passed, %d failed\n", passed, failed);
+    return failed != 0;
+}
