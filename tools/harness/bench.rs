@@ -124,15 +124,19 @@ impl Bench {
             areas.events.fill(fill.rotate_left(29));
         }
         let head = self.expected.head;
-        let number = under_test::call(call, &mut self.got);
-        let Bench { expected, want, .. } = self;
+        let Bench { expected, got, want, .. } = self;
+        // The library does not unwind, but a variant of it that was read as Rust may panic.
+        let number = caught(|| under_test::call(call, got));
         // The Rust may panic; whatever it was doing is given up, and the call counts as failed.
         let wanted = caught(|| expected.perform(call, want.image.slice(), want.answer.slice(), want.events.slice()));
-        let wanted = match wanted {
-            Ok(wanted) => wanted,
-            Err(words) => {
-                self.fail(call, head, format!("the expected side panicked: {words}"));
+        let (number, wanted) = match (number, wanted) {
+            (Ok(number), Ok(wanted)) => (number, wanted),
+            (number, wanted) => {
+                let side = if wanted.is_err() { "the expected side" } else { "the library" };
+                let words = wanted.err().or(number.err()).unwrap_or_default();
+                self.fail(call, head, format!("{side} panicked: {words}"));
                 self.expected = Boundary::new();
+                self.got = self.want.clone();
                 return None;
             }
         };

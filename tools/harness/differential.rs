@@ -58,7 +58,9 @@ fn run(mut words: Vec<String>) -> Result<ExitCode, String> {
     let mut chance = Chance::new(seed);
     bench.set_lengths(16, 32, false);
     for history in fixed::histories() {
-        bench.play(&history);
+        if !bench.over() {
+            bench.play(&history);
+        }
     }
     if !bench.over() {
         sweeps::run(&mut bench, &mut chance);
