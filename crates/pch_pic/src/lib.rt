@@ -1,8 +1,8 @@
 // The six calls that a host makes, over a lent image, numbers and a lent answer area. None requires anything: every input has its outcome.
 // The order of the tests is 01's: 7, then 4, 5, 6 by the image, then 3, or 2 before 1.
 
-use image::check::Checked;
 use image::answer::Value;
+use image::check::Checked;
 use state::PchPicState;
 use window::Known;
 use window::Located;
