@@ -40,6 +40,8 @@ pub struct Bench {
     // The image as the call found it, and what answer area and event buffer were filled with.
     before: Vec<u8>,
     fill: u64,
+    // The number and the areas that the library left in the last failure.
+    wrong: Option<(u8, Areas)>,
     pub passed: u64,
     pub failed: u64,
     pub met: Met,
@@ -60,6 +62,7 @@ impl Bench {
             expected: Boundary::new(),
             before: Vec::with_capacity(512),
             fill: 0,
+            wrong: None,
             passed: 0,
             failed: 0,
             met: Met::default(),
@@ -105,17 +108,16 @@ impl Bench {
         self.got.answer.bytes()
     }
 
-    pub fn events(&self) -> &[u8] {
-        self.got.events.bytes()
-    }
-
     pub fn over(&self) -> bool {
         self.failed >= self.most_failures
     }
 
-    /// Makes the call on both sides. Gives the number that 01 expects where all is equal; else the failure was printed, both sides are
+    /// Makes the call on both sides, unless the run is over. Gives the number that 01 expects where all is equal; else the failure was printed, both sides are
     /// left with the expected bytes, and a history is best begun anew.
     pub fn call(&mut self, call: &Call, fill: u64) -> Option<u8> {
+        if self.over() {
+            return None;
+        }
         self.fill = fill;
         self.before.clear();
         self.before.extend_from_slice(self.want.image.bytes());
@@ -151,8 +153,23 @@ impl Bench {
         }
         let what = self.what(number, wanted);
         self.fail(call, head, what);
-        self.got = self.want.clone();
+        self.wrong = Some((number, std::mem::replace(&mut self.got, self.want.clone())));
         None
+    }
+
+    /// The bytes after the last call, on both sides where they differ.
+    pub fn show(&self) {
+        let hex = |bytes: &[u8]| bytes.iter().map(|byte| format!("{byte:02x}")).collect::<String>();
+        let tell = |whose: &str, areas: &Areas| {
+            println!("{whose} image {}", hex(areas.image.bytes()));
+            println!("{whose} answer area {}", hex(areas.answer.bytes()));
+            println!("{whose} event buffer {}", hex(areas.events.bytes()));
+        };
+        if let Some((number, areas)) = &self.wrong {
+            println!("the library's number {number}");
+            tell("the library's", areas);
+        }
+        tell("expected", &self.want);
     }
 
     /// Plays a fixed history from reset, and holds both sides against what 01 says of its steps.

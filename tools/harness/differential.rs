@@ -5,7 +5,7 @@ mod boundary;
 mod call;
 mod caught;
 mod chance;
-mod far_end;
+mod differences;
 mod fixed;
 mod generate;
 mod histories;
@@ -45,8 +45,9 @@ fn run(mut words: Vec<String>) -> Result<ExitCode, String> {
             "--seed" => seed = number()?,
             "--calls" => calls = number()?,
             "--failures" => most_failures = number()?,
-            "--far-end" => {
-                far_end::show();
+            "--boxed" => under_test::box_areas(),
+            "--differences" => {
+                differences::show();
                 return Ok(ExitCode::SUCCESS);
             }
             "--one" => return one(&words),
@@ -87,14 +88,8 @@ fn one(words: &[String]) -> Result<ExitCode, String> {
         bench.null_image();
     }
     bench.set_lengths(line.answer, line.events, line.null);
-    let number = bench.call(&line.call, line.fill);
-    let hex = |bytes: &[u8]| bytes.iter().map(|byte| format!("{byte:02x}")).collect::<String>();
-    if let Some(number) = number {
-        println!("number {number}");
-    }
-    println!("answer area {}", hex(bench.answer()));
-    println!("event buffer {}", hex(bench.events()));
-    println!("image {}", hex(bench.image()));
+    bench.call(&line.call, line.fill);
+    bench.show();
     Ok(verdict(&bench))
 }
 
@@ -114,7 +109,7 @@ fn tell(bench: &Bench) {
 
 fn verdict(bench: &Bench) -> ExitCode {
     if bench.over() {
-        println!("stopped after {} failures", bench.failed);
+        println!("ended early: {} failed", bench.failed);
     }
     println!("{} passed, {} failed", bench.passed, bench.failed);
     if bench.failed == 0 { ExitCode::SUCCESS } else { ExitCode::FAILURE }

@@ -8,7 +8,7 @@ use crate::image::{self, Image};
 
 pub fn run(bench: &mut Bench, chance: &mut Chance) {
     let states = states(chance);
-    let parts: [fn(&mut Bench, &mut Chance, &[Image]); 8] = [registers, inputs, windows, drains, damages, lengths, answers, orders];
+    let parts: [fn(&mut Bench, &mut Chance, &[Image]); 9] = [registers, widths, inputs, windows, drains, damages, lengths, answers, orders];
     for part in parts {
         bench.set_lengths(16, 32, false);
         bench.set_head(chance.below(16) as usize);
@@ -74,6 +74,18 @@ fn registers(bench: &mut Bench, chance: &mut Chance, states: &[Image]) {
                     return;
                 }
             }
+        }
+    }
+}
+
+/// Widths that are no width: all up to 300, and those that a cast would take for 1, 2, 4 or 8.
+fn widths(bench: &mut Bench, _: &mut Chance, states: &[Image]) {
+    bench.set_image(&states[1]);
+    let cut = (8..64).flat_map(|k| [1, 2, 4, 8].map(|width| (1 << k) + width));
+    for width in (0..=300).chain(cut).chain([u64::MAX - 1, u64::MAX]) {
+        for address in [0x020, 0x3ff, 0x400] {
+            bench.call(&Call::Read { base: 0, size: 0x400, address, width }, FILL);
+            bench.call(&Call::Write { base: 0, size: 0x400, address, width, value: 0xfffe }, FILL);
         }
     }
 }
