@@ -34,7 +34,7 @@ fn main() -> ExitCode {
 }
 
 fn run(mut words: Vec<String>) -> Result<ExitCode, String> {
-    let (mut seed, mut calls, mut most_failures) = (1, 1_000_000, 10);
+    let (mut seed, mut calls, mut most_failures, mut random_only) = (1, 1_000_000, 10, false);
     while !words.is_empty() {
         let word = words.remove(0);
         let mut number = || {
@@ -45,6 +45,7 @@ fn run(mut words: Vec<String>) -> Result<ExitCode, String> {
             "--seed" => seed = number()?,
             "--calls" => calls = number()?,
             "--failures" => most_failures = number()?,
+            "--random-only" => random_only = true,
             "--boxed" => under_test::box_areas(),
             "--differences" => {
                 differences::show();
@@ -54,25 +55,20 @@ fn run(mut words: Vec<String>) -> Result<ExitCode, String> {
             _ => return Err(format!("'{word}' is no option")),
         }
     }
-    let start = Instant::now();
     let mut bench = Bench::new(seed, most_failures);
     let mut chance = Chance::new(seed);
-    bench.set_lengths(16, 32, false);
-    for history in fixed::histories() {
-        if !bench.over() {
+    if !random_only {
+        let start = Instant::now();
+        bench.set_lengths(16, 32, false);
+        for history in fixed::histories() {
             bench.play(&history);
         }
-    }
-    if !bench.over() {
         sweeps::run(&mut bench, &mut chance);
+        eprintln!("differential: fixed histories and sweeps: {} calls in {:.1} s", bench.passed, start.elapsed().as_secs_f64());
     }
-    let (swept, seconds) = (bench.passed, start.elapsed().as_secs_f64());
-    eprintln!("differential: fixed histories and sweeps: {swept} calls in {seconds:.1} s");
-    let random = Instant::now();
-    if !bench.over() {
-        histories::run(&mut bench, &mut chance, calls);
-    }
-    let rate = (bench.passed - swept) as f64 / random.elapsed().as_secs_f64();
+    let (swept, start) = (bench.passed, Instant::now());
+    histories::run(&mut bench, &mut chance, calls);
+    let rate = (bench.passed - swept) as f64 / start.elapsed().as_secs_f64();
     eprintln!("differential: random histories, seed {seed}: {} calls, {rate:.0} a second", bench.passed - swept);
     tell(&bench);
     Ok(verdict(&bench))
