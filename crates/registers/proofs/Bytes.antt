@@ -1,8 +1,8 @@
 -- Bytes read and written one after another: one byte more, and the Dword and the Word that they make.
-use mathlib.Core.Path.{_≡_, refl, sym, ap, _∙_}
-use mathlib.Core.Bool.{true, false}
-use mathlib.Core.List.{List, [], _∷_, _++_, append-assoc}
-use Prim.Native.Nat.{ℕ, suc, _+_, _*_, _%_, _^_, _≤_, _<_}
+use mathlib.Core.Path.{_≡_, sym, ap, _∙_}
+use mathlib.Core.Bool.{false}
+use mathlib.Core.List.{List}
+use Prim.Native.Nat.{ℕ, _+_, _*_, _%_, _^_, _<_}
 use native.Mathlib.Nat.{add-zero, mul-le-mul-left}
 use native.Mathlib.Numerals.{add-one}
 use native.Mathlib.Omega.{arith}
@@ -11,14 +11,13 @@ use lib.Pow.{pow-add, shl-exact}
 use Rattle.rules.specs.Numbers.{byteOf}
 use Rattle.rules.specs.Inputs.{half}
 use Rattle.rules.specs.Core.{Core, Act, turns}
-use Rattle.rules.specs.Map.{inBytes, bytes, cellAt}
-use Rattle.rules.specs.Access.{word, entry, readCell, readByte, readDword, readAt, entryActs, cellActs, dwordActs, byteActs, writeActs}
+use Rattle.rules.specs.Map.{bytes, cellAt}
+use Rattle.rules.specs.Access.{word, readByte, readDword, readAt, dwordActs, byteActs, writeActs}
 use Rattle.rules.specs.Device.{Device, acted}
-use Rattle.rules.proofs.laws.Acts.{acted-none, acted-append}
+use Rattle.rules.proofs.laws.Acts.{acted-append}
 use Rattle.rules.proofs.laws.Halves.{byte-place}
-use Rattle.rules.proofs.laws.Maps.{four-inside}
-use Rattle.rules.proofs.laws.Widths.{byte-inside, dword-of}
-use Rattle.rules.proofs.laws.Writes.{byte-acts-inside, dword-acts-of}
+use Rattle.rules.proofs.laws.Widths.{dword-four}
+use Rattle.rules.proofs.laws.Writes.{dword-acts-four}
 use Rattle.registers.specs.Bytes.{bytesRead, bytesWritten}
 
 -- v | b << (i * 8), for a v of i bytes
@@ -38,16 +37,9 @@ module _ (i v b : ℕ) (h : i < 4) (hv : v < 2 ^ (i * 8)) (hb : b < 2 ^ 8) where
       rw (on-top, add-one i, byte-place i) (omega arith)
 
 module _ (c : Core) (o : ℕ) where
-  -- in the byte ranges a Dword is four Bytes by the Byte rule
   pub four-read : cellAt o ≡ bytes → bytesRead c o 4 ≡ readDword c o
-  unfolding bytesRead readCell
-  four-read e =
-      let a : (k : ℕ) → k < 4 → readByte c (o + k) ≡ entry c (o + k) = λ k l. byte-inside c (o + k) (four-inside o e k l) in
-      let a0 = rw add-zero at (a 0 (omega arith)) in
-      let a1 = a 1 (omega arith) in
-      let a2 = a 2 (omega arith) in
-      let a3 = a 3 (omega arith) in
-      rw (add-zero o) (omega arith) ∙ dword-of c o (sym e)
+  unfolding bytesRead
+  four-read e = rw (add-zero o) (omega arith) ∙ sym (dword-four c o e)
 
   pub word-read : bytesRead c o 2 ≡ readAt c word o
   unfolding bytesRead readAt
@@ -60,26 +52,9 @@ pub low-bytes : (v w : ℕ) → w ≡ half false v → (byteOf w 0 ≡ byteOf v 
 low-bytes v w e = (omega arith, omega arith)
 
 module _ (d : Device) (o v : ℕ) where
-  -- one byte more, whose acts do not depend on what the bytes before it did
-  next-written : (n : ℕ) (xs ys : List Act) → bytesWritten d o v n ≡ acted d xs → ((c : Core) → byteActs c (o + n) (byteOf v n) ≡ ys)
-      → bytesWritten d o v (suc n) ≡ acted d (xs ++ ys)
-  unfolding bytesWritten
-  next-written n xs ys p q =
-      ap (λ (e : Device). acted e (byteActs (e .core) (o + n) (byteOf v n))) p
-      ∙ ap (acted (acted d xs)) (q (acted d xs .core)) ∙ sym (acted-append d xs ys)
-
-  -- in the byte ranges a Dword is four Bytes by the Byte rule
   pub four-written : cellAt o ≡ bytes → bytesWritten d o v 4 ≡ acted d (dwordActs o v)
-  unfolding bytesWritten cellActs
-  four-written e =
-      let x : ℕ → List Act = λ k. entryActs (o + k) (byteOf v k) in
-      let a : (k : ℕ) → k < 4 → (c : Core) → byteActs c (o + k) (byteOf v k) ≡ x k = λ k l c. byte-acts-inside (o + k) (byteOf v k) c (four-inside o e k l) in
-      let b1 = next-written 0 [] (x 0) (sym (acted-none d)) (a 0 (omega arith)) in
-      let b2 = next-written 1 (x 0) (x 1) b1 (a 1 (omega arith)) in
-      let b3 = next-written 2 (x 0 ++ x 1) (x 2) b2 (a 2 (omega arith)) in
-      let b4 = next-written 3 ((x 0 ++ x 1) ++ x 2) (x 3) b3 (a 3 (omega arith)) in
-      let z : o + 0 ≡ o = add-zero o in
-      b4 ∙ ap (acted d) (simp append-assoc (ap (λ (p : ℕ). entryActs p (byteOf v 0) ++ (x 1 ++ (x 2 ++ x 3))) z) ∙ dword-acts-of o v (sym e))
+  unfolding bytesWritten
+  four-written e = sym (ap (acted d) (dword-acts-four o v (λ k. bytesWritten d o v k .core) e) ∙ simp (acted-append, add-zero))
 
   -- a Word is two Bytes, the second after the first has taken effect
   pub word-written : (w : ℕ) → byteOf w 0 ≡ byteOf v 0 → byteOf w 1 ≡ byteOf v 1 → bytesWritten d o w 2 ≡ acted d (writeActs (d .core) word o v)

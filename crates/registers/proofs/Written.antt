@@ -1,19 +1,19 @@
 -- A state that shows a device after acts: by what was put into it, and acts after acts.
-use mathlib.Core.Path.{_≡_, refl, sym, ap, subst, _∙_}
+use mathlib.Core.Path.{_≡_, sym, ap, _∙_}
 use mathlib.Core.Bool.{Bool, false}
-use mathlib.Core.List.{List, [], _∷_, _++_}
+use mathlib.Core.List.{List, [], _∷_}
 use Prim.Native.Nat.{ℕ, _+_, _^_, _<_}
 use native.Mathlib.Numerals.{add-one}
 use lib.Bits.{bitAnd}
 use lib.ListN.{set}
 use Rattle.rules.specs.Numbers.{byteOf, withByte}
 use Rattle.rules.specs.Inputs.{withHalf}
-use Rattle.rules.specs.Core.{Act, Move, Plain, plain, withPlain, move, moved, setIsr, store, setPlain, setRoute, setVector}
+use Rattle.rules.specs.Core.{Act, Move, Plain, plain, withPlain, move, moved, store, setPlain, setRoute, setVector}
 use Rattle.rules.specs.Map.{inBytes}
 use Rattle.rules.specs.Access.{readDword, dwordActs, byteActs}
 use Rattle.rules.specs.Device.{Device, acted}
-use Rattle.rules.proofs.laws.Acts.{acted-none, acted-append}
-use Rattle.rules.proofs.laws.Writes.{byte-acts-outside, deviceOf, acted-move, acted-isr, acted-store, acted-vector}
+use Rattle.rules.proofs.laws.Acts.{acted-none}
+use Rattle.rules.proofs.laws.Writes.{byte-acts-outside, deviceOf, acted-move, acted-store, acted-vector}
 use Rattle.state.specs.declared.PchPicState.{PchPicState}
 use Rattle.state.specs.View.{linesView, storedView, ringView, view, Well, Is}
 use Rattle.engine.specs.declared.Moved.{Moved}

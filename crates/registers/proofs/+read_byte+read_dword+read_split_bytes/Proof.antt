@@ -2,14 +2,13 @@
 -- A Byte outside 0x100..0x39f lies in a Dword that is not among the bytes, and the four Bytes of one that is lie inside, so two steps end it.
 use mathlib.Core.Path.{_≡_, refl, ap, sym, _∙_}
 use mathlib.Core.Bool.{true≢false}
-use Prim.Native.Nat.{ℕ, _+_, _-_, _*_, _^_, _≤_, _<_}
+use Prim.Native.Nat.{ℕ, _-_, _*_, _^_, _≤_, _<_}
 use native.Mathlib.Omega.{arith}
 use lib.Bits.{mask-lt}
 use lib.Dec.{lit<}
 use borrow.Author.Needs.{needs}
 use borrow.Fn.Kinds.{In}
 use borrow.Fn.PlainCycle.{Measures, is, falls, and}
-use Rattle.rules.specs.Map.{bytes, cellAt}
 use Rattle.rules.specs.Access.{entry, readCell}
 use Rattle.rules.proofs.laws.Maps.{at-bytes, four-inside}
 use Rattle.rules.proofs.laws.Widths.{aligned-no-bytes, byte-inside, byte-outside, dword-of}
@@ -115,7 +114,7 @@ unfolding readCell bytesRead
     (λ c κs.
     let e = sym (c .before .before .decode .ensures) ∙ ap cellView (c .enum-told .given .1) in
     let h = c .before .before .before .pre .1 e in
-    (omega (arith, h), ((omega arith, omega (arith, at-bytes _ e)), (omega (arith, h), λ k l n. absurd (true≢false (sym (four-inside _ e k l) ∙ n))))))
+    (omega (arith, h), ((omega arith, omega (arith, at-bytes _ e)), (omega (arith, h), λ k l n. absurd (true≢false (sym (four-inside _ e k (omega arith)) ∙ n))))))
     (λ c. search needs)
     (λ c.
     let d = c .before .before .before .before .before in

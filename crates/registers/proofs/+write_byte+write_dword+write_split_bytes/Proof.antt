@@ -120,7 +120,7 @@ unfolding cellActs bytesWritten
     let s = c .before .before .before in
     let e = sym (c .before .before .decode .ensures) ∙ ap cellView (c .enum-told .given .1) in
     let h = s .pre .1 .1 e in
-    (omega (arith, h), (s .pre .1 .0, ((omega arith, omega (arith, at-bytes _ e)), (omega (arith, h), λ k l n. absurd (true≢false (sym (four-inside _ e k l) ∙ n)))))))
+    (omega (arith, h), (s .pre .1 .0, ((omega arith, omega (arith, at-bytes _ e)), (omega (arith, h), λ k l n. absurd (true≢false (sym (four-inside _ e k (omega arith)) ∙ n)))))))
     (λ c. search needs)
     (λ c.
     let d = c .before .before .before .before in

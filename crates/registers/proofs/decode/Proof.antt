@@ -1,8 +1,7 @@
 -- `decode` is right since at a listed offset the map computes, and an offset that no arm lists is missed by every row of the table.
 use mathlib.Core.Path.{sym, ap}
-use native.Mathlib.Omega.{arith}
 use Rattle.rules.specs.Map.{cellAt}
-use Rattle.rules.proofs.laws.Maps.{among-routes, among-vectors, among-neither, unlisted}
+use Rattle.rules.proofs.laws.Maps.{below, between, beyond, unlisted-route, unlisted-vector, unlisted-elsewhere}
 use Rattle.registers.proofs.decode.Statement.{statement}
 use Rattle.registers.proofs.decode.Tie as tie
 
@@ -31,8 +30,8 @@ decode-spec =
     (λ c. sym (ap cellAt (c .match .keys18)))
     (λ c. sym (ap cellAt (c .match .keys19)))
     (λ c. sym (ap cellAt (c .match .keys20)))
-    (λ c. let o = c .before .before .before .args .offset in sym (unlisted o (c .before .before .match .rest) (among-routes o (omega arith) (omega arith))))
-    (λ c. let o = c .before .before .before .before .before .args .offset in sym (unlisted o (c .before .before .before .before .match .rest) (among-vectors o (omega arith) (omega arith))))
-    (λ c. let o = c .before .before .args .offset in sym (unlisted o (c .before .match .rest) (among-neither o (λ p q. omega arith) (λ p q. omega arith))))
-    (λ c. let o = c .before .before .before .before .args .offset in sym (unlisted o (c .before .before .before .match .rest) (among-neither o (λ p q. omega arith) (λ p q. omega arith))))
-    (λ c. let o = c .before .before .before .before .before .args .offset in sym (unlisted o (c .before .before .before .before .match .rest) (among-neither o (λ p q. omega arith) (λ p q. omega arith)))))
+    (λ c. sym (unlisted-route _ (c .before .before .match .rest) (c .before .if1 .left) (c .if2 .taken)))
+    (λ c. sym (unlisted-vector _ (c .before .before .before .before .match .rest) (c .before .if3 .left) (c .if4 .taken)))
+    (λ c. sym (unlisted-elsewhere _ (c .before .match .rest) (below _ (c .if1 .taken))))
+    (λ c. sym (unlisted-elsewhere _ (c .before .before .before .match .rest) (between _ (c .before .if2 .left) (c .if3 .taken))))
+    (λ c. sym (unlisted-elsewhere _ (c .before .before .before .before .match .rest) (beyond _ (c .if4 .left)))))

@@ -3,6 +3,7 @@ use mathlib.Core.Path.{sym, ap, _∙_}
 use native.Mathlib.Omega.{arith}
 use lib.ListN.{getD}
 use borrow.Author.Needs.{needs}
+use Rattle.rules.proofs.laws.Maps.{below, between, beyond}
 use Rattle.rules.proofs.laws.Widths.{entry-route, entry-vector, entry-none}
 use Rattle.registers.proofs.Indexes.{irq-came, no-irq}
 use Rattle.registers.proofs.read_entry.Statement.{statement}
@@ -30,6 +31,6 @@ read-entry-spec =
     let r = irq-came _ _ (m .pch-pic-irq-index2 .ensures) (c .before .before .irq2 .given .1) in
     ap (λ i. getD (m .before .before .before .before .before .before .args .state .tables .«htmsi_vector») i 0) (sym (r .0)) ∙ sym (entry-vector _ _ (omega arith) (omega arith)))
     (λ c. absurd (omega (arith, no-irq _ _ (c .before .before .pch-pic-irq-index2 .ensures) (c .enum-told2 .given .1))))
-    (λ c. sym (entry-none _ _ (λ p q. omega arith) (λ p q. omega arith)))
-    (λ c. sym (entry-none _ _ (λ p q. omega arith) (λ p q. omega arith)))
-    (λ c. sym (entry-none _ _ (λ p q. omega arith) (λ p q. omega arith))))
+    (λ c. sym (entry-none _ _ (below _ (c .if1 .taken))))
+    (λ c. sym (entry-none _ _ (between _ (c .before .if2 .left) (c .if3 .taken))))
+    (λ c. sym (entry-none _ _ (beyond _ (c .if4 .left)))))

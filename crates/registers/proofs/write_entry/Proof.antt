@@ -1,9 +1,10 @@
 -- `write_entry` is right since its ranges are those of the rule, and in each the input is below 64 and its byte alone changes.
-use mathlib.Core.Path.{sym, ap, _∙_}
+use mathlib.Core.Path.{ap, _∙_}
 use mathlib.Core.List.{[], _∷_}
 use native.Mathlib.Omega.{arith}
 use borrow.Author.Needs.{needs}
 use Rattle.rules.specs.Core.{store, setRoute, setVector}
+use Rattle.rules.proofs.laws.Maps.{below, between, beyond}
 use Rattle.rules.proofs.laws.Writes.{entry-acts-route, entry-acts-vector, entry-acts-none}
 use Rattle.registers.proofs.Indexes.{irq-came, no-irq}
 use Rattle.registers.proofs.Written.{is-acts, is-none, is-route, is-vector}
@@ -32,6 +33,6 @@ write-entry-spec =
     let r = irq-came _ _ (c .before .before .before .pch-pic-irq-index2 .ensures) (c .before .irq2 .given .1) in
     is-acts _ (entry-acts-vector (a .args .index) (a .args .val) (omega arith) (omega arith) ∙ ap (λ n. setVector n (a .args .val) ∷ []) (r .0)) (is-vector _ (a .pre) _ _))
     (λ c. absurd (omega (arith, no-irq _ _ (c .before .before .pch-pic-irq-index2 .ensures) (c .enum-told2 .given .1))))
-    (λ c. let a = c .before .before in is-acts _ (entry-acts-none (a .args .index) (a .args .val) (λ p q. omega arith) (λ p q. omega arith)) (is-none _ (a .pre)))
-    (λ c. let a = c .before .before .before .before in is-acts _ (entry-acts-none (a .args .index) (a .args .val) (λ p q. omega arith) (λ p q. omega arith)) (is-none _ (a .pre)))
-    (λ c. let a = c .before .before .before .before .before in is-acts _ (entry-acts-none (a .args .index) (a .args .val) (λ p q. omega arith) (λ p q. omega arith)) (is-none _ (a .pre))))
+    (λ c. is-acts _ (entry-acts-none _ _ (below _ (c .if1 .taken))) (is-none _ (c .before .before .pre)))
+    (λ c. is-acts _ (entry-acts-none _ _ (between _ (c .before .if2 .left) (c .if3 .taken))) (is-none _ (c .before .before .before .before .pre)))
+    (λ c. is-acts _ (entry-acts-none _ _ (beyond _ (c .if4 .left))) (is-none _ (c .before .before .before .before .before .pre))))

@@ -1,12 +1,12 @@
 -- The register map: an offset by its range, what stands at an offset that the table does not list, and where the bytes stand.
 use mathlib.Core.Path.{_≡_, refl, sym, ap, _∙_}
-use mathlib.Core.Bool.{Bool, true, false, cond, _&&_, _||_, true≢false, false≢true, and-eq-true-iff}
+use mathlib.Core.Bool.{Bool, true, false, cond, _||_, false≢true, and-eq-true-iff}
 use mathlib.Core.List.{List, [], _∷_}
 use Prim.Native.Nat.{ℕ, _+_, _-_, _%_, _≤_, _<_}
 use native.Mathlib.Omega.{arith}
 use lib.Dec.{eqb, leb, ltb}
 use borrow.Author.Tests.{le-leb, lt-ltb, leb-true, ltb-true, ne-eqb}
-use Rattle.rules.specs.Map.{Row, Cell, halfOf, bytes, nothing, table, lookup, within, routesAt, vectorsAt, inRoutes, inVectors, inBytes, cellAt}
+use Rattle.rules.specs.Map.{Row, Cell, halfOf, bytes, nothing, table, lookup, within, inRoutes, inVectors, inBytes, cellAt}
 
 -- ---- ranges
 module _ (a e o : ℕ) where
@@ -25,19 +25,27 @@ module _ (a e o : ℕ) where
       by true u = let r = inside-from u in absurd (n (r .0) (r .1))
       by false u = u
 
--- the two ranges of bytes
+-- in neither of the two ranges of bytes
+pub record Elsewhere (o : ℕ) : Type 0 where
+  pub routes : inRoutes o ≡ false
+  pub vectors : inVectors o ≡ false
+
 module _ (o : ℕ) where
-  pub among-routes : 0x100 ≤ o → o < 0x140 → (inRoutes o || inVectors o) ≡ true
-  among-routes h k = rw (inside 0x100 0x140 o h k)
+  pub below : o < 0x100 → Elsewhere o
+  below h = record { routes = outside 0x100 0x140 o (λ p q. omega arith); vectors = outside 0x200 0x240 o (λ p q. omega arith) }
 
-  pub among-vectors : 0x200 ≤ o → o < 0x240 → (inRoutes o || inVectors o) ≡ true
-  among-vectors h k = rw (outside 0x100 0x140 o (λ p q. omega arith)) (inside 0x200 0x240 o h k)
+  pub between : 0x140 ≤ o → o < 0x200 → Elsewhere o
+  between h k = record { routes = outside 0x100 0x140 o (λ p q. omega arith); vectors = outside 0x200 0x240 o (λ p q. omega arith) }
 
-  pub among-neither : (0x100 ≤ o → o < 0x140 → ⊥) → (0x200 ≤ o → o < 0x240 → ⊥) → (inRoutes o || inVectors o) ≡ false
-  among-neither m n = rw (outside 0x100 0x140 o m) (outside 0x200 0x240 o n)
+  pub beyond : 0x240 ≤ o → Elsewhere o
+  beyond h = record { routes = outside 0x100 0x140 o (λ p q. omega arith); vectors = outside 0x200 0x240 o (λ p q. omega arith) }
 
-  among-either : (inRoutes o || inVectors o) ≡ true → (0x100 ≤ o) × (o < 0x240)
-  among-either t = by (inRoutes o) (inVectors o) refl refl t
+  -- a vector byte is no route byte
+  pub not-route : 0x200 ≤ o → inRoutes o ≡ false
+  not-route h = outside 0x100 0x140 o (λ p q. omega arith)
+
+  either : (inRoutes o || inVectors o) ≡ true → (0x100 ≤ o) × (o < 0x240)
+  either t = by (inRoutes o) (inVectors o) refl refl t
     where
       by : (p q : Bool) → inRoutes o ≡ p → inVectors o ≡ q → (p || q) ≡ true → (0x100 ≤ o) × (o < 0x240)
       by true q u v t = omega (arith, inside-from 0x100 0x140 o u)
@@ -73,15 +81,24 @@ lookup-bytes (r ∷ rs) other o e = lookup-bytes rs other o (skip (eqb o (r .low
 
 -- ---- what stands at an offset
 module _ (o : ℕ) where
-  -- not listed: bytes in the two ranges, nothing outside them
-  pub unlisted : Missed Unit table o → {b : Bool} → (inRoutes o || inVectors o) ≡ b → cellAt o ≡ cond b bytes nothing
+  unlisted : (b : Bool) → Missed Unit table o → (inRoutes o || inVectors o) ≡ b → cellAt o ≡ cond b bytes nothing
   unfolding cellAt
-  unlisted m e = missed table (cond (inRoutes o || inVectors o) bytes nothing) o m ∙ ap (λ (t : Bool). cond t bytes nothing) e
+  unlisted b m e = missed table (cond (inRoutes o || inVectors o) bytes nothing) o m ∙ ap (λ (t : Bool). cond t bytes nothing) e
+
+  -- at an offset that is not listed: bytes in the two ranges, nothing elsewhere
+  pub unlisted-route : Missed Unit table o → 0x100 ≤ o → o < 0x140 → cellAt o ≡ bytes
+  unlisted-route m h k = unlisted true m (rw (inside 0x100 0x140 o h k))
+
+  pub unlisted-vector : Missed Unit table o → 0x200 ≤ o → o < 0x240 → cellAt o ≡ bytes
+  unlisted-vector m h k = unlisted true m (rw (not-route o h) (inside 0x200 0x240 o h k))
+
+  pub unlisted-elsewhere : Missed Unit table o → Elsewhere o → cellAt o ≡ nothing
+  unlisted-elsewhere m e = unlisted false m (rw (e .routes) (e .vectors))
 
   -- bytes stand in the two ranges only
   pub at-bytes : cellAt o ≡ bytes → (0x100 ≤ o) × (o < 0x240)
   unfolding cellAt
-  at-bytes e = among-either o (by (inRoutes o || inVectors o) (lookup-bytes table (cond (inRoutes o || inVectors o) bytes nothing) o e))
+  at-bytes e = either o (by (inRoutes o || inVectors o) (lookup-bytes table (cond (inRoutes o || inVectors o) bytes nothing) o e))
     where
       by : (b : Bool) → cond b bytes nothing ≡ bytes → b ≡ true
       by true e = refl

@@ -1,18 +1,19 @@
 -- The widths: an entry by its range, a Byte by where it lies, a Dword by what stands at its offset, and the masks that align an offset.
-use mathlib.Core.Path.{_≡_, refl, sym, ap, _∙_}
-use mathlib.Core.Bool.{Bool, true, false, cond}
-use mathlib.Core.List.{List, [], _∷_}
-use Prim.Native.Nat.{ℕ, _+_, _-_, _*_, _/_, _%_, _^_, _≤_, _<_}
+use mathlib.Core.Path.{_≡_, sym, ap, _∙_}
+use mathlib.Core.Bool.{true, false}
+use mathlib.Core.List.{[], _∷_}
+use Prim.Native.Nat.{ℕ, _+_, _-_, _*_, _%_, _^_, _≤_, _<_}
+use native.Mathlib.Nat.{add-zero}
 use native.Mathlib.Omega.{arith}
 use lib.Bits.{bitAnd, bitOr, and-mask, and-high, or-shifted-r}
 use lib.Pow.{shl-exact}
 use lib.ListN.{getD}
 use borrow.Author.Tests.{le-leb, lt-leb}
-use Rattle.rules.specs.Numbers.{byteOf, withByte}
-use Rattle.rules.specs.Core.{Core, Act, store, setRoute, setVector}
-use Rattle.rules.specs.Map.{Cell, bytes, routesAt, vectorsAt, inRoutes, inVectors, inBytes, cellAt}
+use Rattle.rules.specs.Numbers.{numberOf, byteOf}
+use Rattle.rules.specs.Core.{Core}
+use Rattle.rules.specs.Map.{Cell, bytes, routesAt, vectorsAt, inBytes, cellAt}
 use Rattle.rules.specs.Access.{qword, entry, readCell, readDword, readByte, readAt}
-use Rattle.rules.proofs.laws.Maps.{inside, outside, not-aligned}
+use Rattle.rules.proofs.laws.Maps.{inside, Elsewhere, not-route, not-aligned, four-inside}
 
 -- ---- o & 0x3 and o & !0x3
 pub low-place : (o : ℕ) → bitAnd o 0x3 ≡ o % 4
@@ -33,11 +34,11 @@ module _ (c : Core) (o : ℕ) where
 
   pub entry-vector : vectorsAt ≤ o → o < 0x240 → entry c o ≡ getD (c .vectors) (o - vectorsAt) 0
   unfolding entry
-  entry-vector h k = rw (outside 0x100 0x140 o (λ p q. omega arith), inside 0x200 0x240 o h k)
+  entry-vector h k = rw (not-route o h, inside 0x200 0x240 o h k)
 
-  pub entry-none : (routesAt ≤ o → o < 0x140 → ⊥) → (vectorsAt ≤ o → o < 0x240 → ⊥) → entry c o ≡ 0
+  pub entry-none : Elsewhere o → entry c o ≡ 0
   unfolding entry
-  entry-none m n = rw (outside 0x100 0x140 o m, outside 0x200 0x240 o n)
+  entry-none e = rw (e .routes, e .vectors)
 
   pub byte-inside : inBytes o ≡ true → readByte c o ≡ entry c o
   unfolding readByte
@@ -50,6 +51,14 @@ module _ (c : Core) (o : ℕ) where
   pub dword-of : {x : Cell} → x ≡ cellAt o → readCell c o x ≡ readDword c o
   unfolding readDword
   dword-of e = ap (readCell c o) e
+
+module _ (c : Core) (o : ℕ) where
+  -- in the byte ranges a Dword is four Bytes by the Byte rule, low first
+  pub dword-four : cellAt o ≡ bytes → readDword c o ≡ numberOf (readByte c o ∷ readByte c (o + 1) ∷ readByte c (o + 2) ∷ readByte c (o + 3) ∷ [])
+  unfolding readCell
+  dword-four e =
+      let a : (k : ℕ) → k < 4 → readByte c (o + k) ≡ entry c (o + k) = λ k l. byte-inside c (o + k) (four-inside o e k l) in
+      sym (dword-of c o (sym e)) ∙ rw (rw add-zero at (a 0 (omega arith)), a 1 (omega arith), a 2 (omega arith), a 3 (omega arith))
 
   -- a Qword is its first Dword where the second is out of reach, and else both, x | y << 32
   pub qword-one : 2 ^ 64 - 1 < o + 4 → readDword c o ≡ readAt c qword o

@@ -2,7 +2,8 @@
 use mathlib.Core.Path.{_≡_, refl, sym, ap, _∙_}
 use mathlib.Core.Bool.{Bool, true, false}
 use mathlib.Core.List.{List, [], _∷_, _++_, append-nil}
-use Prim.Native.Nat.{ℕ, _+_, _-_, _%_, _^_, _≤_, _<_}
+use Prim.Native.Nat.{ℕ, _+_, _-_, _^_, _≤_, _<_}
+use native.Mathlib.Nat.{add-zero}
 use native.Mathlib.Omega.{arith}
 use lib.Bits.{bitAnd}
 use lib.ListN.{set}
@@ -11,12 +12,12 @@ use Rattle.rules.specs.Numbers.{byteOf, withByte}
 use Rattle.rules.specs.Inputs.{half, withHalf}
 use Rattle.rules.specs.Lines.{Lines, Made, withIsr}
 use Rattle.rules.specs.Ring.{Ring, ringRun}
-use Rattle.rules.specs.Core.{Core, Stored, Act, Move, Store, move, setIsr, store, setRoute, setVector, moved, lineTurn, vectorsAfter, storedBy, storedAfter, turns}
-use Rattle.rules.specs.Map.{Cell, routesAt, vectorsAt, inBytes, cellAt}
+use Rattle.rules.specs.Core.{Core, Stored, Move, Store, move, setIsr, store, setRoute, setVector, moved, lineTurn, vectorsAfter, storedBy, storedAfter, turns}
+use Rattle.rules.specs.Map.{Cell, bytes, routesAt, vectorsAt, inBytes, cellAt}
 use Rattle.rules.specs.Access.{qword, readDword, entryActs, cellActs, dwordActs, byteActs, writeActs}
 use Rattle.rules.specs.Device.{Device, offers, acted}
 use Rattle.rules.proofs.laws.Acts.{acted-append}
-use Rattle.rules.proofs.laws.Maps.{inside, outside}
+use Rattle.rules.proofs.laws.Maps.{inside, Elsewhere, not-route, four-inside}
 use Rattle.rules.proofs.laws.Widths.{low-place, aligned}
 
 abbrev pub deviceOf : Lines → List ℕ → Stored → Ring → Device
@@ -53,11 +54,11 @@ module _ (o v : ℕ) where
 
   pub entry-acts-vector : vectorsAt ≤ o → o < 0x240 → entryActs o v ≡ setVector (o - vectorsAt) v ∷ []
   unfolding entryActs
-  entry-acts-vector h k = rw (outside 0x100 0x140 o (λ p q. omega arith), inside 0x200 0x240 o h k)
+  entry-acts-vector h k = rw (not-route o h, inside 0x200 0x240 o h k)
 
-  pub entry-acts-none : (routesAt ≤ o → o < 0x140 → ⊥) → (vectorsAt ≤ o → o < 0x240 → ⊥) → entryActs o v ≡ []
+  pub entry-acts-none : Elsewhere o → entryActs o v ≡ []
   unfolding entryActs
-  entry-acts-none m n = rw (outside 0x100 0x140 o m, outside 0x200 0x240 o n)
+  entry-acts-none e = rw (e .routes, e .vectors)
 
   pub byte-acts-inside : (c : Core) → inBytes o ≡ true → byteActs c o v ≡ entryActs o v
   unfolding byteActs
@@ -71,6 +72,14 @@ module _ (o v : ℕ) where
   pub dword-acts-of : {x : Cell} → x ≡ cellAt o → cellActs o v x ≡ dwordActs o v
   unfolding dwordActs
   dword-acts-of e = ap (cellActs o v) e
+
+-- in the byte ranges a Dword is four Bytes by the Byte rule, low first, whatever core each of them meets
+pub dword-acts-four : (o v : ℕ) (c : ℕ → Core) → cellAt o ≡ bytes
+    → dwordActs o v ≡ byteActs (c 0) o (byteOf v 0) ++ (byteActs (c 1) (o + 1) (byteOf v 1) ++ (byteActs (c 2) (o + 2) (byteOf v 2) ++ byteActs (c 3) (o + 3) (byteOf v 3)))
+unfolding cellActs
+dword-acts-four o v c e =
+    let a : (k : ℕ) → k < 4 → byteActs (c k) (o + k) (byteOf v k) ≡ entryActs (o + k) (byteOf v k) = λ k l. byte-acts-inside (o + k) (byteOf v k) (c k) (four-inside o e k l) in
+    sym (dword-acts-of o v (sym e)) ∙ rw (rw add-zero at (a 0 (omega arith)), a 1 (omega arith), a 2 (omega arith), a 3 (omega arith))
 
 -- ---- a Qword: its first Dword where the second is out of reach, and else one after the other
 module _ (d : Device) (o v : ℕ) where
