@@ -3,3 +3,10 @@ pub mod Dozen
 pub mod WorkedSession
 pub mod RoundTrip
 pub mod EasyToGetWrong
+pub mod Account
+pub mod Service
+pub mod Order
+pub mod OneOutcome
+pub mod FromCalls
+pub mod HandedBack
+pub mod PremisesMet

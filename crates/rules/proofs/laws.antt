@@ -14,3 +14,10 @@ pub mod Outcomes
 pub mod Maps
 pub mod Widths
 pub mod Writes
+pub mod Reach
+pub mod Folds
+pub mod Counts
+pub mod Draining
+pub mod WellFormed
+pub mod Chains
+pub mod Readings

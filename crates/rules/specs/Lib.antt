@@ -12,5 +12,6 @@ pub mod Window
 pub mod Image
 pub mod Calls
 pub mod History
+pub mod Demands
 pub mod Session
 pub mod Dozen

@@ -1,0 +1,228 @@
+-- What demand 3 counts, and what it asks of a history beside History's `Admitted`. Each stands here once, for the theorems of proofs/demands.
+use mathlib.Core.Bool.{Bool, true, false, cond, not, _&&_}
+use mathlib.Core.List.{List, [], _∷_, _++_}
+use mathlib.Core.Path.{_≡_}
+use Prim.Native.Nat.{ℕ, _+_}
+use lib.Dec.{eqb, ltb}
+use lib.ListN.{length, drop, getD}
+use Rattle.rules.specs.Numbers.{numberOf, part, Bytes}
+use Rattle.rules.specs.Inputs.{on, inputs, only, asHalf}
+use Rattle.rules.specs.Lines.{Lines, Made, servedIn}
+use Rattle.rules.specs.Core.{Core, Act, move, poll, raise, lower, clear, setMask, setIsr, store, setVector}
+use Rattle.rules.specs.Ring.{Event, Ring, RingAct, offer, draw, ringStep, ringRun}
+use Rattle.rules.specs.Device.{Device, WellFormed, Call, actsOf, offers, draws, step}
+use Rattle.rules.specs.Device as call
+use Rattle.rules.specs.Image.{encode, eventsOf}
+use Rattle.rules.specs.Calls as request
+use Rattle.rules.specs.Calls.{Request, askedBy, Outcome, outcome}
+use Rattle.rules.specs.History.{Exported, leftBy, isDone, isReset, isLoad, callOf, Underway, carriedOn, history, writesIsr}
+
+-- ---- the account
+
+-- how many of a list have q
+unfoldable pub tally : {A : Type 0} → (A → Bool) → List A → ℕ
+tally q [] = 0
+tally q (x ∷ xs) = cond (q x) 1 0 + tally q xs
+
+-- how many asserts, and how many deasserts, there are among the events that have q
+abbrev pub assertsWith : (Made → Bool) → List Made → ℕ
+assertsWith q ms = tally (λ m. m .asserted && q m) ms
+
+abbrev pub deassertsWith : (Made → Bool) → List Made → ℕ
+deassertsWith q ms = tally (λ m. not (m .asserted) && q m) ms
+
+-- how many of the inputs that have p are in service, masked or not
+abbrev pub servedWith : (ℕ → Bool) → Lines → ℕ
+servedWith p l = length (inputs (servedIn p l))
+
+-- an event of the vector v; an input that carries v in the vector bytes vs
+abbrev pub hasVector : ℕ → Made → Bool
+hasVector v m = eqb (m .vector) v
+
+abbrev pub carries : ℕ → List ℕ → ℕ → Bool
+carries v vs n = eqb (getD vs n 0) v
+
+-- asserts made of the vector v, and deasserts: returned and offered alike, kept or dropped (00, demand 3)
+abbrev pub asserts : ℕ → List Made → ℕ
+asserts v = assertsWith (hasVector v)
+
+abbrev pub deasserts : ℕ → List Made → ℕ
+deasserts v = deassertsWith (hasVector v)
+
+-- the number of in-service inputs that now carry v (00, demand 3)
+abbrev pub carrying : ℕ → Core → ℕ
+carrying v c = servedWith (carries v (c .vectors)) (c .lines)
+
+-- ---- service
+
+-- each act of a list has T
+pub data Each (T : Act → Type 0) : List Act → Type 0 where
+  done : Each T []
+  also : {a : Act} {xs : List Act} → T a → Each T xs → Each T (a ∷ xs)
+
+-- the input n is in service: its stored ISR bit is on, masked or not
+abbrev pub inService : ℕ → Lines → Bool
+inService n l = on (l .isr) n
+
+-- the input n is latched and unmasked (00, demand 3)
+pub record Ready (n : ℕ) (l : Lines) : Type 0 where
+  pub latched : on (l .irr) n ≡ true
+  pub unmasked : on (l .mask) n ≡ false
+
+-- an act lowers n, clears it (CLEAR has its bit), or masks it (a half of MASK brings a 1 to its place) (00, demand 3)
+abbrev pub disturbs : ℕ → Act → Bool
+disturbs n (move (poll m)) = false
+disturbs n (move (raise m)) = false
+disturbs n (move (lower m)) = only m n
+disturbs n (move (clear b)) = on b n
+disturbs n (move (setMask h v)) = on (asHalf h v) n
+disturbs n (setIsr h v) = false
+disturbs n (store s) = false
+disturbs n (setVector m v) = false
+
+-- a call by which n is not lowered, cleared or masked, and which is no write that reaches the ISR registers (00, demand 3)
+pub record Undisturbed (n : ℕ) (d : Device) (c : Call) : Type 0 where
+  pub noIsrWrite : writesIsr c ≡ false
+  pub notDisturbed : Each (λ a. disturbs n a ≡ false) (actsOf (d .core) c)
+
+-- a call is a poll or a raise of n (00, demand 3)
+abbrev pub asks : ℕ → Call → Bool
+asks n (call.level m true) = only n m
+asks n (call.level m false) = false
+asks n (call.poll m) = only n m
+asks n (call.read w o) = false
+asks n (call.write w o v) = false
+asks n (call.drain k) = false
+
+-- ---- order
+
+-- an event as the ring holds it
+abbrev pub asEvent : Made → Event
+asEvent m = record { vector = m .vector; asserted = m .asserted }
+
+-- the ring that an event finds: those that its call made before it have been offered (01, Inputs: in the order of making)
+abbrev pub foundBy : Device → List Made → Ring
+foundBy d earlier = ringRun (d .ring) (offers earlier) .after
+
+-- all that calls do to the ring, in order: what each call offers, then what it draws
+unfoldable pub ringActs : Device → List Call → List RingAct
+ringActs d [] = []
+ringActs d (c ∷ cs) = offers (step d c .made) ++ (draws c ++ ringActs (step d c .after) cs)
+
+-- of the events that are offered: those that find fewer than 16 waiting are kept, the others dropped (01, The ring)
+abbrev pub keptBy : Ring → RingAct → List Event
+keptBy r (offer e) = cond (ltb (length (r .waiting)) 16) (e ∷ []) []
+keptBy r (draw k) = []
+
+abbrev pub droppedBy : Ring → RingAct → List Event
+droppedBy r (offer e) = cond (ltb (length (r .waiting)) 16) [] (e ∷ [])
+droppedBy r (draw k) = []
+
+unfoldable pub kept : Ring → List RingAct → List Event
+kept r [] = []
+kept r (a ∷ xs) = keptBy r a ++ kept (ringStep r a .after) xs
+
+unfoldable pub dropped : Ring → List RingAct → List Event
+dropped r [] = []
+dropped r (a ∷ xs) = droppedBy r a ++ dropped (ringStep r a .after) xs
+
+-- those of the events that are returned and not offered, in the order of making (01, Inputs)
+unfoldable pub returnedIn : List Made → List Event
+returnedIn [] = []
+returnedIn (m ∷ ms) = cond (m .offered) (returnedIn ms) (asEvent m ∷ returnedIn ms)
+
+-- ---- exported calls
+
+-- exported calls, one after another: the history under way after them (01, Saved image)
+unfoldable pub carriedThrough : Underway → List Exported → Underway
+carriedThrough h [] = h
+carriedThrough h (x ∷ xs) = carriedThrough (carriedOn h x) xs
+
+-- none of them is a load: each done one is no reset, and is given the image that the last done one left (01, Saved image)
+unfoldable pub NoLoads : Underway → List Exported → Type 0
+NoLoads h [] = Unit {0}
+NoLoads h (x ∷ xs) = (isLoad (h .left) x ≡ false) × NoLoads (carriedOn h x) xs
+
+-- each is given the image that the one before it left, done or refused, and none is a reset (01, Saved image: handing that same image on is no load)
+unfoldable pub HandedOn : List ℕ → List Exported → Type 0
+HandedOn left [] = Unit {0}
+HandedOn left (x ∷ xs) = (x .given ≡ left) × (isReset (askedBy (x .asked)) ≡ false) × HandedOn (leftBy x .image) xs
+
+-- the call of the device that an exported call is, if it is one; a refused call counts as no call (01, Saved image)
+abbrev pub doneCall : Exported → List Call
+doneCall x = cond (isDone x) (callOf (askedBy (x .asked))) []
+
+unfoldable pub doneCalls : List Exported → List Call
+doneCalls [] = []
+doneCalls (x ∷ xs) = doneCall x ++ doneCalls xs
+
+-- the images that they are given are bytes
+abbrev pub GivenBytes : List Exported → Type 0
+GivenBytes [] = Unit {0}
+GivenBytes (x ∷ xs) = Bytes (x .given) × GivenBytes xs
+
+-- the device to which a history under way has come
+abbrev pub current : Underway → Device
+current h = history (h .began) (h .calls) .after
+
+-- a history under way is that of the image left last: it began with a device that an image can hold, and that image holds the device to which it has come
+pub record Faithful (h : Underway) : Type 0 where
+  pub began : WellFormed (h .began)
+  pub left : h .left ≡ encode (current h)
+
+-- the history that a done reset begins
+abbrev pub afterReset : Underway
+afterReset = record { began = call.reset; calls = []; left = encode call.reset }
+
+-- ---- what a host reads
+
+-- in an answer area: whether a value is present, and the value (01, The boundary)
+abbrev pub presentIn : List ℕ → Bool
+presentIn a = eqb (getD a 1 0) 1
+
+abbrev pub valueIn : List ℕ → ℕ
+valueIn a = numberOf (part 8 8 a)
+
+-- the event whose vector an answer area holds, if it holds one: an assert (true) or a deassert
+abbrev pub eventIn : Bool → List ℕ → List Event
+eventIn b a = cond (presentIn a) (record { vector = valueIn a; asserted = b } ∷ []) []
+
+-- the event that a request returned: level 0 a deassert, any other level and a poll an assert (01, Inputs; 01, The boundary)
+abbrev pub returnedTo : Request → List ℕ → List Event
+returnedTo request.reset a = []
+returnedTo (request.read base size address width) a = []
+returnedTo (request.write base size address width v) a = []
+returnedTo (request.level n v) a = eventIn (not (eqb v 0)) a
+returnedTo (request.poll n) a = eventIn true a
+returnedTo (request.drain buffer place) a = []
+
+-- the events that a request drained: as many pairs from its place on as its answer says (01, The ring)
+abbrev pub drainedTo : Request → (answer events : List ℕ) → List Event
+drainedTo request.reset a e = []
+drainedTo (request.read base size address width) a e = []
+drainedTo (request.write base size address width v) a e = []
+drainedTo (request.level n v) a e = []
+drainedTo (request.poll n) a e = []
+drainedTo (request.drain buffer place) a e = eventsOf (valueIn a) (drop place e)
+
+-- all that exported calls handed back, in order: in answer areas, and in event buffers; a refused call nothing
+unfoldable pub returnedBy : List Exported → List Event
+returnedBy [] = []
+returnedBy (x ∷ xs) = cond (isDone x) (returnedTo (x .asked) (leftBy x .answer)) [] ++ returnedBy xs
+
+unfoldable pub drainedBy : List Exported → List Event
+drainedBy [] = []
+drainedBy (x ∷ xs) = cond (isDone x) (drainedTo (x .asked) (leftBy x .answer) (leftBy x .events)) [] ++ drainedBy xs
+
+-- how many asserts of the vector v there are among these events, and how many deasserts
+abbrev pub assertsAmong : ℕ → List Event → ℕ
+assertsAmong v es = tally (λ e. e .asserted && eqb (e .vector) v) es
+
+abbrev pub deassertsAmong : ℕ → List Event → ℕ
+deassertsAmong v es = tally (λ e. not (e .asserted) && eqb (e .vector) v) es
+
+-- ---- promises
+
+-- what a call's promise says of what it leaves: number, image, answer area and event buffer are those of `outcome` (01, How tight the promises are)
+abbrev pub Promised : Request → List ℕ → List ℕ → Outcome → Type 0
+Promised q image answer x = x ≡ outcome q image answer
