@@ -112,8 +112,8 @@ impl Bench {
         self.failed >= self.most_failures
     }
 
-    /// Makes the call on both sides, unless the run is over. Gives the number that 01 expects where all is equal; else the failure was printed, both sides are
-    /// left with the expected bytes, and a history is best begun anew.
+    /// Makes the call on both sides, unless the run is over. Gives the number that 01 expects where all is equal; else the failure was
+    /// printed, both sides are left with the expected bytes, and a history is best begun anew.
     pub fn call(&mut self, call: &Call, fill: u64) -> Option<u8> {
         if self.over() {
             return None;

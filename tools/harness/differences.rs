@@ -72,7 +72,10 @@ fn far_end() {
         let ours = library.call(Call::Read { base, size, address, width });
         library.call(Call::Write { base, size, address, width, value: u64::MAX });
         let changes = if library.0.image.bytes() == saved { "nothing changes" } else { "the state changes" };
-        println!("  offset 2^64 - {}: Rust: read {read}, written: {written}; library: read {ours}, written: {changes}", usize::MAX - offset + 1);
+        println!(
+            "  offset 2^64 - {}: Rust: read {read}, written: {written}; library: read {ours}, written: {changes}",
+            usize::MAX - offset + 1
+        );
     }
 }
 
@@ -81,7 +84,11 @@ fn inputs_from_64() {
     let (device, mut library) = (device(), Library::new());
     for input in [63, 64, usize::MAX] {
         let rust = (device.pending_vector(input), device.set_irq_level(input, true), device.set_irq_level(input, false));
-        let calls = [Call::Poll { input: input as u64 }, Call::Level { input: input as u64, level: 1 }, Call::Level { input: input as u64, level: 0 }];
+        let calls = [
+            Call::Poll { input: input as u64 },
+            Call::Level { input: input as u64, level: 1 },
+            Call::Level { input: input as u64, level: 0 },
+        ];
         let [poll, raise, lower] = calls.map(|call| library.call(call));
         println!("  input {input:#x}: Rust: poll {:?}, raise {:?}, lower {:?}; library: {poll}, {raise}, {lower}", rust.0, rust.1, rust.2);
     }

@@ -64,28 +64,9 @@ fn dozen() -> Vec<(&'static str, Vec<(Call, Says)>)> {
         ("M6", vec![(read(4, 0x0fe), Gives(0))]),
         ("M7", vec![(read(4, 0x23e), Gives(0x0000_3f3e))]),
         ("M8", vec![(raise(0), GivesNone), (read(4, 0x380), Gives(1)), (read(1, 0x380), Gives(0))]),
-        (
-            "M9",
-            vec![
-                (raise(3), GivesNone),
-                (raise(9), GivesNone),
-                (write(4, 0x020, 0), Waiting(vec![(3, 1)], 0)),
-                (poll(9), Gives(9)),
-            ],
-        ),
-        (
-            "M10",
-            vec![(raise(3), GivesNone), (raise(9), GivesNone), (write(2, 0x020, 0), Waiting(vec![(3, 1), (9, 1)], 0))],
-        ),
-        (
-            "M11",
-            vec![
-                (write(4, 0x3a0, 3), Done),
-                (write(1, 0x3a1, 0), Done),
-                (write(4, 0x020, 0), Done),
-                (read(4, 0x3a0), Gives(0)),
-            ],
-        ),
+        ("M9", vec![(raise(3), GivesNone), (raise(9), GivesNone), (write(4, 0x020, 0), Waiting(vec![(3, 1)], 0)), (poll(9), Gives(9))]),
+        ("M10", vec![(raise(3), GivesNone), (raise(9), GivesNone), (write(2, 0x020, 0), Waiting(vec![(3, 1), (9, 1)], 0))]),
+        ("M11", vec![(write(4, 0x3a0, 3), Done), (write(1, 0x3a1, 0), Done), (write(4, 0x020, 0), Done), (read(4, 0x3a0), Gives(0))]),
         ("M12", m12),
     ]
 }

@@ -12,16 +12,8 @@ const CLEAR: u64 = 0x080;
 const ISR: u64 = 0x3a0;
 
 /// Where something begins or ends, with the bytes around it.
-const ENDS: [(u64, u64); 8] = [
-    (0x0fc, 0x104),
-    (0x13c, 0x144),
-    (0x1fc, 0x204),
-    (0x200, 0x240),
-    (0x23c, 0x244),
-    (0x37c, 0x3a8),
-    (0x3dc, 0x3e8),
-    (0x3f8, 0x408),
-];
+const ENDS: [(u64, u64); 8] =
+    [(0x0fc, 0x104), (0x13c, 0x144), (0x1fc, 0x204), (0x200, 0x240), (0x23c, 0x244), (0x37c, 0x3a8), (0x3dc, 0x3e8), (0x3f8, 0x408)];
 
 /// Numbers that a careless cast or comparison takes for another.
 const ODD_NUMBERS: [u64; 12] =
@@ -218,10 +210,9 @@ pub fn accepted(chance: &mut Chance) -> Image {
     let mut image = [0; image::LENGTH];
     image[..22].copy_from_slice(&image::CONTENTS);
     for k in 0..9 {
-        // `last_intirr` comes first and IRR copies it
-        let bits = if k == 4 { u64::from_le_bytes(image[image::LAST_IRR..image::LAST_IRR + 8].try_into().unwrap()) } else { register_bits(chance) };
-        image[22 + 8 * k..30 + 8 * k].copy_from_slice(&bits.to_le_bytes());
+        image[22 + 8 * k..30 + 8 * k].copy_from_slice(&register_bits(chance).to_le_bytes());
     }
+    image.copy_within(image::LAST_IRR..image::LAST_IRR + 8, image::IRR);
     let same = chance.percent(10).then(|| chance.number() as u8);
     for byte in &mut image[image::ROUTES..image::VECTORS + 64] {
         *byte = same.unwrap_or(chance.number() as u8);

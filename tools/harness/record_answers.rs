@@ -15,7 +15,9 @@ use boundary::Boundary;
 use call::Call;
 use chance::Chance;
 use image::LENGTH;
-use records::{ANSWER_AREA, ANSWER_FILL, Answered, BYTE, EVENT_BUFFER, EVENT_FILL, IMAGE, IMAGE_BUFFER, IMAGE_RECORDS, MAGIC, RECORD, WHOLE};
+use records::{
+    ANSWER_AREA, ANSWER_FILL, Answered, BYTE, EVENT_BUFFER, EVENT_FILL, IMAGE, IMAGE_BUFFER, IMAGE_RECORDS, MAGIC, RECORD, WHOLE,
+};
 
 /// The recorder keeps the three areas as a replayer does.
 struct Recorder {
@@ -117,7 +119,10 @@ fn main() {
     }
     let (records, calls) = (recorder.records(), recorder.calls);
     let [_, reset, read, write, level, poll, drain] = recorder.kinds;
-    println!("reset {reset}, read {read}, write {write}, level {level}, poll {poll}, drain {drain}; numbers 0 to 7: {:?}", recorder.numbers);
+    println!(
+        "reset {reset}, read {read}, write {write}, level {level}, poll {poll}, drain {drain}; numbers 0 to 7: {:?}",
+        recorder.numbers
+    );
     let file = recorder.finish();
     if let Err(error) = std::fs::write(&path, &file) {
         eprintln!("record-answers: {path}: {error}");

@@ -10,7 +10,9 @@ mod records;
 mod under_test;
 
 use lent::Areas;
-use records::{ANSWER_AREA, ANSWER_FILL, Answered, BYTE, EVENT_BUFFER, EVENT_FILL, IMAGE, IMAGE_BUFFER, IMAGE_RECORDS, MAGIC, RECORD, WHOLE};
+use records::{
+    ANSWER_AREA, ANSWER_FILL, Answered, BYTE, EVENT_BUFFER, EVENT_FILL, IMAGE, IMAGE_BUFFER, IMAGE_RECORDS, MAGIC, RECORD, WHOLE,
+};
 use std::process::ExitCode;
 
 fn main() -> ExitCode {

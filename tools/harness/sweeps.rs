@@ -8,16 +8,29 @@ use crate::image::{self, Image};
 
 pub fn run(bench: &mut Bench, chance: &mut Chance) {
     let states = states(chance);
-    let parts: [fn(&mut Bench, &mut Chance, &[Image]); 9] = [registers, widths, inputs, windows, drains, damages, lengths, answers, orders];
-    for part in parts {
+    let parts: [(&str, Part); 9] = [
+        ("registers", registers),
+        ("widths", widths),
+        ("inputs", inputs),
+        ("windows", windows),
+        ("drains", drains),
+        ("damage", damages),
+        ("lengths of the image", lengths),
+        ("lengths of the answer area", answers),
+        ("order of the refusals", orders),
+    ];
+    let mut counts = Vec::new();
+    for (name, part) in parts {
+        let before = bench.passed;
         bench.set_lengths(16, 32, false);
         bench.set_head(chance.below(16) as usize);
         part(bench, chance, &states);
-        if bench.over() {
-            return;
-        }
+        counts.push(format!("{name} {}", bench.passed - before));
     }
+    eprintln!("differential: sweeps: {}", counts.join(", "));
 }
+
+type Part = fn(&mut Bench, &mut Chance, &[Image]);
 
 /// Reset; all latched and waiting behind the mask; all in service; masked bits in service; a full ring whose count is near its stop;
 /// and some random ones.

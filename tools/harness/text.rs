@@ -72,7 +72,9 @@ pub fn parse(words: &[String]) -> Result<Line, String> {
         .map(|i| digits.get(i..i + 2).and_then(|pair| u8::from_str_radix(pair, 16).ok()))
         .collect::<Option<Vec<u8>>>()
         .ok_or("image= wants pairs of hex digits")?;
-    let most = |name: &str, value: u64, most: usize| if value <= most as u64 { Ok(value as usize) } else { Err(format!("{name}= is over {most}")) };
+    let most = |name: &str, value: u64, most: usize| {
+        if value <= most as u64 { Ok(value as usize) } else { Err(format!("{name}= is over {most}")) }
+    };
     Ok(Line {
         call,
         answer: most("answer", number("answer", Some(16))?, 48)?,

@@ -11,7 +11,7 @@ mod loongarch_pch_pic;
 pub use axdevice_base::{AccessWidth, DeviceError};
 pub use axvm_types::GuestPhysAddr;
 pub use log::take_warnings;
-pub use loongarch_pch_pic::{LoongArchPchPic, Plain, PchPicOutputEvent, PchPicOutputPort};
+pub use loongarch_pch_pic::{LoongArchPchPic, PchPicOutputEvent, PchPicOutputPort, Plain};
 
 use alloc::{string::String, sync::Arc, vec::Vec};
 use axdevice_base::{Device, InterruptControllerId, VirtualInterruptController};
