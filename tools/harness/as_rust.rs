@@ -1,0 +1,57 @@
+//! The library under test where its Rattle sources are read as Rust (tools/harness/as-rust): the C shape of the six calls, over slices.
+
+/// SAFETY: the pointer has so many bytes, or is null and has none.
+unsafe fn area<'a>(pointer: *mut u8, len: usize) -> &'a mut [u8] {
+    if len == 0 { &mut [] } else { unsafe { std::slice::from_raw_parts_mut(pointer, len) } }
+}
+
+pub unsafe fn pch_pic_reset(image: *mut u8, image_len: usize, answer: *mut u8, answer_len: usize) -> u8 {
+    unsafe { pch_pic::pch_pic_reset(area(image, image_len), area(answer, answer_len)) }
+}
+
+pub unsafe fn pch_pic_read(
+    image: *const u8,
+    image_len: usize,
+    base: u64,
+    size: u64,
+    address: u64,
+    width: u64,
+    answer: *mut u8,
+    answer_len: usize,
+) -> u8 {
+    unsafe { pch_pic::pch_pic_read(area(image.cast_mut(), image_len), base, size, address, width, area(answer, answer_len)) }
+}
+
+pub unsafe fn pch_pic_write(
+    image: *mut u8,
+    image_len: usize,
+    base: u64,
+    size: u64,
+    address: u64,
+    width: u64,
+    value: u64,
+    answer: *mut u8,
+    answer_len: usize,
+) -> u8 {
+    unsafe { pch_pic::pch_pic_write(area(image, image_len), base, size, address, width, value, area(answer, answer_len)) }
+}
+
+pub unsafe fn pch_pic_level(image: *mut u8, image_len: usize, input: u64, level: u64, answer: *mut u8, answer_len: usize) -> u8 {
+    unsafe { pch_pic::pch_pic_level(area(image, image_len), input, level, area(answer, answer_len)) }
+}
+
+pub unsafe fn pch_pic_poll(image: *mut u8, image_len: usize, input: u64, answer: *mut u8, answer_len: usize) -> u8 {
+    unsafe { pch_pic::pch_pic_poll(area(image, image_len), input, area(answer, answer_len)) }
+}
+
+pub unsafe fn pch_pic_drain(
+    image: *mut u8,
+    image_len: usize,
+    events: *mut u8,
+    events_len: usize,
+    place: usize,
+    answer: *mut u8,
+    answer_len: usize,
+) -> u8 {
+    unsafe { pch_pic::pch_pic_drain(area(image, image_len), area(events, events_len), place, area(answer, answer_len)) }
+}

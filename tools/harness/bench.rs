@@ -1,0 +1,275 @@
+//! One call made on both sides, and everything compared: the number handed back, and every byte of image, answer area, event buffer and
+//! of the edges around them.
+
+use crate::boundary::{Boundary, LAST_COMPARED};
+use crate::call::Call;
+use crate::caught::caught;
+use crate::fixed::{History, Says};
+use crate::image;
+use crate::lent::Areas;
+use crate::text;
+use crate::under_test;
+
+/// What answer areas and event buffers hold before a call, where nothing random is wanted.
+pub const FILL: u64 = 0x9d8c_7b6a_5948_3726;
+
+/// What the calls of a run met, so that one sees whether the generators reach what they should.
+#[derive(Default)]
+pub struct Met {
+    /// Calls by kind, in the order of `Call`.
+    pub kinds: [u64; 6],
+    /// Calls by the number that 01 expects.
+    pub numbers: [u64; 8],
+    pub vectors_returned: u64,
+    pub events_drained: u64,
+    /// Calls on an image with 16 waiting.
+    pub full_ring: u64,
+    /// Calls that dropped events, and those that found or left the count at its stop.
+    pub dropping: u64,
+    pub at_stop: u64,
+    /// Calls on an image with masked bits in ISR.
+    pub masked_isr: u64,
+    /// Qwords past offset 2^64 - 5, where 01's rule is expected and not the Rust.
+    pub far_end: u64,
+}
+
+pub struct Bench {
+    got: Areas,
+    want: Areas,
+    expected: Boundary,
+    // The image as the call found it, and what answer area and event buffer were filled with.
+    before: Vec<u8>,
+    fill: u64,
+    // The number and the areas that the library left in the last failure.
+    wrong: Option<(u8, Areas)>,
+    pub passed: u64,
+    pub failed: u64,
+    pub met: Met,
+    /// After so many failures the run ends.
+    pub most_failures: u64,
+    pub seed: u64,
+}
+
+impl Bench {
+    pub fn new(seed: u64, most_failures: u64) -> Self {
+        // The image is lent whole, with no bytes behind it but the edge.
+        let mut areas = Areas::new();
+        areas.image.fill(0x5c5c_5c5c_5c5c_5c5c);
+        areas.image.len = image::LENGTH;
+        Bench {
+            got: areas.clone(),
+            want: areas,
+            expected: Boundary::new(),
+            before: Vec::with_capacity(512),
+            fill: 0,
+            wrong: None,
+            passed: 0,
+            failed: 0,
+            met: Met::default(),
+            most_failures,
+            seed,
+        }
+    }
+
+    pub fn image(&self) -> &[u8] {
+        self.want.image.bytes()
+    }
+
+    /// The image of both sides becomes this one, whole or cut or with bytes behind it.
+    pub fn set_image(&mut self, bytes: &[u8]) {
+        for areas in [&mut self.got, &mut self.want] {
+            areas.image.len = bytes.len();
+            areas.image.null = false;
+            areas.image.slice().copy_from_slice(bytes);
+        }
+    }
+
+    pub fn null_image(&mut self) {
+        self.set_image(&[]);
+        self.got.image.null = true;
+        self.want.image.null = true;
+    }
+
+    /// How long answer area and event buffer are in the calls to come. An empty one is lent as a null pointer where `null` says so.
+    pub fn set_lengths(&mut self, answer: usize, events: usize, null: bool) {
+        for areas in [&mut self.got, &mut self.want] {
+            areas.answer.len = answer;
+            areas.answer.null = null;
+            areas.events.len = events;
+            areas.events.null = null;
+        }
+    }
+
+    pub fn set_head(&mut self, head: usize) {
+        self.expected.head = head;
+    }
+
+    pub fn answer(&self) -> &[u8] {
+        self.got.answer.bytes()
+    }
+
+    pub fn over(&self) -> bool {
+        self.failed >= self.most_failures
+    }
+
+    /// Makes the call on both sides, unless the run is over. Gives the number that 01 expects where all is equal; else the failure was
+    /// printed, both sides are left with the expected bytes, and a history is best begun anew.
+    pub fn call(&mut self, call: &Call, fill: u64) -> Option<u8> {
+        if self.over() {
+            return None;
+        }
+        self.fill = fill;
+        self.before.clear();
+        self.before.extend_from_slice(self.want.image.bytes());
+        for areas in [&mut self.got, &mut self.want] {
+            areas.answer.fill(fill);
+            areas.events.fill(fill.rotate_left(29));
+        }
+        let head = self.expected.head;
+        let Bench { expected, got, want, .. } = self;
+        // The library does not unwind, but a variant of it that was read as Rust may panic.
+        let number = caught(|| under_test::call(call, got));
+        // The Rust may panic; whatever it was doing is given up, and the call counts as failed.
+        let wanted = caught(|| expected.perform(call, want.image.slice(), want.answer.slice(), want.events.slice()));
+        let (number, wanted) = match (number, wanted) {
+            (Ok(number), Ok(wanted)) => (number, wanted),
+            (number, wanted) => {
+                let side = if wanted.is_err() { "the expected side" } else { "the library" };
+                let words = wanted.err().or(number.err()).unwrap_or_default();
+                self.fail(call, head, format!("{side} panicked: {words}"));
+                self.expected = Boundary::new();
+                self.got = self.want.clone();
+                return None;
+            }
+        };
+        if number == wanted
+            && self.got.image.same(&self.want.image)
+            && self.got.answer.same(&self.want.answer)
+            && self.got.events.same(&self.want.events)
+        {
+            self.passed += 1;
+            self.meet(call, wanted);
+            return Some(wanted);
+        }
+        let what = self.what(number, wanted);
+        self.fail(call, head, what);
+        self.wrong = Some((number, std::mem::replace(&mut self.got, self.want.clone())));
+        None
+    }
+
+    /// The bytes after the last call, on both sides where they differ.
+    pub fn show(&self) {
+        let hex = |bytes: &[u8]| bytes.iter().map(|byte| format!("{byte:02x}")).collect::<String>();
+        let tell = |whose: &str, areas: &Areas| {
+            println!("{whose} image {}", hex(areas.image.bytes()));
+            println!("{whose} answer area {}", hex(areas.answer.bytes()));
+            println!("{whose} event buffer {}", hex(areas.events.bytes()));
+        };
+        if let Some((number, areas)) = &self.wrong {
+            println!("the library's number {number}");
+            tell("the library's", areas);
+        }
+        tell("expected", &self.want);
+    }
+
+    /// Plays a fixed history from reset, and holds both sides against what 01 says of its steps.
+    pub fn play(&mut self, history: &History) {
+        self.set_image(&[0; image::LENGTH]);
+        if self.call(&Call::Reset, FILL).is_none() {
+            return;
+        }
+        for (k, (call, says)) in history.steps.iter().enumerate() {
+            let Some(number) = self.call(call, FILL) else { return };
+            if !self.holds(number, says) {
+                self.passed -= 1;
+                self.fail(call, self.expected.head, format!("{}, step {}: 01 says otherwise", history.name, k + 1));
+                return;
+            }
+        }
+    }
+
+    fn holds(&self, number: u8, says: &Says) -> bool {
+        let answer = self.answer();
+        let value = u64::from_le_bytes(answer[8..16].try_into().unwrap());
+        match says {
+            Says::Done => number == 0,
+            Says::Gives(wanted) => number == 0 && answer[1] == 1 && value == *wanted,
+            Says::GivesNone => number == 0 && answer[1] == 0 && value == 0,
+            Says::Refused(wanted) => number == *wanted,
+            Says::Waiting(events, drops) => {
+                let image = self.image();
+                let pairs: Vec<u8> = events.iter().flat_map(|&(vector, flag)| [vector, flag]).collect();
+                number == 0
+                    && image[image::COUNT] as usize == events.len()
+                    && image[image::PAIRS..].starts_with(&pairs)
+                    && image[image::DROPS..image::DROPS + 4] == drops.to_le_bytes()
+            }
+        }
+    }
+
+    fn fail(&mut self, call: &Call, head: usize, what: String) {
+        self.failed += 1;
+        println!("FAILED: {what}");
+        println!("  seed {}, after {} calls; the call alone:", self.seed, self.passed + self.failed);
+        println!("  tools/differential --one {}", text::line(call, &self.before, &self.want, self.fill, head));
+    }
+
+    fn what(&self, number: u8, wanted: u8) -> String {
+        let mut parts = Vec::new();
+        if number != wanted {
+            parts.push(format!("number {number}, expected {wanted}"));
+        }
+        let differences = [
+            ("image", self.got.image.difference(&self.want.image)),
+            ("answer area", self.got.answer.difference(&self.want.answer)),
+            ("event buffer", self.got.events.difference(&self.want.events)),
+        ];
+        for (name, difference) in differences {
+            if let Some((at, got, want)) = difference {
+                parts.push(format!("{name} byte {at}: {got:02x}, expected {want:02x}"));
+            }
+        }
+        parts.join("; ")
+    }
+
+    fn meet(&mut self, call: &Call, number: u8) {
+        let met = &mut self.met;
+        let kind = match *call {
+            Call::Reset => 0,
+            Call::Read { .. } => 1,
+            Call::Write { .. } => 2,
+            Call::Level { .. } => 3,
+            Call::Poll { .. } => 4,
+            Call::Drain { .. } => 5,
+        };
+        met.kinds[kind] += 1;
+        met.numbers[number as usize] += 1;
+        if number != 0 {
+            return;
+        }
+        let answer = self.want.answer.bytes();
+        let after = self.want.image.bytes();
+        match *call {
+            Call::Level { .. } | Call::Poll { .. } => met.vectors_returned += u64::from(answer[1]),
+            Call::Drain { .. } => met.events_drained += u64::from(answer[8]),
+            Call::Read { base, address, width: 8, .. } | Call::Write { base, address, width: 8, .. } => {
+                met.far_end += u64::from(address - base > LAST_COMPARED)
+            }
+            _ => {}
+        }
+        if self.before.len() == image::LENGTH && self.before[image::COUNT] == 16 {
+            met.full_ring += 1;
+        }
+        let drops = |bytes: &[u8]| u32::from_le_bytes(bytes[image::DROPS..image::DROPS + 4].try_into().unwrap());
+        if !matches!(call, Call::Reset) && drops(after) != drops(&self.before) {
+            met.dropping += 1;
+        }
+        if drops(after) == u32::MAX {
+            met.at_stop += 1;
+        }
+        let register = |k: usize| u64::from_le_bytes(after[22 + 8 * k..30 + 8 * k].try_into().unwrap());
+        if register(0) & register(5) != 0 {
+            met.masked_isr += 1;
+        }
+    }
+}

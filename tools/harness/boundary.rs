@@ -1,0 +1,157 @@
+//! What 01 expects of a call: its refusals and its answer area, over the device of the published Rust. This is the expected side of every
+//! comparison.
+
+use crate::call::Call;
+use crate::image::{self, Image, LENGTH};
+use oracle::{AccessWidth, DeviceError, GuestPhysAddr, LoongArchPchPic, PchPicOutputEvent, PchPicOutputPort};
+
+/// Up to this offset the Rust decides a Qword; past it, it panics or wraps, and 01's rule stands in (01, The four widths).
+pub const LAST_COMPARED: u64 = u64::MAX - 4;
+
+pub struct Boundary {
+    device: LoongArchPchPic,
+    drops: u32,
+    // The image that the last call left. Handed on, it is no load: the device goes on as it is, its ring's head where it was.
+    left: Image,
+    /// The slot where the ring of a loaded image starts. 01 cannot see it.
+    pub head: usize,
+}
+
+/// What a call that was not refused with 7 gives: its value, or the refusal and its value.
+type Done = Result<Option<u64>, (u8, Option<u64>)>;
+
+impl Boundary {
+    pub fn new() -> Self {
+        // a call that was given up may have left some
+        oracle::take_warnings();
+        Boundary { device: LoongArchPchPic::new(GuestPhysAddr::from_usize(0), 0), drops: 0, left: [0; LENGTH], head: 0 }
+    }
+
+    pub fn perform(&mut self, call: &Call, image: &mut [u8], answer: &mut [u8], events: &mut [u8]) -> u8 {
+        if answer.len() < 16 {
+            return 7;
+        }
+        if let Call::Drain { place } = *call
+            && place > events.len() as u64
+        {
+            return 7;
+        }
+        let (number, value) = match self.done(call, image, events) {
+            Ok(value) => (0, value),
+            Err((number, value)) => (number, value),
+        };
+        answer[0] = number;
+        answer[1] = value.is_some() as u8;
+        answer[2..8].fill(0);
+        answer[8..16].copy_from_slice(&value.unwrap_or(0).to_le_bytes());
+        number
+    }
+
+    fn done(&mut self, call: &Call, image: &mut [u8], events: &mut [u8]) -> Done {
+        if let Call::Reset = call {
+            if image.len() != LENGTH {
+                return Err((4, None));
+            }
+            self.device.reset();
+            self.drops = 0;
+            self.save(image);
+            return Ok(None);
+        }
+        match image::test(image) {
+            0 => {}
+            number => return Err((number, None)),
+        }
+        if *image != self.left {
+            self.load(image);
+        }
+        let value = match *call {
+            Call::Reset => unreachable!("reset was done above"),
+            Call::Read { base, size, address, width } => Some(self.read(base, size, address, width_of(width)?)?),
+            Call::Write { base, size, address, width, value } => {
+                self.write(base, size, address, width_of(width)?, value)?;
+                None
+            }
+            Call::Level { input, level } => self.device.set_irq_level(input_of(input)?, level != 0).map(|vector| vector as u64),
+            Call::Poll { input } => self.device.pending_vector(input_of(input)?).map(|vector| vector as u64),
+            Call::Drain { place } => Some(self.drain(&mut events[place as usize..])),
+        };
+        let dropped = oracle::take_warnings();
+        self.drops = u64::from(self.drops).saturating_add(dropped).min(u64::from(u32::MAX)) as u32;
+        self.save(image);
+        Ok(value)
+    }
+
+    fn read(&mut self, base: u64, size: u64, address: u64, width: AccessWidth) -> Result<u64, (u8, Option<u64>)> {
+        self.device.set_window(base as usize, size as usize);
+        let width = first_half_alone(base, address, width);
+        inside(base, size, address, self.device.read_register(GuestPhysAddr::from_usize(address as usize), width)).map(|value| value as u64)
+    }
+
+    fn write(&mut self, base: u64, size: u64, address: u64, width: AccessWidth, value: u64) -> Result<(), (u8, Option<u64>)> {
+        self.device.set_window(base as usize, size as usize);
+        let width = first_half_alone(base, address, width);
+        inside(base, size, address, self.device.write_register(GuestPhysAddr::from_usize(address as usize), width, value as usize))
+    }
+
+    /// Draining by the Rust's own drain where all fits, else by taking one event after another.
+    fn drain(&mut self, room: &mut [u8]) -> u64 {
+        let pairs = room.len() / 2;
+        let mut moved = 0;
+        let mut put = |event: PchPicOutputEvent| {
+            room[2 * moved] = event.vector as u8;
+            room[2 * moved + 1] = event.asserted as u8;
+            moved += 1;
+        };
+        if pairs >= 16 {
+            self.device.drain_output_events(&mut put);
+        } else {
+            for _ in 0..pairs {
+                let Some(event) = PchPicOutputPort::take_output_event(&self.device) else { break };
+                put(event);
+            }
+        }
+        moved as u64
+    }
+
+    fn load(&mut self, image: &[u8]) {
+        let (plain, drops) = image::decode(image, self.head);
+        self.device.set_plain(&plain);
+        self.drops = drops;
+        self.left.copy_from_slice(image);
+    }
+
+    fn save(&mut self, image: &mut [u8]) {
+        image::encode(&self.device.plain(), self.drops, image);
+        self.left.copy_from_slice(image);
+    }
+}
+
+fn width_of(width: u64) -> Result<AccessWidth, (u8, Option<u64>)> {
+    match width {
+        1 => Ok(AccessWidth::Byte),
+        2 => Ok(AccessWidth::Word),
+        4 => Ok(AccessWidth::Dword),
+        8 => Ok(AccessWidth::Qword),
+        _ => Err((2, None)),
+    }
+}
+
+fn input_of(input: u64) -> Result<usize, (u8, Option<u64>)> {
+    if input < 64 { Ok(input as usize) } else { Err((3, None)) }
+}
+
+/// 01's rule where a Qword's offset + 4 passes 2^64 - 1: the second half reads 0 and is ignored, so that a Dword is left.
+fn first_half_alone(base: u64, address: u64, width: AccessWidth) -> AccessWidth {
+    if width == AccessWidth::Qword && address >= base && address - base > LAST_COMPARED { AccessWidth::Dword } else { width }
+}
+
+/// The Rust's own window test decides; 01's rule, in numbers that do not overflow, must agree with it.
+fn inside<T>(base: u64, size: u64, address: u64, answer: Result<T, DeviceError>) -> Result<T, (u8, Option<u64>)> {
+    let end = (u128::from(base) + u128::from(size)).min(u128::from(u64::MAX));
+    let ours = base <= address && u128::from(address) < end;
+    assert!(ours == answer.is_ok(), "01's window and the Rust's differ");
+    answer.map_err(|error| match error {
+        DeviceError::OutOfRange { addr } => (1, Some(addr)),
+        DeviceError::Other => unreachable!("only the factory's parts of the Rust make another error"),
+    })
+}

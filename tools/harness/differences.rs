@@ -1,0 +1,139 @@
+//! The known differences between the published Rust and the library, each shown by a run on its smallest input: for docs/DIFFERENCES.md.
+//! What the Rust does is asked of the Rust itself here, and not of the expected side, which has 01's rules in their place.
+
+use crate::call::Call;
+use crate::caught::caught;
+use crate::image;
+use crate::lent::Areas;
+use crate::under_test;
+use oracle::{AccessWidth, GuestPhysAddr, LoongArchPchPic};
+
+pub fn show() {
+    far_end();
+    inputs_from_64();
+    drops();
+    draining();
+}
+
+/// The Rust's device with a window over all addresses, from reset.
+fn device() -> LoongArchPchPic {
+    LoongArchPchPic::new(GuestPhysAddr::from_usize(0), usize::MAX)
+}
+
+/// The library, from reset.
+struct Library(Areas);
+
+impl Library {
+    fn new() -> Self {
+        let mut areas = Areas::new();
+        (areas.image.len, areas.answer.len, areas.events.len) = (image::LENGTH, 16, 32);
+        let mut library = Library(areas);
+        library.call(Call::Reset);
+        library
+    }
+
+    /// The call's number and value in words.
+    fn call(&mut self, call: Call) -> String {
+        let number = under_test::call(&call, &mut self.0);
+        let answer = self.0.answer.bytes();
+        match (number, answer[1]) {
+            (0, 1) => format!("{:#x}", u64::from_le_bytes(answer[8..16].try_into().unwrap())),
+            (0, _) => "done, no value".into(),
+            (number, _) => format!("refusal {number}"),
+        }
+    }
+
+    fn waiting(&self) -> u8 {
+        self.0.image.bytes()[image::COUNT]
+    }
+
+    fn dropped(&self) -> u8 {
+        self.0.image.bytes()[image::DROPS]
+    }
+}
+
+fn far_end() {
+    println!("Qwords near the far end, base 0, size 2^64 - 1, from reset:");
+    let (device, mut library) = (device(), Library::new());
+    let (reset, saved) = (device.plain(), library.0.image.bytes().to_vec());
+    for offset in usize::MAX - 5..usize::MAX {
+        let address = GuestPhysAddr::from_usize(offset);
+        let read = match caught(|| device.read_register(address, AccessWidth::Qword)) {
+            Ok(value) => format!("{:#x}", value.expect("an address inside")),
+            Err(words) => format!("panics, '{words}'"),
+        };
+        let written = match caught(|| device.write_register(address, AccessWidth::Qword, usize::MAX)) {
+            Ok(_) if device.plain() == reset => "nothing changes".into(),
+            Ok(_) => "the state changes".into(),
+            Err(words) => format!("panics, '{words}'"),
+        };
+        device.reset();
+        let (base, size, address, width) = (0, u64::MAX, offset as u64, 8);
+        let ours = library.call(Call::Read { base, size, address, width });
+        library.call(Call::Write { base, size, address, width, value: u64::MAX });
+        let changes = if library.0.image.bytes() == saved { "nothing changes" } else { "the state changes" };
+        println!(
+            "  offset 2^64 - {}: Rust: read {read}, written: {written}; library: read {ours}, written: {changes}",
+            usize::MAX - offset + 1
+        );
+    }
+}
+
+fn inputs_from_64() {
+    println!("Inputs from 64 up, from reset:");
+    let (device, mut library) = (device(), Library::new());
+    for input in [63, 64, usize::MAX] {
+        let rust = (device.pending_vector(input), device.set_irq_level(input, true), device.set_irq_level(input, false));
+        let calls = [
+            Call::Poll { input: input as u64 },
+            Call::Level { input: input as u64, level: 1 },
+            Call::Level { input: input as u64, level: 0 },
+        ];
+        let [poll, raise, lower] = calls.map(|call| library.call(call));
+        println!("  input {input:#x}: Rust: poll {:?}, raise {:?}, lower {:?}; library: {poll}, {raise}, {lower}", rust.0, rust.1, rust.2);
+    }
+}
+
+fn drops() {
+    println!("Seventeen events for a ring of sixteen (M12):");
+    let (device, mut library) = (device(), Library::new());
+    let mut write = |value: u64| {
+        device.write_register(GuestPhysAddr::from_usize(0x020), AccessWidth::Dword, value as usize).expect("an address inside");
+        library.call(Call::Write { base: 0, size: u64::MAX, address: 0x020, width: 4, value });
+        if value == 0 {
+            for input in 0..=16 {
+                device.set_irq_level(input, true);
+                library.call(Call::Level { input: input as u64, level: 1 });
+            }
+        }
+    };
+    oracle::take_warnings();
+    write(0);
+    write(0xffff_ffff);
+    println!(
+        "  Rust: {} wait, {} warnings in the log, no count; library: {} wait, drop count {}",
+        device.plain().output_len,
+        oracle::take_warnings(),
+        library.waiting(),
+        library.dropped()
+    );
+}
+
+fn draining() {
+    println!("Two events wait, and there is room for one:");
+    let (device, mut library) = (device(), Library::new());
+    for input in [0, 1] {
+        device.set_irq_level(input, true);
+        library.call(Call::Level { input: input as u64, level: 1 });
+        let value = !(1u32 << input) as u64;
+        device.write_register(GuestPhysAddr::from_usize(0x020), AccessWidth::Dword, value as usize).expect("an address inside");
+        library.call(Call::Write { base: 0, size: u64::MAX, address: 0x020, width: 4, value });
+        device.set_irq_level(input, false);
+        library.call(Call::Level { input: input as u64, level: 0 });
+    }
+    let waited = (device.plain().output_len, library.waiting());
+    let mut moved = 0;
+    device.drain_output_events(|_| moved += 1);
+    let drained = library.call(Call::Drain { place: 30 });
+    println!("  Rust: {} wait, a drain calls its closure {moved} times; library: {} wait, a drain moves {drained}", waited.0, waited.1);
+}

@@ -1,0 +1,81 @@
+//! A stand-in for the library under test: the six C calls over the published Rust, by the same boundary that the harness expects. It shows
+//! that the harness runs without a proved library at hand, and tools/mutants breaks copies of it to show that the harness catches them.
+
+mod boundary;
+mod call;
+mod image;
+
+use boundary::Boundary;
+use call::Call;
+use std::cell::RefCell;
+
+thread_local! {
+    static DEVICE: RefCell<Boundary> = RefCell::new(Boundary::new());
+}
+
+/// SAFETY: the pointer has so many bytes, or is null and has none.
+unsafe fn area<'a>(pointer: *mut u8, len: usize) -> &'a mut [u8] {
+    if len == 0 { &mut [] } else { unsafe { std::slice::from_raw_parts_mut(pointer, len) } }
+}
+
+unsafe fn perform(call: Call, image: (*mut u8, usize), answer: (*mut u8, usize), events: (*mut u8, usize)) -> u8 {
+    let (image, answer, events) = unsafe { (area(image.0, image.1), area(answer.0, answer.1), area(events.0, events.1)) };
+    DEVICE.with_borrow_mut(|device| device.perform(&call, image, answer, events))
+}
+
+const NONE: (*mut u8, usize) = (std::ptr::null_mut(), 0);
+
+pub unsafe fn pch_pic_reset(image: *mut u8, image_len: usize, answer: *mut u8, answer_len: usize) -> u8 {
+    unsafe { perform(Call::Reset, (image, image_len), (answer, answer_len), NONE) }
+}
+
+#[allow(clippy::too_many_arguments)]
+pub unsafe fn pch_pic_read(
+    image: *const u8,
+    image_len: usize,
+    base: u64,
+    size: u64,
+    address: u64,
+    width: u64,
+    answer: *mut u8,
+    answer_len: usize,
+) -> u8 {
+    let call = Call::Read { base, size, address, width };
+    unsafe { perform(call, (image.cast_mut(), image_len), (answer, answer_len), NONE) }
+}
+
+#[allow(clippy::too_many_arguments)]
+pub unsafe fn pch_pic_write(
+    image: *mut u8,
+    image_len: usize,
+    base: u64,
+    size: u64,
+    address: u64,
+    width: u64,
+    value: u64,
+    answer: *mut u8,
+    answer_len: usize,
+) -> u8 {
+    let call = Call::Write { base, size, address, width, value };
+    unsafe { perform(call, (image, image_len), (answer, answer_len), NONE) }
+}
+
+pub unsafe fn pch_pic_level(image: *mut u8, image_len: usize, input: u64, level: u64, answer: *mut u8, answer_len: usize) -> u8 {
+    unsafe { perform(Call::Level { input, level }, (image, image_len), (answer, answer_len), NONE) }
+}
+
+pub unsafe fn pch_pic_poll(image: *mut u8, image_len: usize, input: u64, answer: *mut u8, answer_len: usize) -> u8 {
+    unsafe { perform(Call::Poll { input }, (image, image_len), (answer, answer_len), NONE) }
+}
+
+pub unsafe fn pch_pic_drain(
+    image: *mut u8,
+    image_len: usize,
+    events: *mut u8,
+    events_len: usize,
+    place: usize,
+    answer: *mut u8,
+    answer_len: usize,
+) -> u8 {
+    unsafe { perform(Call::Drain { place: place as u64 }, (image, image_len), (answer, answer_len), (events, events_len)) }
+}

@@ -1,0 +1,272 @@
+//! The exhaustive parts: what is small enough is tried whole.
+
+use crate::bench::{Bench, FILL};
+use crate::call::Call;
+use crate::chance::Chance;
+use crate::generate;
+use crate::image::{self, Image};
+
+pub fn run(bench: &mut Bench, chance: &mut Chance) {
+    let states = states(chance);
+    let parts: [(&str, Part); 9] = [
+        ("registers", registers),
+        ("widths", widths),
+        ("inputs", inputs),
+        ("windows", windows),
+        ("drains", drains),
+        ("damage", damages),
+        ("lengths of the image", lengths),
+        ("lengths of the answer area", answers),
+        ("order of the refusals", orders),
+    ];
+    let mut counts = Vec::new();
+    for (name, part) in parts {
+        let before = bench.passed;
+        bench.set_lengths(16, 32, false);
+        bench.set_head(chance.below(16) as usize);
+        part(bench, chance, &states);
+        counts.push(format!("{name} {}", bench.passed - before));
+    }
+    eprintln!("differential: sweeps: {}", counts.join(", "));
+}
+
+type Part = fn(&mut Bench, &mut Chance, &[Image]);
+
+/// Reset; all latched and waiting behind the mask; all in service; masked bits in service; a full ring whose count is near its stop;
+/// and some random ones.
+fn states(chance: &mut Chance) -> Vec<Image> {
+    let reset = reset_image();
+    let with = |mask: u64, irr: u64, isr: u64| {
+        let mut image = reset;
+        for (k, bits) in [(0, mask), (3, irr), (4, irr), (5, isr)] {
+            image[22 + 8 * k..30 + 8 * k].copy_from_slice(&bits.to_le_bytes());
+        }
+        image
+    };
+    let mut full = with(0x0f0f_0f0f_f0f0_f0f0, 0xffff_0000_ffff_00ff, 0x00ff_ff00_0ff0_3c3c);
+    full[image::COUNT] = 16;
+    full[image::DROPS..image::DROPS + 4].copy_from_slice(&(u32::MAX - 3).to_le_bytes());
+    for (k, pair) in full[image::PAIRS..].chunks_mut(2).enumerate() {
+        pair.copy_from_slice(&[0xf0 - k as u8, (k % 3 == 0) as u8]);
+    }
+    let mut states = vec![
+        reset,
+        with(u64::MAX, u64::MAX, 0),
+        with(0, u64::MAX, u64::MAX),
+        with(0xaaaa_aaaa_5555_5555, 0xffff_ffff_ffff_ffff, 0xcccc_cccc_cccc_cccc),
+        full,
+    ];
+    states.extend((0..4).map(|_| generate::accepted(chance)));
+    states
+}
+
+fn reset_image() -> Image {
+    let mut image = [0; image::LENGTH];
+    image[..22].copy_from_slice(&image::CONTENTS);
+    image[22..30].fill(0xff);
+    image[image::ROUTES..image::ROUTES + 64].fill(1);
+    for (input, byte) in image[image::VECTORS..image::VECTORS + 64].iter_mut().enumerate() {
+        *byte = input as u8;
+    }
+    image
+}
+
+/// Every offset from 0 to 0x500 and the last twelve, by every width, read and written, over every state.
+fn registers(bench: &mut Bench, chance: &mut Chance, states: &[Image]) {
+    let (base, size) = (0, u64::MAX);
+    for state in states {
+        for address in (0..=0x500).chain(u64::MAX - 12..=u64::MAX) {
+            for width in [1, 2, 4, 8] {
+                bench.set_image(state);
+                bench.call(&Call::Read { base, size, address, width }, FILL);
+                for value in [0, u64::MAX, chance.number(), 1 << chance.below(64)] {
+                    bench.set_image(state);
+                    bench.call(&Call::Write { base, size, address, width, value }, FILL);
+                }
+                if bench.over() {
+                    return;
+                }
+            }
+        }
+    }
+}
+
+/// Widths that are no width: all up to 300, and those that a cast would take for 1, 2, 4 or 8.
+fn widths(bench: &mut Bench, _: &mut Chance, states: &[Image]) {
+    bench.set_image(&states[1]);
+    let cut = (8..64).flat_map(|k| [1, 2, 4, 8].map(|width| (1 << k) + width));
+    for width in (0..=300).chain(cut).chain([u64::MAX - 1, u64::MAX]) {
+        for address in [0x020, 0x3ff, 0x400] {
+            bench.call(&Call::Read { base: 0, size: 0x400, address, width }, FILL);
+            bench.call(&Call::Write { base: 0, size: 0x400, address, width, value: 0xfffe }, FILL);
+        }
+    }
+}
+
+/// Every input from 0 to 70 and some huge ones, raised, lowered and polled, over every state.
+fn inputs(bench: &mut Bench, _: &mut Chance, states: &[Image]) {
+    for state in states {
+        for input in (0..=70).chain([0x80, 0xff, 0x100, 1 << 32, (1 << 32) + 3, 1 << 63, u64::MAX - 1, u64::MAX]) {
+            let levels = [0, 1, 2, 0x100, 1 << 32, u64::MAX].map(|level| Call::Level { input, level });
+            for call in levels.into_iter().chain([Call::Poll { input }]) {
+                bench.set_image(state);
+                bench.call(&call, FILL);
+            }
+        }
+        if bench.over() {
+            return;
+        }
+    }
+}
+
+/// Windows of many shapes, and the addresses at their ends.
+fn windows(bench: &mut Bench, _: &mut Chance, states: &[Image]) {
+    bench.set_image(&states[1]);
+    for base in [0, 1, 3, 5, 0x400, 1 << 32, 1 << 63, u64::MAX - 0x400, u64::MAX - 8, u64::MAX - 1, u64::MAX] {
+        let rest = u64::MAX - base;
+        for size in [0, 1, 2, 4, 8, 0x400, 1 << 63, rest.saturating_sub(1), rest, rest.saturating_add(1), u64::MAX - 1, u64::MAX] {
+            let end = base.saturating_add(size);
+            let near = |at: u64| (0..6).map(move |k| at.wrapping_add(k).wrapping_sub(3));
+            for address in near(base).chain(near(end)).chain(u64::MAX - 8..=u64::MAX) {
+                for width in [1, 2, 4, 8, 0, 3, 16] {
+                    bench.call(&Call::Read { base, size, address, width }, FILL);
+                    bench.call(&Call::Write { base, size, address, width, value: 0x8182_8384_8586_8788 }, FILL);
+                }
+            }
+            if bench.over() {
+                return;
+            }
+        }
+    }
+}
+
+/// Every number waiting, every length of the event buffer up to 40, every place in it and just past it.
+fn drains(bench: &mut Bench, chance: &mut Chance, _: &[Image]) {
+    for count in 0..=16 {
+        let mut state = reset_image();
+        state[image::COUNT] = count;
+        for pair in state[image::PAIRS..image::PAIRS + 2 * count as usize].chunks_mut(2) {
+            pair.copy_from_slice(&[chance.number() as u8, chance.below(2) as u8]);
+        }
+        bench.set_head(chance.below(16) as usize);
+        for events in 0..=40 {
+            for place in (0..=events as u64 + 3).chain([1 << 32, 1 << 63, u64::MAX]) {
+                for null in [false, true] {
+                    bench.set_lengths(16, events, null);
+                    bench.set_image(&state);
+                    bench.call(&Call::Drain { place }, FILL);
+                }
+            }
+            if bench.over() {
+                return;
+            }
+        }
+    }
+}
+
+/// One call of each kind that a good image would not refuse.
+fn one_of_each(k: u64) -> Call {
+    let (base, size) = (0x100, 0x400);
+    match k % 6 {
+        0 => Call::Read { base, size, address: base + 0x3a0, width: 8 },
+        1 => Call::Write { base, size, address: base + 0x020, width: 4, value: 0x0ff0_f00f },
+        2 => Call::Level { input: 7 + 8 * (k / 6 % 7), level: k / 6 % 2 },
+        3 => Call::Poll { input: 3 + k / 6 % 60 },
+        4 => Call::Drain { place: 1 },
+        _ => Call::Reset,
+    }
+}
+
+/// Every byte of an image takes every value, over every state: accepted or refused as the rules say.
+fn damages(bench: &mut Bench, _: &mut Chance, states: &[Image]) {
+    for (k, state) in states.iter().enumerate() {
+        for at in 0..image::LENGTH {
+            for value in 0..=255 {
+                let mut damaged = *state;
+                damaged[at] = value;
+                bench.set_image(&damaged);
+                bench.call(&one_of_each((k + at) as u64 + u64::from(value)), FILL);
+            }
+            if bench.over() {
+                return;
+            }
+        }
+    }
+}
+
+/// Every length of an image from 0 to 300, for every call; a null image too.
+fn lengths(bench: &mut Bench, _: &mut Chance, states: &[Image]) {
+    for state in states {
+        let mut longer = [0; 300];
+        longer[..image::LENGTH].copy_from_slice(state);
+        for kind in 0..6 {
+            for length in 0..=300 {
+                bench.set_image(&longer[..length]);
+                bench.call(&one_of_each(kind), FILL);
+            }
+            bench.null_image();
+            bench.call(&one_of_each(kind), FILL);
+        }
+        if bench.over() {
+            return;
+        }
+    }
+}
+
+/// Every length of the answer area from 0 to 48, for every call; a null one too.
+fn answers(bench: &mut Bench, _: &mut Chance, states: &[Image]) {
+    for state in states {
+        for kind in 0..6 {
+            for length in 0..=48 {
+                for null in [false, true] {
+                    bench.set_lengths(length, 32, null);
+                    bench.set_image(state);
+                    bench.call(&one_of_each(kind), FILL);
+                }
+            }
+        }
+        if bench.over() {
+            return;
+        }
+    }
+}
+
+/// Several faults at once: the number handed back is the first in 01's order, 7, 4, 5, 6, then 3, or 2 before 1.
+fn orders(bench: &mut Bench, _: &mut Chance, states: &[Image]) {
+    let (base, size) = (0x100, 0x400);
+    let mut calls = vec![Call::Reset];
+    for width in [4, 3] {
+        for address in [base, 0xff, 0x500] {
+            calls.push(Call::Read { base, size, address, width });
+            calls.push(Call::Write { base, size, address, width, value: 0 });
+        }
+    }
+    for input in [63, 64] {
+        calls.extend([Call::Level { input, level: 0 }, Call::Level { input, level: 1 }, Call::Poll { input }]);
+    }
+    for place in [32, 33] {
+        calls.push(Call::Drain { place });
+    }
+    for state in states {
+        for call in &calls {
+            for faults in 0..16 {
+                let mut bytes = state.to_vec();
+                if faults & 1 != 0 {
+                    bytes[image::COUNT] = 17;
+                }
+                if faults & 2 != 0 {
+                    bytes[0] = 2;
+                }
+                if faults & 4 != 0 {
+                    bytes.push(0);
+                }
+                bench.set_lengths(if faults & 8 != 0 { 15 } else { 16 }, 32, false);
+                bench.set_image(&bytes);
+                bench.call(call, FILL);
+            }
+        }
+        if bench.over() {
+            return;
+        }
+    }
+}

@@ -1,0 +1,42 @@
+//! Makes a call of the library under test on lent areas.
+
+use crate::call::Call;
+use crate::lent::Areas;
+use std::sync::atomic::{AtomicBool, Ordering};
+
+static BOXED: AtomicBool = AtomicBool::new(false);
+
+/// From now on each area is lent as a heap block of its own, no byte longer than it is said to be, so that a checker of memory sees any
+/// access past it, a read too. The edges say nothing then.
+#[allow(dead_code)]
+pub fn box_areas() {
+    BOXED.store(true, Ordering::Relaxed);
+}
+
+pub fn call(call: &Call, lent: &mut Areas) -> u8 {
+    let Areas { image, answer, events } = lent;
+    if !BOXED.load(Ordering::Relaxed) {
+        return make(call, (image.pointer(), image.len), (answer.pointer(), answer.len), (events.pointer(), events.len));
+    }
+    let mut boxes = [image.bytes(), answer.bytes(), events.bytes()].map(Box::<[u8]>::from);
+    let [i, a, e] = boxes.each_mut().map(|block| (block.as_mut_ptr(), block.len()));
+    let number = make(call, i, a, e);
+    image.slice().copy_from_slice(&boxes[0]);
+    answer.slice().copy_from_slice(&boxes[1]);
+    events.slice().copy_from_slice(&boxes[2]);
+    number
+}
+
+fn make(call: &Call, (i, il): (*mut u8, usize), (a, al): (*mut u8, usize), (e, el): (*mut u8, usize)) -> u8 {
+    // SAFETY: each pointer and length is an area of its own that outlives the call; an empty one may be null, as the boundary says.
+    unsafe {
+        match *call {
+            Call::Reset => library::pch_pic_reset(i, il, a, al),
+            Call::Read { base, size, address, width } => library::pch_pic_read(i, il, base, size, address, width, a, al),
+            Call::Write { base, size, address, width, value } => library::pch_pic_write(i, il, base, size, address, width, value, a, al),
+            Call::Level { input, level } => library::pch_pic_level(i, il, input, level, a, al),
+            Call::Poll { input } => library::pch_pic_poll(i, il, input, a, al),
+            Call::Drain { place } => library::pch_pic_drain(i, il, e, el, place as usize, a, al),
+        }
+    }
+}
