@@ -19,7 +19,7 @@ pub fn number(b: &[u8]) -> u64
     let mut x = 0u64;
     let mut i = 0;
     while i < b.len() {
-        x = x + (wide(b[i]) << (8 * i));
+        x |= wide(b[i]) << (8 * i);
         i += 1;
     }
     x
