@@ -1,23 +1,24 @@
 -- Bodies written into an image: words one after another, the ring, and a part of the image of a device replaced.
-use mathlib.Core.Path.{_≡_, refl, sym, ap, _∙_, subst}
-use mathlib.Core.List.{List, [], _∷_, _++_, append-assoc, append-nil}
-use Prim.Native.Nat.{ℕ, zero, suc, _+_, _-_, _*_, _%_, _≤_, _<_}
+use mathlib.Core.Path.{_≡_, refl, sym, ap, _∙_}
+use mathlib.Core.List.{List, [], _∷_, _++_, map, append-assoc, append-nil}
+use Prim.Native.Nat.{ℕ, zero, suc, _+_, _-_, _*_, _%_, _^_, _≤_, _<_}
 use native.Mathlib.Nat.{sub-zero, mod-eq-of-lt}
 use native.Mathlib.Numerals.{add-one}
 use native.Mathlib.Omega.{arith}
 use lib.ListN.{length, take, drop, getD, replicate, length-append, length-drop, length-replicate, drop-of-length-le}
 use lib.Seq.{length-take-le, take-all, take-at, drop-at, take-suc}
 use borrow.Rule.Slice.PartMut.{putMid}
-use Rattle.rules.specs.Numbers.{bytesOf, part}
+use Rattle.rules.specs.Numbers.{bytesOf, part, Bytes}
+use Rattle.rules.specs.Lines as lines
 use Rattle.rules.specs.Ring as ring
-use Rattle.rules.specs.Ring.{capacity}
+use Rattle.rules.specs.Ring.{capacity, stop}
 use Rattle.rules.specs.Device.{Device, WellFormed, reset}
-use Rattle.rules.specs.Image.{imageLength, bytesLength, ringAt, ringLength, contents, pairsOf, registersBody, ringBody, encode}
+use Rattle.rules.specs.Image.{imageLength, bytesLength, ringAt, ringLength, contents, pairsOf, registersBody, ringBody, encode, decode, accepted, imageTest}
 use Rattle.rules.proofs.laws.Parts.{Filled, start, length-next, put-this, put-bytes, filled}
-use Rattle.rules.proofs.laws.Images.{length-pairsOf, length-registersBody, length-ringBody, unusedAfter}
+use Rattle.rules.proofs.laws.Images.{length-pairsOf, length-registersBody, length-ringBody, unusedAfter, encode-decode, decode-well-formed}
 use Rattle.state.specs.View.{WellLines, linesView}
 use Rattle.state.specs.declared.Lines.{Lines}
-use Rattle.image.specs.Shown.{spelled, withLines, withRing}
+use Rattle.image.specs.Shown.{spelled, withLines, withRing, Saves}
 
 -- ---- words
 
@@ -152,3 +153,41 @@ image-put d l {y₁} {y₂} {y₃} {y₄} {y₅} size h₃ h₄ few e₁ e₂ e�
     let f₃ = put-this f₂ 64 routes y₃ h₃ e₃ in
     let f₄ = put-this f₃ 64 vectors y₄ h₄ e₄ in
     filled (put-this f₄ 37 (ringBody d) y₅ (length-ringBody d few) e₅) size ∙ five contents (registersBody d) routes vectors (ringBody d)
+
+-- ---- for those who save
+
+-- a device stays well formed with other lines of 64 bits, and with another ring of its sizes
+module _ {d : Device} (w : WellFormed d) where
+  pub lines-well : (l : lines.Lines) → l .mask < 2 ^ 64 → l .irr < 2 ^ 64 → l .isr < 2 ^ 64 → WellFormed (withLines l d)
+  lines-well l h k m = record {
+    mask = h;
+    irr = k;
+    isr = m;
+    plains = w .plains;
+    routeBytes = w .routeBytes;
+    routes = w .routes;
+    vectorBytes = w .vectorBytes;
+    vectors = w .vectors;
+    eventBytes = w .eventBytes;
+    waiting = w .waiting;
+    drops = w .drops;
+  }
+
+  pub ring-well : (r : ring.Ring) → Bytes (map (λ e. e .vector) (r .waiting)) → length (r .waiting) ≤ capacity → r .drops ≤ stop → WellFormed (withRing r d)
+  ring-well r h k m = record {
+    mask = w .mask;
+    irr = w .irr;
+    isr = w .isr;
+    plains = w .plains;
+    routeBytes = w .routeBytes;
+    routes = w .routes;
+    vectorBytes = w .vectorBytes;
+    vectors = w .vectors;
+    eventBytes = h;
+    waiting = k;
+    drops = m;
+  }
+
+-- what an accepted image is after a part is saved into it
+pub accepted-saved : (l : List ℕ) (f : Device → Device) {m : List ℕ} → Bytes l → imageTest l ≡ accepted → Saves l m f → m ≡ encode (f (decode l))
+accepted-saved l f b e s = s (decode l) (decode-well-formed l b e) (sym (encode-decode l b e))

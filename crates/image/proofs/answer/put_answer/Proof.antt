@@ -1,14 +1,14 @@
 -- `put_answer`: the first eight bytes are those of one number, whose lowest two bytes are the refusal and the presence; the next eight are the value's.
-use mathlib.Core.Path.{_≡_, refl, ap, _∙_}
-use mathlib.Core.List.{List, [], _∷_, _++_}
+use mathlib.Core.Path.{_≡_, _∙_}
+use mathlib.Core.List.{[], _∷_, _++_}
 use Prim.Native.Nat.{ℕ, _+_, _*_, _/_, _%_, _≤_, _<_}
 use native.Mathlib.Omega.{arith}
 use lib.Dec.{lit≤}
 use lib.ListN.{drop}
 use Rattle.rules.specs.Numbers.{bytesOf}
 use Rattle.rules.specs.Device.{Value, none, some}
-use Rattle.rules.specs.Calls.{answerLength, present, amount, answered}
-use Rattle.rules.proofs.laws.Parts.{Filled, start, put-bytes}
+use Rattle.rules.specs.Calls.{answerLength, present, answered}
+use Rattle.rules.proofs.laws.Parts.{start, put-bytes}
 use Rattle.image.specs.Shown.{valueView}
 use borrow.Author.Needs.{needs}
 use Rattle.image.proofs.answer.put_answer.Statement.{statement}
@@ -54,14 +54,8 @@ put-answer-spec =
     (λ c κs. search needs)
     mul-head
     add-head
-    (λ c. search needs)
-    (λ c. search needs)
-    (λ c. search needs)
-    (λ c κs. search needs)
-    (λ c. search needs)
-    (λ c. search needs)
-    (λ c. search needs)
-    (λ c κs. search needs)
+    (λ c. search needs) (λ c. search needs) (λ c. search needs) (λ c κs. search needs)
+    (λ c. search needs) (λ c. search needs) (λ c. search needs) (λ c κs. search needs)
     (λ c κs. search needs)
     (λ c. search needs)
     returns)

@@ -1,7 +1,7 @@
 -- `pairs_good`: nothing is gathered from the pairs looked at, and the pairs to come are good, exactly where all are good. Four pairs are good where they have no barred bit.
 use mathlib.Core.Path.{_≡_, ap}
 use mathlib.Core.Bool.{_&&_}
-use Prim.Native.Nat.{ℕ, _-_, _*_, _≤_}
+use Prim.Native.Nat.{_-_, _*_, _≤_}
 use native.Mathlib.Nat.{sub-zero}
 use native.Mathlib.Omega.{arith}
 use borrow.Author.Needs.{needs}
@@ -41,15 +41,8 @@ pub pairs-good-spec : {M : Type 1} → statement M
 pairs-good-spec =
     tie.close
     (tie.spec Inv-loop μ-loop loop-holds
-    (λ c. search needs)
-    (λ c. search needs)
-    (λ c. search needs)
-    (λ c. search needs)
-    (λ c. search needs)
-    (λ c κs. omega arith)
-    (λ c. search needs)
-    (λ c κs. search needs)
-    (λ c. search needs)
-    (λ c. search needs)
+    (λ c. search needs) (λ c. search needs) (λ c. search needs) (λ c. search needs) (λ c. search needs) (λ c κs. omega arith)
+    (λ c. search needs) (λ c κs. search needs)
+    (λ c. search needs) (λ c. search needs)
     loop-again
     returns)
