@@ -11,7 +11,7 @@ use lib.ListN.{length, drop, drop-of-length-le}
 use lib.Seq.{drop-nil}
 use borrow.Author.Tests.{eq-eqb, ne-eqb, eqb-true, le-leb, leb-true}
 use Rattle.rules.specs.Numbers.{numberOf, part, Bytes}
-use Rattle.rules.specs.Image.{pairsLength, flagsGood, allZero}
+use Rattle.rules.specs.Image.{pairsLength, wordAt, flagsGood, allZero}
 use Rattle.rules.proofs.laws.Lists.{length-part, part-then}
 use Rattle.rules.proofs.laws.Bytes.{bytes-part}
 use Rattle.rules.proofs.laws.Images.{pairsGood}
@@ -101,18 +101,16 @@ pairs-clear (suc k) (suc n) (v ∷ f ∷ l) b h =
     ∙ (λ i. eqb (and-zero-r v i) 0 && (zero-flag f (b 1) i && pairs-clear k n l (λ j. b (suc (suc j))) (omega arith) i)) ∙ sym (pairs-waiting n v f l)
 
 -- four pairs more are looked at: what is gathered so far and what is still to come is the whole
-pub four-more : (count i bad x b : ℕ) (l : List ℕ) {goal : Bool} → Bytes l → length l ≡ pairsLength → i < 4 → x ≡ numberOf (part (8 * i) (8 * i + 8 - 8 * i) l)
+pub four-more : (count i bad x b : ℕ) (l : List ℕ) {goal : Bool} → Bytes l → length l ≡ pairsLength → i < 4 → x ≡ wordAt (8 * i) l
     → b ≡ numberOf (barred (count - 4 * i) 4) → (eqb bad 0 && pairsGood (count - 4 * i) (drop (8 * i) l)) ≡ goal
     → (eqb (bitOr bad (bitAnd x b)) 0 && pairsGood (count - 4 * (i + 1)) (drop (8 * (i + 1)) l)) ≡ goal
 four-more count i bad x b l bytes size h e f inv =
     let m = count - 4 * i in
     let four = part (8 * i) 8 l in
     let rest = drop (8 * i + 8) l in
-    let w : 8 * i + 8 - 8 * i ≡ 8 = omega arith in
     let end : 8 * (i + 1) ≡ 8 * i + 8 = omega arith in
     let left : count - 4 * (i + 1) ≡ m - 4 = omega arith in
-    let seen : x ≡ numberOf four = e ∙ ap (λ k. numberOf (part (8 * i) k l)) w in
-    let clear = (λ t. eqb (bitAnd (seen t) (f t)) 0) ∙ pairs-clear 4 m four (bytes-part l (8 * i) 8 bytes) (length-part l (8 * i) 8 (omega arith)) in
+    let clear = (λ t. eqb (bitAnd (e t) (f t)) 0) ∙ pairs-clear 4 m four (bytes-part l (8 * i) 8 bytes) (length-part l (8 * i) 8 (omega arith)) in
     let gathered = zero-or bad (bitAnd x b) ∙ ap (λ t. eqb bad 0 && t) clear in
     (λ t. gathered t && pairsGood (left t) (drop (end t) l)) ∙ and-assoc (eqb bad 0) (pairsGood m four) (pairsGood (m - 4) rest)
     ∙ ap (λ t. eqb bad 0 && t) (sym (pairs-append 4 m four rest (length-part l (8 * i) 8 (omega arith))) ∙ ap (pairsGood m) (part-then l (8 * i) 8)) ∙ inv

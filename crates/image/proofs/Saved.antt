@@ -1,42 +1,48 @@
 -- Bodies written into an image: words one after another, the ring, and a part of the image of a device replaced.
 use mathlib.Core.Path.{_≡_, refl, sym, ap, _∙_, subst}
-use mathlib.Core.List.{List, [], _∷_, _++_, append-assoc, append-nil}
-use Prim.Native.Nat.{ℕ, zero, suc, _+_, _-_, _*_, _%_, _≤_, _<_}
+use mathlib.Core.List.{List, [], _∷_, _++_, map, append-assoc, append-nil}
+use Prim.Native.Nat.{ℕ, zero, suc, _+_, _-_, _*_, _%_, _^_, _≤_, _<_}
 use native.Mathlib.Nat.{sub-zero, mod-eq-of-lt}
 use native.Mathlib.Numerals.{add-one}
 use native.Mathlib.Omega.{arith}
 use lib.ListN.{length, take, drop, getD, replicate, length-append, length-drop, length-replicate, drop-of-length-le}
-use lib.Seq.{length-take-le, take-all, take-at, drop-at, take-suc}
+use lib.Seq.{length-take-le, take-all, take-at, drop-at, drop-drop, take-suc}
 use borrow.Rule.Slice.PartMut.{putMid}
-use Rattle.rules.specs.Numbers.{bytesOf, part}
+use Rattle.rules.specs.Numbers.{bytesOf, part, Bytes}
+use Rattle.rules.specs.Lines as lines
 use Rattle.rules.specs.Ring as ring
-use Rattle.rules.specs.Ring.{capacity}
+use Rattle.rules.specs.Ring.{capacity, stop}
 use Rattle.rules.specs.Device.{Device, WellFormed, reset}
-use Rattle.rules.specs.Image.{imageLength, bytesLength, ringAt, ringLength, contents, pairsOf, registersBody, ringBody, encode}
-use Rattle.rules.proofs.laws.Parts.{Filled, start, length-next, put-this, put-bytes, filled}
-use Rattle.rules.proofs.laws.Images.{length-pairsOf, length-registersBody, length-ringBody, unusedAfter}
+use Rattle.rules.specs.Image.{imageLength, bytesLength, maskAt, lastIrrAt, irrAt, isrAt, ringAt, ringLength, contents, pairsOf, registersBody, ringBody, encode, decode, accepted, imageTest}
+use Rattle.rules.proofs.laws.Lists.{length-part}
+use Rattle.rules.proofs.laws.Bytes.{length-bytesOf}
+use Rattle.rules.proofs.laws.Parts.{Filled, start, length-next, put, put-this, put-bytes, filled}
+use Rattle.rules.proofs.laws.Images.{length-pairsOf, length-registersBody, length-ringBody, unusedAfter, encode-decode, decode-well-formed}
 use Rattle.state.specs.View.{WellLines, linesView}
 use Rattle.state.specs.declared.Lines.{Lines}
-use Rattle.image.specs.Shown.{spelled, withLines, withRing}
+use Rattle.image.specs.Shown.{withWord, spelled, withLines, withRing, Saves}
 
 -- ---- words
+
+-- a word is written over a part that is lent with the eight places from `at` on
+pub word-over : (at x : ℕ) (l : List ℕ) {ys : List ℕ} → at + 8 ≤ length l → ys ≡ bytesOf (length (part at (at + 8 - at) l)) x → putMid at (at + 8 - at) l ys ≡ withWord at x l
+word-over at x l {ys} h e =
+    let w : at + 8 - at ≡ 8 = omega arith in
+    let eight : ys ≡ bytesOf 8 x = e ∙ ap (λ k. bytesOf (length (part at k l)) x) w ∙ ap (λ n. bytesOf n x) (length-part l at 8 h) in
+    rw w (λ i. take at l ++ (eight i ++ drop-drop 8 at l i))
+
+-- a word is put behind what is written
+pub word-put : {l l₀ front : List ℕ} {a : ℕ} (x : ℕ) (m : List ℕ) → Filled l l₀ front a → m ≡ withWord a x l → Filled m l₀ (front ++ bytesOf 8 x) (a + 8)
+word-put {l} {l₀} {front} {a} x m f e =
+    subst (λ n. Filled n l₀ (front ++ bytesOf 8 x) (a + 8)) ((λ i. take a l ++ (bytesOf 8 x ++ drop-drop 8 a l i)) ∙ sym e) (put f 8 (bytesOf 8 x) (length-bytesOf 8 x))
 
 spelled-snoc : (l : List ℕ) (x : ℕ) → spelled (l ++ (x ∷ [])) ≡ spelled l ++ bytesOf 8 x
 spelled-snoc [] x = refl
 spelled-snoc (y ∷ l) x = ap (λ m. bytesOf 8 y ++ m) (spelled-snoc l x)
 
 -- one word more
-spelled-next : (l : List ℕ) (i : ℕ) → i < length l → spelled (take (i + 1) l) ≡ spelled (take i l) ++ bytesOf 8 (getD l i 0)
+pub spelled-next : (l : List ℕ) (i : ℕ) → i < length l → spelled (take (i + 1) l) ≡ spelled (take i l) ++ bytesOf 8 (getD l i 0)
 spelled-next l i h = rw (add-one, take-suc l i 0, spelled-snoc)
-
--- a word more is put behind those that are there
-pub word-put : (words : List ℕ) (i : ℕ) {l l₀ ys : List ℕ} → i < length words → length l₀ ≡ 8 * length words → Filled l l₀ (spelled (take i words)) (8 * i)
-    → ys ≡ bytesOf (length (part (8 * i) (8 * i + 8 - 8 * i) l)) (getD words i 0) → Filled (putMid (8 * i) (8 * i + 8 - 8 * i) l ys) l₀ (spelled (take (i + 1) words)) (8 * (i + 1))
-word-put words i {l} {l₀} {ys} h size f e =
-    let w : 8 * i + 8 - 8 * i ≡ 8 = omega arith in
-    let n : 8 * i + 8 ≡ 8 * (i + 1) = omega arith in
-    let eight : ys ≡ bytesOf (length (part (8 * i) 8 l)) (getD words i 0) = e ∙ ap (λ k. bytesOf (length (part (8 * i) k l)) (getD words i 0)) w in
-    rw (w, ← n, spelled-next words i h) (put-bytes f 8 (getD words i 0) ys (omega arith) eight)
 
 pub length-filled : {l l₀ front : List ℕ} {a : ℕ} → Filled l l₀ front a → a ≤ length l₀ → length l ≡ length l₀
 length-filled {l₀} {front} {a} f h =
@@ -116,24 +122,11 @@ module _ (d : Device) (w : WellFormed d) where
       ∙ ap (λ m. ahead ++ (ringBody (withRing r d) ++ m)) (drop-of-length-le (ringBody d) short)
       ∙ ap (λ m. ahead ++ m) (append-nil (ringBody (withRing r d))) ∙ sym (ring-last r)
 
--- the bytes of a number over a part of a known list
-put-known : (a k x : ℕ) {l m ys : List ℕ} → l ≡ m → ys ≡ bytesOf (length (part a k l)) x → length (part a k m) ≡ k → putMid a k l ys ≡ putMid a k m (bytesOf k x)
-put-known a k x {l} {m} {ys} e f g =
-    let h : ys ≡ bytesOf k x = f ∙ ap (λ z. bytesOf (length (part a k z)) x) e ∙ ap (λ n. bytesOf n x) g in
-    λ i. putMid a k (e i) (h i)
-
 -- MASK, and the three from last_intirr on
-pub lines-saved : (d : Device) (n : Lines) → WellLines n → {l y₁ y₂ y₃ y₄ : List ℕ} → l ≡ encode d
-    → y₁ ≡ bytesOf (length (part 22 8 l)) (n .«int_mask») → y₂ ≡ bytesOf (length (part 46 8 (putMid 22 8 l y₁))) (n .«last_intirr»)
-    → y₃ ≡ bytesOf (length (part 54 8 (putMid 46 8 (putMid 22 8 l y₁) y₂))) (n .intirr)
-    → y₄ ≡ bytesOf (length (part 62 8 (putMid 54 8 (putMid 46 8 (putMid 22 8 l y₁) y₂) y₃))) (n .intisr)
-    → putMid 62 8 (putMid 54 8 (putMid 46 8 (putMid 22 8 l y₁) y₂) y₃) y₄ ≡ encode (withLines (linesView n) d)
+pub lines-saved : (d : Device) (n : Lines) → WellLines n
+    → withWord isrAt (n .intisr) (withWord irrAt (n .intirr) (withWord lastIrrAt (n .«last_intirr») (withWord maskAt (n .«int_mask») (encode d)))) ≡ encode (withLines (linesView n) d)
 unfolding encode registersBody ringBody
-lines-saved d n well {l} {y₁} e e₁ e₂ e₃ e₄ =
-    let one = put-known 22 8 (n .«int_mask») e e₁ refl in
-    let two = put-known 46 8 (n .intirr) one (e₂ ∙ ap (bytesOf (length (part 46 8 (putMid 22 8 l y₁)))) well) refl in
-    let three = put-known 54 8 (n .intirr) two e₃ refl in
-    put-known 62 8 (n .intisr) three e₄ refl
+lines-saved d n well = ap (λ x. withWord isrAt (n .intisr) (withWord irrAt (n .intirr) (withWord lastIrrAt x (withWord maskAt (n .«int_mask») (encode d))))) well
 
 -- ---- all of an image
 
@@ -152,3 +145,41 @@ image-put d l {y₁} {y₂} {y₃} {y₄} {y₅} size h₃ h₄ few e₁ e₂ e�
     let f₃ = put-this f₂ 64 routes y₃ h₃ e₃ in
     let f₄ = put-this f₃ 64 vectors y₄ h₄ e₄ in
     filled (put-this f₄ 37 (ringBody d) y₅ (length-ringBody d few) e₅) size ∙ five contents (registersBody d) routes vectors (ringBody d)
+
+-- ---- for those who save
+
+-- a device stays well formed with other lines of 64 bits, and with another ring of its sizes
+module _ {d : Device} (w : WellFormed d) where
+  pub lines-well : (l : lines.Lines) → l .mask < 2 ^ 64 → l .irr < 2 ^ 64 → l .isr < 2 ^ 64 → WellFormed (withLines l d)
+  lines-well l h k m = record {
+    mask = h;
+    irr = k;
+    isr = m;
+    plains = w .plains;
+    routeBytes = w .routeBytes;
+    routes = w .routes;
+    vectorBytes = w .vectorBytes;
+    vectors = w .vectors;
+    eventBytes = w .eventBytes;
+    waiting = w .waiting;
+    drops = w .drops;
+  }
+
+  pub ring-well : (r : ring.Ring) → Bytes (map (λ e. e .vector) (r .waiting)) → length (r .waiting) ≤ capacity → r .drops ≤ stop → WellFormed (withRing r d)
+  ring-well r h k m = record {
+    mask = w .mask;
+    irr = w .irr;
+    isr = w .isr;
+    plains = w .plains;
+    routeBytes = w .routeBytes;
+    routes = w .routes;
+    vectorBytes = w .vectorBytes;
+    vectors = w .vectors;
+    eventBytes = h;
+    waiting = k;
+    drops = m;
+  }
+
+-- what an accepted image is after a part is saved into it
+pub accepted-saved : (l : List ℕ) (f : Device → Device) {m : List ℕ} → Bytes l → imageTest l ≡ accepted → Saves l m f → m ≡ encode (f (decode l))
+accepted-saved l f b e s = s (decode l) (decode-well-formed l b e) (sym (encode-decode l b e))

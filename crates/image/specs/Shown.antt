@@ -1,7 +1,8 @@
 -- What the functions of this crate hand back, as the rules see it.
 use mathlib.Core.Path.{_≡_}
 use mathlib.Core.List.{List, [], _∷_, _++_}
-use Prim.Native.Nat.{ℕ, zero, suc}
+use Prim.Native.Nat.{ℕ, zero, suc, _+_}
+use lib.ListN.{take, drop}
 use Rattle.rules.specs.Numbers.{bytesOf}
 use Rattle.rules.specs.Lines as rules-lines
 use Rattle.rules.specs.Ring as rules-ring
@@ -29,6 +30,10 @@ abbrev pub barred : ℕ → ℕ → List ℕ
 barred n zero = []
 barred zero (suc k) = 255 ∷ 255 ∷ barred zero k
 barred (suc n) (suc k) = 0 ∷ 254 ∷ barred n k
+
+-- bytes with the eight from a place on replaced by those of x
+abbrev pub withWord : ℕ → ℕ → List ℕ → List ℕ
+withWord at x l = take at l ++ (bytesOf 8 x ++ drop (at + 8) l)
 
 -- words one after another, eight bytes each
 abbrev pub spelled : List ℕ → List ℕ

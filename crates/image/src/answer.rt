@@ -1,5 +1,5 @@
 // The answer area: the refusal, whether a value is present, and the value.
-use crate::bytes::put_number;
+use crate::bytes::put_word;
 use crate::bytes::wide;
 ghost use mathlib.Core.Path.{_≡_};
 ghost use Prim.Native.Nat.{_≤_};
@@ -37,6 +37,6 @@ pub fn put_answer(answer: &mut [u8], number: u8, value: Value)
     ensures { λ _. ⌜ now (answer .exit) ≡ answered number (valueView value) (now (answer .entry)) ⌝ }
 {
     let head = wide(number) + 256 * present_byte(value);
-    put_number(&mut answer[0..8], head);
-    put_number(&mut answer[8..16], amount_of(value));
+    put_word(answer, 0, head);
+    put_word(answer, 8, amount_of(value));
 }

@@ -1,9 +1,10 @@
 // Numbers and runs of bytes: the leaves that read and write parts of the image.
 ghost use mathlib.Core.Path.{_≡_};
-ghost use Prim.Native.Nat.{_*_, _≤_};
+ghost use Prim.Native.Nat.{_+_, _*_, _≤_};
 ghost use lib.ListN.{length, replicate};
 ghost use Rattle.rules.specs.Numbers.{numberOf, bytesOf};
-ghost use Rattle.image.specs.Shown.{spelled};
+ghost use Rattle.rules.specs.Image.{wordAt};
+ghost use Rattle.image.specs.Shown.{withWord, spelled};
 
 pub fn wide(x: u8) -> u64
     ensures { λ r. ⌜ r ≡ x ⌝ }
@@ -19,7 +20,7 @@ pub fn number(b: &[u8]) -> u64
     let mut x = 0u64;
     let mut i = 0;
     while i < b.len() {
-        x = x + (wide(b[i]) << (8 * i));
+        x |= wide(b[i]) << (8 * i);
         i += 1;
     }
     x
@@ -38,6 +39,24 @@ pub fn put_number(dst: &mut [u8], x: u64)
     }
 }
 
+// The number that the eight bytes from a place on spell.
+pub fn word_at(image: &[u8], at: usize) -> u64
+    requires { ⌜ at + 8 ≤ length (now image) ⌝ }
+    ensures { λ r. ⌜ r ≡ wordAt at (now (image .entry)) ⌝ }
+{
+    let end = at + 8;
+    number(&image[at..end])
+}
+
+// The eight bytes of x from a place on; every other byte stays.
+pub fn put_word(dst: &mut [u8], at: usize, x: u64)
+    requires { ⌜ at + 8 ≤ length (now dst) ⌝ }
+    ensures { λ _. ⌜ now (dst .exit) ≡ withWord at x (now (dst .entry)) ⌝ }
+{
+    let end = at + 8;
+    put_number(&mut dst[at..end], x);
+}
+
 // Words, eight bytes each.
 pub fn put_words(dst: &mut [u8], words: &[u64])
     requires { ⌜ length (now dst) ≡ 8 * length (now words) ⌝ }
@@ -45,9 +64,7 @@ pub fn put_words(dst: &mut [u8], words: &[u64])
 {
     let mut i = 0;
     while i < words.len() {
-        let at = 8 * i;
-        let end = at + 8;
-        put_number(&mut dst[at..end], words[i]);
+        put_word(dst, 8 * i, words[i]);
         i += 1;
     }
 }

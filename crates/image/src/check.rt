@@ -1,6 +1,6 @@
 // Whether an image may be loaded. Bytes are compared as numbers, eight at a time, and the ring's pairs with no early end.
-use crate::bytes::number;
-use crate::contents::contents_good;
+use crate::bytes::word_at;
+use crate::contents;
 ghost use mathlib.Core.Path.{_≡_};
 ghost use Prim.Native.Nat.{_-_};
 ghost use lib.ListN.{length};
@@ -40,9 +40,7 @@ fn pairs_good(count: usize, pairs: &[u8]) -> bool
     let mut bad = 0u64;
     let mut i = 0;
     while i < 4 {
-        let at = 8 * i;
-        let end = at + 8;
-        bad = bad | (number(&pairs[at..end]) & barred_bits(count, 4 * i));
+        bad |= word_at(pairs, 8 * i) & barred_bits(count, 4 * i);
         i += 1;
     }
     bad == 0
@@ -53,7 +51,7 @@ fn body_good(image: &[u8]) -> bool
     requires { ⌜ length (now image) ≡ imageLength ⌝ }
     ensures { λ r. ⌜ r ≡ bodyRules (now (image .entry)) ⌝ }
 {
-    if number(&image[46..54]) != number(&image[54..62]) {
+    if word_at(image, contents::LAST_IRR) != word_at(image, contents::IRR) {
         return false;
     }
     let count = image[222] as usize;
@@ -69,7 +67,7 @@ pub fn check(image: &[u8]) -> Checked
     if image.len() != 259 {
         return Checked::WrongLength;
     }
-    if !contents_good(image) {
+    if !contents::contents_good(image) {
         return Checked::WrongContents;
     }
     if !body_good(image) {

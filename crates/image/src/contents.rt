@@ -1,6 +1,8 @@
-// The contents of an image: form 1, and the kind, place and length of each of its four bodies.
+// The contents of an image: form 1, and the kind, place and length of each of its four bodies. And where the registers of body 1 stand.
 use crate::bytes::number;
 use crate::bytes::put_number;
+use crate::bytes::put_word;
+use crate::bytes::word_at;
 ghost use mathlib.Core.Path.{_≡_};
 ghost use Prim.Native.Nat.{_≤_};
 ghost use lib.ListN.{length};
@@ -14,14 +16,32 @@ const SECOND: u64 = 0x4000_9e03_0040_005e;
 
 const THIRD: u64 = 0x0025_00de_0400;
 
+pub const MASK: usize = 22;
+
+pub const HTMSI_EN: usize = 30;
+
+pub const EDGE: usize = 38;
+
+pub const LAST_IRR: usize = 46;
+
+pub const IRR: usize = 54;
+
+pub const ISR: usize = 62;
+
+pub const POL: usize = 70;
+
+pub const AUTO0: usize = 78;
+
+pub const AUTO1: usize = 86;
+
 pub fn contents_good(image: &[u8]) -> bool
     requires { ⌜ registersAt ≤ length (now image) ⌝ }
     ensures { λ r. ⌜ r ≡ same (part 0 registersAt (now (image .entry))) contents ⌝ }
 {
-    if number(&image[0..8]) != FIRST {
+    if word_at(image, 0) != FIRST {
         return false;
     }
-    if number(&image[8..16]) != SECOND {
+    if word_at(image, 8) != SECOND {
         return false;
     }
     number(&image[16..22]) == THIRD
@@ -31,7 +51,7 @@ pub fn put_contents(dst: &mut [u8])
     requires { ⌜ length (now dst) ≡ registersAt ⌝ }
     ensures { λ _. ⌜ now (dst .exit) ≡ contents ⌝ }
 {
-    put_number(&mut dst[0..8], FIRST);
-    put_number(&mut dst[8..16], SECOND);
+    put_word(dst, 0, FIRST);
+    put_word(dst, 8, SECOND);
     put_number(&mut dst[16..22], THIRD);
 }

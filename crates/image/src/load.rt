@@ -1,6 +1,8 @@
 // Loading: each part of the state from its bytes. What is asked of an image is its length, and of its ring the count.
 use crate::bytes::fill_entries;
 use crate::bytes::number;
+use crate::bytes::word_at;
+use crate::contents;
 use state::Lines;
 use state::PchPicState;
 use state::Ring;
@@ -18,9 +20,9 @@ pub fn load_lines(image: &[u8]) -> Lines
     requires { ⌜ length (now image) ≡ imageLength ⌝ }
     ensures { λ r. ⌜ IsLines r (decode (now (image .entry)) .core .lines) ⌝ }
 {
-    let int_mask = number(&image[22..30]);
-    let intirr = number(&image[54..62]);
-    let intisr = number(&image[62..70]);
+    let int_mask = word_at(image, contents::MASK);
+    let intirr = word_at(image, contents::IRR);
+    let intisr = word_at(image, contents::ISR);
     Lines {
         int_mask,
         last_intirr: intirr,
@@ -33,11 +35,11 @@ pub fn load_stored(image: &[u8]) -> Stored
     requires { ⌜ length (now image) ≡ imageLength ⌝ }
     ensures { λ r. ⌜ IsStored r (decode (now (image .entry)) .core .stored) ⌝ }
 {
-    let htmsi_en = number(&image[30..38]);
-    let intedge = number(&image[38..46]);
-    let int_polarity = number(&image[70..78]);
-    let auto_ctrl0 = number(&image[78..86]);
-    let auto_ctrl1 = number(&image[86..94]);
+    let htmsi_en = word_at(image, contents::HTMSI_EN);
+    let intedge = word_at(image, contents::EDGE);
+    let int_polarity = word_at(image, contents::POL);
+    let auto_ctrl0 = word_at(image, contents::AUTO0);
+    let auto_ctrl1 = word_at(image, contents::AUTO1);
     Stored {
         htmsi_en,
         intedge,

@@ -1,9 +1,10 @@
 // Saving: each part of the state into its bytes, and no other byte.
 use crate::bytes::copy;
 use crate::bytes::put_number;
+use crate::bytes::put_word;
 use crate::bytes::put_words;
 use crate::bytes::put_zeros;
-use crate::contents::put_contents;
+use crate::contents;
 use state::Lines;
 use state::PchPicState;
 use state::Ring;
@@ -52,10 +53,10 @@ pub fn save_lines(image: &mut [u8], lines: Lines)
     requires { ⌜ (length (now image) ≡ imageLength) × WellLines lines ⌝ }
     ensures { λ _. ⌜ Saves (now (image .entry)) (now (image .exit)) (withLines (linesView lines)) ⌝ }
 {
-    put_number(&mut image[22..30], lines.int_mask);
-    put_number(&mut image[46..54], lines.last_intirr);
-    put_number(&mut image[54..62], lines.intirr);
-    put_number(&mut image[62..70], lines.intisr);
+    put_word(image, contents::MASK, lines.int_mask);
+    put_word(image, contents::LAST_IRR, lines.last_intirr);
+    put_word(image, contents::IRR, lines.intirr);
+    put_word(image, contents::ISR, lines.intisr);
 }
 
 pub fn save_ring(image: &mut [u8], ring: Ring)
@@ -82,7 +83,7 @@ pub fn save(image: &mut [u8], state: PchPicState)
         stored.auto_ctrl0,
         stored.auto_ctrl1,
     ];
-    put_contents(&mut image[0..22]);
+    contents::put_contents(&mut image[0..22]);
     put_words(&mut image[22..94], &words);
     copy(&mut image[94..158], &state.tables.route_entry);
     copy(&mut image[158..222], &state.tables.htmsi_vector);

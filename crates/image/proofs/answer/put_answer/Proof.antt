@@ -1,15 +1,16 @@
 -- `put_answer`: the first eight bytes are those of one number, whose lowest two bytes are the refusal and the presence; the next eight are the value's.
-use mathlib.Core.Path.{_≡_, refl, ap, _∙_}
-use mathlib.Core.List.{List, [], _∷_, _++_}
+use mathlib.Core.Path.{_≡_, _∙_}
+use mathlib.Core.List.{[], _∷_, _++_}
 use Prim.Native.Nat.{ℕ, _+_, _*_, _/_, _%_, _≤_, _<_}
 use native.Mathlib.Omega.{arith}
 use lib.Dec.{lit≤}
 use lib.ListN.{drop}
 use Rattle.rules.specs.Numbers.{bytesOf}
 use Rattle.rules.specs.Device.{Value, none, some}
-use Rattle.rules.specs.Calls.{answerLength, present, amount, answered}
-use Rattle.rules.proofs.laws.Parts.{Filled, start, put-bytes}
+use Rattle.rules.specs.Calls.{answerLength, present, answered}
+use Rattle.rules.proofs.laws.Parts.{start}
 use Rattle.image.specs.Shown.{valueView}
+use Rattle.image.proofs.Saved.{word-put}
 use borrow.Author.Needs.{needs}
 use Rattle.image.proofs.answer.put_answer.Statement.{statement}
 use Rattle.image.proofs.answer.put_answer.Tie as tie
@@ -42,26 +43,18 @@ returns c =
     let s = p .before .before .before in
     let v = valueView (s .args .value) in
     let small = present-small v in
-    let head = head-bytes _ (s .args .number) (present v) (λ i. p .before .wide .ensures i + 256 * p .present-byte .ensures i) (omega arith) (omega arith) in
-    put-bytes (put-bytes (start (s .args .answer .now)) 8 _ (one .put-number .last .0) (omega arith) (one .put-number .ensures)) 8 _ (two .put-number2 .last .0) (omega arith) (two .put-number2 .ensures) .is
+    let head = head-bytes (p .before .wide .result + 256 * p .present-byte .result) (s .args .number) (present v) (λ i. p .before .wide .ensures i + 256 * p .present-byte .ensures i) (omega arith) (omega arith) in
+    let eight = word-put (p .before .wide .result + 256 * p .present-byte .result) (one .put-word .last .0) (start (s .args .answer .now)) (one .put-word .ensures) in
+    word-put (two .before .amount-of .result) (two .put-word2 .last .0) eight (two .put-word2 .ensures) .is
     ∙ (λ i. head i ++ (bytesOf 8 (two .before .amount-of .ensures i) ++ drop answerLength (s .args .answer .now)))
 
 pub put-answer-spec : {M : Type 1} → statement M
 put-answer-spec =
     tie.close
     (tie.spec
-    (λ c κs. search needs)
-    (λ c κs. search needs)
+    (λ c κs. search needs) (λ c κs. search needs)
     mul-head
     add-head
-    (λ c. search needs)
-    (λ c. search needs)
-    (λ c. search needs)
-    (λ c κs. search needs)
-    (λ c. search needs)
-    (λ c. search needs)
-    (λ c. search needs)
-    (λ c κs. search needs)
-    (λ c κs. search needs)
+    (λ c κs. search needs) (λ c κs. search needs) (λ c κs. search needs)
     (λ c. search needs)
     returns)

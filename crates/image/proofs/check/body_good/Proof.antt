@@ -2,11 +2,10 @@
 use mathlib.Core.Path.{_≡_, refl, sym, _∙_}
 use mathlib.Core.Bool.{Bool, true, false, _&&_}
 use mathlib.Core.List.{List}
-use Prim.Native.Nat.{ℕ, _<_, _≤_}
+use Prim.Native.Nat.{ℕ}
 use native.Mathlib.Omega.{arith}
 use borrow.Author.Needs.{needs}
 use borrow.Author.Tests.{eq-eqb, ne-eqb, le-leb, lt-leb}
-use lib.Dec.{eqb}
 use Rattle.rules.specs.Ring.{capacity}
 use Rattle.rules.specs.Image.{lastIrrAt, irrAt, wordAt, countOf, copyRule, countRule}
 use Rattle.rules.proofs.laws.Images.{pairsIn, pairsGood, bodyRules}
@@ -28,49 +27,38 @@ module _ (l : List ℕ) where
 returns : tie.Need-returns
 returns c =
     let two = c .before in
-    let one = two .before .before in
-    let l = one .before .before .before .args .image .now in
-    sym (rules-are l (not-copied l (one .number .ensures) (two .number2 .ensures) (c .if1 .taken)) refl)
+    let one = two .before in
+    let l = one .before .before .args .image .now in
+    sym (rules-are l (not-copied l (one .word-at .ensures) (two .word-at2 .ensures) (c .if1 .taken)) refl)
 
 cast-count : tie.Need-cast-count
 cast-count c = omega (arith, c .shared-slice-known2 .given 222)
 
 returns-2 : tie.Need-returns-2
 returns-2 c =
-    let else = c .before .before in
-    let two = else .before in
-    let one = two .before .before in
-    let l = one .before .before .before .args .image .now in
-    sym (rules-are l (copied l (one .number .ensures) (two .number2 .ensures) (else .if1 .left)) (lt-leb (countOf l) capacity (c .if2 .taken)))
+    let same = c .before .before in
+    let two = same .before in
+    let one = two .before in
+    let l = one .before .before .args .image .now in
+    sym (rules-are l (copied l (one .word-at .ensures) (two .word-at2 .ensures) (same .if1 .left)) (lt-leb (countOf l) capacity (c .if2 .taken)))
 
 returns-3 : tie.Need-returns-3
 returns-3 c =
-    let small = c .before .before in
-    let else = small .before .before in
-    let two = else .before in
-    let one = two .before .before in
-    let l = one .before .before .before .args .image .now in
-    c .pairs-good .ensures
-    ∙ sym (rules-are l (copied l (one .number .ensures) (two .number2 .ensures) (else .if1 .left)) (le-leb (countOf l) capacity (small .if2 .left)))
+    let few = c .before .before in
+    let same = few .before .before in
+    let two = same .before in
+    let one = two .before in
+    let l = one .before .before .args .image .now in
+    c .pairs-good .ensures ∙ sym (rules-are l (copied l (one .word-at .ensures) (two .word-at2 .ensures) (same .if1 .left)) (le-leb (countOf l) capacity (few .if2 .left)))
 
 pub body-good-spec : {M : Type 1} → statement M
 body-good-spec =
     tie.close
     (tie.spec
-    (λ c. search needs)
-    (λ c. search needs)
-    (λ c. search needs)
-    (λ c κs. search needs)
-    (λ c. search needs)
-    (λ c. search needs)
-    (λ c. search needs)
-    (λ c κs. search needs)
+    (λ c κs. search needs) (λ c κs. search needs)
     returns
     (λ c. search needs)
     cast-count
     returns-2
-    (λ c. search needs)
-    (λ c. search needs)
-    (λ c. search needs)
-    (λ c κs. search needs)
+    (λ c. search needs) (λ c. search needs) (λ c. search needs) (λ c κs. search needs)
     returns-3)

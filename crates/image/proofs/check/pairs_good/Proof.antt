@@ -1,7 +1,7 @@
 -- `pairs_good`: nothing is gathered from the pairs looked at, and the pairs to come are good, exactly where all are good. Four pairs are good where they have no barred bit.
 use mathlib.Core.Path.{_≡_, ap}
 use mathlib.Core.Bool.{_&&_}
-use Prim.Native.Nat.{ℕ, _-_, _*_, _≤_}
+use Prim.Native.Nat.{_-_, _*_, _≤_}
 use native.Mathlib.Nat.{sub-zero}
 use native.Mathlib.Omega.{arith}
 use borrow.Author.Needs.{needs}
@@ -23,12 +23,13 @@ loop-holds c = (omega arith, ap (λ n. pairsGood n (c .before .args .pairs .now)
 
 loop-again : tie.Need-loop-again Inv-loop μ-loop
 loop-again c =
-    let n = c .before in
-    let l = n .before .before .before .loop in
-    let k = n .before .before .before .before in
+    let w = c .before in
+    let l = w .before .before .loop in
+    let k = w .before .before .before in
     let a = k .before .args in (
       omega arith,
-      four-more (a .count) (l .i) (l .bad) (n .number .result) (c .barred-bits .result) (a .pairs .now) (λ j. omega (arith, k .shared-slice-known .given j)) (omega arith) (omega arith) (n .number .ensures) (c .barred-bits .ensures) (l .inv .1),
+      four-more (a .count) (l .i) (l .bad) (w .word-at .result) (c .barred-bits .result) (a .pairs .now) (λ j. omega (arith, k .shared-slice-known .given j)) (omega arith) (omega arith) (w .word-at .ensures)
+          (c .barred-bits .ensures) (l .inv .1),
     )
 
 returns : tie.Need-returns Inv-loop μ-loop
@@ -41,15 +42,8 @@ pub pairs-good-spec : {M : Type 1} → statement M
 pairs-good-spec =
     tie.close
     (tie.spec Inv-loop μ-loop loop-holds
-    (λ c. search needs)
-    (λ c. search needs)
-    (λ c. search needs)
-    (λ c. search needs)
-    (λ c. search needs)
-    (λ c κs. omega arith)
-    (λ c. search needs)
-    (λ c κs. search needs)
-    (λ c. search needs)
-    (λ c. search needs)
+    (λ c. search needs) (λ c κs. omega arith)
+    (λ c. search needs) (λ c κs. search needs)
+    (λ c. search needs) (λ c. search needs)
     loop-again
     returns)

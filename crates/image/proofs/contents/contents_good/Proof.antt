@@ -1,6 +1,6 @@
 -- `contents_good`: the contents spell these three numbers, and bytes that spell them are the contents.
-use mathlib.Core.Path.{_≡_, sym, ap, _∙_}
-use mathlib.Core.Bool.{Bool, true, false}
+use mathlib.Core.Path.{_≡_, sym, _∙_}
+use mathlib.Core.Bool.{false}
 use mathlib.Core.List.{List}
 use Prim.Native.Nat.{ℕ, _+_, _≤_}
 use native.Mathlib.Omega.{arith}
@@ -30,38 +30,29 @@ module _ (l : List ℕ) where
 
 returns : tie.Need-returns
 returns c =
-    let n = c .before in
-    differs (n .before .before .before .args .image .now) 0 8 (n .number .result) (omega arith) (n .number .ensures) (c .if1 .taken)
+    let w = c .before in
+    differs (w .before .before .args .image .now) 0 8 (w .word-at .result) (omega arith) (w .word-at .ensures) (c .if1 .taken)
 
 returns-2 : tie.Need-returns-2
 returns-2 c =
-    let n = c .before in
-    differs (n .before .before .before .before .before .before .args .image .now) 8 8 (n .number2 .result) (omega arith) (n .number2 .ensures) (c .if2 .taken)
+    let w = c .before in
+    differs (w .before .before .before .before .args .image .now) 8 8 (w .word-at2 .result) (omega arith) (w .word-at2 .ensures) (c .if2 .taken)
 
 returns-3 : tie.Need-returns-3
 returns-3 c =
     let two = c .before .before in
-    let one = two .before .before .before in
-    let k = one .before .before .before in
-    agrees (k .before .args .image .now) (c .number3 .result) (λ j. omega (arith, k .shared-slice-known .given j)) (k .before .pre)
-    (sym (one .before .number .ensures) ∙ one .if1 .left) (sym (two .before .number2 .ensures) ∙ two .if2 .left) (c .number3 .ensures)
+    let one = two .before .before in
+    let k = one .before .before in
+    agrees (k .before .args .image .now) (c .number .result) (λ j. omega (arith, k .shared-slice-known .given j)) (k .before .pre)
+    (sym (one .before .word-at .ensures) ∙ one .if1 .left) (sym (two .before .word-at2 .ensures) ∙ two .if2 .left) (c .number .ensures)
 
 pub contents-good-spec : {M : Type 1} → statement M
 contents-good-spec =
     tie.close
     (tie.spec
-    (λ c. search needs)
-    (λ c. search needs)
-    (λ c. search needs)
     (λ c κs. search needs)
     returns
-    (λ c. search needs)
-    (λ c. search needs)
-    (λ c. search needs)
     (λ c κs. search needs)
     returns-2
-    (λ c. search needs)
-    (λ c. search needs)
-    (λ c. search needs)
-    (λ c κs. search needs)
+    (λ c. search needs) (λ c. search needs) (λ c. search needs) (λ c κs. search needs)
     returns-3)

@@ -1,8 +1,8 @@
 -- `load_ring`: the count is at its byte, the drops are the number that their four bytes spell, and the pairs are handed on.
-use mathlib.Core.Path.{_≡_, sym, ap, _∙_, subst}
+use mathlib.Core.Path.{sym, ap, _∙_, subst}
 use Prim.Native.Nat.{_<_, _^_}
 use native.Mathlib.Omega.{arith}
-use Rattle.rules.specs.Image.{dropsAt, countOf, decode}
+use Rattle.rules.specs.Image.{dropsAt, decode}
 use Rattle.rules.proofs.laws.Images.{eventsIn}
 use Rattle.rules.proofs.laws.Bytes.{part-below}
 use borrow.Author.Needs.{needs}
@@ -26,15 +26,7 @@ pub load-ring-spec : {M : Type 1} → statement M
 load-ring-spec =
     tie.close
     (tie.spec
-    (λ c. search needs)
-    (λ c. search needs)
-    (λ c. search needs)
-    (λ c. search needs)
-    (λ c. search needs)
-    (λ c κs. search needs)
+    (λ c. search needs) (λ c. search needs) (λ c. search needs) (λ c. search needs) (λ c. search needs) (λ c κs. search needs)
     cast-drops
-    (λ c. search needs)
-    (λ c. search needs)
-    (λ c. search needs)
-    (λ c κs. search needs)
+    (λ c. search needs) (λ c. search needs) (λ c. search needs) (λ c κs. search needs)
     returns)

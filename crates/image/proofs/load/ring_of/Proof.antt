@@ -1,9 +1,8 @@
 -- `ring_of`: after i turns the first i slots hold the first i events; of all sixteen the first `len` wait.
-use mathlib.Core.Path.{_≡_, refl, ap}
-use Prim.Native.Nat.{ℕ, _-_, _≤_}
+use mathlib.Core.Path.{refl, ap}
+use Prim.Native.Nat.{_-_, _≤_}
 use native.Mathlib.Omega.{arith}
 use borrow.Author.Needs.{needs}
-use Rattle.rules.specs.Ring as rules-ring
 use Rattle.image.proofs.Events.{Held, held-next, held-all}
 use Rattle.image.proofs.load.ring_of.Statement.{statement}
 use Rattle.image.proofs.load.ring_of.Tie as tie
@@ -35,14 +34,6 @@ pub ring-of-spec : {M : Type 1} → statement M
 ring-of-spec =
     tie.close
     (tie.spec Inv-loop μ-loop loop-holds
-    (λ c. search needs)
-    (λ c. search needs)
-    (λ c. search needs)
-    (λ c. search needs)
-    (λ c. search needs)
-    (λ c. search needs)
-    (λ c. search needs)
-    (λ c. search needs)
-    (λ c. search needs)
+    (λ c. search needs) (λ c. search needs) (λ c. search needs) (λ c. search needs) (λ c. search needs) (λ c. search needs) (λ c. search needs) (λ c. search needs) (λ c. search needs)
     loop-again
     returns)
