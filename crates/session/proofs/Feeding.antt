@@ -15,11 +15,15 @@ use Rattle.rules.specs.Session as session
 use Rattle.rules.specs.Session.{newline, played, linesOf, answers}
 use Rattle.state.specs.View.{view}
 use Rattle.session.specs.Plays.{Says, Plays}
-use Rattle.session.specs.Feeds.{ended, Unended, Ready, toSay, Feeds}
+use Rattle.session.specs.Feeds.{ended, Unended, Starts, Ready, toSay, Feeds}
 use Rattle.session.specs.declared.Played.{Played}
 use Rattle.session.specs.declared.lines.Session.{Session}
 use Rattle.session.proofs.Writing.{filled, put-part, size, says}
 use Rattle.session.proofs.Splitting.{unended-more, lines-ended, lines-last, byte-lost}
+
+-- the start is ready for an input
+pub start-ready : (s : Session) (line : List ℕ) → Starts s → 32 ≤ length line → Ready s line
+start-ready s line h k = record { well = h .state .well; room = k; kept = omega (arith, h .kept); unended = subst (λ (n : ℕ). Unended (take n line)) (sym (h .kept)) tt }
 
 -- ---- one byte
 

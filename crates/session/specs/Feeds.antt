@@ -44,7 +44,8 @@ pub record Feeds (s : Session) (line input entry : List ℕ) (t : Session) (afte
   pub writes : Says n entry exit said
   pub whole : (rest : List ℕ) → toSay s line (input ++ rest) ≡ said ++ toSay t after rest
 
--- so many bytes of a chunk, at least one where there is one
-pub record Takes (n : ℕ) (chunk : List ℕ) : Type 0 where
+-- so many bytes of a chunk are taken, at least one where there is one, and so many of a buffer are written
+pub record Takes (n : ℕ) (chunk : List ℕ) (m : ℕ) (out : List ℕ) : Type 0 where
   pub within : n ≤ length chunk
   pub some : 0 < length chunk → 0 < n
+  pub room : m ≤ length out

@@ -104,7 +104,7 @@ pub struct Fed {
 pub fn feed(session: Session, line: &mut [u8], chunk: &[u8], out: &mut [u8]) -> Fed
     requires { ⌜ Ready session (now line) × (66 ≤ length (now out)) ⌝ }
     ensures { λ r. ⌜ Feeds session (now (line .entry)) (take (r .taken) (now (chunk .entry))) (now (out .entry)) (r .session) (now (line .exit)) (r .len) (now (out .exit)) ⌝ }
-    ensures { λ r. ⌜ Takes (r .taken) (now (chunk .entry)) ⌝ }
+    ensures { λ r. ⌜ Takes (r .taken) (now (chunk .entry)) (r .len) (now (out .entry)) ⌝ }
 {
     let room = out.len() - 66;
     let mut next = session;

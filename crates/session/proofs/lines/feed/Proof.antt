@@ -6,6 +6,7 @@ use lib.ListN.{length, take, drop, length-drop}
 use lib.Seq.{length-take-le}
 use borrow.Author.Needs.{needs}
 use borrow.Author.Tests.{leb-true, leb-false}
+use Rattle.session.proofs.Writing.{fits}
 use Rattle.session.proofs.Feeding.{Feeding, feed-start, feed-next}
 use Rattle.session.proofs.lines.feed.Statement.{statement}
 use Rattle.session.proofs.lines.feed.Tie as tie
@@ -54,12 +55,12 @@ returns : tie.Need-returns Inv-loop μ-loop
 returns c =
     let l = c .before .before .loop in
     let full = leb-false (l .len) (length (c .before .before .before .before .before .before .args .out .now) - 66) (c .if1 .left) in
-    (l .inv .fed, record { within = l .inv .within; some = λ h. omega (arith, full, l .inv .most) })
+    (l .inv .fed, record { within = l .inv .within; some = λ h. omega (arith, full, l .inv .most); room = fits (l .inv .fed .writes) (l .inv .size) })
 
 returns-2 : tie.Need-returns-2 Inv-loop μ-loop
 returns-2 c =
     let l = c .before .loop in
-    (l .inv .fed, record { within = l .inv .within; some = λ h. omega arith })
+    (l .inv .fed, record { within = l .inv .within; some = λ h. omega arith; room = fits (l .inv .fed .writes) (l .inv .size) })
 
 pub feed-spec : {M : Type 1} → statement M
 feed-spec =
