@@ -41,7 +41,7 @@ abbrev pub fieldsAt : List ℕ → ℕ → List ℕ → Fields
 fieldsAt line at [] = fields [] (drop at line)
 fieldsAt line at (n ∷ ns) = joined (fieldOf n (drop at line)) (fieldsAt line (at + 1 + n) ns)
 
-first-field : (n : ℕ) (ns l : List ℕ) → fields (n ∷ ns) l ≡ joined (fieldOf n l) (fields ns (drop (1 + n) l))
+pub first-field : (n : ℕ) (ns l : List ℕ) → fields (n ∷ ns) l ≡ joined (fieldOf n l) (fields ns (drop (1 + n) l))
 unfolding fields
 first-field n ns [] = refl
 first-field n ns (b ∷ l) =

@@ -3,3 +3,5 @@ pub mod Digits
 pub mod Fields
 pub mod Writing
 pub mod Playing
+pub mod Splitting
+pub mod Feeding

@@ -4,8 +4,8 @@ use mathlib.Core.List.{List, [], _∷_, _++_, append-assoc}
 use Prim.Native.Nat.{ℕ, suc, _+_, _-_, _*_, _<_, _≤_}
 use native.Mathlib.Numerals.{add-one}
 use native.Mathlib.Omega.{arith}
-use lib.ListN.{length, take, drop, getD, set, length-append, length-drop}
-use lib.Seq.{drop-cons, set-at}
+use lib.ListN.{length, take, drop, getD, set, length-append, length-drop, take-append-drop}
+use lib.Seq.{length-take-le, take-at, drop-at, drop-append-le, drop-drop, set-at}
 use borrow.Rule.Slice.PartMut.{putMid}
 use Rattle.rules.specs.Session.{digits}
 use Rattle.rules.proofs.laws.Parts.{Filled, start, put-front}
@@ -34,6 +34,39 @@ module _ {l l₀ front : List ℕ} {a : ℕ} (f : Filled l l₀ front a) where
 -- a buffer keeps its length
 pub size : {n : ℕ} {entry exit said : List ℕ} → Says n entry exit said → n ≤ length entry → length exit ≡ length entry
 size {n} {entry} {exit} {said} s h = ap length (s .out) ∙ length-append said (drop n entry) ∙ (simp length-drop (omega (arith, s .len)))
+
+-- what is written has room
+pub fits : {n : ℕ} {entry exit said : List ℕ} → Says n entry exit said → length exit ≡ length entry → n ≤ length entry
+fits {n} {entry} {exit} {said} s h = omega (arith, s .len, simp (length-append, length-drop) at (ap length (s .out)))
+
+pub filled : {n : ℕ} {entry exit said : List ℕ} → Says n entry exit said → Filled exit entry said n
+filled s = record { is = s .out; len = sym (s .len) }
+
+-- what a front of a list says, the whole says
+from-front : (k n : ℕ) (l said : List ℕ) → k ≤ length l → n ≤ k → (said ++ drop n (take k l)) ++ drop k l ≡ said ++ drop n l
+from-front k n l said h j =
+    let b : n ≤ length (take k l) = rw (length-take-le k l h) j in
+    append-assoc said (drop n (take k l)) (drop k l)
+    ∙ ap (λ (m : List ℕ). said ++ m) (sym (drop-append-le n (take k l) (drop k l) b) ∙ ap (drop n) (take-append-drop k l))
+
+-- k places are lent, and n of them are written
+pub put-part : {l l₀ front : List ℕ} {a : ℕ} (f : Filled l l₀ front a) (k n : ℕ) (ys said : List ℕ) → a + k ≤ length l₀ → n ≤ k → Says n (take k (drop a l)) ys said
+    → Filled (putMid a k l ys) l₀ (front ++ said) (a + n)
+put-part {l} {l₀} {front} {a} f k n ys said h j s =
+    let t : take a l ≡ front = ap (take a) (f .is) ∙ take-at front (drop a l₀) a (f .len) in
+    let r : drop a l ≡ drop a l₀ = ap (drop a) (f .is) ∙ drop-at front (drop a l₀) a (f .len) in
+    let b : k ≤ length (drop a l₀) = simp length-drop (omega arith) in
+    record {
+      is =
+          (λ i. t i ++ (s .out i ++ drop k (drop a l))) ∙ (λ i. front ++ ((said ++ drop n (take k (r i))) ++ drop k (r i)))
+          ∙ ap (λ (m : List ℕ). front ++ m) (from-front k n (drop a l₀) said b j ∙ ap (λ (m : List ℕ). said ++ m) (drop-drop n a l₀))
+          ∙ sym (append-assoc front said (drop (a + n) l₀));
+      len = length-append front said ∙ (λ i. f .len i + sym (s .len) i);
+    }
+
+-- the same at the front
+pub in-front : (k n : ℕ) (l ys said : List ℕ) → k ≤ length l → n ≤ k → Says n (take k l) ys said → Says n l (ys ++ drop k l) said
+in-front k n l ys said h j s = record { len = s .len; out = ap (λ (m : List ℕ). m ++ drop k l) (s .out) ∙ from-front k n l said h j }
 
 -- two bytes, and then digits
 pub two-and-number : (l : List ℕ) (x y n v : ℕ) (ys : List ℕ) → 2 + n ≤ length l → ys ≡ digits n v ++ drop n (take n (drop 2 (set (set l 0 x) 1 y)))

@@ -1,3 +1,4 @@
--- What the session's functions promise: what a line asks for, and a line played.
+-- What the session's functions promise: what a line asks for, a line played, and the input in chunks.
 pub mod Requests
 pub mod Plays
+pub mod Feeds

@@ -1,6 +1,7 @@
 // The session program's work, on slices: a line of bytes is read, its call is made or refused, and the answer is written.
 mod answer;
 mod hex;
+pub mod lines;
 mod request;
 
 use engine::Routed;

@@ -1,0 +1,51 @@
+-- What taking bytes of the input leaves: the line so far is kept, and what was said and what is still to be said is the whole.
+use mathlib.Core.Path.{_≡_}
+use mathlib.Core.Bool.{false}
+use mathlib.Core.List.{List, [], _∷_, _++_}
+use Prim.Native.Nat.{ℕ, _<_, _≤_}
+use lib.Dec.{eqb}
+use lib.ListN.{length, take}
+use Rattle.rules.specs.Device.{reset}
+use Rattle.rules.specs.Session as session
+use Rattle.rules.specs.Session.{newline, linesOf, answers}
+use Rattle.state.specs.View.{view, Well, Is}
+use Rattle.session.specs.Plays.{Says}
+use Rattle.session.specs.declared.lines.Session.{Session}
+
+-- a line's answer with its ending
+abbrev pub ended : session.Played → session.Played
+ended p = record { after = p .after; answer = p .answer ++ (newline ∷ []) }
+
+-- a line that goes on: no byte of it is an ending
+abbrev pub Unended : List ℕ → Type 0
+Unended [] = Unit {0}
+Unended (b ∷ l) = (eqb b newline ≡ false) × Unended l
+
+-- the start: the device as after a reset, and nothing of a line
+pub record Starts (s : Session) : Type 0 where
+  pub state : Is (s .state) reset
+  pub kept : s .kept ≡ 0
+
+-- the line so far stands at the front of a line buffer that has room for every line that asks for something
+pub record Ready (s : Session) (line : List ℕ) : Type 0 where
+  pub well : Well (s .state)
+  pub room : 32 ≤ length line
+  pub kept : s .kept ≤ length line
+  pub unended : Unended (take (s .kept) line)
+
+-- what is said from here on, where so much of the input is still to come
+abbrev pub toSay : Session → List ℕ → List ℕ → List ℕ
+toSay s line rest = answers (view (s .state)) (linesOf (take (s .kept) line ++ rest))
+
+-- bytes of the input are taken, and n bytes are written to the front of a buffer: they and what is still to be said are the whole
+pub record Feeds (s : Session) (line input entry : List ℕ) (t : Session) (after : List ℕ) (n : ℕ) (exit : List ℕ) : Type 0 where
+  pub ready : Ready t after
+  pub said : List ℕ
+  pub writes : Says n entry exit said
+  pub whole : (rest : List ℕ) → toSay s line (input ++ rest) ≡ said ++ toSay t after rest
+
+-- so many bytes of a chunk are taken, at least one where there is one, and so many of a buffer are written
+pub record Takes (n : ℕ) (chunk : List ℕ) (m : ℕ) (out : List ℕ) : Type 0 where
+  pub within : n ≤ length chunk
+  pub some : 0 < length chunk → 0 < n
+  pub room : m ≤ length out
