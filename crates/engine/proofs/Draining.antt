@@ -10,8 +10,7 @@ use lib.Seq.{drop-drop, drop-set-lt, drop-cons, take-all}
 use lib.Dec.{leb}
 use borrow.Author.Tests.{leb-true, leb-false}
 use Rattle.rules.specs.Ring as ring
-use Rattle.rules.specs.Ring.{Event, Drawn, drawn}
-use Rattle.rules.specs.Image.{flag, pairsOf}
+use Rattle.rules.specs.Ring.{Event, Drawn, drawn, flag, pairsOf}
 use Rattle.rules.proofs.laws.Bits.{test}
 use Rattle.rules.proofs.laws.Lists.{turn}
 use Rattle.state.specs.View.{WellRing, ringView, Pops, takenOf, eventOf}

@@ -6,7 +6,7 @@ use Prim.Native.Nat.{ℕ, _<_, _-_, _^_}
 use lib.Bits.{bitAnd}
 use Rattle.rules.specs.Inputs.{on, inputs, without}
 use Rattle.rules.specs.Lines as lines
-use Rattle.rules.specs.Lines.{Turn, withMask, withIsr, event, enter, leave, serve, waitingIn, newlyUnmasked, newlyMasked, masked}
+use Rattle.rules.specs.Lines.{Turn, withMask, withIsr, event, enter, leave, serve, pendingIn, newlyUnmasked, newlyMasked, masked}
 use Rattle.rules.specs.Ring.{RingAct, offered, ringStep, ringRun}
 use Rattle.rules.specs.Device.{none, some, offers, returned}
 use Rattle.rules.proofs.laws.Bits.{without-common-is, on-none}
@@ -39,7 +39,7 @@ module _ (vs : List ℕ) (l : Lines) (r : Ring) (new up : ℕ) (ups : (i : ℕ) 
   same = enter-ext vs false (on up) (newlyUnmasked (l .«int_mask») new) begun ups
 
   after-same : {out : lines.Lines} → out ≡ enter vs false (on up) begun .after → out ≡ first .after
-  after-same e = e ∙ ap (λ (t : Turn). t .after) same ∙ sym (serve-after vs begun (inputs (waitingIn (newlyUnmasked (l .«int_mask») new) begun)))
+  after-same e = e ∙ ap (λ (t : Turn). t .after) same ∙ sym (serve-after vs begun (inputs (pendingIn (newlyUnmasked (l .«int_mask») new) begun)))
 
   module _ (a : Routed) (answers : Answers a (enter vs false (on up) begun)) where
     pub entered-one : (v : ℕ) (q : Ring) → a .answer ≡ Vector v → IsRing q (offered (ringView r) (record { vector = v; asserted = true })) → Entered (a .lines) q
@@ -51,7 +51,7 @@ module _ (vs : List ℕ) (l : Lines) (r : Ring) (new up : ℕ) (ups : (i : ℕ) 
       ring =
           pushed .shows
           ∙ sym (ap (λ (xs : List RingAct). ringRun (ringView r) xs .after)
-          (offers-one vs begun (inputs (waitingIn (newlyUnmasked (l .«int_mask») new) begun)) v (sym (ap answerValue e) ∙ answers .gives ∙ ap (λ (t : Turn). returned (t .made)) same)));
+          (offers-one vs begun (inputs (pendingIn (newlyUnmasked (l .«int_mask») new) begun)) v (sym (ap answerValue e) ∙ answers .gives ∙ ap (λ (t : Turn). returned (t .made)) same)));
     }
 
     pub entered-none : a .answer ≡ None → WellRing r → Entered (a .lines) r
@@ -61,7 +61,7 @@ module _ (vs : List ℕ) (l : Lines) (r : Ring) (new up : ℕ) (ups : (i : ℕ) 
       wellRing = well;
       lines = after-same (answers .after);
       ring = sym (ap (λ (xs : List RingAct). ringRun (ringView r) xs .after)
-          (offers-none vs begun (inputs (waitingIn (newlyUnmasked (l .«int_mask») new) begun)) (sym (ap answerValue e) ∙ answers .gives ∙ ap (λ (t : Turn). returned (t .made)) same)));
+          (offers-none vs begun (inputs (pendingIn (newlyUnmasked (l .«int_mask») new) begun)) (sym (ap answerValue e) ∙ answers .gives ∙ ap (λ (t : Turn). returned (t .made)) same)));
     }
 
   -- no input is newly unmasked
@@ -79,7 +79,7 @@ module _ (vs : List ℕ) (l : Lines) (r : Ring) (new up : ℕ) (ups : (i : ℕ) 
   -- the second stage
   module _ (down : ℕ) (downs : (i : ℕ) → i < 64 → on down i ≡ newlyMasked (l .«int_mask») new i) (out : Lines) (q : Ring) (entered : Entered out q) where
     isr-lt : out .intisr < 2 ^ 64
-    isr-lt = subst⁻¹ (λ (k : lines.Lines). k .isr < 2 ^ 64) (entered .lines) (serve-isr vs true begun (inputs (waitingIn (newlyUnmasked (l .«int_mask») new) begun)) hisr)
+    isr-lt = subst⁻¹ (λ (k : lines.Lines). k .isr < 2 ^ 64) (entered .lines) (serve-isr vs true begun (inputs (pendingIn (newlyUnmasked (l .«int_mask») new) begun)) hisr)
 
     abbrev last : lines.Lines → Turn
     last = leave vs true (newlyMasked (l .«int_mask») new)

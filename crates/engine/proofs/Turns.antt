@@ -6,7 +6,7 @@ use Prim.Native.Nat.{ℕ, _*_, _%_, _^_, _<_}
 use lib.Dec.{eqb}
 use borrow.Author.Tests.{eq-eqb, eqb-true}
 use Rattle.rules.specs.Inputs.{on, inputs, only, put, without}
-use Rattle.rules.specs.Lines.{Lines, Turn, Made, stay, withIsr, withIrr, event, serve, enter, leave, andThen, waitingIn, servedIn, raised, lowered, polled}
+use Rattle.rules.specs.Lines.{Lines, Turn, Made, stay, withIsr, withIrr, event, serve, enter, leave, andThen, pendingIn, servedIn, raised, lowered, polled}
 use Rattle.rules.specs.Ring.{Ring, RingAct, Drawn, offer, ringRun}
 use Rattle.rules.specs.Device.{Value, none, some, offers, returned}
 use Rattle.rules.proofs.laws.Bits.{test, is-number, put-lt, on-bit, on-without}
@@ -42,7 +42,7 @@ offers-none vs l (n ∷ ns) e = cc
 -- ---- the moves over no input
 
 pub enter-none : (vs : List ℕ) (o : Bool) (f : ℕ → Bool) (l : Lines) → ((i : ℕ) → i < 64 → f i ≡ false) → enter vs o f l ≡ stay l
-enter-none vs o f l e = ap (serve vs o l) (no-inputs (waitingIn f l) (λ i h. rw (e i h)))
+enter-none vs o f l e = ap (serve vs o l) (no-inputs (pendingIn f l) (λ i h. rw (e i h)))
 
 -- a register without what it does not hold
 pub without-none : (x : ℕ) (f : ℕ → Bool) → x < 2 ^ 64 → ((i : ℕ) → i < 64 → (on x i && f i) ≡ false) → without x f ≡ x

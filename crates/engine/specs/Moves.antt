@@ -9,9 +9,8 @@ use Rattle.rules.specs.Lines as lines
 use Rattle.rules.specs.Lines.{Turn, stay, withIsr, event, enter}
 use Rattle.rules.proofs.laws.Inputs.{unlatchedIn}
 use Rattle.rules.specs.Ring as ring
-use Rattle.rules.specs.Ring.{ringRun, drawn}
+use Rattle.rules.specs.Ring.{ringRun, drawn, flag, pairsOf}
 use Rattle.rules.specs.Device.{Value, none, some, offers, returned}
-use Rattle.rules.specs.Image.{flag, pairsOf}
 use Rattle.state.specs.declared.Taken.{Taken}
 use Rattle.state.specs.declared.Taken.the-variants.{Nothing, One}
 use Rattle.state.specs.View.{WellLines, WellRing, linesView, ringView}

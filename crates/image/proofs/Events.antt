@@ -9,8 +9,8 @@ use native.Mathlib.Omega.{arith}
 use lib.Dec.{eqb}
 use lib.ListN.{length, take, drop, getD, set, length-set, take-append-drop, List·getD-map}
 use lib.Seq.{drop-drop, drop-set-lt}
-use Rattle.rules.specs.Ring.{Event}
-use Rattle.rules.specs.Image.{flag, pairsOf, eventsOf}
+use Rattle.rules.specs.Ring.{Event, flag, pairsOf}
+use Rattle.rules.specs.Image.{eventsOf}
 use Rattle.rules.proofs.laws.Lists.{turn, done, next, next-two}
 use Rattle.rules.proofs.laws.Images.{length-eventsOf}
 use Rattle.state.specs.View.{slot, slots}

@@ -11,7 +11,7 @@ use lib.ListN.{length, drop, drop-of-length-le}
 use lib.Seq.{drop-nil}
 use borrow.Author.Tests.{eq-eqb, ne-eqb, eqb-true, le-leb, leb-true}
 use Rattle.rules.specs.Numbers.{numberOf, part, Bytes}
-use Rattle.rules.specs.Image.{pairsLength, wordAt, flagsGood, allZero}
+use Rattle.rules.specs.Image.{pairsLength, registerAt, flagsGood, allZero}
 use Rattle.rules.proofs.laws.Lists.{length-part, part-then}
 use Rattle.rules.proofs.laws.Bytes.{bytes-part}
 use Rattle.rules.proofs.laws.Images.{pairsGood}
@@ -101,7 +101,7 @@ pairs-clear (suc k) (suc n) (v ∷ f ∷ l) b h =
     ∙ (λ i. eqb (and-zero-r v i) 0 && (zero-flag f (b 1) i && pairs-clear k n l (λ j. b (suc (suc j))) (omega arith) i)) ∙ sym (pairs-waiting n v f l)
 
 -- four pairs more are looked at: what is gathered so far and what is still to come is the whole
-pub four-more : (count i bad x b : ℕ) (l : List ℕ) {goal : Bool} → Bytes l → length l ≡ pairsLength → i < 4 → x ≡ wordAt (8 * i) l
+pub four-more : (count i bad x b : ℕ) (l : List ℕ) {goal : Bool} → Bytes l → length l ≡ pairsLength → i < 4 → x ≡ registerAt (8 * i) l
     → b ≡ numberOf (barred (count - 4 * i) 4) → (eqb bad 0 && pairsGood (count - 4 * i) (drop (8 * i) l)) ≡ goal
     → (eqb (bitOr bad (bitAnd x b)) 0 && pairsGood (count - 4 * (i + 1)) (drop (8 * (i + 1)) l)) ≡ goal
 four-more count i bad x b l bytes size h e f inv =

@@ -11,9 +11,9 @@ use borrow.Rule.Slice.PartMut.{putMid}
 use Rattle.rules.specs.Numbers.{bytesOf, part, Bytes}
 use Rattle.rules.specs.Lines as lines
 use Rattle.rules.specs.Ring as ring
-use Rattle.rules.specs.Ring.{capacity, stop}
+use Rattle.rules.specs.Ring.{capacity, stop, pairsOf}
 use Rattle.rules.specs.Device.{Device, WellFormed, reset}
-use Rattle.rules.specs.Image.{imageLength, bytesLength, maskAt, lastIrrAt, irrAt, isrAt, ringAt, ringLength, contents, pairsOf, registersBody, ringBody, encode, decode, accepted, imageTest}
+use Rattle.rules.specs.Image.{imageLength, bytesLength, maskAt, lastIrrAt, irrAt, isrAt, ringAt, ringLength, contents, registersBody, ringBody, encode, decode, accepted, imageTest}
 use Rattle.rules.proofs.laws.Lists.{length-part}
 use Rattle.rules.proofs.laws.Bytes.{length-bytesOf}
 use Rattle.rules.proofs.laws.Parts.{Filled, start, length-next, put, put-this, put-bytes, filled}

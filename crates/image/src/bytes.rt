@@ -3,7 +3,7 @@ ghost use mathlib.Core.Path.{_≡_};
 ghost use Prim.Native.Nat.{_+_, _*_, _≤_};
 ghost use lib.ListN.{length, replicate};
 ghost use Rattle.rules.specs.Numbers.{numberOf, bytesOf};
-ghost use Rattle.rules.specs.Image.{wordAt};
+ghost use Rattle.rules.specs.Image.{registerAt};
 ghost use Rattle.image.specs.Shown.{withWord, spelled};
 
 pub fn wide(x: u8) -> u64
@@ -42,7 +42,7 @@ pub fn put_number(dst: &mut [u8], x: u64)
 // The number that the eight bytes from a place on spell.
 pub fn word_at(image: &[u8], at: usize) -> u64
     requires { ⌜ at + 8 ≤ length (now image) ⌝ }
-    ensures { λ r. ⌜ r ≡ wordAt at (now (image .entry)) ⌝ }
+    ensures { λ r. ⌜ r ≡ registerAt at (now (image .entry)) ⌝ }
 {
     let end = at + 8;
     number(&image[at..end])

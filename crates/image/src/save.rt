@@ -13,7 +13,8 @@ ghost use mathlib.Core.List.{_++_};
 ghost use Prim.Native.Nat.{_*_, _≤_};
 ghost use lib.ListN.{length, take, drop};
 ghost use Rattle.rules.specs.Device.{reset};
-ghost use Rattle.rules.specs.Image.{imageLength, ringLength, flag, pairsOf, ringBody, encode};
+ghost use Rattle.rules.specs.Ring.{flag, pairsOf};
+ghost use Rattle.rules.specs.Image.{imageLength, ringLength, ringBody, encode};
 ghost use Rattle.state.specs.View.{WellLines, WellRing, Well, linesView, ringView, view};
 ghost use Rattle.image.specs.Shown.{withLines, withRing, Saves};
 

@@ -10,11 +10,11 @@ use lib.Seq.{take-all, drop-drop}
 use borrow.Rule.Slice.PartMut.{putMid}
 use Rattle.rules.specs.Numbers.{Bytes, part}
 use Rattle.rules.specs.Lines.{Turn, polled}
-use Rattle.rules.specs.Ring.{Event, Drawn, drawn}
+use Rattle.rules.specs.Ring.{Event, Drawn, drawn, pairsOf}
 use Rattle.rules.specs.Access.{Width, readAt, writeActs}
 use Rattle.rules.specs.Device.{Device, Call, Value, none, some, acted, step, value, returned}
 use Rattle.rules.specs.Device as device
-use Rattle.rules.specs.Image.{imageTest, accepted, encode, decode, pairsOf, vectorsAt, bytesLength}
+use Rattle.rules.specs.Image.{imageTest, accepted, encode, decode, vectorsBodyAt, bytesLength}
 use Rattle.rules.specs.Calls.{Tested, pass, widthTest, addressTest, accessCall, inputCall, Request, calls, askedBy, answered, bufferOf, placeOf, written, leaves, outcome}
 use Rattle.rules.specs.Calls as asked
 use Rattle.rules.proofs.laws.Images.{encode-decode, decode-well-formed}

@@ -5,7 +5,7 @@ use Prim.Native.Nat.{ℕ, _-_, _<_, _≤_}
 use native.Mathlib.Omega.{arith}
 use lib.Dec.{ltb}
 use borrow.Author.Tests.{ltb-true, ltb-false}
-use Rattle.rules.specs.Map.{inBytes}
+use Rattle.rules.specs.Map.{inByteArea}
 use Rattle.registers.specs.declared.Index.{Index}
 use Rattle.registers.specs.declared.Index.the-variants.{None, At}
 use Rattle.registers.specs.Views.{indexIf, byteIndex, irqIndex}
@@ -20,13 +20,13 @@ none-came false i e f = refl
 
 -- what reg8_offset tells
 module _ (offset : ℕ) {x : Index} (e : x ≡ byteIndex offset) where
-  pub byte-came : {index : ℕ} → x ≡ At index → (inBytes offset ≡ true) × (offset ≡ index)
+  pub byte-came : {index : ℕ} → x ≡ At index → (inByteArea offset ≡ true) × (offset ≡ index)
   unfolding byteIndex
-  byte-came f = came (inBytes offset) offset e f
+  byte-came f = came (inByteArea offset) offset e f
 
-  pub no-byte : x ≡ None → inBytes offset ≡ false
+  pub no-byte : x ≡ None → inByteArea offset ≡ false
   unfolding byteIndex
-  no-byte f = none-came (inBytes offset) offset e f
+  no-byte f = none-came (inByteArea offset) offset e f
 
 -- what pch_pic_irq_index tells
 module _ (offset base : ℕ) {x : Index} (e : x ≡ irqIndex offset base) where

@@ -9,7 +9,7 @@ use lib.ListN.{set}
 use Rattle.rules.specs.Numbers.{byteOf, withByte}
 use Rattle.rules.specs.Inputs.{withHalf}
 use Rattle.rules.specs.Core.{Act, Move, Plain, plain, withPlain, move, moved, store, setPlain, setRoute, setVector}
-use Rattle.rules.specs.Map.{inBytes}
+use Rattle.rules.specs.Map.{inByteArea}
 use Rattle.rules.specs.Access.{readDword, dwordActs, byteActs}
 use Rattle.rules.specs.Device.{Device, acted}
 use Rattle.rules.proofs.laws.Acts.{acted-none}
@@ -32,7 +32,7 @@ pub is-then : (ys : List Act) {d : Device} {s t : PchPicState} → Is s d → Is
 is-then ys p q = is-as q (ap (λ (e : Device). acted e ys) (p .shows))
 
 -- a Byte outside 0x100..0x39f: the Dword as read, with the byte replaced, is written
-pub is-outside : (d : Device) (o v old new : ℕ) {t : PchPicState} → o < 2 ^ 64 → inBytes o ≡ false
+pub is-outside : (d : Device) (o v old new : ℕ) {t : PchPicState} → o < 2 ^ 64 → inByteArea o ≡ false
     → old ≡ readDword (d .core) (bitAnd o 0xffff_ffff_ffff_fffc) → new ≡ withByte old (bitAnd o 0x3) v
     → Is t (acted d (dwordActs (bitAnd o 0xffff_ffff_ffff_fffc) new)) → Is t (acted d (byteActs (d .core) o v))
 is-outside d o v old new l n p q r = is-acts d (byte-acts-outside o v (d .core) l n ∙ rw (← p, ← q)) r

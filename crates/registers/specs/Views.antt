@@ -22,7 +22,7 @@ indexIf false i = None
 
 -- an offset as one where a Byte access meets only route and vector bytes, if it is
 unfoldable pub byteIndex : ℕ → Index
-byteIndex o = indexIf (map.inBytes o) o
+byteIndex o = indexIf (map.inByteArea o) o
 
 -- the input whose byte stands at an offset, of the 64 from base on
 unfoldable pub irqIndex : ℕ → ℕ → Index

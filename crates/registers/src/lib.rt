@@ -6,7 +6,7 @@ ghost use mathlib.Core.List.{[], _∷_};
 ghost use Prim.Native.Nat.{ℕ, _+_, _-_, _^_, _≤_, _<_};
 ghost use Rattle.rules.specs.Inputs.{asHalf};
 ghost use Rattle.rules.specs.Core.{plain, move, clear, setMask, setIsr, store, setPlain};
-ghost use Rattle.rules.specs.Map.{inBytes, bytes, cellAt};
+ghost use Rattle.rules.specs.Map.{inByteArea, bytes, cellAt};
 ghost use Rattle.rules.specs.Access.{qword, entry, valueOf, readByte, readDword, readAt, registerActs, entryActs, byteActs, dwordActs, writeActs};
 ghost use Rattle.rules.specs.Device.{acted};
 ghost use Rattle.state.specs.View.{view, Well, Is};
@@ -167,7 +167,7 @@ fn value_of(state: PchPicState, register: Register) -> u64
 
 // The three readers call one another, each time at a smaller depth: a Byte outside 0x100..0x39f needs 1, a Dword among the bytes 2.
 pub fn read_byte(state: PchPicState, offset: usize, depth: usize) -> u8
-    requires { ⌜ (inBytes offset ≡ false → 1 ≤ depth) ⌝ }
+    requires { ⌜ (inByteArea offset ≡ false → 1 ≤ depth) ⌝ }
     ensures { λ r. ⌜ r ≡ readByte (view state .core) offset ⌝ }
 {
     if let Index::At(index) = reg8_offset(offset) {
@@ -180,7 +180,7 @@ pub fn read_byte(state: PchPicState, offset: usize, depth: usize) -> u8
 pub fn read_split_bytes(state: PchPicState, offset: usize, len: usize, depth: usize) -> u32
     requires { ⌜ (len ≤ 4) × (offset + len ≤ 2 ^ 64) ⌝ }
     requires { ⌜ 1 ≤ depth ⌝ }
-    requires { ⌜ ((k : ℕ) → k < len → inBytes (offset + k) ≡ false → 2 ≤ depth) ⌝ }
+    requires { ⌜ ((k : ℕ) → k < len → inByteArea (offset + k) ≡ false → 2 ≤ depth) ⌝ }
     ensures { λ r. ⌜ r ≡ bytesRead (view state .core) offset len ⌝ }
 {
     let mut value = 0;
@@ -348,7 +348,7 @@ fn write_entry(state: PchPicState, index: usize, val: u8) -> PchPicState
 // The three writers call one another as the readers do.
 pub fn write_byte(state: PchPicState, offset: usize, val: u8, depth: usize) -> PchPicState
     requires { ⌜ Well state ⌝ }
-    requires { ⌜ (inBytes offset ≡ false → 1 ≤ depth) ⌝ }
+    requires { ⌜ (inByteArea offset ≡ false → 1 ≤ depth) ⌝ }
     ensures { λ r. ⌜ Is r (acted (view state) (byteActs (view state .core) offset val)) ⌝ }
 {
     if let Index::At(index) = reg8_offset(offset) {
@@ -372,7 +372,7 @@ pub fn write_split_bytes(
     requires { ⌜ Well state ⌝ }
     requires { ⌜ (len ≤ 4) × (offset + len ≤ 2 ^ 64) ⌝ }
     requires { ⌜ 1 ≤ depth ⌝ }
-    requires { ⌜ ((k : ℕ) → k < len → inBytes (offset + k) ≡ false → 2 ≤ depth) ⌝ }
+    requires { ⌜ ((k : ℕ) → k < len → inByteArea (offset + k) ≡ false → 2 ≤ depth) ⌝ }
     ensures { λ r. ⌜ Is r (bytesWritten (view state) offset val len) ⌝ }
 {
     let mut out = state;

@@ -5,12 +5,12 @@ use Prim.Native.Nat.{ℕ, _+_, _-_, _*_, _/_}
 use lib.Dec.{eqb, leb, ltb}
 use lib.ListN.{length, take, drop}
 use Rattle.rules.specs.Numbers.{bytesOf}
-use Rattle.rules.specs.Ring.{Event}
+use Rattle.rules.specs.Ring.{Event, pairsOf}
 use Rattle.rules.specs.Access.{Width, byte, word, dword, qword}
 use Rattle.rules.specs.Device.{Device, Call, Value, none, some, step, value}
 use Rattle.rules.specs.Device as device
 use Rattle.rules.specs.Window.{inside, offset}
-use Rattle.rules.specs.Image.{imageLength, ImageTest, imageTest, pairsOf, encode, decode}
+use Rattle.rules.specs.Image.{imageLength, ImageTest, imageTest, encode, decode}
 use Rattle.rules.specs.Image as image
 
 -- ---- refusals

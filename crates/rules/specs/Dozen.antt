@@ -4,7 +4,7 @@ use mathlib.Core.List.{List, [], _∷_, _++_, map}
 use Prim.Native.Nat.{ℕ, zero, suc}
 use Rattle.rules.specs.Access.{byte, word, dword, qword}
 use Rattle.rules.specs.Device.{Device, Call, level, poll, read, write, Value, none, some, value}
-use Rattle.rules.specs.Image.{pairsOf}
+use Rattle.rules.specs.Ring.{pairsOf}
 use Rattle.rules.specs.History.{fromReset}
 
 -- the value of a call; the events that wait, as pairs; the drop count

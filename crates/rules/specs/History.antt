@@ -7,7 +7,7 @@ use lib.Dec.{eqb}
 use lib.ListN.{getD}
 use Rattle.rules.specs.Inputs.{on}
 use Rattle.rules.specs.Core.{Core}
-use Rattle.rules.specs.Map.{inBytes}
+use Rattle.rules.specs.Map.{inByteArea}
 use Rattle.rules.specs.Access.{Width, byte, word, dword, qword}
 use Rattle.rules.specs.Device.{Device, Call, level, poll, read, write, drain, Step, step}
 use Rattle.rules.specs.Device as device
@@ -78,7 +78,7 @@ carriedOn h x =
 
 -- a write reaches one of these Dwords: a Dword by its offset, a Qword by either half, a Byte outside 0x100..0x39f by the Dword that holds it, a Word by either Byte (01, The four widths)
 abbrev pub byteReaches : (ℕ → Bool) → ℕ → Bool
-byteReaches at o = not (inBytes o) && at (o - o % 4)
+byteReaches at o = not (inByteArea o) && at (o - o % 4)
 
 abbrev pub reaches : (ℕ → Bool) → Width → ℕ → Bool
 reaches at byte o = byteReaches at o

@@ -9,8 +9,7 @@ use lib.Dec.{eqb}
 use lib.ListN.{length, take, drop, getD, length-take}
 use lib.Seq.{take-suc, take-length}
 use Rattle.rules.specs.Ring as ring
-use Rattle.rules.specs.Ring.{Event, capacity, drawn}
-use Rattle.rules.specs.Image.{flag, pairsOf}
+use Rattle.rules.specs.Ring.{Event, capacity, drawn, flag, pairsOf}
 use Rattle.rules.specs.Access.{Width, readAt, writeActs}
 use Rattle.rules.specs.Device.{Device, Call, level, poll, read, write, drain, step, value, acted}
 use Rattle.rules.specs.Window.{inside}

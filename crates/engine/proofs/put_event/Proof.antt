@@ -4,7 +4,7 @@ use mathlib.Core.Logic.{⊎-elim}
 use mathlib.Core.List.{List}
 use Prim.Native.Nat.{ℕ, _+_, _*_}
 use lib.ListN.{set}
-use Rattle.rules.specs.Image.{flag}
+use Rattle.rules.specs.Ring.{flag}
 use Rattle.engine.specs.Moves.{pairPut}
 use borrow.Author.Needs.{needs}
 use Rattle.engine.proofs.put_event.Statement.{statement}

@@ -5,7 +5,7 @@ use mathlib.Core.List.{List, [], _∷_, _++_, map}
 use Prim.Native.Nat.{ℕ, zero, suc, _<_}
 use lib.ListN.{getD}
 use Rattle.rules.specs.Inputs.{on, inputs, without}
-use Rattle.rules.specs.Lines.{Lines, Made, event, waits, withMask, withIrr, serve, leave, waitingIn, servedIn, newlyUnmasked, newlyMasked, cleared, masked}
+use Rattle.rules.specs.Lines.{Lines, Made, event, isPending, withMask, withIrr, serve, leave, pendingIn, servedIn, newlyUnmasked, newlyMasked, cleared, masked}
 use Rattle.rules.proofs.laws.Bits.{on-without}
 
 abbrev asserts : List Made → List Bool
@@ -26,11 +26,11 @@ pub no-later-assert : (vs : List ℕ) (l : Lines) (new i : ℕ) → getD (assert
 unfolding masked
 no-later-assert vs l new i =
     let begun = withMask l new in
-    let waiting = inputs (waitingIn (newlyUnmasked (l .mask) new) begun) in
+    let waiting = inputs (pendingIn (newlyUnmasked (l .mask) new) begun) in
     first-only vs begun waiting (inputs (servedIn (newlyMasked (l .mask) new) (serve vs true begun waiting .after))) i
 
 -- a cleared input waits no more, whatever its line does: only a new raise can assert it again
-pub cleared-needs-raise : (vs : List ℕ) (l : Lines) (b n : ℕ) → n < 64 → on b n ≡ true → waits (cleared vs l b .after) n ≡ false
+pub cleared-needs-raise : (vs : List ℕ) (l : Lines) (b n : ℕ) → n < 64 → on b n ≡ true → isPending (cleared vs l b .after) n ≡ false
 unfolding cleared
 cleared-needs-raise vs l b n h e =
     ap (λ (x : Bool). x && not (on (l .mask) n) && not (on (without (l .isr) (on b)) n))

@@ -7,7 +7,7 @@ use mathlib.Core.List.{List, [], _∷_, _++_}
 use Prim.Native.Nat.{ℕ, _<_}
 use borrow.Author.Tests.{eq-eqb, eqb-true}
 use Rattle.rules.specs.Inputs.{on, inputs, only, put, without, withHalf, asHalf}
-use Rattle.rules.specs.Lines.{Lines, Made, withIrr, withMask, waitingIn, serve, leave, newlyUnmasked, newlyMasked}
+use Rattle.rules.specs.Lines.{Lines, Made, withIrr, withMask, pendingIn, serve, leave, newlyUnmasked, newlyMasked}
 use Rattle.rules.specs.Lines.{polled, raised, lowered, cleared, masked}
 use Rattle.rules.specs.Core.{Core, Move, poll, raise, lower, clear, setMask, Act, move, setIsr, store, setVector, moved, lineTurn, turn, turns}
 use Rattle.rules.specs.Device.{Device, Call, actsOf, acted, step}
@@ -50,10 +50,10 @@ module _ (n : ℕ) (b : n < 64) where
 
   move-goes : (vs : List ℕ) (l : Lines) (m : Move) → disturbs n (move m) ≡ false → Ready n l → Goes l (moved vs l m .after)
   unfolding moved polled raised lowered cleared masked
-  move-goes vs l (poll m) e r = serve-goes vs false l (inputs (waitingIn (only m) l)) r
+  move-goes vs l (poll m) e r = serve-goes vs false l (inputs (pendingIn (only m) l)) r
   move-goes vs l (raise m) e r =
       let k = withIrr l (put (l .irr) m) in
-      let g = serve-goes vs false k (inputs (waitingIn (only m) k)) (latch-ready l m r) in
+      let g = serve-goes vs false k (inputs (pendingIn (only m) k)) (latch-ready l m r) in
       record { ready = g .ready; served = g .served }
   move-goes vs l (lower m) e r =
       let g = leave-goes vs false (only m) (withIrr l (without (l .irr) (only m))) e (unlatch-ready l (only m) e r) in
@@ -65,7 +65,7 @@ module _ (n : ℕ) (b : n < 64) where
       let new = withHalf h (l .mask) v in
       let off = stays-unmasked h (l .mask) v n b e (r .unmasked) in
       let k = withMask l new in
-      let one = serve-goes vs true k (inputs (waitingIn (newlyUnmasked (l .mask) new) k)) (record { latched = r .latched; unmasked = off }) in
+      let one = serve-goes vs true k (inputs (pendingIn (newlyUnmasked (l .mask) new) k)) (record { latched = r .latched; unmasked = off }) in
       let two = leave-goes vs true (newlyMasked (l .mask) new) _ (rw off (and-false (not (on (l .mask) n)))) (one .ready) in
       record { ready = two .ready; served = λ s. two .served (one .served s) }
 
@@ -119,7 +119,7 @@ module _ (n : ℕ) (b : n < 64) where
   unfolding raised polled
   raise-readies vs l e =
       let k = withIrr l (put (l .irr) n) in
-      serve-goes vs false k (inputs (waitingIn (only n) k)) (latched-ready l e) .ready
+      serve-goes vs false k (inputs (pendingIn (only n) k)) (latched-ready l e) .ready
 
   ask-serves : (d : Device) (c : Call) → asks n c ≡ true → Ready n (d .core .lines) → inService n (step d c .after .core .lines) ≡ true
   unfolding step acted actsOf turns lineTurn moved

@@ -8,7 +8,7 @@ use native.Mathlib.Omega.{arith}
 use lib.ListN.{length}
 use borrow.Author.Tests.{eqb-true}
 use Rattle.rules.specs.Inputs.{on, from, inputs, only, put, without, withHalf}
-use Rattle.rules.specs.Lines.{Lines, Made, Turn, stay, andThen, event, waitingIn, servedIn, serve, enter, leave, withIrr, withMask}
+use Rattle.rules.specs.Lines.{Lines, Made, Turn, stay, andThen, event, pendingIn, servedIn, serve, enter, leave, withIrr, withMask}
 use Rattle.rules.specs.Lines.{newlyUnmasked, newlyMasked, polled, raised, lowered, cleared, masked}
 use Rattle.rules.specs.Core.{Move, poll, raise, lower, clear, setMask, Act, move, setIsr, store, setVector, moved, lineTurn}
 use Rattle.rules.specs.Demands.{tally, assertsWith, deassertsWith, servedWith}
@@ -136,7 +136,7 @@ module _ (vs : List ℕ) (p : ℕ → Bool) (q : Made → Bool) (h : (o a : Bool
       omega (arith, whole, new, old, only-size n p b, ap one (h o true n))
 
   balanced-enter : (o : Bool) (f : ℕ → Bool) (l : Lines) → Balanced l (enter vs o f l)
-  balanced-enter o f l = go (inputs (waitingIn f l)) refl
+  balanced-enter o f l = go (inputs (pendingIn f l)) refl
     where
       last : (a b c d : Bool) → (a && ((b && c) && not d)) ≡ true → d ≡ false
       last true true true true u = sym u
@@ -145,10 +145,10 @@ module _ (vs : List ℕ) (p : ℕ → Bool) (q : Made → Bool) (h : (o a : Bool
       last true false c d u = cc
       last false b c d u = cc
 
-      go : (ns : List ℕ) → inputs (waitingIn f l) ≡ ns → Balanced l (serve vs o l ns)
+      go : (ns : List ℕ) → inputs (pendingIn f l) ≡ ns → Balanced l (serve vs o l ns)
       go [] e = balanced-stay l
       go (n ∷ ns) e =
-          let r = first-has 0 64 (waitingIn f l) n ns e in
+          let r = first-has 0 64 (pendingIn f l) n ns e in
           balanced-one o l n ns (r .1) (last (f n) (on (l .irr) n) (not (on (l .mask) n)) (on (l .isr) n) (r .0))
 
   balanced-then : (l : Lines) (t : Turn) (f : Lines → Turn) → Balanced l t → Balanced (t .after) (f (t .after)) → Balanced l (andThen t f)

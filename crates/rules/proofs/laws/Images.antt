@@ -12,12 +12,12 @@ use lib.ListN.{length, take, drop, getD, replicate, length-append, length-drop, 
 use lib.Seq.{drop-nil, take-all, take-at, drop-at, drop-drop, drop-cons, getD-drop}
 use borrow.Author.Tests.{lt-ltb, le-ltb, ltb-true, ltb-false, eq-eqb, ne-eqb, eqb-true, leb-true, le-leb}
 use Rattle.rules.specs.Numbers.{numberOf, bytesOf, part, Bytes}
-use Rattle.rules.specs.Ring.{Event, capacity}
+use Rattle.rules.specs.Ring.{Event, capacity, flag, pairsOf}
 use Rattle.rules.specs.Core.{Plain, plain, htmsiEn, edge, pol, auto0, auto1}
 use Rattle.rules.specs.Device.{Device, WellFormed, upFrom, reset}
-use Rattle.rules.specs.Image.{imageLength, registersAt, registersLength, routesAt, vectorsAt, bytesLength, ringAt, ringLength}
+use Rattle.rules.specs.Image.{imageLength, registersAt, registersLength, routesBodyAt, vectorsBodyAt, bytesLength, ringAt, ringLength}
 use Rattle.rules.specs.Image.{maskAt, htmsiEnAt, edgeAt, lastIrrAt, irrAt, isrAt, polAt, auto0At, auto1At, dropsAt, pairsAt, pairsLength}
-use Rattle.rules.specs.Image.{contents, flag, pairsOf, registersBody, ringBody, encode, wordAt, countOf, eventsOf, decode}
+use Rattle.rules.specs.Image.{contents, registersBody, ringBody, encode, registerAt, countOf, eventsOf, decode}
 use Rattle.rules.specs.Image.{same, flagsGood, allZero, copyRule, countRule, flagRule, unusedRule, ImageTest, accepted, wrongLength, wrongContents, wrongBody, imageTest}
 use Rattle.rules.proofs.laws.Lists.{next-two, length-part, part-then, part-add, part-part, equal-same, differ-same, same-equal}
 use Rattle.rules.proofs.laws.Bytes.{numberOf-bytesOf, bytes-known, bytes-cons, bytes-append, bytes-part, bytes-replicate, bytes-bytesOf, part-number, part-known, part-below}
@@ -139,7 +139,7 @@ eventsIn l = eventsOf (countOf l) (pairsIn l)
 pub record Accepted (l : List ℕ) : Type 0 where
   pub sized : length l ≡ imageLength
   pub headed : part 0 registersAt l ≡ contents
-  pub copied : wordAt lastIrrAt l ≡ wordAt irrAt l
+  pub copied : registerAt lastIrrAt l ≡ registerAt irrAt l
   pub counted : countOf l ≤ capacity
   pub flagged : Flags (countOf l) (pairsIn l)
   pub unused : Zeros (drop (2 * countOf l) (pairsIn l))
@@ -168,7 +168,7 @@ accepted-has l e =
     record {
       sized = eqb-true (length l) imageLength (all .0);
       headed = same-equal (part 0 registersAt l) contents (all .1);
-      copied = eqb-true (wordAt lastIrrAt l) (wordAt irrAt l) (body .0);
+      copied = eqb-true (registerAt lastIrrAt l) (registerAt irrAt l) (body .0);
       counted = leb-true (countOf l) capacity (ring .0);
       flagged = flagsGood-flags (countOf l) (pairsIn l) (last .0);
       unused = allZero-zeros (drop (2 * countOf l) (pairsIn l)) (last .1);
@@ -191,17 +191,17 @@ test-body l s h = (λ i. verdict (eq-eqb (length l) imageLength s i) (equal-same
 pub contents-number : (l : List ℕ) (a n : ℕ) → a + n ≤ registersAt → part 0 registersAt l ≡ contents → numberOf (part a n l) ≡ numberOf (part a n contents)
 contents-number l a n h e = ap numberOf (sym (rw zero-add at (part-part l 0 registersAt a n h)) ∙ ap (part a n) e)
 
-pub contents-known : (l : List ℕ) → Bytes l → registersAt ≤ length l → wordAt 0 l ≡ wordAt 0 contents → wordAt 8 l ≡ wordAt 8 contents
+pub contents-known : (l : List ℕ) → Bytes l → registersAt ≤ length l → registerAt 0 l ≡ registerAt 0 contents → registerAt 8 l ≡ registerAt 8 contents
     → numberOf (part 16 6 l) ≡ numberOf (part 16 6 contents) → part 0 registersAt l ≡ contents
 contents-known l b h e f g =
-    let first = part-known l 0 8 b (omega arith) (wordAt 0 contents) e in
-    let second = part-known l 8 8 b (omega arith) (wordAt 8 contents) f in
+    let first = part-known l 0 8 b (omega arith) (registerAt 0 contents) e in
+    let second = part-known l 8 8 b (omega arith) (registerAt 8 contents) f in
     let third = part-known l 16 6 b (omega arith) (numberOf (part 16 6 contents)) g in
     sym (part-add l 0 8 14) ∙ ap (λ m. part 0 8 l ++ m) (sym (part-add l 8 8 6)) ∙ (λ i. first i ++ (second i ++ third i))
 
 pub accepted-if-has : (l : List ℕ) → Accepted l → imageTest l ≡ accepted
 accepted-if-has l a =
-    let copy : copyRule l ≡ true = eq-eqb (wordAt lastIrrAt l) (wordAt irrAt l) (a .copied) in
+    let copy : copyRule l ≡ true = eq-eqb (registerAt lastIrrAt l) (registerAt irrAt l) (a .copied) in
     let count : countRule l ≡ true = le-leb (countOf l) capacity (a .counted) in
     let flags : flagRule l ≡ true = flags-flagsGood (countOf l) (pairsIn l) (a .flagged) in
     let unused : unusedRule l ≡ true = zeros-allZero (drop (2 * countOf l) (pairsIn l)) (a .unused) in
@@ -261,7 +261,7 @@ spelled (x ∷ xs) = bytesOf 8 x ++ spelled xs
 -- n registers from a place on
 abbrev wordsFrom : ℕ → ℕ → List ℕ → List ℕ
 wordsFrom zero at l = []
-wordsFrom (suc n) at l = wordAt at l ∷ wordsFrom n (at + 8) l
+wordsFrom (suc n) at l = registerAt at l ∷ wordsFrom n (at + 8) l
 
 module _ (l : List ℕ) (b : Bytes l) (e : imageTest l ≡ accepted) where
   has : Accepted l
@@ -312,8 +312,8 @@ module _ (l : List ℕ) (b : Bytes l) (e : imageTest l ≡ accepted) where
   pub encode-decode : encode (decode l) ≡ l
   unfolding encode decode
   encode-decode =
-      (λ i. sym (has .headed) i ++ (registers-back i ++ (part routesAt bytesLength l ++ (part vectorsAt bytesLength l ++ ring-back i))))
-      ∙ rw (part-then l vectorsAt bytesLength, part-then l routesAt bytesLength, part-then l registersAt registersLength, part-then l 0 registersAt)
+      (λ i. sym (has .headed) i ++ (registers-back i ++ (part routesBodyAt bytesLength l ++ (part vectorsBodyAt bytesLength l ++ ring-back i))))
+      ∙ rw (part-then l vectorsBodyAt bytesLength, part-then l routesBodyAt bytesLength, part-then l registersAt registersLength, part-then l 0 registersAt)
 
   pub decode-well-formed : WellFormed (decode l)
   unfolding decode
@@ -322,16 +322,16 @@ module _ (l : List ℕ) (b : Bytes l) (e : imageTest l ≡ accepted) where
     irr = word irrAt (omega arith);
     isr = word isrAt (omega arith);
     plains = plain-words;
-    routeBytes = bytes-part l routesAt bytesLength b;
-    routes = length-part l routesAt bytesLength (within routesAt bytesLength (omega arith));
-    vectorBytes = bytes-part l vectorsAt bytesLength b;
-    vectors = length-part l vectorsAt bytesLength (within vectorsAt bytesLength (omega arith));
+    routeBytes = bytes-part l routesBodyAt bytesLength b;
+    routes = length-part l routesBodyAt bytesLength (within routesBodyAt bytesLength (omega arith));
+    vectorBytes = bytes-part l vectorsBodyAt bytesLength b;
+    vectors = length-part l vectorsBodyAt bytesLength (within vectorsBodyAt bytesLength (omega arith));
     eventBytes = bytes-eventsOf (countOf l) (pairsIn l) (bytes-part l pairsAt pairsLength b);
     waiting = omega (arith, as-many-events, has .counted);
     drops = omega (arith, part-below l dropsAt 4 b (within dropsAt 4 (omega arith)));
   }
     where
-      word : (at : ℕ) → at + 8 ≤ imageLength → wordAt at l < 2 ^ 64
+      word : (at : ℕ) → at + 8 ≤ imageLength → registerAt at l < 2 ^ 64
       word at h = part-below l at 8 b (within at 8 h)
 
       plain-words : (p : Plain) → plain (decode l .core .stored) p < 2 ^ 64
@@ -388,20 +388,20 @@ module _ (d : Device) (w : WellFormed d) where
   length-encode = simp length-append (omega (arith, length-registersBody d, length-ringBody d (w .waiting), w .routes, w .vectors))
 
   -- where each thing of the device stands in its image
-  pub routes-stand : part routesAt bytesLength (encode d) ≡ d .core .stored .routes
+  pub routes-stand : part routesBodyAt bytesLength (encode d) ≡ d .core .stored .routes
   unfolding encode registersBody
   routes-stand = take-at (d .core .stored .routes) (d .core .vectors ++ ringBody d) bytesLength (w .routes)
 
-  from-vectors : drop vectorsAt (encode d) ≡ d .core .vectors ++ ringBody d
+  from-vectors : drop vectorsBodyAt (encode d) ≡ d .core .vectors ++ ringBody d
   unfolding encode registersBody
   from-vectors = drop-at (d .core .stored .routes) (d .core .vectors ++ ringBody d) bytesLength (w .routes)
 
-  pub vectors-stand : part vectorsAt bytesLength (encode d) ≡ d .core .vectors
+  pub vectors-stand : part vectorsBodyAt bytesLength (encode d) ≡ d .core .vectors
   vectors-stand = ap (take bytesLength) from-vectors ∙ take-at (d .core .vectors) (ringBody d) bytesLength (w .vectors)
 
   from-ring : drop ringAt (encode d) ≡ ringBody d
   from-ring =
-      sym (drop-drop bytesLength vectorsAt (encode d)) ∙ ap (drop bytesLength) from-vectors ∙ drop-at (d .core .vectors) (ringBody d) bytesLength (w .vectors)
+      sym (drop-drop bytesLength vectorsBodyAt (encode d)) ∙ ap (drop bytesLength) from-vectors ∙ drop-at (d .core .vectors) (ringBody d) bytesLength (w .vectors)
 
   pub count-stands : countOf (encode d) ≡ length (d .ring .waiting)
   unfolding ringBody
@@ -421,7 +421,7 @@ module _ (d : Device) (w : WellFormed d) where
   unfolding encode
   headed-encode = refl
 
-  copied-encode : wordAt lastIrrAt (encode d) ≡ wordAt irrAt (encode d)
+  copied-encode : registerAt lastIrrAt (encode d) ≡ registerAt irrAt (encode d)
   unfolding encode registersBody
   copied-encode = refl
 

@@ -11,7 +11,7 @@ use lib.Bits.{bitAnd}
 use lib.Count.{trailingZeros, under}
 use borrow.Author.Tests.{eq-eqb, ne-eqb, eqb-true}
 use Rattle.rules.specs.Inputs.{on, from, inputs, only, without}
-use Rattle.rules.specs.Lines.{Lines, waits, waitingIn, servedIn, withIsr, serve, event, enter, leave}
+use Rattle.rules.specs.Lines.{Lines, isPending, pendingIn, servedIn, withIsr, serve, event, enter, leave}
 use Rattle.rules.proofs.laws.Bits.{digit, test, on-zero, on-suc, on-none, on-and, on-and-not, on-without, without-ext, without-only-is}
 
 -- ---- lists
@@ -125,7 +125,7 @@ unlatchedIn f l n = f n && (on (l .isr) n && not (on (l .irr) n))
 -- m & irr & !mask & !isr; isr & m; m & isr & !irr
 module _ (m : ℕ) (l : Lines) where
   pub waiting-is : l .mask < 2 ^ 64 → l .isr < 2 ^ 64
-      → inputs (on (bitAnd (bitAnd (bitAnd m (l .irr)) ((2 ^ 64 - 1) - l .mask)) ((2 ^ 64 - 1) - l .isr))) ≡ inputs (waitingIn (on m) l)
+      → inputs (on (bitAnd (bitAnd (bitAnd m (l .irr)) ((2 ^ 64 - 1) - l .mask)) ((2 ^ 64 - 1) - l .isr))) ≡ inputs (pendingIn (on m) l)
   waiting-is hm hs = inputs-ext _ _ (λ i q. simp (on-and-not, on-and, and-assoc))
 
   pub served-is : inputs (on (bitAnd (l .isr) m)) ≡ inputs (servedIn (on m) l)
@@ -136,8 +136,8 @@ module _ (m : ℕ) (l : Lines) where
 
 -- one input
 module _ (n : ℕ) (l : Lines) (h : n < 64) where
-  pub only-waiting : inputs (waitingIn (only n) l) ≡ cond (waits l n) (n ∷ []) []
-  only-waiting = only-input n (waits l) h
+  pub only-waiting : inputs (pendingIn (only n) l) ≡ cond (isPending l n) (n ∷ []) []
+  only-waiting = only-input n (isPending l) h
 
   pub only-served : inputs (servedIn (only n) l) ≡ cond (on (l .isr) n) (n ∷ []) []
   only-served = inputs-ext _ _ (λ i q. and-comm (on (l .isr) i) (only n i)) ∙ only-input n (on (l .isr)) h

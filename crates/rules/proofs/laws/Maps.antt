@@ -6,7 +6,7 @@ use Prim.Native.Nat.{ℕ, _+_, _-_, _%_, _≤_, _<_}
 use native.Mathlib.Omega.{arith}
 use lib.Dec.{eqb, leb, ltb}
 use borrow.Author.Tests.{le-leb, lt-ltb, leb-true, ltb-true, ne-eqb}
-use Rattle.rules.specs.Map.{Row, Cell, halfOf, bytes, nothing, table, lookup, within, inRoutes, inVectors, inBytes, cellAt}
+use Rattle.rules.specs.Map.{Row, Cell, halfOf, bytes, nothing, table, lookup, within, inRoutes, inVectors, inByteArea, cellAt}
 
 -- ---- ranges
 module _ (a e o : ℕ) where
@@ -106,13 +106,13 @@ module _ (o : ℕ) where
 
 module _ (o : ℕ) where
   -- a Byte outside 0x100..0x39f is no byte of a Dword among the bytes
-  pub not-aligned : inBytes o ≡ false → cellAt (o - o % 4) ≡ bytes → ⊥
+  pub not-aligned : inByteArea o ≡ false → cellAt (o - o % 4) ≡ bytes → ⊥
   not-aligned h e =
       let r = at-bytes (o - o % 4) e in
       false≢true (sym h ∙ inside 0x100 0x3a0 o (omega arith) (omega arith))
 
   -- the four bytes of a Dword among the bytes lie there
-  pub four-inside : cellAt o ≡ bytes → (k : ℕ) → k < 4 → inBytes (o + k) ≡ true
+  pub four-inside : cellAt o ≡ bytes → (k : ℕ) → k < 4 → inByteArea (o + k) ≡ true
   four-inside e k h =
       let r = at-bytes o e in
       inside 0x100 0x3a0 (o + k) (omega arith) (omega arith)

@@ -14,7 +14,7 @@ use Rattle.rules.specs.Numbers.{byteOf}
 use Rattle.rules.specs.Inputs.{half}
 use Rattle.rules.specs.Core.{Core, Plain, Move, poll, raise, lower, clear, setMask, Act, move, setIsr, store, setPlain, setRoute, setVector}
 use Rattle.rules.specs.Map.{Register, Cell, halfOf, bytes, nothing, Row, table, lookup}
-use Rattle.rules.specs.Map.{routesAt, vectorsAt, inRoutes, inVectors, inBytes, cellAt}
+use Rattle.rules.specs.Map.{routesAt, vectorsAt, inRoutes, inVectors, inByteArea, cellAt}
 use Rattle.rules.specs.Map as map
 use Rattle.rules.specs.Access.{Width, byte, word, dword, qword, reachable, registerActs, entryActs, cellActs, dwordActs, byteActs, writeActs}
 use Rattle.rules.specs.Device.{Call, actsOf}
@@ -62,8 +62,8 @@ ruled-out false u = refl
 
 -- what is asked of the Dword offsets (D) and of the single bytes (E) that a write meets
 pub record FineByte (D E : ℕ → Type 0) (o : ℕ) : Type 0 where
-  pub single : inBytes o ≡ true → E o
-  pub inDword : inBytes o ≡ false → D (o - o % 4)
+  pub single : inByteArea o ≡ true → E o
+  pub inDword : inByteArea o ≡ false → D (o - o % 4)
 
 abbrev pub Fine : (D E : ℕ → Type 0) → Width → ℕ → Type 0
 Fine D E byte o = FineByte D E o
@@ -117,7 +117,7 @@ module _ (T : Act → Type 0) where
   module _ (D E : ℕ → Type 0) (dwords : (o v : ℕ) → D o → Each T (dwordActs o v)) (entries : (i : ℕ) → E i → Passes i) where
     byte-has : (c : Core) (o v : ℕ) → v < 256 → FineByte D E o → Each T (byteActs c o v)
     unfolding byteActs
-    byte-has c o v b f = test (inBytes o) (λ e. rw e (entries o (f .single e) v b)) (λ e. rw e (dwords (o - o % 4) _ (f .inDword e)))
+    byte-has c o v b f = test (inByteArea o) (λ e. rw e (entries o (f .single e) v b)) (λ e. rw e (dwords (o - o % 4) _ (f .inDword e)))
 
     pub write-has : (c : Core) (w : Width) (o v : ℕ) → Fine D E w o → Each T (writeActs c w o v)
     unfolding writeActs

@@ -10,14 +10,14 @@ use lib.ListN.{length, take, drop, length-take}
 use lib.Seq.{length-take-le, drop-at}
 use borrow.Author.Tests.{ltb-true}
 use Rattle.rules.specs.Inputs.{on, inputs, only, put, without, withHalf}
-use Rattle.rules.specs.Lines.{Lines, Made, event, withIrr, withMask, waitingIn, servedIn, serve, enter, leave, newlyUnmasked, newlyMasked}
+use Rattle.rules.specs.Lines.{Lines, Made, event, withIrr, withMask, pendingIn, servedIn, serve, enter, leave, newlyUnmasked, newlyMasked}
 use Rattle.rules.specs.Lines.{polled, raised, lowered, cleared, masked}
-use Rattle.rules.specs.Ring.{Event, capacity, drawn, ringStep, ringRun}
+use Rattle.rules.specs.Ring.{Event, capacity, drawn, ringStep, ringRun, pairsOf}
 use Rattle.rules.specs.Core.{Core, poll, raise, lower, clear, setMask, Act, move, setIsr, store, setVector, moved, lineTurn, turn, turns}
 use Rattle.rules.specs.Access.{Width}
 use Rattle.rules.specs.Device.{Device, WellFormed, Call, Step, Value, none, some, returned, value, actsOf, acted, offers, step}
 use Rattle.rules.specs.Device as device
-use Rattle.rules.specs.Image.{pairsOf, eventsOf}
+use Rattle.rules.specs.Image.{eventsOf}
 use Rattle.rules.specs.Calls.{Tested, pass, refuse, onPass, inputCall, widthTest, addressTest, Request, calls, askedBy}
 use Rattle.rules.specs.Calls.{amount, answered, bufferOf, placeOf, written, Outcome}
 use Rattle.rules.specs.Calls as request
@@ -49,7 +49,7 @@ level-single : (d : Device) (n : ℕ) (b : Bool) → n < 64 → Single b (step d
 unfolding step actsOf turns lineTurn moved raised polled lowered
 level-single d n true h =
     let k = withIrr (d .core .lines) (put (d .core .lines .irr) n) in
-    rw append-nil (serve-single (d .core .vectors) k (inputs (waitingIn (only n) k)))
+    rw append-nil (serve-single (d .core .vectors) k (inputs (pendingIn (only n) k)))
 level-single d n false h =
     let k = withIrr (d .core .lines) (without (d .core .lines .irr) (only n)) in
     rw (append-nil, only-served n k h)
@@ -57,7 +57,7 @@ level-single d n false h =
 
 poll-single : (d : Device) (n : ℕ) → Single true (step d (device.poll n) .made)
 unfolding step actsOf turns lineTurn moved polled
-poll-single d n = rw append-nil (serve-single (d .core .vectors) (d .core .lines) (inputs (waitingIn (only n) (d .core .lines))))
+poll-single d n = rw append-nil (serve-single (d .core .vectors) (d .core .lines) (inputs (pendingIn (only n) (d .core .lines))))
 
 -- the event that a value is
 abbrev eventOf : Bool → Value → List Event
@@ -110,7 +110,7 @@ act-returns-none c (move (setMask h v)) t =
     let begun = enter vs true (newlyUnmasked (c .lines .mask) new) k in
     let masks = newlyMasked (c .lines .mask) new in
     returned-append (begun .made) (leave vs true masks (begun .after) .made)
-    ∙ ap₂ _++_ (served-offered vs k (inputs (waitingIn (newlyUnmasked (c .lines .mask) new) k))) (left-offered vs masks (begun .after))
+    ∙ ap₂ _++_ (served-offered vs k (inputs (pendingIn (newlyUnmasked (c .lines .mask) new) k))) (left-offered vs masks (begun .after))
 act-returns-none c (setIsr h v) t = refl
 act-returns-none c (store s) t = refl
 act-returns-none c (setVector n v) t = refl

@@ -5,7 +5,7 @@ use mathlib.Core.List.{List, [], _∷_, _++_, map, append-nil}
 use Prim.Native.Nat.{ℕ}
 use lib.ListN.{length}
 use Rattle.rules.specs.Inputs.{inputs, only, put, without}
-use Rattle.rules.specs.Lines.{Lines, Made, Turn, withIrr, event, serve, enter, leave, waitingIn, servedIn, polled, raised, lowered}
+use Rattle.rules.specs.Lines.{Lines, Made, Turn, withIrr, event, serve, enter, leave, pendingIn, servedIn, polled, raised, lowered}
 use Rattle.rules.specs.Ring.{Ring, RingAct, drawn, ringStep, ringRun}
 use Rattle.rules.specs.Core.{Core, Act, move, Move, poll, raise, lower, CoreTurn, turn, turns, lineTurn, moved, vectorsAfter, storedAfter}
 use Rattle.rules.specs.Access.{Width, readAt, writeActs}
@@ -37,7 +37,7 @@ serve-offers vs l [] = refl
 serve-offers vs l (n ∷ ns) = refl
 
 enter-offers : (vs : List ℕ) (f : ℕ → Bool) (l : Lines) → offers (enter vs false f l .made) ≡ []
-enter-offers vs f l = serve-offers vs l (inputs (waitingIn f l))
+enter-offers vs f l = serve-offers vs l (inputs (pendingIn f l))
 
 deasserts-offers : (vs ns : List ℕ) → offers (map (event vs false false) ns) ≡ []
 unfolding offers

@@ -10,7 +10,7 @@ use lib.ListN.{length, drop, set, length-append, length-drop, length-set}
 use borrow.Author.Tests.{ltb-true}
 use Rattle.rules.specs.Numbers.{Bytes}
 use Rattle.rules.specs.Inputs.{on, inputs, only, put, without, withHalf}
-use Rattle.rules.specs.Lines.{Lines, Made, Turn, event, withIrr, withMask, waitingIn, servedIn, serve, enter, leave, newlyUnmasked, newlyMasked}
+use Rattle.rules.specs.Lines.{Lines, Made, Turn, event, withIrr, withMask, pendingIn, servedIn, serve, enter, leave, newlyUnmasked, newlyMasked}
 use Rattle.rules.specs.Lines.{polled, raised, lowered, cleared, masked}
 use Rattle.rules.specs.Ring.{capacity, stop, Event, Ring, offered, drawn, ringStep, ringRun}
 use Rattle.rules.specs.Core.{Plain, htmsiEn, edge, pol, auto0, auto1, Stored, Core, plain, withPlain, vectorsAfter, storedAfter, turn, turns}
@@ -78,7 +78,7 @@ module _ (vs : List ℕ) (b : Bytes vs) where
       record { after = record { mask = w .mask; irr = w .irr; isr = put-lt (l .isr) n }; made = bytes-events vs o true (n ∷ []) b }
 
   enter-well : (o : Bool) (f : ℕ → Bool) (l : Lines) → WellLines l → WellTurn (enter vs o f l)
-  enter-well o f l w = serve-well o l (inputs (waitingIn f l)) w
+  enter-well o f l w = serve-well o l (inputs (pendingIn f l)) w
 
   leave-well : (o : Bool) (f : ℕ → Bool) (l : Lines) → WellLines l → WellTurn (leave vs o f l)
   leave-well o f l w = record {

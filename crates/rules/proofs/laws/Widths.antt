@@ -11,7 +11,7 @@ use lib.ListN.{getD}
 use borrow.Author.Tests.{le-leb, lt-leb}
 use Rattle.rules.specs.Numbers.{numberOf, byteOf}
 use Rattle.rules.specs.Core.{Core}
-use Rattle.rules.specs.Map.{Cell, bytes, routesAt, vectorsAt, inBytes, cellAt}
+use Rattle.rules.specs.Map.{Cell, bytes, routesAt, vectorsAt, inByteArea, cellAt}
 use Rattle.rules.specs.Access.{qword, entry, readCell, readDword, readByte, readAt}
 use Rattle.rules.proofs.laws.Maps.{inside, Elsewhere, not-route, not-aligned, four-inside}
 
@@ -23,7 +23,7 @@ pub aligned : (o : ℕ) → o < 2 ^ 64 → bitAnd o 0xffff_ffff_ffff_fffc ≡ o 
 aligned o h = and-high o 62 2 ∙ omega arith
 
 -- a Byte outside 0x100..0x39f asks for a Dword that is not among the bytes
-pub aligned-no-bytes : {A : Type 0} (o : ℕ) → o < 2 ^ 64 → inBytes o ≡ false → cellAt (bitAnd o 0xffff_ffff_ffff_fffc) ≡ bytes → A
+pub aligned-no-bytes : {A : Type 0} (o : ℕ) → o < 2 ^ 64 → inByteArea o ≡ false → cellAt (bitAnd o 0xffff_ffff_ffff_fffc) ≡ bytes → A
 aligned-no-bytes o h n e = absurd (not-aligned o n (ap cellAt (sym (aligned o h)) ∙ e))
 
 -- ---- reading
@@ -40,11 +40,11 @@ module _ (c : Core) (o : ℕ) where
   unfolding entry
   entry-none e = rw (e .routes, e .vectors)
 
-  pub byte-inside : inBytes o ≡ true → readByte c o ≡ entry c o
+  pub byte-inside : inByteArea o ≡ true → readByte c o ≡ entry c o
   unfolding readByte
   byte-inside h = rw h
 
-  pub byte-outside : o < 2 ^ 64 → inBytes o ≡ false → readByte c o ≡ byteOf (readDword c (bitAnd o 0xffff_ffff_ffff_fffc)) (bitAnd o 0x3)
+  pub byte-outside : o < 2 ^ 64 → inByteArea o ≡ false → readByte c o ≡ byteOf (readDword c (bitAnd o 0xffff_ffff_ffff_fffc)) (bitAnd o 0x3)
   unfolding readByte
   byte-outside l h = rw (h, aligned o l, low-place o)
 

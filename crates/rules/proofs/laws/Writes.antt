@@ -13,7 +13,7 @@ use Rattle.rules.specs.Inputs.{half, withHalf}
 use Rattle.rules.specs.Lines.{Lines, Made, withIsr}
 use Rattle.rules.specs.Ring.{Ring, ringRun}
 use Rattle.rules.specs.Core.{Core, Stored, Move, Store, move, setIsr, store, setRoute, setVector, moved, lineTurn, vectorsAfter, storedBy, storedAfter, turns}
-use Rattle.rules.specs.Map.{Cell, bytes, routesAt, vectorsAt, inBytes, cellAt}
+use Rattle.rules.specs.Map.{Cell, bytes, routesAt, vectorsAt, inByteArea, cellAt}
 use Rattle.rules.specs.Access.{qword, readDword, entryActs, cellActs, dwordActs, byteActs, writeActs}
 use Rattle.rules.specs.Device.{Device, offers, acted}
 use Rattle.rules.proofs.laws.Acts.{acted-append}
@@ -60,11 +60,11 @@ module _ (o v : ℕ) where
   unfolding entryActs
   entry-acts-none e = rw (e .routes, e .vectors)
 
-  pub byte-acts-inside : (c : Core) → inBytes o ≡ true → byteActs c o v ≡ entryActs o v
+  pub byte-acts-inside : (c : Core) → inByteArea o ≡ true → byteActs c o v ≡ entryActs o v
   unfolding byteActs
   byte-acts-inside c h = rw h
 
-  pub byte-acts-outside : (c : Core) → o < 2 ^ 64 → inBytes o ≡ false
+  pub byte-acts-outside : (c : Core) → o < 2 ^ 64 → inByteArea o ≡ false
       → byteActs c o v ≡ dwordActs (bitAnd o 0xffff_ffff_ffff_fffc) (withByte (readDword c (bitAnd o 0xffff_ffff_ffff_fffc)) (bitAnd o 0x3) v)
   unfolding byteActs
   byte-acts-outside c l h = rw (h, aligned o l, low-place o)

@@ -7,7 +7,7 @@ use native.Mathlib.Omega.{arith}
 use borrow.Author.Needs.{needs}
 use borrow.Author.Tests.{eq-eqb, ne-eqb, le-leb, lt-leb}
 use Rattle.rules.specs.Ring.{capacity}
-use Rattle.rules.specs.Image.{lastIrrAt, irrAt, wordAt, countOf, copyRule, countRule}
+use Rattle.rules.specs.Image.{lastIrrAt, irrAt, registerAt, countOf, copyRule, countRule}
 use Rattle.rules.proofs.laws.Images.{pairsIn, pairsGood, bodyRules}
 use Rattle.image.proofs.check.body_good.Statement.{statement}
 use Rattle.image.proofs.check.body_good.Tie as tie
@@ -17,12 +17,12 @@ module _ (l : List ℕ) where
   rules-are : {a b : Bool} → copyRule l ≡ a → countRule l ≡ b → bodyRules l ≡ (a && (b && pairsGood (countOf l) (pairsIn l)))
   rules-are e f = λ i. e i && (f i && pairsGood (countOf l) (pairsIn l))
 
-  module _ {x y : ℕ} (e : x ≡ wordAt lastIrrAt l) (f : y ≡ wordAt irrAt l) where
+  module _ {x y : ℕ} (e : x ≡ registerAt lastIrrAt l) (f : y ≡ registerAt irrAt l) where
     not-copied : (x ≡ y → ⊥) → copyRule l ≡ false
-    not-copied h = ne-eqb (wordAt lastIrrAt l) (wordAt irrAt l) (λ q. h (e ∙ q ∙ sym f))
+    not-copied h = ne-eqb (registerAt lastIrrAt l) (registerAt irrAt l) (λ q. h (e ∙ q ∙ sym f))
 
     copied : x ≡ y → copyRule l ≡ true
-    copied h = eq-eqb (wordAt lastIrrAt l) (wordAt irrAt l) (sym e ∙ h ∙ f)
+    copied h = eq-eqb (registerAt lastIrrAt l) (registerAt irrAt l) (sym e ∙ h ∙ f)
 
 returns : tie.Need-returns
 returns c =

@@ -9,7 +9,7 @@ use borrow.Author.Tests.{eqb-true, eqb-false}
 use lib.Dec.{eqb}
 use lib.ListN.{length}
 use Rattle.rules.specs.Numbers.{numberOf, part, Bytes}
-use Rattle.rules.specs.Image.{registersAt, contents, wordAt, same}
+use Rattle.rules.specs.Image.{registersAt, contents, registerAt, same}
 use Rattle.rules.proofs.laws.Bits.{test}
 use Rattle.rules.proofs.laws.Lists.{equal-same, differ-same}
 use Rattle.rules.proofs.laws.Images.{contents-known, contents-number}
@@ -22,7 +22,7 @@ module _ (l : List ℕ) where
   differs a n x h e f = sym (differ-same (part 0 registersAt l) contents (λ q. f (e ∙ contents-number l a n h q)))
 
   -- the first two agree, and the third is the last to be looked at
-  agrees : (x : ℕ) → Bytes l → registersAt ≤ length l → wordAt 0 l ≡ wordAt 0 contents → wordAt 8 l ≡ wordAt 8 contents → x ≡ numberOf (part 16 6 l)
+  agrees : (x : ℕ) → Bytes l → registersAt ≤ length l → registerAt 0 l ≡ registerAt 0 contents → registerAt 8 l ≡ registerAt 8 contents → x ≡ numberOf (part 16 6 l)
       → eqb x (numberOf (part 16 6 contents)) ≡ same (part 0 registersAt l) contents
   agrees x b h e f g =
       test (eqb x (numberOf (part 16 6 contents))) (λ t. t ∙ sym (equal-same _ _ (contents-known l b h e f (sym g ∙ eqb-true x _ t))))

@@ -1,6 +1,6 @@
 -- `put_contents`: the three numbers are those that the contents spell, and their bytes are the contents.
 use native.Mathlib.Omega.{arith}
-use Rattle.rules.specs.Image.{contents, wordAt}
+use Rattle.rules.specs.Image.{contents, registerAt}
 use Rattle.rules.proofs.laws.Parts.{start, put-bytes, filled}
 use Rattle.image.proofs.Saved.{word-put}
 use borrow.Author.Needs.{needs}
@@ -13,7 +13,7 @@ returns c =
     let second = third .before .before .before .before in
     let first = second .before .before .before .before in
     let s = first .before .before .before in
-    let sixteen = word-put (wordAt 8 contents) (second .put-word2 .last .0) (word-put (wordAt 0 contents) (first .put-word .last .0) (start (s .args .dst .now)) (first .put-word .ensures)) (second .put-word2 .ensures) in
+    let sixteen = word-put (registerAt 8 contents) (second .put-word2 .last .0) (word-put (registerAt 0 contents) (first .put-word .last .0) (start (s .args .dst .now)) (first .put-word .ensures)) (second .put-word2 .ensures) in
     filled (put-bytes sixteen 6 _ (third .put-number .last .0) (omega arith) (third .put-number .ensures)) (s .pre)
 
 pub put-contents-spec : {M : Type 1} → statement M

@@ -1,6 +1,6 @@
 -- `load_stored`: each register is the number that its eight bytes spell.
 use Rattle.rules.specs.Numbers.{part}
-use Rattle.rules.specs.Image.{routesAt, bytesLength, decode}
+use Rattle.rules.specs.Image.{routesBodyAt, bytesLength, decode}
 use borrow.Author.Needs.{needs}
 use Rattle.image.proofs.load.load_stored.Statement.{statement}
 use Rattle.image.proofs.load.load_stored.Tie as tie
@@ -19,7 +19,7 @@ returns c =
       pol = three .word-at3 .ensures i;
       auto0 = four .word-at4 .ensures i;
       auto1 = c .word-at5 .ensures i;
-      routes = part routesAt bytesLength l;
+      routes = part routesBodyAt bytesLength l;
     }
 
 pub load-stored-spec : {M : Type 1} → statement M

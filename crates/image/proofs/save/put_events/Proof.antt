@@ -5,7 +5,7 @@ use Prim.Native.Nat.{_-_, _*_, _≤_}
 use native.Mathlib.Omega.{arith}
 use borrow.Author.Needs.{needs}
 use lib.ListN.{drop, length-set}
-use Rattle.rules.specs.Image.{pairsOf}
+use Rattle.rules.specs.Ring.{pairsOf}
 use Rattle.image.proofs.Events.{take-slots, Written, written-none, written-next, written-all}
 use Rattle.image.proofs.save.put_events.Statement.{statement}
 use Rattle.image.proofs.save.put_events.Tie as tie
