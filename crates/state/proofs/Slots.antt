@@ -17,8 +17,8 @@ use Rattle.state.specs.declared.Ring.{Ring}
 abbrev pub ev : ℕ → Bool → Event
 ev v a = record { vector = v; asserted = a }
 
-abbrev ringOf : List Event → ℕ → rules-ring.Ring
-ringOf es n = record { waiting = es; drops = n }
+abbrev ring-of : List Event → ℕ → rules-ring.Ring
+ring-of es n = record { waiting = es; drops = n }
 
 module _ (vs : List ℕ) (fs : List Bool) where
   pub slots-length : (h n : ℕ) → length (slots vs fs h n) ≡ n
@@ -71,36 +71,36 @@ slots-push vs fs h n v a lv lf l =
 
 -- ---- what the two functions come to
 module _ (r : Ring) where
-  waiting-length : length (ringView r .waiting) ≡ r .«output_len»
-  waiting-length = slots-length (r .«output_vectors») (r .«output_asserted») (r .«output_head») (r .«output_len»)
+  waiting-length : length (ringView r .waiting) ≡ r .queue .«output_len»
+  waiting-length = slots-length (r .«output_vectors») (r .«output_asserted») (r .queue .«output_head») (r .queue .«output_len»)
 
   -- room: the event is stored
-  pub push-room : (v : ℕ) (a : Bool) → length (r .«output_vectors») ≡ 16 → length (r .«output_asserted») ≡ 16 → r .«output_len» < 16
-      → ringOf (slots (set (r .«output_vectors») ((r .«output_head» + r .«output_len») % 16) v) (set (r .«output_asserted») ((r .«output_head» + r .«output_len») % 16) a) (r .«output_head») (r .«output_len» + 1)) (r .«output_drops»)
+  pub push-room : (v : ℕ) (a : Bool) → length (r .«output_vectors») ≡ 16 → length (r .«output_asserted») ≡ 16 → r .queue .«output_len» < 16
+      → ring-of (slots (set (r .«output_vectors») ((r .queue .«output_head» + r .queue .«output_len») % 16) v) (set (r .«output_asserted») ((r .queue .«output_head» + r .queue .«output_len») % 16) a) (r .queue .«output_head») (r .queue .«output_len» + 1)) (r .queue .«output_drops»)
       ≡ offered (ringView r) (ev v a)
   push-room v a lv lf l =
-      ap (λ (es : List Event). ringOf es (r .«output_drops»)) (slots-push (r .«output_vectors») (r .«output_asserted») (r .«output_head») (r .«output_len») v a lv lf l)
+      ap (λ (es : List Event). ring-of es (r .queue .«output_drops»)) (slots-push (r .«output_vectors») (r .«output_asserted») (r .queue .«output_head») (r .queue .«output_len») v a lv lf l)
       ∙ sym (offered-room (ringView r) (ev v a) (omega (arith, waiting-length)))
 
   -- no room: it is counted
-  pub push-full : (e : Event) (n : ℕ) → r .«output_len» ≡ 16 → n ≡ min (r .«output_drops» + 1) stop → ringOf (ringView r .waiting) n ≡ offered (ringView r) e
-  push-full e n l p = ap (ringOf (ringView r .waiting)) p ∙ sym (offered-full (ringView r) e (omega (arith, waiting-length)))
+  pub push-full : (e : Event) (n : ℕ) → r .queue .«output_len» ≡ 16 → n ≡ min (r .queue .«output_drops» + 1) stop → ring-of (ringView r .waiting) n ≡ offered (ringView r) e
+  push-full e n l p = ap (ring-of (ringView r .waiting)) p ∙ sym (offered-full (ringView r) e (omega (arith, waiting-length)))
 
   -- a drain with room for one, by the events that wait
   abbrev one-of : List Event → Drawn
-  one-of es = record { after = ringOf (drop 1 es) (r .«output_drops»); drained = take 1 es }
+  one-of es = record { after = ring-of (drop 1 es) (r .queue .«output_drops»); drained = take 1 es }
 
-  pub pop-none : r .«output_len» ≡ 0 → record { after = ringView r; drained = [] } ≡ drawn (ringView r) 1
+  pub pop-none : r .queue .«output_len» ≡ 0 → record { after = ringView r; drained = [] } ≡ drawn (ringView r) 1
   unfolding drawn slots
   pop-none e =
-      let none = ap (slots (r .«output_vectors») (r .«output_asserted») (r .«output_head»)) e in
-      ap (λ (es : List Event). record { after = ringOf es (r .«output_drops»); drained = [] }) none ∙ sym (ap one-of none)
+      let none = ap (slots (r .«output_vectors») (r .«output_asserted») (r .queue .«output_head»)) e in
+      ap (λ (es : List Event). record { after = ring-of es (r .queue .«output_drops»); drained = [] }) none ∙ sym (ap one-of none)
 
-  pub pop-one : r .«output_head» < 16 → (r .«output_len» ≡ 0 → ⊥)
+  pub pop-one : r .queue .«output_head» < 16 → (r .queue .«output_len» ≡ 0 → ⊥)
       → record {
-        after = ringOf (slots (r .«output_vectors») (r .«output_asserted») ((r .«output_head» + 1) % 16) (r .«output_len» - 1)) (r .«output_drops»);
-        drained = ev (getD (r .«output_vectors») (r .«output_head») 0) (getD (r .«output_asserted») (r .«output_head») false) ∷ [];
+        after = ring-of (slots (r .«output_vectors») (r .«output_asserted») ((r .queue .«output_head» + 1) % 16) (r .queue .«output_len» - 1)) (r .queue .«output_drops»);
+        drained = ev (getD (r .«output_vectors») (r .queue .«output_head») 0) (getD (r .«output_asserted») (r .queue .«output_head») false) ∷ [];
       }
       ≡ drawn (ringView r) 1
   unfolding drawn
-  pop-one h n = sym (ap one-of (slots-first (r .«output_vectors») (r .«output_asserted») (r .«output_head») (r .«output_len») h n))
+  pop-one h n = sym (ap one-of (slots-first (r .«output_vectors») (r .«output_asserted») (r .queue .«output_head») (r .queue .«output_len») h n))

@@ -3,7 +3,7 @@ use mathlib.Core.Path.{_≡_}
 use mathlib.Core.Bool.{Bool, false}
 use mathlib.Core.List.{List, [], _∷_}
 use Prim.Native.Nat.{ℕ, zero, suc, _%_, _<_, _≤_}
-use lib.ListN.{getD}
+use lib.ListN.{length, getD}
 use Rattle.rules.specs.Lines as rules-lines
 use Rattle.rules.specs.Ring as rules-ring
 use Rattle.rules.specs.Ring.{Event}
@@ -13,6 +13,7 @@ use Rattle.state.specs.declared.PchPicOutputEvent.{PchPicOutputEvent}
 use Rattle.state.specs.declared.Lines.{Lines}
 use Rattle.state.specs.declared.Stored.{Stored}
 use Rattle.state.specs.declared.Tables.{Tables}
+use Rattle.state.specs.declared.Queue.{Queue}
 use Rattle.state.specs.declared.Ring.{Ring}
 use Rattle.state.specs.declared.PchPicState.{PchPicState}
 use Rattle.state.specs.declared.Popped.{Popped}
@@ -31,8 +32,12 @@ unfoldable pub slots : List ℕ → List Bool → ℕ → ℕ → List Event
 slots vs fs h zero = []
 slots vs fs h (suc n) = slot vs fs h ∷ slots vs fs (suc h) n
 
+-- the ring whose slots are lent
+abbrev pub ringOf : Queue → List ℕ → List Bool → Ring
+ringOf q vs fs = record { «output_vectors» = vs; «output_asserted» = fs; queue = q }
+
 abbrev pub ringView : Ring → rules-ring.Ring
-ringView r = record { waiting = slots (r .«output_vectors») (r .«output_asserted») (r .«output_head») (r .«output_len»); drops = r .«output_drops» }
+ringView r = record { waiting = slots (r .«output_vectors») (r .«output_asserted») (r .queue .«output_head») (r .queue .«output_len»); drops = r .queue .«output_drops» }
 
 abbrev pub linesView : Lines → rules-lines.Lines
 linesView l = record { mask = l .«int_mask»; irr = l .intirr; isr = l .intisr }
@@ -46,10 +51,12 @@ view s = record {
   ring = ringView (s .ring);
 }
 
--- the head is a slot, and at most all slots are in use
+-- there are 16 slots, the head is one of them, and at most all are in use
 pub record WellRing (r : Ring) : Type 0 where
-  pub head : r .«output_head» < 16
-  pub len : r .«output_len» ≤ 16
+  pub vectors : length (r .«output_vectors») ≡ 16
+  pub asserted : length (r .«output_asserted») ≡ 16
+  pub head : r .queue .«output_head» < 16
+  pub len : r .queue .«output_len» ≤ 16
 
 -- the copy of IRR is one
 abbrev pub WellLines : Lines → Type 0
@@ -73,7 +80,7 @@ abbrev pub takenOf : Taken → List Event
 takenOf Nothing = []
 takenOf (One e) = eventOf e ∷ []
 
--- a pop is a drain with room for one
-pub record Pops (p : Popped) (before : rules-ring.Ring) : Type 0 where
-  pub well : WellRing (p .ring)
-  pub shows : record { after = ringView (p .ring); drained = takenOf (p .event) } ≡ rules-ring.drawn before 1
+-- a pop is a drain with room for one; the slots stay
+pub record Pops (p : Popped) (vs : List ℕ) (fs : List Bool) (before : rules-ring.Ring) : Type 0 where
+  pub well : WellRing (ringOf (p .queue) vs fs)
+  pub shows : record { after = ringView (ringOf (p .queue) vs fs); drained = takenOf (p .event) } ≡ rules-ring.drawn before 1

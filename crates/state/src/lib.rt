@@ -3,7 +3,7 @@
 ghost use mathlib.Core.Path.{_≡_};
 ghost use Rattle.rules.specs.Device.{reset};
 ghost use Rattle.rules.specs.Ring.{offered};
-ghost use Rattle.state.specs.View.{eventOf, ringView, view, WellRing, IsRing, Is, Pops};
+ghost use Rattle.state.specs.View.{eventOf, ringOf, ringView, view, WellRing, IsRing, Is, Pops};
 
 // The registers that move, of all 64 inputs.
 pub struct Lines {
@@ -28,13 +28,18 @@ pub struct Tables {
     pub htmsi_vector: [u8; 64],
 }
 
-// The output events that wait: output_len of them, from output_head on and round; and how many were dropped.
-pub struct Ring {
-    pub output_vectors: [u8; 16],
-    pub output_asserted: [bool; 16],
+// Which slots of the ring are in use, output_len of them from output_head on and round; and how many events were dropped.
+pub struct Queue {
     pub output_head: usize,
     pub output_len: usize,
     pub output_drops: u32,
+}
+
+// The output events that wait, a vector and a flag in each slot in use.
+pub struct Ring {
+    pub output_vectors: [u8; 16],
+    pub output_asserted: [bool; 16],
+    pub queue: Queue,
 }
 
 pub struct PchPicState {
@@ -56,16 +61,21 @@ pub enum Taken {
 }
 
 pub struct Popped {
-    pub ring: Ring,
+    pub queue: Queue,
     pub event: Taken,
 }
 
-// The newest event waits last; where 16 wait it is dropped, and counted as far as the count goes.
-pub fn push_output_event(ring: Ring, event: PchPicOutputEvent) -> Ring
-    requires { ⌜ WellRing ring ⌝ }
-    ensures { λ r. ⌜ IsRing r (offered (ringView ring) (eventOf event)) ⌝ }
+// The newest event waits last; where 16 wait it is dropped, and counted as far as the count goes. The slots are lent, so that no array is copied.
+pub fn push_output_event(
+    queue: Queue,
+    vectors: &mut [u8],
+    asserted: &mut [bool],
+    event: PchPicOutputEvent,
+) -> Queue
+    requires { ⌜ WellRing (ringOf queue (now vectors) (now asserted)) ⌝ }
+    ensures { λ r. ⌜ IsRing (ringOf r (now (vectors .exit)) (now (asserted .exit))) (offered (ringView (ringOf queue (now (vectors .entry)) (now (asserted .entry)))) (eventOf event)) ⌝ }
 {
-    let mut out = ring;
+    let mut out = queue;
     if out.output_len == 16 {
         if out.output_drops < 0xffff_ffff {
             out.output_drops += 1;
@@ -73,32 +83,34 @@ pub fn push_output_event(ring: Ring, event: PchPicOutputEvent) -> Ring
         return out;
     }
     let index = (out.output_head + out.output_len) % 16;
-    out.output_vectors[index] = event.vector;
-    out.output_asserted[index] = event.asserted;
+    vectors[index] = event.vector;
+    asserted[index] = event.asserted;
     out.output_len += 1;
     out
 }
 
 // The oldest event comes out.
-pub fn pop_output_event(ring: Ring) -> Popped
-    requires { ⌜ WellRing ring ⌝ }
-    ensures { λ r. ⌜ Pops r (ringView ring) ⌝ }
+pub fn pop_output_event(queue: Queue, vectors: &[u8], asserted: &[bool]) -> Popped
+    requires { ⌜ WellRing (ringOf queue (now vectors) (now asserted)) ⌝ }
+    ensures { λ r. ⌜ Pops r (now (vectors .entry)) (now (asserted .entry)) (ringView (ringOf queue (now (vectors .entry)) (now (asserted .entry)))) ⌝ }
 {
-    let mut out = ring;
+    let mut out = queue;
     if out.output_len == 0 {
         return Popped {
-            ring: out,
+            queue: out,
             event: Taken::Nothing,
         };
     }
     let head = out.output_head;
-    let vector = out.output_vectors[head];
-    let asserted = out.output_asserted[head];
+    let event = PchPicOutputEvent {
+        vector: vectors[head],
+        asserted: asserted[head],
+    };
     out.output_head = (head + 1) % 16;
     out.output_len -= 1;
     Popped {
-        ring: out,
-        event: Taken::One(PchPicOutputEvent { vector, asserted }),
+        queue: out,
+        event: Taken::One(event),
     }
 }
 
@@ -182,9 +194,11 @@ impl PchPicState {
             ring: Ring {
                 output_vectors: [0u8; 16],
                 output_asserted: [false; 16],
-                output_head: 0,
-                output_len: 0,
-                output_drops: 0,
+                queue: Queue {
+                    output_head: 0,
+                    output_len: 0,
+                    output_drops: 0,
+                },
             },
         }
     }
