@@ -51,6 +51,28 @@ view s = record {
   ring = ringView (s .ring);
 }
 
+-- ---- the state in lent parts
+
+-- the registers as nine words, in the order in which an image has them
+abbrev pub wordsOf : Lines → Stored → List ℕ
+wordsOf l s =
+    l .«int_mask» ∷ s .«htmsi_en» ∷ s .intedge ∷ l .«last_intirr» ∷ l .intirr ∷ l .intisr ∷ s .«int_polarity» ∷ s .«auto_ctrl0» ∷ s .«auto_ctrl1» ∷ []
+
+-- what the words, the route bytes and the vector bytes show
+abbrev pub coreOf : List ℕ → List ℕ → List ℕ → rules-core.Core
+coreOf ws routes vectors = record {
+  lines = record { mask = getD ws 0 0; irr = getD ws 4 0; isr = getD ws 5 0 };
+  vectors = vectors;
+  stored = record { htmsiEn = getD ws 1 0; edge = getD ws 2 0; pol = getD ws 6 0; auto0 = getD ws 7 0; auto1 = getD ws 8 0; routes = routes };
+}
+
+-- there are nine, and the fourth is the copy of IRR
+pub record WellWords (ws : List ℕ) : Type 0 where
+  pub nine : length ws ≡ 9
+  pub copy : getD ws 3 0 ≡ getD ws 4 0
+
+-- ---- what holds of every state that the types do not say
+
 -- there are 16 slots, the head is one of them, and at most all are in use
 pub record WellRing (r : Ring) : Type 0 where
   pub vectors : length (r .«output_vectors») ≡ 16

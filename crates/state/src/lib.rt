@@ -3,7 +3,7 @@
 ghost use mathlib.Core.Path.{_≡_};
 ghost use Rattle.rules.specs.Device.{reset};
 ghost use Rattle.rules.specs.Ring.{offered};
-ghost use Rattle.state.specs.View.{eventOf, ringOf, ringView, view, WellRing, IsRing, Is, Pops};
+ghost use Rattle.state.specs.View.{eventOf, ringOf, ringView, view, wordsOf, WellRing, IsRing, Is, Pops};
 
 // The registers that move, of all 64 inputs.
 pub struct Lines {
@@ -162,6 +162,25 @@ impl PchPicState {
     pub const POL_LO: usize = 0x3e0;
 
     pub const POL_HI: usize = 0x3e4;
+
+    // The nine registers, in the order in which an image has them.
+    pub fn words(self) -> [u64; 9]
+        ensures { λ r. ⌜ r ≡ wordsOf (self .lines) (self .stored) ⌝ }
+    {
+        let lines = self.lines;
+        let stored = self.stored;
+        [
+            lines.int_mask,
+            stored.htmsi_en,
+            stored.intedge,
+            lines.last_intirr,
+            lines.intirr,
+            lines.intisr,
+            stored.int_polarity,
+            stored.auto_ctrl0,
+            stored.auto_ctrl1,
+        ]
+    }
 
     // The state after reset.
     pub fn reset() -> Self
