@@ -13,7 +13,7 @@ use Rattle.rules.specs.Ring as ring
 use Rattle.rules.specs.Ring.{Event, Drawn, drawn, flag, pairsOf}
 use Rattle.rules.proofs.laws.Bits.{test}
 use Rattle.rules.proofs.laws.Lists.{turn}
-use Rattle.state.specs.View.{WellRing, ringView, Pops, takenOf, eventOf}
+use Rattle.state.specs.View.{WellRing, ringOf, ringView, Pops, takenOf, eventOf}
 use Rattle.state.specs.declared.Ring.{Ring}
 use Rattle.state.specs.declared.Popped.{Popped}
 use Rattle.state.specs.declared.Taken.{Taken}
@@ -21,13 +21,13 @@ use Rattle.state.specs.declared.Taken.the-variants.{Nothing, One}
 use Rattle.engine.specs.Moves.{Drains, pairPut}
 use Rattle.engine.specs.declared.Drained.{Drained}
 
-abbrev ringOf : List Event → ℕ → ring.Ring
-ringOf es n = record { waiting = es; drops = n }
+abbrev ring-of : List Event → ℕ → ring.Ring
+ring-of es n = record { waiting = es; drops = n }
 
 -- what holds at turn i of n: the ring is i events shorter, the pairs so far and those to come are all n, and what lies behind is as it was
 pub record Draining (before : ring.Ring) (n : ℕ) (entry buf : List ℕ) (out : Ring) (i : ℕ) : Type 0 where
   pub well : WellRing out
-  pub ring : ringView out ≡ ringOf (drop i (before .waiting)) (before .drops)
+  pub ring : ringView out ≡ ring-of (drop i (before .waiting)) (before .drops)
   pub within : i ≤ n
   pub pairs : take (2 * i) buf ++ pairsOf (take (n - i) (drop i (before .waiting))) ≡ pairsOf (take n (before .waiting))
   pub behind : drop (2 * i) buf ≡ drop (2 * i) entry
@@ -54,12 +54,16 @@ module _ (before : ring.Ring) (n : ℕ) (entry buf : List ℕ) (out : Ring) (i :
   first : drop i (before .waiting) ≡ getD (before .waiting) i none-event ∷ rest
   first = drop-cons (before .waiting) i none-event (omega arith)
 
+  -- the ring that a pop leaves
+  abbrev left-by : Popped → Ring
+  left-by p = ringOf (p .queue) (out .«output_vectors») (out .«output_asserted»)
+
   -- the pop takes that event out
-  popped : (p : Popped) → Pops p (ringView out) → _≡_ {A = Drawn} (record { after = ringView (p .ring); drained = takenOf (p .event) }) (record { after = ringOf rest (before .drops); drained = getD (before .waiting) i none-event ∷ [] })
+  popped : (p : Popped) → Pops p (out .«output_vectors») (out .«output_asserted») (ringView out) → _≡_ {A = Drawn} (record { after = ringView (left-by p); drained = takenOf (p .event) }) (record { after = ring-of rest (before .drops); drained = getD (before .waiting) i none-event ∷ [] })
   unfolding drawn
   popped p q =
       q .shows ∙ ap (λ (r : ring.Ring). drawn r 1) (d .ring)
-      ∙ ap (λ (l : List Event). record { after = ringOf (drop 1 l) (before .drops); drained = take 1 l }) first
+      ∙ ap (λ (l : List Event). record { after = ring-of (drop 1 l) (before .drops); drained = take 1 l }) first
 
   -- and it is written
   written : (t : Taken) → takenOf t ≡ getD (before .waiting) i none-event ∷ []
@@ -80,13 +84,13 @@ module _ (before : ring.Ring) (n : ℕ) (entry buf : List ℕ) (out : Ring) (i :
         simp length-set (d .size),
       )
 
-  pub drain-step : (p : Popped) (after : List ℕ) → Pops p (ringView out) → after ≡ pairPut buf i (p .event) → Draining before n entry after (p .ring) (i + 1)
+  pub drain-step : (p : Popped) (after : List ℕ) → Pops p (out .«output_vectors») (out .«output_asserted») (ringView out) → after ≡ pairPut buf i (p .event) → Draining before n entry after (left-by p) (i + 1)
   drain-step p after q e =
       let w = written (p .event) (ap (λ (t : Drawn). t .drained) (popped p q)) in
       let s : suc i ≡ i + 1 = omega arith in
       record {
         well = q .well;
-        ring = ap (λ (t : Drawn). t .after) (popped p q) ∙ ap (λ (k : ℕ). ringOf (drop k (before .waiting)) (before .drops)) s;
+        ring = ap (λ (t : Drawn). t .after) (popped p q) ∙ ap (λ (k : ℕ). ring-of (drop k (before .waiting)) (before .drops)) s;
         within = omega arith;
         pairs = (λ t. take (2 * (i + 1)) (e t) ++ pairsOf (take (n - (i + 1)) (drop (sym s t) (before .waiting)))) ∙ w .0;
         behind = ap (drop (2 * (i + 1))) e ∙ w .1;
@@ -111,14 +115,14 @@ drop-fewer l n k e =
     drop-of-length-le l none ∙ sym (drop-of-length-le l past))
 
 pub drain-done : (before : ring.Ring) (n : ℕ) (entry buf : List ℕ) (out : Ring) → Draining before n entry buf out n → n ≡ min (length (before .waiting)) (length entry / 2)
-    → Drains (record { ring = out; count = n }) before entry buf
+    → Drains (record { queue = out .queue; count = n }) (out .«output_vectors») (out .«output_asserted») before entry buf
 unfolding drawn
 drain-done before n entry buf out d e =
     let k = length entry / 2 in
     let z : n - n ≡ 0 = omega arith in
     record {
       wellRing = d .well;
-      ring = d .ring ∙ ap (λ (l : List Event). ringOf l (before .drops)) (drop-fewer (before .waiting) n k e);
+      ring = d .ring ∙ ap (λ (l : List Event). ring-of l (before .drops)) (drop-fewer (before .waiting) n k e);
       count = omega (arith, length-take k (before .waiting));
       pairs =
           sym (take-append-drop (2 * n) buf)

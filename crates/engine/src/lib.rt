@@ -1,8 +1,8 @@
 // What moves the input lines, after loongarch_pch_pic.rs of axdevice 0.8.5: the same functions, names and mask expressions.
-// A function takes the parts of the state that it reads or changes, and hands those back that it changes; the vector bytes are lent.
+// A function takes the numbers of the state that it reads or changes, and hands those back that it changes; vector bytes and the ring's slots are lent.
 use state::Lines;
 use state::PchPicOutputEvent;
-use state::Ring;
+use state::Queue;
 use state::Taken;
 ghost use mathlib.Core.Path.{_≡_};
 ghost use mathlib.Core.Bool.{Bool, true, false};
@@ -11,7 +11,7 @@ ghost use lib.ListN.{length};
 ghost use Rattle.rules.specs.Inputs.{withHalf};
 ghost use Rattle.rules.specs.Lines.{polled, cleared, masked};
 ghost use Rattle.rules.proofs.laws.Steps.{levelled};
-ghost use Rattle.state.specs.View.{WellLines, WellRing, IsRing, linesView, ringView};
+ghost use Rattle.state.specs.View.{WellLines, WellRing, IsRing, linesView, ringOf, ringView};
 ghost use Rattle.engine.specs.Moves.{Answers, Moves, Drains, updated, queued, pairPut};
 
 // What update_irq hands back: the vector of the input that went into service or left it, if one did.
@@ -25,10 +25,10 @@ pub struct Routed {
     pub answer: Answer,
 }
 
-// The lines and the ring after a register write that moves them.
+// The lines and the ring's numbers after a register write that moves them.
 pub struct Moved {
     pub lines: Lines,
-    pub ring: Ring,
+    pub queue: Queue,
 }
 
 // Of the inputs in mask the lowest that can goes into service (level true), or leaves it.
@@ -67,45 +67,70 @@ pub fn update_irq(lines: Lines, vectors: &[u8], mask: u64, level: bool) -> Route
 }
 
 // An event for each input in mask is offered to the ring, lowest first.
-pub fn queue_events_for_mask(ring: Ring, vectors: &[u8], mask: u64, asserted: bool) -> Ring
-    requires { ⌜ WellRing ring × (length (now vectors) ≡ 64) ⌝ }
-    ensures { λ r. ⌜ IsRing r (queued (now (vectors .entry)) (ringView ring) mask asserted) ⌝ }
+pub fn queue_events_for_mask(
+    queue: Queue,
+    events: &mut [u8],
+    asserted: &mut [bool],
+    vectors: &[u8],
+    mask: u64,
+    flag: bool,
+) -> Queue
+    requires { ⌜ WellRing (ringOf queue (now events) (now asserted)) × (length (now vectors) ≡ 64) ⌝ }
+    ensures { λ r. ⌜ IsRing (ringOf r (now (events .exit)) (now (asserted .exit))) (queued (now (vectors .entry)) (ringView (ringOf queue (now (events .entry)) (now (asserted .entry)))) mask flag) ⌝ }
 {
-    let mut out = ring;
+    let mut out = queue;
     let mut left = mask;
     while left != 0 {
         let irq = u64::trailing_zeros(left) as usize;
-        let vector = vectors[irq];
-        out = state::push_output_event(out, PchPicOutputEvent { vector, asserted });
+        let event = PchPicOutputEvent {
+            vector: vectors[irq],
+            asserted: flag,
+        };
+        out = state::push_output_event(out, events, asserted, event);
         left &= !(1u64 << irq);
     }
     out
 }
 
 // CLEAR: latches and service lose the inputs in mask, and each that was in service is deasserted.
-pub fn clear_irq(lines: Lines, ring: Ring, vectors: &[u8], mask: u64) -> Moved
-    requires { ⌜ WellLines lines × WellRing ring × (length (now vectors) ≡ 64) ⌝ }
-    ensures { λ r. ⌜ Moves r (ringView ring) (cleared (now (vectors .entry)) (linesView lines) mask) ⌝ }
+pub fn clear_irq(
+    lines: Lines,
+    queue: Queue,
+    events: &mut [u8],
+    asserted: &mut [bool],
+    vectors: &[u8],
+    mask: u64,
+) -> Moved
+    requires { ⌜ WellLines lines × WellRing (ringOf queue (now events) (now asserted)) × (length (now vectors) ≡ 64) ⌝ }
+    ensures { λ r. ⌜ Moves r (now (events .exit)) (now (asserted .exit)) (ringView (ringOf queue (now (events .entry)) (now (asserted .entry)))) (cleared (now (vectors .entry)) (linesView lines) mask) ⌝ }
 {
     let mut out = lines;
     let active = out.intisr & mask;
     out.intirr &= !mask;
     out.last_intirr &= !mask;
     out.intisr &= !mask;
-    let queue = queue_events_for_mask(ring, vectors, active, false);
+    let queued = queue_events_for_mask(queue, events, asserted, vectors, active, false);
     Moved {
         lines: out,
-        ring: queue,
+        queue: queued,
     }
 }
 
 // MASK: a half is replaced; the lowest newly unmasked input that waits is asserted, and then the newly masked ones are deasserted.
-pub fn update_int_mask(lines: Lines, ring: Ring, vectors: &[u8], val: u32, high: bool) -> Moved
-    requires { ⌜ WellLines lines × WellRing ring × (length (now vectors) ≡ 64) ⌝ }
-    ensures { λ r. ⌜ Moves r (ringView ring) (masked (now (vectors .entry)) (linesView lines) (withHalf high (lines .«int_mask») val)) ⌝ }
+pub fn update_int_mask(
+    lines: Lines,
+    queue: Queue,
+    events: &mut [u8],
+    asserted: &mut [bool],
+    vectors: &[u8],
+    val: u32,
+    high: bool,
+) -> Moved
+    requires { ⌜ WellLines lines × WellRing (ringOf queue (now events) (now asserted)) × (length (now vectors) ≡ 64) ⌝ }
+    ensures { λ r. ⌜ Moves r (now (events .exit)) (now (asserted .exit)) (ringView (ringOf queue (now (events .entry)) (now (asserted .entry)))) (masked (now (vectors .entry)) (linesView lines) (withHalf high (lines .«int_mask») val)) ⌝ }
 {
     let mut out = lines;
-    let mut queue = ring;
+    let mut queued = queue;
     let old = out.int_mask;
     out.int_mask = bits::replace_u32(old, val, high);
     let newly_unmasked = bits::newly_unmasked(old, val, high);
@@ -114,13 +139,11 @@ pub fn update_int_mask(lines: Lines, ring: Ring, vectors: &[u8], val: u32, high:
         out = routed.lines;
         let answer = routed.answer;
         if let Answer::Vector(vector) = answer {
-            queue = state::push_output_event(
-                queue,
-                PchPicOutputEvent {
-                    vector,
-                    asserted: true,
-                },
-            );
+            let event = PchPicOutputEvent {
+                vector,
+                asserted: true,
+            };
+            queued = state::push_output_event(queued, events, asserted, event);
         }
     }
     let newly_masked = bits::newly_masked(old, val, high);
@@ -128,11 +151,11 @@ pub fn update_int_mask(lines: Lines, ring: Ring, vectors: &[u8], val: u32, high:
         // Masking takes an input out of service though its line may stay high; its latch is kept, so that a later unmask can assert it again.
         let active = out.intisr & newly_masked;
         out.intisr &= !active;
-        queue = queue_events_for_mask(queue, vectors, active, false);
+        queued = queue_events_for_mask(queued, events, asserted, vectors, active, false);
     }
     Moved {
         lines: out,
-        ring: queue,
+        queue: queued,
     }
 }
 
@@ -161,9 +184,9 @@ pub fn pending_vector(lines: Lines, vectors: &[u8], irq: usize) -> Routed
     update_irq(lines, vectors, 1u64 << irq, true)
 }
 
-// What a drain leaves: the ring, and how many events it wrote.
+// What a drain leaves: the ring's numbers, and how many events it wrote.
 pub struct Drained {
-    pub ring: Ring,
+    pub queue: Queue,
     pub count: usize,
 }
 
@@ -187,19 +210,24 @@ fn put_event(buf: &mut [u8], i: usize, event: Taken)
 }
 
 // The events that wait, oldest first, are written to the lent buffer from its front on; every other byte stays.
-pub fn drain_output_events(ring: Ring, buf: &mut [u8]) -> Drained
-    requires { ⌜ WellRing ring ⌝ }
-    ensures { λ r. ⌜ Drains r (ringView ring) (now (buf .entry)) (now (buf .exit)) ⌝ }
+pub fn drain_output_events(
+    queue: Queue,
+    events: &[u8],
+    asserted: &[bool],
+    buf: &mut [u8],
+) -> Drained
+    requires { ⌜ WellRing (ringOf queue (now events) (now asserted)) ⌝ }
+    ensures { λ r. ⌜ Drains r (now (events .entry)) (now (asserted .entry)) (ringView (ringOf queue (now (events .entry)) (now (asserted .entry)))) (now (buf .entry)) (now (buf .exit)) ⌝ }
 {
-    let mut out = ring;
+    let mut out = queue;
     let count = fitting(out.output_len, buf.len());
     let mut i = 0;
     while i < count {
-        let popped = state::pop_output_event(out);
+        let popped = state::pop_output_event(out, events, asserted);
         let event = popped.event;
-        out = popped.ring;
+        out = popped.queue;
         put_event(buf, i, event);
         i += 1;
     }
-    Drained { ring: out, count }
+    Drained { queue: out, count }
 }

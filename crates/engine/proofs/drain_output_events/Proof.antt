@@ -3,7 +3,7 @@ use mathlib.Core.Path.{_≡_, refl, sym, ap, subst, _∙_}
 use Prim.Native.Nat.{ℕ, _+_, _-_, _*_, _/_, _≤_, min}
 use native.Mathlib.Omega.{arith}
 use lib.ListN.{length}
-use Rattle.state.specs.View.{ringView}
+use Rattle.state.specs.View.{ringOf, ringView}
 use Rattle.state.specs.declared.Ring.{Ring}
 use Rattle.state.proofs.Slots.{slots-length}
 use Rattle.engine.specs.Moves.{Drains}
@@ -12,20 +12,20 @@ use borrow.Author.Needs.{needs}
 use Rattle.engine.proofs.drain_output_events.Statement.{statement}
 use Rattle.engine.proofs.drain_output_events.Tie as tie
 
-waiting : (r : Ring) → length (ringView r .waiting) ≡ r .«output_len»
-waiting r = slots-length (r .«output_vectors») (r .«output_asserted») (r .«output_head») (r .«output_len»)
+waiting : (r : Ring) → length (ringView r .waiting) ≡ r .queue .«output_len»
+waiting r = slots-length (r .«output_vectors») (r .«output_asserted») (r .queue .«output_head») (r .queue .«output_len»)
 
 abbrev Inv-loop : tie.InvT-loop
-Inv-loop buf₀ out₀ count i₀ buf out i = Draining (ringView out₀) count buf₀ buf out i
+Inv-loop events asserted buf₀ out₀ count i₀ buf out i = Draining (ringView (ringOf out₀ events asserted)) count buf₀ buf (ringOf out events asserted) i
 
 abbrev μ-loop : tie.MeasureT-loop
-μ-loop buf₀ out₀ count i₀ buf out i = count - i
+μ-loop events asserted buf₀ out₀ count i₀ buf out i = count - i
 
 fitting-requires : tie.Need-fitting-requires Inv-loop μ-loop
 fitting-requires c κs = search needs
 
 loop-holds : tie.Need-loop-holds Inv-loop μ-loop
-loop-holds c = drain-start _ _ _ (c .before .before .pre)
+loop-holds c = drain-start _ _ _ (c .before .before .before .before .pre)
 
 pop-output-event-requires : tie.Need-pop-output-event-requires Inv-loop μ-loop
 pop-output-event-requires c κs = c .before .loop .inv .well
@@ -41,12 +41,15 @@ loop-less c = omega arith
 
 loop-again : tie.Need-loop-again Inv-loop μ-loop
 loop-again c =
-    let l = c .before .before .before .before .before .before .before in
-    let a = l .before .before .before .args in
+    let p = c .before .before .before .before .before in
+    let t = p .before in
+    let l = t .before in
+    let a = l .before .before .before .before .before .args in
+    let r = ringOf (a .queue) (a .events .now) (a .asserted .now) in
     let n = l .before .fitting .ensures in
-    drain-step (ringView (a .ring)) (l .before .fitting .result) (a .buf .now) (l .loop .buf) (l .loop .out) (l .loop .i) (l .loop .inv)
-    (c .before .before .before .before .before .before .loop-test .taken) (omega (arith, n)) (omega (arith, n, waiting (a .ring)))
-    (c .before .before .before .before .before .pop-output-event .result) _ (c .before .before .before .before .before .pop-output-event .ensures) (c .before .before .put-event .ensures)
+    drain-step (ringView r) (l .before .fitting .result) (a .buf .now) (l .loop .buf) (ringOf (l .loop .out) (a .events .now) (a .asserted .now)) (l .loop .i) (l .loop .inv)
+    (t .loop-test .taken) (omega (arith, n)) (omega (arith, n, waiting r))
+    (p .pop-output-event .result) _ (p .pop-output-event .ensures) (c .before .before .put-event .ensures)
 
 same-length : tie.Need-same-length Inv-loop μ-loop
 same-length c = c .before .loop .inv .size
@@ -54,11 +57,13 @@ same-length c = c .before .loop .inv .size
 returns : tie.Need-returns Inv-loop μ-loop
 returns c =
     let l = c .before in
-    let a = l .before .before .before .args in
+    let a = l .before .before .before .before .before .args in
+    let r = ringOf (a .queue) (a .events .now) (a .asserted .now) in
+    let s = ringOf (l .loop .out) (a .events .now) (a .asserted .now) in
     let done : l .loop .i ≡ l .before .fitting .result = omega (arith, l .loop .inv .within) in
-    drain-done (ringView (a .ring)) (l .before .fitting .result) (a .buf .now) (l .loop .buf) (l .loop .out)
-    (subst (λ (k : ℕ). Draining (ringView (a .ring)) (l .before .fitting .result) (a .buf .now) (l .loop .buf) (l .loop .out) k) done (l .loop .inv))
-    (l .before .fitting .ensures ∙ ap (λ (k : ℕ). min k (length (a .buf .now) / 2)) (sym (waiting (a .ring))))
+    drain-done (ringView r) (l .before .fitting .result) (a .buf .now) (l .loop .buf) s
+    (subst (λ (k : ℕ). Draining (ringView r) (l .before .fitting .result) (a .buf .now) (l .loop .buf) s k) done (l .loop .inv))
+    (l .before .fitting .ensures ∙ ap (λ (k : ℕ). min k (length (a .buf .now) / 2)) (sym (waiting r)))
 
 pub drain-output-events-spec : {M : Type 1} → statement M
 drain-output-events-spec =
