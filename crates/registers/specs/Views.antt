@@ -35,6 +35,14 @@ plainView plain.Pol = core.pol
 plainView plain.Auto0 = core.auto0
 plainView plain.Auto1 = core.auto1
 
+-- where a stored register stands among the nine words
+abbrev pub plainWord : Plain → ℕ
+plainWord plain.HtmsiEn = 1
+plainWord plain.Edge = 2
+plainWord plain.Pol = 6
+plainWord plain.Auto0 = 7
+plainWord plain.Auto1 = 8
+
 abbrev pub registerView : Register → map.Register
 registerView register.Id = map.id
 registerView register.Mask = map.mask

@@ -1,19 +1,47 @@
 // The register file, after loongarch_pch_pic.rs of axdevice 0.8.5: what stands at an offset, the two cycles of readers and writers, the four widths.
+// The arrays of the state are lent, the registers as nine words: no step of a cycle copies them. read_register and write_register are the state's own.
+use state::Lines;
 use state::PchPicState;
+use state::Queue;
+use state::Ring;
+use state::Stored;
+use state::Tables;
 ghost use mathlib.Core.Path.{_≡_};
 ghost use mathlib.Core.Bool.{false};
-ghost use mathlib.Core.List.{[], _∷_};
-ghost use Prim.Native.Nat.{ℕ, _+_, _-_, _^_, _≤_, _<_};
-ghost use Rattle.rules.specs.Inputs.{asHalf};
-ghost use Rattle.rules.specs.Core.{plain, move, clear, setMask, setIsr, store, setPlain};
+ghost use mathlib.Core.List.{List, [], _∷_};
+ghost use Prim.Native.Nat.{ℕ, _+_, _-_, _*_, _/_, _%_, _^_, _≤_, _<_};
+ghost use lib.Dec.{eqb};
+ghost use lib.ListN.{length, getD, set};
+ghost use Rattle.rules.specs.Inputs.{asHalf, withHalf};
+ghost use Rattle.rules.specs.Core.{move, clear, setMask};
 ghost use Rattle.rules.specs.Map.{inByteArea, bytes, cellAt};
-ghost use Rattle.rules.specs.Access.{qword, entry, valueOf, readByte, readDword, readAt, registerActs, entryActs, byteActs, dwordActs, writeActs};
+ghost use Rattle.rules.specs.Access.{qword, entry, valueOf, readByte, readDword, readAt, registerActs, entryActs, dwordActs, writeActs};
 ghost use Rattle.rules.specs.Device.{acted};
-ghost use Rattle.state.specs.View.{view, Well, Is};
-ghost use Rattle.registers.specs.Views.{byteIndex, irqIndex, plainView, registerView, cellView, widthView};
-ghost use Rattle.registers.specs.Bytes.{bytesRead, bytesWritten};
+ghost use Rattle.state.specs.View.{ringOf, view, coreOf, WellRing, WellWords, Well, Is};
+ghost use Rattle.registers.specs.Views.{byteIndex, irqIndex, plainWord, registerView, cellView, widthView};
+ghost use Rattle.registers.specs.Bytes.{bytesRead, afterByte, afterWrite, bytesWritten};
+ghost use Rattle.registers.specs.Parts.{Lent, parts, shown, WellParts, Shows, Halved, linesIn, storedIn, withLinesIn, Entered};
 
 const IRQ_COUNT: usize = 64;
+
+// Where each register stands among the nine words, in the order in which an image has them.
+const INT_MASK: usize = 0;
+
+const HTMSI_EN: usize = 1;
+
+const INTEDGE: usize = 2;
+
+const LAST_INTIRR: usize = 3;
+
+const INTIRR: usize = 4;
+
+const INTISR: usize = 5;
+
+const INT_POLARITY: usize = 6;
+
+const AUTO_CTRL0: usize = 7;
+
+const AUTO_CTRL1: usize = 8;
 
 // ID as one register: INT_ID_VAL is its low half; the version and the last input are its high one.
 const INT_ID: u64 = 0x003f_0001_0700_0000;
@@ -83,31 +111,35 @@ pub fn reg8_offset(offset: usize) -> Index
     }
 }
 
-// What stands at an offset: the one place that tells the offsets of registers apart.
+// The offset of the low half, of a register whose half stands at an offset.
+fn low_offset(offset: usize) -> usize
+    ensures { λ r. ⌜ r ≡ offset - 4 * (offset / 4 % 2) ⌝ }
+{
+    offset - 4 * (offset / 4 % 2)
+}
+
+fn is_high(offset: usize) -> bool
+    ensures { λ r. ⌜ r ≡ eqb (offset / 4 % 2) 1 ⌝ }
+{
+    offset / 4 % 2 == 1
+}
+
+// What stands at an offset: the one place that tells the offsets of registers apart. High halves stand 4 above the low ones.
 pub fn decode(offset: usize) -> Cell
     ensures { λ r. ⌜ cellView r ≡ cellAt offset ⌝ }
 {
-    match offset {
-        PchPicState::INT_ID_LO => Cell::Half(Register::Id, false),
-        PchPicState::INT_ID_HI => Cell::Half(Register::Id, true),
-        PchPicState::INT_MASK_LO => Cell::Half(Register::Mask, false),
-        PchPicState::INT_MASK_HI => Cell::Half(Register::Mask, true),
-        PchPicState::HTMSI_EN_LO => Cell::Half(Register::Plain(Plain::HtmsiEn), false),
-        PchPicState::HTMSI_EN_HI => Cell::Half(Register::Plain(Plain::HtmsiEn), true),
-        PchPicState::INT_EDGE_LO => Cell::Half(Register::Plain(Plain::Edge), false),
-        PchPicState::INT_EDGE_HI => Cell::Half(Register::Plain(Plain::Edge), true),
-        PchPicState::INT_CLEAR_LO => Cell::Half(Register::Clear, false),
-        PchPicState::INT_CLEAR_HI => Cell::Half(Register::Clear, true),
-        PchPicState::AUTO_CTRL0_LO => Cell::Half(Register::Plain(Plain::Auto0), false),
-        PchPicState::AUTO_CTRL0_HI => Cell::Half(Register::Plain(Plain::Auto0), true),
-        PchPicState::AUTO_CTRL1_LO => Cell::Half(Register::Plain(Plain::Auto1), false),
-        PchPicState::AUTO_CTRL1_HI => Cell::Half(Register::Plain(Plain::Auto1), true),
-        PchPicState::INT_IRR_LO => Cell::Half(Register::Irr, false),
-        PchPicState::INT_IRR_HI => Cell::Half(Register::Irr, true),
-        PchPicState::INT_ISR_LO => Cell::Half(Register::Isr, false),
-        PchPicState::INT_ISR_HI => Cell::Half(Register::Isr, true),
-        PchPicState::POL_LO => Cell::Half(Register::Plain(Plain::Pol), false),
-        PchPicState::POL_HI => Cell::Half(Register::Plain(Plain::Pol), true),
+    let high = is_high(offset);
+    match low_offset(offset) {
+        PchPicState::INT_ID_LO => Cell::Half(Register::Id, high),
+        PchPicState::INT_MASK_LO => Cell::Half(Register::Mask, high),
+        PchPicState::HTMSI_EN_LO => Cell::Half(Register::Plain(Plain::HtmsiEn), high),
+        PchPicState::INT_EDGE_LO => Cell::Half(Register::Plain(Plain::Edge), high),
+        PchPicState::INT_CLEAR_LO => Cell::Half(Register::Clear, high),
+        PchPicState::AUTO_CTRL0_LO => Cell::Half(Register::Plain(Plain::Auto0), high),
+        PchPicState::AUTO_CTRL1_LO => Cell::Half(Register::Plain(Plain::Auto1), high),
+        PchPicState::INT_IRR_LO => Cell::Half(Register::Irr, high),
+        PchPicState::INT_ISR_LO => Cell::Half(Register::Isr, high),
+        PchPicState::POL_LO => Cell::Half(Register::Plain(Plain::Pol), high),
         PchPicState::ROUTE_ENTRY_BASE..=PchPicState::ROUTE_ENTRY_LAST
         | PchPicState::HTMSI_VEC_BASE..=PchPicState::HTMSI_VEC_LAST => Cell::Bytes,
         _ => Cell::Nothing,
@@ -115,20 +147,20 @@ pub fn decode(offset: usize) -> Cell
 }
 
 // A route or vector byte, and 0 at any other offset.
-fn read_entry(state: PchPicState, index: usize) -> u8
-    ensures { λ r. ⌜ r ≡ entry (view state .core) index ⌝ }
+fn read_entry(routes: &[u8], vectors: &[u8], index: usize) -> u8
+    requires { ⌜ (length (now routes) ≡ 64) × (length (now vectors) ≡ 64) ⌝ }
+    ensures { λ r. ⌜ r ≡ entry (coreOf [] (now (routes .entry)) (now (vectors .entry))) index ⌝ }
 {
-    let tables = state.tables;
     match index {
         PchPicState::ROUTE_ENTRY_BASE..=PchPicState::ROUTE_ENTRY_LAST => {
             match pch_pic_irq_index(index, PchPicState::ROUTE_ENTRY_BASE) {
-                Index::At(irq) => tables.route_entry[irq],
+                Index::At(irq) => routes[irq],
                 Index::None => 0,
             }
         }
         PchPicState::HTMSI_VEC_BASE..=PchPicState::HTMSI_VEC_LAST => {
             match pch_pic_irq_index(index, PchPicState::HTMSI_VEC_BASE) {
-                Index::At(irq) => tables.htmsi_vector[irq],
+                Index::At(irq) => vectors[irq],
                 Index::None => 0,
             }
         }
@@ -136,287 +168,330 @@ fn read_entry(state: PchPicState, index: usize) -> u8
     }
 }
 
-// A stored register.
-fn plain_of(state: PchPicState, register: Plain) -> u64
-    ensures { λ r. ⌜ r ≡ plain (view state .core .stored) (plainView register) ⌝ }
+// Where a stored register stands among the words.
+fn word_of(register: Plain) -> usize
+    ensures { λ r. ⌜ r ≡ plainWord register ⌝ }
 {
-    let stored = state.stored;
     match register {
-        Plain::HtmsiEn => stored.htmsi_en,
-        Plain::Edge => stored.intedge,
-        Plain::Pol => stored.int_polarity,
-        Plain::Auto0 => stored.auto_ctrl0,
-        Plain::Auto1 => stored.auto_ctrl1,
+        Plain::HtmsiEn => HTMSI_EN,
+        Plain::Edge => INTEDGE,
+        Plain::Pol => INT_POLARITY,
+        Plain::Auto0 => AUTO_CTRL0,
+        Plain::Auto1 => AUTO_CTRL1,
     }
 }
 
 // A register as it reads: CLEAR as 0, ISR without the masked bits.
-fn value_of(state: PchPicState, register: Register) -> u64
-    ensures { λ r. ⌜ r ≡ valueOf (view state .core) (registerView register) ⌝ }
+fn value_of(words: &[u64], register: Register) -> u64
+    requires { ⌜ length (now words) ≡ 9 ⌝ }
+    ensures { λ r. ⌜ r ≡ valueOf (coreOf (now (words .entry)) [] []) (registerView register) ⌝ }
 {
-    let lines = state.lines;
     match register {
         Register::Id => INT_ID,
-        Register::Mask => lines.int_mask,
+        Register::Mask => words[INT_MASK],
         Register::Clear => 0,
-        Register::Irr => lines.intirr,
-        Register::Isr => lines.intisr & !lines.int_mask,
-        Register::Plain(register) => plain_of(state, register),
+        Register::Irr => words[INTIRR],
+        Register::Isr => words[INTISR] & !words[INT_MASK],
+        Register::Plain(register) => {
+            let at = word_of(register);
+            words[at]
+        }
     }
 }
 
 // The three readers call one another, each time at a smaller depth: a Byte outside 0x100..0x39f needs 1, a Dword among the bytes 2.
-pub fn read_byte(state: PchPicState, offset: usize, depth: usize) -> u8
+pub fn read_byte(words: &[u64], routes: &[u8], vectors: &[u8], offset: usize, depth: usize) -> u8
+    requires { ⌜ Lent (now words) (now routes) (now vectors) ⌝ }
     requires { ⌜ (inByteArea offset ≡ false → 1 ≤ depth) ⌝ }
-    ensures { λ r. ⌜ r ≡ readByte (view state .core) offset ⌝ }
+    ensures { λ r. ⌜ r ≡ readByte (coreOf (now (words .entry)) (now (routes .entry)) (now (vectors .entry))) offset ⌝ }
 {
     if let Index::At(index) = reg8_offset(offset) {
-        return read_entry(state, index);
+        return read_entry(routes, vectors, index);
     }
     let place = offset & 0x3;
-    bits::byte_of(read_dword(state, offset & !0x3, depth - 1), place)
+    bits::byte_of(read_dword(words, routes, vectors, offset & !0x3, depth - 1), place)
 }
 
-pub fn read_split_bytes(state: PchPicState, offset: usize, len: usize, depth: usize) -> u32
+pub fn read_split_bytes(
+    words: &[u64],
+    routes: &[u8],
+    vectors: &[u8],
+    offset: usize,
+    len: usize,
+    depth: usize,
+) -> u32
+    requires { ⌜ Lent (now words) (now routes) (now vectors) ⌝ }
     requires { ⌜ (len ≤ 4) × (offset + len ≤ 2 ^ 64) ⌝ }
     requires { ⌜ 1 ≤ depth ⌝ }
     requires { ⌜ ((k : ℕ) → k < len → inByteArea (offset + k) ≡ false → 2 ≤ depth) ⌝ }
-    ensures { λ r. ⌜ r ≡ bytesRead (view state .core) offset len ⌝ }
+    ensures { λ r. ⌜ r ≡ bytesRead (coreOf (now (words .entry)) (now (routes .entry)) (now (vectors .entry))) offset len ⌝ }
 {
     let mut value = 0;
     for idx in 0..len {
-        value |= (read_byte(state, offset + idx, depth - 1) as u32) << (idx * 8);
+        value |= (read_byte(words, routes, vectors, offset + idx, depth - 1) as u32) << (idx * 8);
     }
     value
 }
 
-pub fn read_dword(state: PchPicState, offset: usize, depth: usize) -> u32
+pub fn read_dword(words: &[u64], routes: &[u8], vectors: &[u8], offset: usize, depth: usize) -> u32
+    requires { ⌜ Lent (now words) (now routes) (now vectors) ⌝ }
     requires { ⌜ (cellAt offset ≡ bytes → 2 ≤ depth) ⌝ }
-    ensures { λ r. ⌜ r ≡ readDword (view state .core) offset ⌝ }
+    ensures { λ r. ⌜ r ≡ readDword (coreOf (now (words .entry)) (now (routes .entry)) (now (vectors .entry))) offset ⌝ }
 {
     match decode(offset) {
-        Cell::Half(register, high) => bits::half(value_of(state, register), high),
-        Cell::Bytes => read_split_bytes(state, offset, 4, depth - 1),
+        Cell::Half(register, high) => bits::half(value_of(words, register), high),
+        Cell::Bytes => read_split_bytes(words, routes, vectors, offset, 4, depth - 1),
         Cell::Nothing => 0,
     }
 }
 
 // Dword and then Dword.
-fn read_qword(state: PchPicState, offset: usize) -> u64
-    ensures { λ r. ⌜ r ≡ readAt (view state .core) qword offset ⌝ }
+fn read_qword(words: &[u64], routes: &[u8], vectors: &[u8], offset: usize) -> u64
+    requires { ⌜ Lent (now words) (now routes) (now vectors) ⌝ }
+    ensures { λ r. ⌜ r ≡ readAt (coreOf (now (words .entry)) (now (routes .entry)) (now (vectors .entry))) qword offset ⌝ }
 {
-    let low = read_dword(state, offset, 2) as u64;
+    let low = read_dword(words, routes, vectors, offset, 2) as u64;
     if LAST_QWORD < offset {
         return low;
     }
-    low | ((read_dword(state, offset + 4, 2) as u64) << 32)
+    low | ((read_dword(words, routes, vectors, offset + 4, 2) as u64) << 32)
 }
 
 // What an access reads. The window ends before 2^64 - 1, so an offset is smaller.
+pub fn read_access(words: &[u64], routes: &[u8], vectors: &[u8], width: Width, offset: usize) -> u64
+    requires { ⌜ Lent (now words) (now routes) (now vectors) ⌝ }
+    requires { ⌜ offset < 2 ^ 64 - 1 ⌝ }
+    ensures { λ r. ⌜ r ≡ readAt (coreOf (now (words .entry)) (now (routes .entry)) (now (vectors .entry))) (widthView width) offset ⌝ }
+{
+    match width {
+        Width::Byte => read_byte(words, routes, vectors, offset, 1) as u64,
+        Width::Word => read_split_bytes(words, routes, vectors, offset, 2, 2) as u64,
+        Width::Dword => read_dword(words, routes, vectors, offset, 2) as u64,
+        Width::Qword => read_qword(words, routes, vectors, offset),
+    }
+}
+
+// What an access reads of a state.
 pub fn read_register(state: PchPicState, width: Width, offset: usize) -> u64
     requires { ⌜ offset < 2 ^ 64 - 1 ⌝ }
     ensures { λ r. ⌜ r ≡ readAt (view state .core) (widthView width) offset ⌝ }
 {
-    match width {
-        Width::Byte => read_byte(state, offset, 1) as u64,
-        Width::Word => read_split_bytes(state, offset, 2, 2) as u64,
-        Width::Dword => read_dword(state, offset, 2) as u64,
-        Width::Qword => read_qword(state, offset),
+    let words = state.words();
+    let tables = state.tables;
+    let routes = tables.route_entry;
+    let vectors = tables.htmsi_vector;
+    read_access(&words, &routes, &vectors, width, offset)
+}
+
+// ---- writing
+
+// The registers that move, out of the words and back into them.
+fn lines_of(words: &[u64]) -> Lines
+    requires { ⌜ length (now words) ≡ 9 ⌝ }
+    ensures { λ r. ⌜ r ≡ linesIn (now (words .entry)) ⌝ }
+{
+    Lines {
+        int_mask: words[INT_MASK],
+        last_intirr: words[LAST_INTIRR],
+        intirr: words[INTIRR],
+        intisr: words[INTISR],
     }
+}
+
+fn put_lines(words: &mut [u64], lines: Lines)
+    requires { ⌜ length (now words) ≡ 9 ⌝ }
+    ensures { λ _. ⌜ now (words .exit) ≡ withLinesIn lines (now (words .entry)) ⌝ }
+{
+    words[INT_MASK] = lines.int_mask;
+    words[LAST_INTIRR] = lines.last_intirr;
+    words[INTIRR] = lines.intirr;
+    words[INTISR] = lines.intisr;
+}
+
+// The half of a word is replaced.
+fn put_half(words: &mut [u64], at: usize, val: u32, high: bool)
+    requires { ⌜ at < length (now words) ⌝ }
+    ensures { λ _. ⌜ now (words .exit) ≡ set (now (words .entry)) at (withHalf high (getD (now (words .entry)) at 0) val) ⌝ }
+{
+    words[at] = bits::replace_u32(words[at], val, high);
 }
 
 // MASK: the engine moves the lines and offers their events to the ring.
-fn write_mask(state: PchPicState, val: u32, high: bool) -> PchPicState
-    requires { ⌜ Well state ⌝ }
-    ensures { λ r. ⌜ Is r (acted (view state) (move (setMask high val) ∷ [])) ⌝ }
+fn write_mask(words: &mut [u64], queue: Queue, events: &mut [u8], asserted: &mut [bool], vectors: &[u8], val: u32, high: bool) -> Queue
+    requires { ⌜ WellWords (now words) × WellRing (ringOf queue (now events) (now asserted)) × (length (now vectors) ≡ 64) ⌝ }
+    ensures { λ r. ⌜ Halved (λ rs. (parts (now (words .entry)) queue (now (events .entry)) (now (asserted .entry)) rs (now (vectors .entry)))) (λ rs. (parts (now (words .exit)) r (now (events .exit)) (now (asserted .exit)) rs (now (vectors .entry)))) (move (setMask high val) ∷ []) ⌝ }
 {
-    let mut out = state;
-    let tables = out.tables;
-    let moved = engine::update_int_mask(out.lines, out.ring, &tables.htmsi_vector, val, high);
-    let lines = moved.lines;
-    let ring = moved.ring;
-    out.lines = lines;
-    out.ring = ring;
-    out
+    let moved = engine::update_int_mask(lines_of(words), queue, events, asserted, vectors, val, high);
+    put_lines(words, moved.lines);
+    moved.queue
 }
 
 // CLEAR: the bits stand in their half.
-fn write_clear(state: PchPicState, val: u32, high: bool) -> PchPicState
-    requires { ⌜ Well state ⌝ }
-    ensures { λ r. ⌜ Is r (acted (view state) (move (clear (asHalf high val)) ∷ [])) ⌝ }
+fn write_clear(words: &mut [u64], queue: Queue, events: &mut [u8], asserted: &mut [bool], vectors: &[u8], val: u32, high: bool) -> Queue
+    requires { ⌜ WellWords (now words) × WellRing (ringOf queue (now events) (now asserted)) × (length (now vectors) ≡ 64) ⌝ }
+    ensures { λ r. ⌜ Halved (λ rs. (parts (now (words .entry)) queue (now (events .entry)) (now (asserted .entry)) rs (now (vectors .entry)))) (λ rs. (parts (now (words .exit)) r (now (events .exit)) (now (asserted .exit)) rs (now (vectors .entry)))) (move (clear (asHalf high val)) ∷ []) ⌝ }
 {
-    let mut out = state;
-    let tables = out.tables;
     let mask = bits::in_half(val, high);
-    let moved = engine::clear_irq(out.lines, out.ring, &tables.htmsi_vector, mask);
-    let lines = moved.lines;
-    let ring = moved.ring;
-    out.lines = lines;
-    out.ring = ring;
-    out
+    let moved = engine::clear_irq(lines_of(words), queue, events, asserted, vectors, mask);
+    put_lines(words, moved.lines);
+    moved.queue
 }
 
-// ISR: the stored half is replaced, and no event is made.
-fn write_isr(state: PchPicState, val: u32, high: bool) -> PchPicState
-    requires { ⌜ Well state ⌝ }
-    ensures { λ r. ⌜ Is r (acted (view state) (setIsr high val ∷ [])) ⌝ }
-{
-    let mut out = state;
-    let new = bits::replace_u32(out.lines.intisr, val, high);
-    out.lines.intisr = new;
-    out
-}
-
-// The other registers are stored.
-fn write_plain(state: PchPicState, register: Plain, val: u32, high: bool) -> PchPicState
-    requires { ⌜ Well state ⌝ }
-    ensures { λ r. ⌜ Is r (acted (view state) (store (setPlain (plainView register) high val) ∷ [])) ⌝ }
-{
-    let mut out = state;
-    let new = bits::replace_u32(plain_of(state, register), val, high);
-    match register {
-        Plain::HtmsiEn => {
-            out.stored.htmsi_en = new;
-            out
-        }
-        Plain::Edge => {
-            out.stored.intedge = new;
-            out
-        }
-        Plain::Pol => {
-            out.stored.int_polarity = new;
-            out
-        }
-        Plain::Auto0 => {
-            out.stored.auto_ctrl0 = new;
-            out
-        }
-        Plain::Auto1 => {
-            out.stored.auto_ctrl1 = new;
-            out
-        }
-    }
-}
-
-// A register's half; ID and IRR ignore it.
-fn write_half(state: PchPicState, register: Register, val: u32, high: bool) -> PchPicState
-    requires { ⌜ Well state ⌝ }
-    ensures { λ r. ⌜ Is r (acted (view state) (registerActs (registerView register) high val)) ⌝ }
+// A register's half; ID and IRR ignore it. ISR and the stored registers make no event.
+fn write_half(words: &mut [u64], queue: Queue, events: &mut [u8], asserted: &mut [bool], vectors: &[u8], register: Register, val: u32, high: bool) -> Queue
+    requires { ⌜ WellWords (now words) × WellRing (ringOf queue (now events) (now asserted)) × (length (now vectors) ≡ 64) ⌝ }
+    ensures { λ r. ⌜ Halved (λ rs. (parts (now (words .entry)) queue (now (events .entry)) (now (asserted .entry)) rs (now (vectors .entry)))) (λ rs. (parts (now (words .exit)) r (now (events .exit)) (now (asserted .exit)) rs (now (vectors .entry)))) (registerActs (registerView register) high val) ⌝ }
 {
     match register {
-        Register::Id => state,
-        Register::Mask => write_mask(state, val, high),
-        Register::Clear => write_clear(state, val, high),
-        Register::Irr => state,
-        Register::Isr => write_isr(state, val, high),
-        Register::Plain(register) => write_plain(state, register, val, high),
+        Register::Id => queue,
+        Register::Mask => write_mask(words, queue, events, asserted, vectors, val, high),
+        Register::Clear => write_clear(words, queue, events, asserted, vectors, val, high),
+        Register::Irr => queue,
+        Register::Isr => {
+            put_half(words, INTISR, val, high);
+            queue
+        }
+        Register::Plain(register) => {
+            put_half(words, word_of(register), val, high);
+            queue
+        }
     }
 }
 
 // A route or vector byte; at any other offset nothing.
-fn write_entry(state: PchPicState, index: usize, val: u8) -> PchPicState
-    requires { ⌜ Well state ⌝ }
-    ensures { λ r. ⌜ Is r (acted (view state) (entryActs index val)) ⌝ }
+fn write_entry(routes: &mut [u8], vectors: &mut [u8], index: usize, val: u8)
+    requires { ⌜ (length (now routes) ≡ 64) × (length (now vectors) ≡ 64) ⌝ }
+    ensures { λ _. ⌜ Entered (now (routes .entry)) (now (vectors .entry)) (now (routes .exit)) (now (vectors .exit)) (entryActs index val) ⌝ }
 {
-    let mut out = state;
-    let mut tables = out.tables;
     match index {
         PchPicState::ROUTE_ENTRY_BASE..=PchPicState::ROUTE_ENTRY_LAST => {
-            match pch_pic_irq_index(index, PchPicState::ROUTE_ENTRY_BASE) {
-                Index::At(irq) => {
-                    tables.route_entry[irq] = val;
-                    out.tables = tables;
-                    out
-                }
-                Index::None => out,
+            if let Index::At(irq) = pch_pic_irq_index(index, PchPicState::ROUTE_ENTRY_BASE) {
+                routes[irq] = val;
             }
         }
         PchPicState::HTMSI_VEC_BASE..=PchPicState::HTMSI_VEC_LAST => {
-            match pch_pic_irq_index(index, PchPicState::HTMSI_VEC_BASE) {
-                Index::At(irq) => {
-                    tables.htmsi_vector[irq] = val;
-                    out.tables = tables;
-                    out
-                }
-                Index::None => out,
+            if let Index::At(irq) = pch_pic_irq_index(index, PchPicState::HTMSI_VEC_BASE) {
+                vectors[irq] = val;
             }
         }
-        _ => out,
+        _ => {}
     }
 }
 
 // The three writers call one another as the readers do.
-pub fn write_byte(state: PchPicState, offset: usize, val: u8, depth: usize) -> PchPicState
-    requires { ⌜ Well state ⌝ }
+pub fn write_byte(words: &mut [u64], queue: Queue, events: &mut [u8], asserted: &mut [bool], routes: &mut [u8], vectors: &mut [u8], offset: usize, val: u8, depth: usize) -> Queue
+    requires { ⌜ WellParts (parts (now words) queue (now events) (now asserted) (now routes) (now vectors)) ⌝ }
     requires { ⌜ (inByteArea offset ≡ false → 1 ≤ depth) ⌝ }
-    ensures { λ r. ⌜ Is r (acted (view state) (byteActs (view state .core) offset val)) ⌝ }
+    ensures { λ r. ⌜ Shows (parts (now (words .exit)) r (now (events .exit)) (now (asserted .exit)) (now (routes .exit)) (now (vectors .exit))) (afterByte (shown (parts (now (words .entry)) queue (now (events .entry)) (now (asserted .entry)) (now (routes .entry)) (now (vectors .entry)))) offset val) ⌝ }
 {
     if let Index::At(index) = reg8_offset(offset) {
-        return write_entry(state, index, val);
+        write_entry(routes, vectors, index, val);
+        return queue;
     }
     let aligned = offset & !0x3;
     let place = offset & 0x3;
     // The Dword as it reads: of ISR the masked bits are lost.
-    let old = read_dword(state, aligned, depth);
+    let old = read_dword(words, routes, vectors, aligned, depth);
     let new = bits::with_byte(old, place, val);
-    write_dword(state, aligned, new, depth - 1)
+    write_dword(words, queue, events, asserted, routes, vectors, aligned, new, depth - 1)
 }
 
-pub fn write_split_bytes(
-    state: PchPicState,
-    offset: usize,
-    len: usize,
-    val: u32,
-    depth: usize,
-) -> PchPicState
-    requires { ⌜ Well state ⌝ }
+pub fn write_split_bytes(words: &mut [u64], queue: Queue, events: &mut [u8], asserted: &mut [bool], routes: &mut [u8], vectors: &mut [u8], offset: usize, len: usize, val: u32, depth: usize) -> Queue
+    requires { ⌜ WellParts (parts (now words) queue (now events) (now asserted) (now routes) (now vectors)) ⌝ }
     requires { ⌜ (len ≤ 4) × (offset + len ≤ 2 ^ 64) ⌝ }
     requires { ⌜ 1 ≤ depth ⌝ }
     requires { ⌜ ((k : ℕ) → k < len → inByteArea (offset + k) ≡ false → 2 ≤ depth) ⌝ }
-    ensures { λ r. ⌜ Is r (bytesWritten (view state) offset val len) ⌝ }
+    ensures { λ r. ⌜ Shows (parts (now (words .exit)) r (now (events .exit)) (now (asserted .exit)) (now (routes .exit)) (now (vectors .exit))) (bytesWritten (shown (parts (now (words .entry)) queue (now (events .entry)) (now (asserted .entry)) (now (routes .entry)) (now (vectors .entry)))) offset val len) ⌝ }
 {
-    let mut out = state;
+    let mut out = queue;
     for idx in 0..len {
-        out = write_byte(out, offset + idx, bits::byte_of(val, idx), depth - 1);
+        let byte = bits::byte_of(val, idx);
+        out = write_byte(words, out, events, asserted, routes, vectors, offset + idx, byte, depth - 1);
     }
     out
 }
 
-pub fn write_dword(state: PchPicState, offset: usize, val: u32, depth: usize) -> PchPicState
-    requires { ⌜ Well state ⌝ }
+pub fn write_dword(words: &mut [u64], queue: Queue, events: &mut [u8], asserted: &mut [bool], routes: &mut [u8], vectors: &mut [u8], offset: usize, val: u32, depth: usize) -> Queue
+    requires { ⌜ WellParts (parts (now words) queue (now events) (now asserted) (now routes) (now vectors)) ⌝ }
     requires { ⌜ (cellAt offset ≡ bytes → 2 ≤ depth) ⌝ }
-    ensures { λ r. ⌜ Is r (acted (view state) (dwordActs offset val)) ⌝ }
+    ensures { λ r. ⌜ Shows (parts (now (words .exit)) r (now (events .exit)) (now (asserted .exit)) (now (routes .exit)) (now (vectors .exit))) (acted (shown (parts (now (words .entry)) queue (now (events .entry)) (now (asserted .entry)) (now (routes .entry)) (now (vectors .entry)))) (dwordActs offset val)) ⌝ }
 {
     match decode(offset) {
-        Cell::Half(register, high) => write_half(state, register, val, high),
-        Cell::Bytes => write_split_bytes(state, offset, 4, val, depth - 1),
-        Cell::Nothing => state,
+        Cell::Half(register, high) => {
+            write_half(words, queue, events, asserted, vectors, register, val, high)
+        }
+        Cell::Bytes => write_split_bytes(words, queue, events, asserted, routes, vectors, offset, 4, val, depth - 1),
+        Cell::Nothing => queue,
     }
 }
 
 // Dword and then Dword, which meets what the first left.
-fn write_qword(state: PchPicState, offset: usize, val: u64) -> PchPicState
-    requires { ⌜ Well state ⌝ }
-    ensures { λ r. ⌜ Is r (acted (view state) (writeActs (view state .core) qword offset val)) ⌝ }
+fn write_qword(words: &mut [u64], queue: Queue, events: &mut [u8], asserted: &mut [bool], routes: &mut [u8], vectors: &mut [u8], offset: usize, val: u64) -> Queue
+    requires { ⌜ WellParts (parts (now words) queue (now events) (now asserted) (now routes) (now vectors)) ⌝ }
+    ensures { λ r. ⌜ Shows (parts (now (words .exit)) r (now (events .exit)) (now (asserted .exit)) (now (routes .exit)) (now (vectors .exit))) (afterWrite (shown (parts (now (words .entry)) queue (now (events .entry)) (now (asserted .entry)) (now (routes .entry)) (now (vectors .entry)))) qword offset val) ⌝ }
 {
-    let first = write_dword(state, offset, bits::half(val, false), 2);
+    let first = write_dword(words, queue, events, asserted, routes, vectors, offset, bits::half(val, false), 2);
     if LAST_QWORD < offset {
         return first;
     }
-    write_dword(first, offset + 4, bits::half(val, true), 2)
+    let high = bits::half(val, true);
+    write_dword(words, first, events, asserted, routes, vectors, offset + 4, high, 2)
 }
 
 // What an access writes; a value loses its bits above the width.
+pub fn write_access(words: &mut [u64], queue: Queue, events: &mut [u8], asserted: &mut [bool], routes: &mut [u8], vectors: &mut [u8], width: Width, offset: usize, val: u64) -> Queue
+    requires { ⌜ WellParts (parts (now words) queue (now events) (now asserted) (now routes) (now vectors)) ⌝ }
+    requires { ⌜ offset < 2 ^ 64 - 1 ⌝ }
+    ensures { λ r. ⌜ Shows (parts (now (words .exit)) r (now (events .exit)) (now (asserted .exit)) (now (routes .exit)) (now (vectors .exit))) (afterWrite (shown (parts (now (words .entry)) queue (now (events .entry)) (now (asserted .entry)) (now (routes .entry)) (now (vectors .entry)))) (widthView width) offset val) ⌝ }
+{
+    let low = bits::half(val, false);
+    match width {
+        Width::Byte => write_byte(words, queue, events, asserted, routes, vectors, offset, bits::byte_of(low, 0), 1),
+        Width::Word => write_split_bytes(words, queue, events, asserted, routes, vectors, offset, 2, low, 2),
+        Width::Dword => write_dword(words, queue, events, asserted, routes, vectors, offset, low, 2),
+        Width::Qword => write_qword(words, queue, events, asserted, routes, vectors, offset, val),
+    }
+}
+
+// The stored registers out of the words.
+fn stored_of(words: &[u64]) -> Stored
+    requires { ⌜ length (now words) ≡ 9 ⌝ }
+    ensures { λ r. ⌜ r ≡ storedIn (now (words .entry)) ⌝ }
+{
+    Stored {
+        htmsi_en: words[HTMSI_EN],
+        intedge: words[INTEDGE],
+        int_polarity: words[INT_POLARITY],
+        auto_ctrl0: words[AUTO_CTRL0],
+        auto_ctrl1: words[AUTO_CTRL1],
+    }
+}
+
+// A state after an access has written to it.
 pub fn write_register(state: PchPicState, width: Width, offset: usize, val: u64) -> PchPicState
     requires { ⌜ Well state ⌝ }
     requires { ⌜ offset < 2 ^ 64 - 1 ⌝ }
     ensures { λ r. ⌜ Is r (acted (view state) (writeActs (view state .core) (widthView width) offset val)) ⌝ }
 {
-    let low = bits::half(val, false);
-    match width {
-        Width::Byte => write_byte(state, offset, bits::byte_of(low, 0), 1),
-        Width::Word => write_split_bytes(state, offset, 2, low, 2),
-        Width::Dword => write_dword(state, offset, low, 2),
-        Width::Qword => write_qword(state, offset, val),
+    let mut words = state.words();
+    let ring = state.ring;
+    let tables = state.tables;
+    let mut events = ring.output_vectors;
+    let mut asserted = ring.output_asserted;
+    let mut routes = tables.route_entry;
+    let mut vectors = tables.htmsi_vector;
+    let queue = write_access(&mut words, ring.queue, &mut events, &mut asserted, &mut routes, &mut vectors, width, offset, val);
+    PchPicState {
+        lines: lines_of(&words),
+        stored: stored_of(&words),
+        tables: Tables {
+            route_entry: routes,
+            htmsi_vector: vectors,
+        },
+        ring: Ring {
+            output_vectors: events,
+            output_asserted: asserted,
+            queue,
+        },
     }
 }

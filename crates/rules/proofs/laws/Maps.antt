@@ -2,11 +2,11 @@
 use mathlib.Core.Path.{_≡_, refl, sym, ap, _∙_}
 use mathlib.Core.Bool.{Bool, true, false, cond, _||_, false≢true, and-eq-true-iff}
 use mathlib.Core.List.{List, [], _∷_}
-use Prim.Native.Nat.{ℕ, _+_, _-_, _%_, _≤_, _<_}
+use Prim.Native.Nat.{ℕ, zero, suc, _+_, _-_, _*_, _/_, _%_, _≤_, _<_}
 use native.Mathlib.Omega.{arith}
 use lib.Dec.{eqb, leb, ltb}
 use borrow.Author.Tests.{le-leb, lt-ltb, leb-true, ltb-true, ne-eqb}
-use Rattle.rules.specs.Map.{Row, Cell, halfOf, bytes, nothing, table, lookup, within, inRoutes, inVectors, inByteArea, cellAt}
+use Rattle.rules.specs.Map.{Register, Row, Cell, halfOf, bytes, nothing, table, lookup, within, inRoutes, inVectors, inByteArea, cellAt}
 
 -- ---- ranges
 module _ (a e o : ℕ) where
@@ -68,6 +68,45 @@ missed-all A (r ∷ rs) other o m =
 -- at an offset that rows do not list stands the other cell
 pub missed : (rs : List Row) (other : Cell) (o : ℕ) → Missed Unit rs o → lookup rs other o ≡ other
 missed rs other o m = missed-all Unit rs other o m .0
+
+-- ---- the table by its low halves
+
+-- the offset of the low half, of a register whose half stands at o
+abbrev pub lowOf : ℕ → ℕ
+lowOf o = o - 4 * (o / 4 % 2)
+
+-- o is none of the low offsets of the rows
+abbrev pub MissedLow : Type 0 → List Row → ℕ → Type 0
+MissedLow A [] o = A
+MissedLow A (r ∷ rs) o = MissedLow (A × (o ≡ r .low → ⊥)) rs o
+
+-- high halves stand 4 above the low ones, which are divisible by 8
+abbrev Paired : List Row → Type 0
+Paired [] = Unit
+Paired (r ∷ rs) = ((r .low / 4 % 2 ≡ 0) × (r .high ≡ r .low + 4)) × Paired rs
+
+paired : Paired table
+paired =
+    ((refl, refl), ((refl, refl), ((refl, refl), ((refl, refl), ((refl, refl), ((refl, refl), ((refl, refl), ((refl, refl), ((refl, refl), ((refl, refl), tt))))))))))
+
+module _ (o : ℕ) where
+  missed-rows : (A B : Type 0) → (A → B) → (rs : List Row) → Paired rs → MissedLow A rs (lowOf o) → Missed B rs o
+  missed-rows A B f [] p m = f m
+  missed-rows A B f (r ∷ rs) p m =
+      missed-rows (A × (lowOf o ≡ r .low → ⊥)) ((B × (o ≡ r .low → ⊥)) × (o ≡ r .high → ⊥))
+      (λ a. ((f (a .0), λ e. a .1 (omega (arith, p .0 .0))), λ e. a .1 (omega (arith, p .0 .0, p .0 .1)))) rs (p .1) m
+
+  pub halves-missed : MissedLow Unit table (lowOf o) → Missed Unit table o
+  halves-missed m = missed-rows Unit Unit (λ u. u) table paired m
+
+  -- what stands at an offset, by the low half that it goes with
+  pub half-of : (r : Register) (l : ℕ) → cellAt l ≡ halfOf r false → cellAt (l + 4) ≡ halfOf r true → lowOf o ≡ l → halfOf r (eqb (o / 4 % 2) 1) ≡ cellAt o
+  half-of r l e f h = go (o / 4 % 2) refl
+    where
+      go : (b : ℕ) → o / 4 % 2 ≡ b → halfOf r (eqb (o / 4 % 2) 1) ≡ cellAt o
+      go zero t = let s : o ≡ l = omega arith in ap (λ (b : ℕ). halfOf r (eqb b 1)) t ∙ sym e ∙ ap cellAt (sym s)
+      go (suc zero) t = let s : o ≡ l + 4 = omega arith in ap (λ (b : ℕ). halfOf r (eqb b 1)) t ∙ sym f ∙ ap cellAt (sym s)
+      go (suc (suc b)) t = absurd (omega arith)
 
 -- rows list halves of registers alone
 pub lookup-bytes : (rs : List Row) (other : Cell) (o : ℕ) → lookup rs other o ≡ bytes → other ≡ bytes
