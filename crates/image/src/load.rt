@@ -5,6 +5,7 @@ use crate::bytes::word_at;
 use crate::contents;
 use state::Lines;
 use state::PchPicState;
+use state::Queue;
 use state::Ring;
 use state::Stored;
 use state::Tables;
@@ -77,9 +78,11 @@ fn ring_of(pairs: &[u8], len: usize, drops: u32) -> Ring
     Ring {
         output_vectors,
         output_asserted,
-        output_head: 0,
-        output_len: len,
-        output_drops: drops,
+        queue: Queue {
+            output_head: 0,
+            output_len: len,
+            output_drops: drops,
+        },
     }
 }
 

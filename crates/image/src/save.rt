@@ -26,12 +26,12 @@ fn flag_byte(asserted: bool) -> u8
 
 // The n oldest events as pairs, from the front of dst; every other byte stays.
 pub fn put_events(dst: &mut [u8], ring: Ring, n: usize)
-    requires { ⌜ WellRing ring × (n ≤ ring .«output_len») × (2 * n ≤ length (now dst)) ⌝ }
+    requires { ⌜ WellRing ring × (n ≤ ring .queue .«output_len») × (2 * n ≤ length (now dst)) ⌝ }
     ensures { λ _. ⌜ now (dst .exit) ≡ pairsOf (take n (ringView ring .waiting)) ++ drop (2 * n) (now (dst .entry)) ⌝ }
 {
     let mut i = 0;
     while i < n {
-        let at = (ring.output_head + i) % 16;
+        let at = (ring.queue.output_head + i) % 16;
         dst[2 * i] = ring.output_vectors[at];
         dst[2 * i + 1] = flag_byte(ring.output_asserted[at]);
         i += 1;
@@ -43,9 +43,9 @@ fn put_ring(dst: &mut [u8], ring: Ring)
     requires { ⌜ (length (now dst) ≡ ringLength) × WellRing ring ⌝ }
     ensures { λ _. ⌜ now (dst .exit) ≡ ringBody (withRing (ringView ring) reset) ⌝ }
 {
-    let len = ring.output_len;
+    let len = ring.queue.output_len;
     put_number(&mut dst[0..1], len as u64);
-    put_number(&mut dst[1..5], ring.output_drops as u64);
+    put_number(&mut dst[1..5], ring.queue.output_drops as u64);
     put_zeros(&mut dst[5..37]);
     put_events(&mut dst[5..37], ring, len);
 }
@@ -71,19 +71,7 @@ pub fn save(image: &mut [u8], state: PchPicState)
     requires { ⌜ (length (now image) ≡ imageLength) × Well state ⌝ }
     ensures { λ _. ⌜ now (image .exit) ≡ encode (view state) ⌝ }
 {
-    let lines = state.lines;
-    let stored = state.stored;
-    let words = [
-        lines.int_mask,
-        stored.htmsi_en,
-        stored.intedge,
-        lines.last_intirr,
-        lines.intirr,
-        lines.intisr,
-        stored.int_polarity,
-        stored.auto_ctrl0,
-        stored.auto_ctrl1,
-    ];
+    let words = state.words();
     contents::put_contents(&mut image[0..22]);
     put_words(&mut image[22..94], &words);
     copy(&mut image[94..158], &state.tables.route_entry);

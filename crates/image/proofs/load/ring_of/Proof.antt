@@ -26,7 +26,7 @@ returns c =
     let l = c .before .loop in
     let s = c .before .before in
     record {
-      well = record { head = omega arith; len = s .pre .1 };
+      well = record { vectors = l .inv .1 .slots; asserted = l .inv .1 .flags; head = omega arith; len = s .pre .1 };
       shows = ap (λ es. record { waiting = es; drops = s .args .drops }) (held-all (s .pre .0) (l .inv .1) (omega arith) (s .args .len) (s .pre .1));
     }
 
