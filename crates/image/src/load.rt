@@ -70,7 +70,7 @@ fn ring_of(pairs: &[u8], len: usize, drops: u32) -> Ring
     let mut output_vectors = [0u8; 16];
     let mut output_asserted = [false; 16];
     let mut i = 0;
-    while i < 16 {
+    while i < len {
         output_vectors[i] = pairs[2 * i];
         output_asserted[i] = pairs[2 * i + 1] == 1;
         i += 1;
