@@ -9,6 +9,7 @@ use Rattle.rules.specs.Ring as rules-ring
 use Rattle.rules.specs.Core as rules-core
 use Rattle.rules.specs.Device.{Device, WellFormed}
 use Rattle.rules.specs.Device as device
+use Rattle.rules.specs.Image.{maskAt, htmsiEnAt, edgeAt, lastIrrAt, irrAt, isrAt, polAt, auto0At, auto1At, registerAt}
 use Rattle.rules.specs.Image.{encode, ImageTest, accepted, wrongLength, wrongContents, wrongBody}
 use Rattle.state.specs.View.{linesView, storedView, WellLines}
 use Rattle.state.specs.declared.Lines.{Lines}
@@ -39,6 +40,12 @@ withWord at x l = take at l ++ (bytesOf 8 x ++ drop (at + 8) l)
 abbrev pub spelled : List ℕ → List ℕ
 spelled [] = []
 spelled (x ∷ xs) = bytesOf 8 x ++ spelled xs
+
+-- the registers of body 1, in their order
+abbrev pub imageWords : List ℕ → List ℕ
+imageWords l =
+    registerAt maskAt l ∷ registerAt htmsiEnAt l ∷ registerAt edgeAt l ∷ registerAt lastIrrAt l ∷ registerAt irrAt l ∷ registerAt isrAt l
+    ∷ registerAt polAt l ∷ registerAt auto0At l ∷ registerAt auto1At l ∷ []
 
 -- what a function that hands back a part of the state promises, beside IsRing and Is: it is well formed, and shows what the rules say
 pub record IsLines (l : Lines) (shown : rules-lines.Lines) : Type 0 where

@@ -15,7 +15,7 @@ ghost use lib.ListN.{length};
 ghost use Rattle.rules.specs.Ring.{capacity};
 ghost use Rattle.rules.specs.Image.{imageLength, pairsLength, countOf, eventsOf, decode};
 ghost use Rattle.state.specs.View.{IsRing, Is};
-ghost use Rattle.image.specs.Shown.{IsLines, IsStored, IsTables};
+ghost use Rattle.image.specs.Shown.{imageWords, IsLines, IsStored, IsTables};
 
 pub fn load_lines(image: &[u8]) -> Lines
     requires { ⌜ length (now image) ≡ imageLength ⌝ }
@@ -60,6 +60,32 @@ pub fn load_tables(image: &[u8]) -> Tables
         route_entry,
         htmsi_vector,
     }
+}
+
+// The nine registers in their order, with the copy of IRR as the image has it.
+pub fn load_words(image: &[u8]) -> [u64; 9]
+    requires { ⌜ length (now image) ≡ imageLength ⌝ }
+    ensures { λ r. ⌜ r ≡ imageWords (now (image .entry)) ⌝ }
+{
+    [
+        word_at(image, contents::MASK),
+        word_at(image, contents::HTMSI_EN),
+        word_at(image, contents::EDGE),
+        word_at(image, contents::LAST_IRR),
+        word_at(image, contents::IRR),
+        word_at(image, contents::ISR),
+        word_at(image, contents::POL),
+        word_at(image, contents::AUTO0),
+        word_at(image, contents::AUTO1),
+    ]
+}
+
+// The vector body is handed on to the leaf that fills 64 entries.
+pub fn load_vectors(image: &[u8]) -> [u8; 64]
+    requires { ⌜ length (now image) ≡ imageLength ⌝ }
+    ensures { λ r. ⌜ r ≡ decode (now (image .entry)) .core .vectors ⌝ }
+{
+    fill_entries(&image[158..222])
 }
 
 // The ring of the events that pairs spell, from the first slot on.

@@ -12,11 +12,12 @@ ghost use mathlib.Core.Path.{_≡_};
 ghost use mathlib.Core.List.{_++_};
 ghost use Prim.Native.Nat.{_*_, _≤_};
 ghost use lib.ListN.{length, take, drop};
+ghost use borrow.Rule.Slice.PartMut.{putMid};
 ghost use Rattle.rules.specs.Device.{reset};
 ghost use Rattle.rules.specs.Ring.{flag, pairsOf};
-ghost use Rattle.rules.specs.Image.{imageLength, ringLength, ringBody, encode};
+ghost use Rattle.rules.specs.Image.{imageLength, registersAt, registersLength, vectorsBodyAt, bytesLength, ringLength, ringBody, encode};
 ghost use Rattle.state.specs.View.{WellLines, WellRing, Well, linesView, ringView, view};
-ghost use Rattle.image.specs.Shown.{withLines, withRing, Saves};
+ghost use Rattle.image.specs.Shown.{spelled, withLines, withRing, Saves};
 
 fn flag_byte(asserted: bool) -> u8
     ensures { λ r. ⌜ r ≡ flag asserted ⌝ }
@@ -58,6 +59,22 @@ pub fn save_lines(image: &mut [u8], lines: Lines)
     put_word(image, contents::LAST_IRR, lines.last_intirr);
     put_word(image, contents::IRR, lines.intirr);
     put_word(image, contents::ISR, lines.intisr);
+}
+
+// Body 1, from nine words in its order.
+pub fn save_words(image: &mut [u8], words: &[u64])
+    requires { ⌜ (length (now image) ≡ imageLength) × (length (now words) ≡ 9) ⌝ }
+    ensures { λ _. ⌜ now (image .exit) ≡ putMid registersAt registersLength (now (image .entry)) (spelled (now (words .entry))) ⌝ }
+{
+    put_words(&mut image[22..94], words);
+}
+
+// Body 3, from 64 vectors.
+pub fn save_vectors(image: &mut [u8], vectors: &[u8])
+    requires { ⌜ (length (now image) ≡ imageLength) × (length (now vectors) ≡ bytesLength) ⌝ }
+    ensures { λ _. ⌜ now (image .exit) ≡ putMid vectorsBodyAt bytesLength (now (image .entry)) (now (vectors .entry)) ⌝ }
+{
+    copy(&mut image[158..222], vectors);
 }
 
 pub fn save_ring(image: &mut [u8], ring: Ring)
