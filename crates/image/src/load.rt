@@ -4,18 +4,15 @@ use crate::bytes::number;
 use crate::bytes::word_at;
 use crate::contents;
 use state::Lines;
-use state::PchPicState;
 use state::Queue;
 use state::Ring;
-use state::Stored;
-use state::Tables;
 ghost use mathlib.Core.Path.{_≡_};
 ghost use Prim.Native.Nat.{_≤_};
 ghost use lib.ListN.{length};
 ghost use Rattle.rules.specs.Ring.{capacity};
 ghost use Rattle.rules.specs.Image.{imageLength, pairsLength, countOf, eventsOf, decode};
-ghost use Rattle.state.specs.View.{IsRing, Is};
-ghost use Rattle.image.specs.Shown.{imageWords, IsLines, IsStored, IsTables};
+ghost use Rattle.state.specs.View.{IsRing};
+ghost use Rattle.image.specs.Shown.{imageWords, IsLines};
 
 pub fn load_lines(image: &[u8]) -> Lines
     requires { ⌜ length (now image) ≡ imageLength ⌝ }
@@ -29,36 +26,6 @@ pub fn load_lines(image: &[u8]) -> Lines
         last_intirr: intirr,
         intirr,
         intisr,
-    }
-}
-
-pub fn load_stored(image: &[u8]) -> Stored
-    requires { ⌜ length (now image) ≡ imageLength ⌝ }
-    ensures { λ r. ⌜ IsStored r (decode (now (image .entry)) .core .stored) ⌝ }
-{
-    let htmsi_en = word_at(image, contents::HTMSI_EN);
-    let intedge = word_at(image, contents::EDGE);
-    let int_polarity = word_at(image, contents::POL);
-    let auto_ctrl0 = word_at(image, contents::AUTO0);
-    let auto_ctrl1 = word_at(image, contents::AUTO1);
-    Stored {
-        htmsi_en,
-        intedge,
-        int_polarity,
-        auto_ctrl0,
-        auto_ctrl1,
-    }
-}
-
-pub fn load_tables(image: &[u8]) -> Tables
-    requires { ⌜ length (now image) ≡ imageLength ⌝ }
-    ensures { λ r. ⌜ IsTables r (decode (now (image .entry)) .core) ⌝ }
-{
-    let route_entry = fill_entries(&image[94..158]);
-    let htmsi_vector = fill_entries(&image[158..222]);
-    Tables {
-        route_entry,
-        htmsi_vector,
     }
 }
 
@@ -119,20 +86,4 @@ pub fn load_ring(image: &[u8]) -> Ring
     let len = image[222] as usize;
     let drops = number(&image[223..227]) as u32;
     ring_of(&image[227..259], len, drops)
-}
-
-pub fn load(image: &[u8]) -> PchPicState
-    requires { ⌜ (length (now image) ≡ imageLength) × (countOf (now image) ≤ capacity) ⌝ }
-    ensures { λ r. ⌜ Is r (decode (now (image .entry))) ⌝ }
-{
-    let lines = load_lines(image);
-    let stored = load_stored(image);
-    let tables = load_tables(image);
-    let ring = load_ring(image);
-    PchPicState {
-        lines,
-        stored,
-        tables,
-        ring,
-    }
 }
