@@ -9,7 +9,7 @@ use native.Mathlib.Omega.{arith}
 use lib.Dec.{eqb}
 use lib.ListN.{length, take, drop, getD, set, replicate, length-set, take-append-drop}
 use lib.Seq.{drop-drop, drop-set-lt}
-use Rattle.rules.specs.Ring.{Event, flag, pairsOf}
+use Rattle.rules.specs.Ring.{flag, pairsOf}
 use Rattle.rules.specs.Image.{eventsOf}
 use Rattle.rules.proofs.laws.Lists.{turn}
 use Rattle.rules.proofs.laws.Rings.{offered-room}
