@@ -2,3 +2,4 @@
 pub mod Pairs
 pub mod Events
 pub mod Saved
+pub mod Words

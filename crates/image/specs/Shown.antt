@@ -6,14 +6,12 @@ use lib.ListN.{take, drop}
 use Rattle.rules.specs.Numbers.{bytesOf}
 use Rattle.rules.specs.Lines as rules-lines
 use Rattle.rules.specs.Ring as rules-ring
-use Rattle.rules.specs.Core as rules-core
 use Rattle.rules.specs.Device.{Device, WellFormed}
 use Rattle.rules.specs.Device as device
+use Rattle.rules.specs.Image.{maskAt, htmsiEnAt, edgeAt, lastIrrAt, irrAt, isrAt, polAt, auto0At, auto1At, registerAt}
 use Rattle.rules.specs.Image.{encode, ImageTest, accepted, wrongLength, wrongContents, wrongBody}
-use Rattle.state.specs.View.{linesView, storedView, WellLines}
+use Rattle.state.specs.View.{linesView, WellLines}
 use Rattle.state.specs.declared.Lines.{Lines}
-use Rattle.state.specs.declared.Stored.{Stored}
-use Rattle.state.specs.declared.Tables.{Tables}
 use Rattle.image.specs.declared.check.Checked.{Checked}
 use Rattle.image.specs.declared.check.Checked.the-variants.{Accepted, WrongLength, WrongContents, WrongBody}
 use Rattle.image.specs.declared.answer.Value.{Value}
@@ -40,17 +38,16 @@ abbrev pub spelled : List ℕ → List ℕ
 spelled [] = []
 spelled (x ∷ xs) = bytesOf 8 x ++ spelled xs
 
--- what a function that hands back a part of the state promises, beside IsRing and Is: it is well formed, and shows what the rules say
+-- the registers of body 1, in their order
+abbrev pub imageWords : List ℕ → List ℕ
+imageWords l =
+    registerAt maskAt l ∷ registerAt htmsiEnAt l ∷ registerAt edgeAt l ∷ registerAt lastIrrAt l ∷ registerAt irrAt l ∷ registerAt isrAt l
+    ∷ registerAt polAt l ∷ registerAt auto0At l ∷ registerAt auto1At l ∷ []
+
+-- what a function that hands back lines promises: they are well formed, and show what the rules say
 pub record IsLines (l : Lines) (shown : rules-lines.Lines) : Type 0 where
   pub well : WellLines l
   pub shows : linesView l ≡ shown
-
-abbrev pub IsStored : Stored → rules-core.Stored → Type 0
-IsStored s shown = storedView s (shown .routes) ≡ shown
-
-pub record IsTables (t : Tables) (shown : rules-core.Core) : Type 0 where
-  pub routes : t .«route_entry» ≡ shown .stored .routes
-  pub vectors : t .«htmsi_vector» ≡ shown .vectors
 
 -- a device with other lines, and with another ring
 abbrev pub withLines : rules-lines.Lines → Device → Device

@@ -1,6 +1,4 @@
 // The contents of an image: form 1, and the kind, place and length of each of its four bodies. And where the registers of body 1 stand.
-use crate::bytes::number;
-use crate::bytes::put_number;
 use crate::bytes::put_word;
 use crate::bytes::word_at;
 ghost use mathlib.Core.Path.{_≡_};
@@ -9,12 +7,12 @@ ghost use lib.ListN.{length};
 ghost use Rattle.rules.specs.Numbers.{part};
 ghost use Rattle.rules.specs.Image.{registersAt, contents, same};
 
-// The 22 bytes as numbers: eight bytes, eight and six.
+// The 22 bytes as numbers of eight bytes: from byte 0, from byte 8, and from byte 14, so that the last two have two bytes in common.
 const FIRST: u64 = 0x0200_4800_1601_0401;
 
 const SECOND: u64 = 0x4000_9e03_0040_005e;
 
-const THIRD: u64 = 0x0025_00de_0400;
+const THIRD: u64 = 0x0025_00de_0400_4000;
 
 pub const MASK: usize = 22;
 
@@ -44,7 +42,7 @@ pub fn contents_good(image: &[u8]) -> bool
     if word_at(image, 8) != SECOND {
         return false;
     }
-    number(&image[16..22]) == THIRD
+    word_at(image, 14) == THIRD
 }
 
 pub fn put_contents(dst: &mut [u8])
@@ -53,5 +51,5 @@ pub fn put_contents(dst: &mut [u8])
 {
     put_word(dst, 0, FIRST);
     put_word(dst, 8, SECOND);
-    put_number(&mut dst[16..22], THIRD);
+    put_word(dst, 14, THIRD);
 }

@@ -4,17 +4,15 @@ use crate::bytes::number;
 use crate::bytes::word_at;
 use crate::contents;
 use state::Lines;
-use state::PchPicState;
+use state::Queue;
 use state::Ring;
-use state::Stored;
-use state::Tables;
 ghost use mathlib.Core.Path.{_≡_};
 ghost use Prim.Native.Nat.{_≤_};
 ghost use lib.ListN.{length};
 ghost use Rattle.rules.specs.Ring.{capacity};
 ghost use Rattle.rules.specs.Image.{imageLength, pairsLength, countOf, eventsOf, decode};
-ghost use Rattle.state.specs.View.{IsRing, Is};
-ghost use Rattle.image.specs.Shown.{IsLines, IsStored, IsTables};
+ghost use Rattle.state.specs.View.{IsRing};
+ghost use Rattle.image.specs.Shown.{imageWords, IsLines};
 
 pub fn load_lines(image: &[u8]) -> Lines
     requires { ⌜ length (now image) ≡ imageLength ⌝ }
@@ -31,34 +29,30 @@ pub fn load_lines(image: &[u8]) -> Lines
     }
 }
 
-pub fn load_stored(image: &[u8]) -> Stored
+// The nine registers in their order, with the copy of IRR as the image has it.
+pub fn load_words(image: &[u8]) -> [u64; 9]
     requires { ⌜ length (now image) ≡ imageLength ⌝ }
-    ensures { λ r. ⌜ IsStored r (decode (now (image .entry)) .core .stored) ⌝ }
+    ensures { λ r. ⌜ r ≡ imageWords (now (image .entry)) ⌝ }
 {
-    let htmsi_en = word_at(image, contents::HTMSI_EN);
-    let intedge = word_at(image, contents::EDGE);
-    let int_polarity = word_at(image, contents::POL);
-    let auto_ctrl0 = word_at(image, contents::AUTO0);
-    let auto_ctrl1 = word_at(image, contents::AUTO1);
-    Stored {
-        htmsi_en,
-        intedge,
-        int_polarity,
-        auto_ctrl0,
-        auto_ctrl1,
-    }
+    [
+        word_at(image, contents::MASK),
+        word_at(image, contents::HTMSI_EN),
+        word_at(image, contents::EDGE),
+        word_at(image, contents::LAST_IRR),
+        word_at(image, contents::IRR),
+        word_at(image, contents::ISR),
+        word_at(image, contents::POL),
+        word_at(image, contents::AUTO0),
+        word_at(image, contents::AUTO1),
+    ]
 }
 
-pub fn load_tables(image: &[u8]) -> Tables
+// The vector body is handed on to the leaf that fills 64 entries.
+pub fn load_vectors(image: &[u8]) -> [u8; 64]
     requires { ⌜ length (now image) ≡ imageLength ⌝ }
-    ensures { λ r. ⌜ IsTables r (decode (now (image .entry)) .core) ⌝ }
+    ensures { λ r. ⌜ r ≡ decode (now (image .entry)) .core .vectors ⌝ }
 {
-    let route_entry = fill_entries(&image[94..158]);
-    let htmsi_vector = fill_entries(&image[158..222]);
-    Tables {
-        route_entry,
-        htmsi_vector,
-    }
+    fill_entries(&image[158..222])
 }
 
 // The ring of the events that pairs spell, from the first slot on.
@@ -69,7 +63,7 @@ fn ring_of(pairs: &[u8], len: usize, drops: u32) -> Ring
     let mut output_vectors = [0u8; 16];
     let mut output_asserted = [false; 16];
     let mut i = 0;
-    while i < 16 {
+    while i < len {
         output_vectors[i] = pairs[2 * i];
         output_asserted[i] = pairs[2 * i + 1] == 1;
         i += 1;
@@ -77,9 +71,11 @@ fn ring_of(pairs: &[u8], len: usize, drops: u32) -> Ring
     Ring {
         output_vectors,
         output_asserted,
-        output_head: 0,
-        output_len: len,
-        output_drops: drops,
+        queue: Queue {
+            output_head: 0,
+            output_len: len,
+            output_drops: drops,
+        },
     }
 }
 
@@ -90,20 +86,4 @@ pub fn load_ring(image: &[u8]) -> Ring
     let len = image[222] as usize;
     let drops = number(&image[223..227]) as u32;
     ring_of(&image[227..259], len, drops)
-}
-
-pub fn load(image: &[u8]) -> PchPicState
-    requires { ⌜ (length (now image) ≡ imageLength) × (countOf (now image) ≤ capacity) ⌝ }
-    ensures { λ r. ⌜ Is r (decode (now (image .entry))) ⌝ }
-{
-    let lines = load_lines(image);
-    let stored = load_stored(image);
-    let tables = load_tables(image);
-    let ring = load_ring(image);
-    PchPicState {
-        lines,
-        stored,
-        tables,
-        ring,
-    }
 }

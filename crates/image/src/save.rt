@@ -12,11 +12,12 @@ ghost use mathlib.Core.Path.{_≡_};
 ghost use mathlib.Core.List.{_++_};
 ghost use Prim.Native.Nat.{_*_, _≤_};
 ghost use lib.ListN.{length, take, drop};
+ghost use borrow.Rule.Slice.PartMut.{putMid};
 ghost use Rattle.rules.specs.Device.{reset};
 ghost use Rattle.rules.specs.Ring.{flag, pairsOf};
-ghost use Rattle.rules.specs.Image.{imageLength, ringLength, ringBody, encode};
+ghost use Rattle.rules.specs.Image.{imageLength, registersAt, registersLength, vectorsBodyAt, bytesLength, ringLength, ringBody, encode};
 ghost use Rattle.state.specs.View.{WellLines, WellRing, Well, linesView, ringView, view};
-ghost use Rattle.image.specs.Shown.{withLines, withRing, Saves};
+ghost use Rattle.image.specs.Shown.{spelled, withLines, withRing, Saves};
 
 fn flag_byte(asserted: bool) -> u8
     ensures { λ r. ⌜ r ≡ flag asserted ⌝ }
@@ -26,12 +27,12 @@ fn flag_byte(asserted: bool) -> u8
 
 // The n oldest events as pairs, from the front of dst; every other byte stays.
 pub fn put_events(dst: &mut [u8], ring: Ring, n: usize)
-    requires { ⌜ WellRing ring × (n ≤ ring .«output_len») × (2 * n ≤ length (now dst)) ⌝ }
+    requires { ⌜ WellRing ring × (n ≤ ring .queue .«output_len») × (2 * n ≤ length (now dst)) ⌝ }
     ensures { λ _. ⌜ now (dst .exit) ≡ pairsOf (take n (ringView ring .waiting)) ++ drop (2 * n) (now (dst .entry)) ⌝ }
 {
     let mut i = 0;
     while i < n {
-        let at = (ring.output_head + i) % 16;
+        let at = (ring.queue.output_head + i) % 16;
         dst[2 * i] = ring.output_vectors[at];
         dst[2 * i + 1] = flag_byte(ring.output_asserted[at]);
         i += 1;
@@ -43,9 +44,9 @@ fn put_ring(dst: &mut [u8], ring: Ring)
     requires { ⌜ (length (now dst) ≡ ringLength) × WellRing ring ⌝ }
     ensures { λ _. ⌜ now (dst .exit) ≡ ringBody (withRing (ringView ring) reset) ⌝ }
 {
-    let len = ring.output_len;
+    let len = ring.queue.output_len;
     put_number(&mut dst[0..1], len as u64);
-    put_number(&mut dst[1..5], ring.output_drops as u64);
+    put_number(&mut dst[1..5], ring.queue.output_drops as u64);
     put_zeros(&mut dst[5..37]);
     put_events(&mut dst[5..37], ring, len);
 }
@@ -60,6 +61,22 @@ pub fn save_lines(image: &mut [u8], lines: Lines)
     put_word(image, contents::ISR, lines.intisr);
 }
 
+// Body 1, from nine words in its order.
+pub fn save_words(image: &mut [u8], words: &[u64])
+    requires { ⌜ (length (now image) ≡ imageLength) × (length (now words) ≡ 9) ⌝ }
+    ensures { λ _. ⌜ now (image .exit) ≡ putMid registersAt registersLength (now (image .entry)) (spelled (now (words .entry))) ⌝ }
+{
+    put_words(&mut image[22..94], words);
+}
+
+// Body 3, from 64 vectors.
+pub fn save_vectors(image: &mut [u8], vectors: &[u8])
+    requires { ⌜ (length (now image) ≡ imageLength) × (length (now vectors) ≡ bytesLength) ⌝ }
+    ensures { λ _. ⌜ now (image .exit) ≡ putMid vectorsBodyAt bytesLength (now (image .entry)) (now (vectors .entry)) ⌝ }
+{
+    copy(&mut image[158..222], vectors);
+}
+
 pub fn save_ring(image: &mut [u8], ring: Ring)
     requires { ⌜ (length (now image) ≡ imageLength) × WellRing ring ⌝ }
     ensures { λ _. ⌜ Saves (now (image .entry)) (now (image .exit)) (withRing (ringView ring)) ⌝ }
@@ -71,19 +88,7 @@ pub fn save(image: &mut [u8], state: PchPicState)
     requires { ⌜ (length (now image) ≡ imageLength) × Well state ⌝ }
     ensures { λ _. ⌜ now (image .exit) ≡ encode (view state) ⌝ }
 {
-    let lines = state.lines;
-    let stored = state.stored;
-    let words = [
-        lines.int_mask,
-        stored.htmsi_en,
-        stored.intedge,
-        lines.last_intirr,
-        lines.intirr,
-        lines.intisr,
-        stored.int_polarity,
-        stored.auto_ctrl0,
-        stored.auto_ctrl1,
-    ];
+    let words = state.words();
     contents::put_contents(&mut image[0..22]);
     put_words(&mut image[22..94], &words);
     copy(&mut image[94..158], &state.tables.route_entry);

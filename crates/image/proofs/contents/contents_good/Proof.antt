@@ -1,5 +1,5 @@
 -- `contents_good`: the contents spell these three numbers, and bytes that spell them are the contents.
-use mathlib.Core.Path.{_≡_, sym, _∙_}
+use mathlib.Core.Path.{_≡_, sym, ap, _∙_}
 use mathlib.Core.Bool.{false}
 use mathlib.Core.List.{List}
 use Prim.Native.Nat.{ℕ, _+_, _≤_}
@@ -11,7 +11,8 @@ use lib.ListN.{length}
 use Rattle.rules.specs.Numbers.{numberOf, part, Bytes}
 use Rattle.rules.specs.Image.{registersAt, contents, registerAt, same}
 use Rattle.rules.proofs.laws.Bits.{test}
-use Rattle.rules.proofs.laws.Lists.{equal-same, differ-same}
+use Rattle.rules.proofs.laws.Lists.{part-part, equal-same, differ-same}
+use Rattle.rules.proofs.laws.Bytes.{part-known}
 use Rattle.rules.proofs.laws.Images.{contents-known, contents-number}
 use Rattle.image.proofs.contents.contents_good.Statement.{statement}
 use Rattle.image.proofs.contents.contents_good.Tie as tie
@@ -21,12 +22,16 @@ module _ (l : List ℕ) where
   differs : (a n x : ℕ) → a + n ≤ registersAt → x ≡ numberOf (part a n l) → (x ≡ numberOf (part a n contents) → ⊥) → false ≡ same (part 0 registersAt l) contents
   differs a n x h e f = sym (differ-same (part 0 registersAt l) contents (λ q. f (e ∙ contents-number l a n h q)))
 
+  -- the last six bytes of the third are those that the first two lack
+  last-six : Bytes l → registersAt ≤ length l → registerAt 14 l ≡ registerAt 14 contents → numberOf (part 16 6 l) ≡ numberOf (part 16 6 contents)
+  last-six b h e = ap numberOf (sym (part-part l 14 8 2 6 (omega arith)) ∙ ap (part 2 6) (part-known l 14 8 b h (registerAt 14 contents) e))
+
   -- the first two agree, and the third is the last to be looked at
-  agrees : (x : ℕ) → Bytes l → registersAt ≤ length l → registerAt 0 l ≡ registerAt 0 contents → registerAt 8 l ≡ registerAt 8 contents → x ≡ numberOf (part 16 6 l)
-      → eqb x (numberOf (part 16 6 contents)) ≡ same (part 0 registersAt l) contents
+  agrees : (x : ℕ) → Bytes l → registersAt ≤ length l → registerAt 0 l ≡ registerAt 0 contents → registerAt 8 l ≡ registerAt 8 contents → x ≡ registerAt 14 l
+      → eqb x (registerAt 14 contents) ≡ same (part 0 registersAt l) contents
   agrees x b h e f g =
-      test (eqb x (numberOf (part 16 6 contents))) (λ t. t ∙ sym (equal-same _ _ (contents-known l b h e f (sym g ∙ eqb-true x _ t))))
-      (λ t. t ∙ differs 16 6 x (omega arith) g (eqb-false x _ t))
+      test (eqb x (registerAt 14 contents)) (λ t. t ∙ sym (equal-same _ _ (contents-known l b h e f (last-six b h (sym g ∙ eqb-true x _ t)))))
+      (λ t. t ∙ differs 14 8 x (omega arith) g (eqb-false x _ t))
 
 returns : tie.Need-returns
 returns c =
@@ -40,11 +45,11 @@ returns-2 c =
 
 returns-3 : tie.Need-returns-3
 returns-3 c =
-    let two = c .before .before in
+    let two = c .before in
     let one = two .before .before in
     let k = one .before .before in
-    agrees (k .before .args .image .now) (c .number .result) (λ j. omega (arith, k .shared-slice-known .given j)) (k .before .pre)
-    (sym (one .before .word-at .ensures) ∙ one .if1 .left) (sym (two .before .word-at2 .ensures) ∙ two .if2 .left) (c .number .ensures)
+    agrees (k .before .args .image .now) (c .word-at3 .result) (λ j. omega (arith, k .shared-slice-known .given j)) (k .before .pre)
+    (sym (one .before .word-at .ensures) ∙ one .if1 .left) (sym (two .before .word-at2 .ensures) ∙ two .if2 .left) (c .word-at3 .ensures)
 
 pub contents-good-spec : {M : Type 1} → statement M
 contents-good-spec =
@@ -54,5 +59,5 @@ contents-good-spec =
     returns
     (λ c κs. search needs)
     returns-2
-    (λ c. search needs) (λ c. search needs) (λ c. search needs) (λ c κs. search needs)
+    (λ c κs. search needs)
     returns-3)

@@ -11,7 +11,7 @@ use Rattle.image.proofs.save.put_events.Statement.{statement}
 use Rattle.image.proofs.save.put_events.Tie as tie
 
 abbrev Inv-loop : tie.InvT-loop
-Inv-loop dst₀ n ring i₀ dst i = (i ≤ n) × Written (ring .«output_vectors») (ring .«output_asserted») (ring .«output_head») n dst₀ dst i
+Inv-loop dst₀ n ring i₀ dst i = (i ≤ n) × Written (ring .«output_vectors») (ring .«output_asserted») (ring .queue .«output_head») n dst₀ dst i
 
 abbrev μ-loop : tie.MeasureT-loop
 μ-loop dst₀ n ring i₀ dst i = n - i
@@ -19,7 +19,7 @@ abbrev μ-loop : tie.MeasureT-loop
 loop-holds : tie.Need-loop-holds Inv-loop μ-loop
 loop-holds c =
     let a = c .before .args in
-    (omega arith, written-none (a .t2 .«output_vectors») (a .t2 .«output_asserted») (a .t2 .«output_head») (a .n) (a .dst .now))
+    (omega arith, written-none (a .t2 .«output_vectors») (a .t2 .«output_asserted») (a .t2 .queue .«output_head») (a .n) (a .dst .now))
 
 loop-again : tie.Need-loop-again Inv-loop μ-loop
 loop-again c =
@@ -35,7 +35,7 @@ returns c =
     let a = c .before .before .before .args in
     let r = a .t2 in
     written-all (r .«output_vectors») (r .«output_asserted») (l .inv .1) (omega arith)
-    ∙ ap (λ es. pairsOf es ++ drop (2 * a .n) (a .dst .now)) (sym (take-slots (r .«output_vectors») (r .«output_asserted») (r .«output_head») (a .n) (r .«output_len») (omega arith)))
+    ∙ ap (λ es. pairsOf es ++ drop (2 * a .n) (a .dst .now)) (sym (take-slots (r .«output_vectors») (r .«output_asserted») (r .queue .«output_head») (a .n) (r .queue .«output_len») (omega arith)))
 
 pub put-events-spec : {M : Type 1} → statement M
 put-events-spec =

@@ -14,7 +14,7 @@ returns c =
     let count = drops .before .before .before .before .before in
     let s = count .before .before .before in
     let r = s .args .ring in
-    ring-put (ringView r) (r .«output_len») (s .args .dst .now) _ _ _ _ (s .pre .0) (slots-length (r .«output_vectors») (r .«output_asserted») (r .«output_head») (r .«output_len»)) (s .pre .1 .len)
+    ring-put (ringView r) (r .queue .«output_len») (s .args .dst .now) _ _ _ _ (s .pre .0) (slots-length (r .«output_vectors») (r .«output_asserted») (r .queue .«output_head») (r .queue .«output_len»)) (s .pre .1 .len)
     (count .put-number .ensures) (drops .put-number2 .ensures) (zeros .put-zeros .ensures) (events .put-events .ensures)
 
 pub put-ring-spec : {M : Type 1} → statement M

@@ -19,20 +19,22 @@ returns c =
     let routes = vectors .before .before .before .before .before .before .before in
     let words = routes .before .before .before .before .before .before .before in
     let contents = words .before .before .before .before .before in
-    let s = contents .before .before .before .before .before in
+    let nine = contents .before .before in
+    let s = nine .before .before in
     let a = s .args .t2 in
     let l = a .lines in
     let t = a .stored in
     let r = a .ring in
     let copied = ap (λ x. spelled (l .«int_mask» ∷ t .«htmsi_en» ∷ t .intedge ∷ x ∷ l .intirr ∷ l .intisr ∷ t .«int_polarity» ∷ t .«auto_ctrl0» ∷ t .«auto_ctrl1» ∷ [])) (s .pre .1 .copy) in
     image-put (view a) (s .args .image .now) (s .pre .0) (search needs) (search needs)
-    (omega (arith, slots-length (r .«output_vectors») (r .«output_asserted») (r .«output_head») (r .«output_len»), s .pre .1 .ring .len))
-    (contents .put-contents .ensures) (words .put-words .ensures ∙ copied) (routes .copy .ensures) (vectors .copy2 .ensures) (ring .put-ring .ensures)
+    (omega (arith, slots-length (r .«output_vectors») (r .«output_asserted») (r .queue .«output_head») (r .queue .«output_len»), s .pre .1 .ring .len))
+    (contents .put-contents .ensures) (words .put-words .ensures ∙ ap spelled (nine .words .ensures) ∙ copied) (routes .copy .ensures) (vectors .copy2 .ensures) (ring .put-ring .ensures)
 
 pub save-spec : {M : Type 1} → statement M
 save-spec =
     tie.close
     (tie.spec
+    (λ c κs. search needs)
     (λ c. search needs) (λ c. search needs) (λ c. search needs) (λ c κs. search needs)
     (λ c. search needs) (λ c. search needs) (λ c. search needs) (λ c. search needs) (λ c κs. search needs)
     (λ c. search needs) (λ c. search needs) (λ c. search needs) (λ c κs. search needs)
