@@ -209,7 +209,10 @@ pub fn read_byte(words: &[u64], routes: &[u8], vectors: &[u8], offset: usize, de
         return read_entry(routes, vectors, index);
     }
     let place = offset & 0x3;
-    bits::byte_of(read_dword(words, routes, vectors, offset & !0x3, depth - 1), place)
+    bits::byte_of(
+        read_dword(words, routes, vectors, offset & !0x3, depth - 1),
+        place,
+    )
 }
 
 pub fn read_split_bytes(
@@ -317,17 +320,41 @@ fn put_half(words: &mut [u64], at: usize, val: u32, high: bool)
 }
 
 // MASK: the engine moves the lines and offers their events to the ring.
-fn write_mask(words: &mut [u64], queue: Queue, events: &mut [u8], asserted: &mut [bool], vectors: &[u8], val: u32, high: bool) -> Queue
+fn write_mask(
+    words: &mut [u64],
+    queue: Queue,
+    events: &mut [u8],
+    asserted: &mut [bool],
+    vectors: &[u8],
+    val: u32,
+    high: bool,
+) -> Queue
     requires { ⌜ WellWords (now words) × WellRing (ringOf queue (now events) (now asserted)) × (length (now vectors) ≡ 64) ⌝ }
     ensures { λ r. ⌜ Halved (λ rs. (parts (now (words .entry)) queue (now (events .entry)) (now (asserted .entry)) rs (now (vectors .entry)))) (λ rs. (parts (now (words .exit)) r (now (events .exit)) (now (asserted .exit)) rs (now (vectors .entry)))) (move (setMask high val) ∷ []) ⌝ }
 {
-    let moved = engine::update_int_mask(lines_of(words), queue, events, asserted, vectors, val, high);
+    let moved = engine::update_int_mask(
+        lines_of(words),
+        queue,
+        events,
+        asserted,
+        vectors,
+        val,
+        high,
+    );
     put_lines(words, moved.lines);
     moved.queue
 }
 
 // CLEAR: the bits stand in their half.
-fn write_clear(words: &mut [u64], queue: Queue, events: &mut [u8], asserted: &mut [bool], vectors: &[u8], val: u32, high: bool) -> Queue
+fn write_clear(
+    words: &mut [u64],
+    queue: Queue,
+    events: &mut [u8],
+    asserted: &mut [bool],
+    vectors: &[u8],
+    val: u32,
+    high: bool,
+) -> Queue
     requires { ⌜ WellWords (now words) × WellRing (ringOf queue (now events) (now asserted)) × (length (now vectors) ≡ 64) ⌝ }
     ensures { λ r. ⌜ Halved (λ rs. (parts (now (words .entry)) queue (now (events .entry)) (now (asserted .entry)) rs (now (vectors .entry)))) (λ rs. (parts (now (words .exit)) r (now (events .exit)) (now (asserted .exit)) rs (now (vectors .entry)))) (move (clear (asHalf high val)) ∷ []) ⌝ }
 {
@@ -338,7 +365,16 @@ fn write_clear(words: &mut [u64], queue: Queue, events: &mut [u8], asserted: &mu
 }
 
 // A register's half; ID and IRR ignore it. ISR and the stored registers make no event.
-fn write_half(words: &mut [u64], queue: Queue, events: &mut [u8], asserted: &mut [bool], vectors: &[u8], register: Register, val: u32, high: bool) -> Queue
+fn write_half(
+    words: &mut [u64],
+    queue: Queue,
+    events: &mut [u8],
+    asserted: &mut [bool],
+    vectors: &[u8],
+    register: Register,
+    val: u32,
+    high: bool,
+) -> Queue
     requires { ⌜ WellWords (now words) × WellRing (ringOf queue (now events) (now asserted)) × (length (now vectors) ≡ 64) ⌝ }
     ensures { λ r. ⌜ Halved (λ rs. (parts (now (words .entry)) queue (now (events .entry)) (now (asserted .entry)) rs (now (vectors .entry)))) (λ rs. (parts (now (words .exit)) r (now (events .exit)) (now (asserted .exit)) rs (now (vectors .entry)))) (registerActs (registerView register) high val) ⌝ }
 {
@@ -379,7 +415,17 @@ fn write_entry(routes: &mut [u8], vectors: &mut [u8], index: usize, val: u8)
 }
 
 // The three writers call one another as the readers do.
-pub fn write_byte(words: &mut [u64], queue: Queue, events: &mut [u8], asserted: &mut [bool], routes: &mut [u8], vectors: &mut [u8], offset: usize, val: u8, depth: usize) -> Queue
+pub fn write_byte(
+    words: &mut [u64],
+    queue: Queue,
+    events: &mut [u8],
+    asserted: &mut [bool],
+    routes: &mut [u8],
+    vectors: &mut [u8],
+    offset: usize,
+    val: u8,
+    depth: usize,
+) -> Queue
     requires { ⌜ WellParts (parts (now words) queue (now events) (now asserted) (now routes) (now vectors)) ⌝ }
     requires { ⌜ (inByteArea offset ≡ false → 1 ≤ depth) ⌝ }
     ensures { λ r. ⌜ Shows (parts (now (words .exit)) r (now (events .exit)) (now (asserted .exit)) (now (routes .exit)) (now (vectors .exit))) (afterByte (shown (parts (now (words .entry)) queue (now (events .entry)) (now (asserted .entry)) (now (routes .entry)) (now (vectors .entry)))) offset val) ⌝ }
@@ -393,10 +439,31 @@ pub fn write_byte(words: &mut [u64], queue: Queue, events: &mut [u8], asserted: 
     // The Dword as it reads: of ISR the masked bits are lost.
     let old = read_dword(words, routes, vectors, aligned, depth);
     let new = bits::with_byte(old, place, val);
-    write_dword(words, queue, events, asserted, routes, vectors, aligned, new, depth - 1)
+    write_dword(
+        words,
+        queue,
+        events,
+        asserted,
+        routes,
+        vectors,
+        aligned,
+        new,
+        depth - 1,
+    )
 }
 
-pub fn write_split_bytes(words: &mut [u64], queue: Queue, events: &mut [u8], asserted: &mut [bool], routes: &mut [u8], vectors: &mut [u8], offset: usize, len: usize, val: u32, depth: usize) -> Queue
+pub fn write_split_bytes(
+    words: &mut [u64],
+    queue: Queue,
+    events: &mut [u8],
+    asserted: &mut [bool],
+    routes: &mut [u8],
+    vectors: &mut [u8],
+    offset: usize,
+    len: usize,
+    val: u32,
+    depth: usize,
+) -> Queue
     requires { ⌜ WellParts (parts (now words) queue (now events) (now asserted) (now routes) (now vectors)) ⌝ }
     requires { ⌜ (len ≤ 4) × (offset + len ≤ 2 ^ 64) ⌝ }
     requires { ⌜ 1 ≤ depth ⌝ }
@@ -406,12 +473,32 @@ pub fn write_split_bytes(words: &mut [u64], queue: Queue, events: &mut [u8], ass
     let mut out = queue;
     for idx in 0..len {
         let byte = bits::byte_of(val, idx);
-        out = write_byte(words, out, events, asserted, routes, vectors, offset + idx, byte, depth - 1);
+        out = write_byte(
+            words,
+            out,
+            events,
+            asserted,
+            routes,
+            vectors,
+            offset + idx,
+            byte,
+            depth - 1,
+        );
     }
     out
 }
 
-pub fn write_dword(words: &mut [u64], queue: Queue, events: &mut [u8], asserted: &mut [bool], routes: &mut [u8], vectors: &mut [u8], offset: usize, val: u32, depth: usize) -> Queue
+pub fn write_dword(
+    words: &mut [u64],
+    queue: Queue,
+    events: &mut [u8],
+    asserted: &mut [bool],
+    routes: &mut [u8],
+    vectors: &mut [u8],
+    offset: usize,
+    val: u32,
+    depth: usize,
+) -> Queue
     requires { ⌜ WellParts (parts (now words) queue (now events) (now asserted) (now routes) (now vectors)) ⌝ }
     requires { ⌜ (cellAt offset ≡ bytes → 2 ≤ depth) ⌝ }
     ensures { λ r. ⌜ Shows (parts (now (words .exit)) r (now (events .exit)) (now (asserted .exit)) (now (routes .exit)) (now (vectors .exit))) (acted (shown (parts (now (words .entry)) queue (now (events .entry)) (now (asserted .entry)) (now (routes .entry)) (now (vectors .entry)))) (dwordActs offset val)) ⌝ }
@@ -420,35 +507,116 @@ pub fn write_dword(words: &mut [u64], queue: Queue, events: &mut [u8], asserted:
         Cell::Half(register, high) => {
             write_half(words, queue, events, asserted, vectors, register, val, high)
         }
-        Cell::Bytes => write_split_bytes(words, queue, events, asserted, routes, vectors, offset, 4, val, depth - 1),
+        Cell::Bytes => write_split_bytes(
+            words,
+            queue,
+            events,
+            asserted,
+            routes,
+            vectors,
+            offset,
+            4,
+            val,
+            depth - 1,
+        ),
         Cell::Nothing => queue,
     }
 }
 
 // Dword and then Dword, which meets what the first left.
-fn write_qword(words: &mut [u64], queue: Queue, events: &mut [u8], asserted: &mut [bool], routes: &mut [u8], vectors: &mut [u8], offset: usize, val: u64) -> Queue
+fn write_qword(
+    words: &mut [u64],
+    queue: Queue,
+    events: &mut [u8],
+    asserted: &mut [bool],
+    routes: &mut [u8],
+    vectors: &mut [u8],
+    offset: usize,
+    val: u64,
+) -> Queue
     requires { ⌜ WellParts (parts (now words) queue (now events) (now asserted) (now routes) (now vectors)) ⌝ }
     ensures { λ r. ⌜ Shows (parts (now (words .exit)) r (now (events .exit)) (now (asserted .exit)) (now (routes .exit)) (now (vectors .exit))) (afterWrite (shown (parts (now (words .entry)) queue (now (events .entry)) (now (asserted .entry)) (now (routes .entry)) (now (vectors .entry)))) qword offset val) ⌝ }
 {
-    let first = write_dword(words, queue, events, asserted, routes, vectors, offset, bits::half(val, false), 2);
+    let first = write_dword(
+        words,
+        queue,
+        events,
+        asserted,
+        routes,
+        vectors,
+        offset,
+        bits::half(val, false),
+        2,
+    );
     if LAST_QWORD < offset {
         return first;
     }
     let high = bits::half(val, true);
-    write_dword(words, first, events, asserted, routes, vectors, offset + 4, high, 2)
+    write_dword(
+        words,
+        first,
+        events,
+        asserted,
+        routes,
+        vectors,
+        offset + 4,
+        high,
+        2,
+    )
 }
 
 // What an access writes; a value loses its bits above the width.
-pub fn write_access(words: &mut [u64], queue: Queue, events: &mut [u8], asserted: &mut [bool], routes: &mut [u8], vectors: &mut [u8], width: Width, offset: usize, val: u64) -> Queue
+pub fn write_access(
+    words: &mut [u64],
+    queue: Queue,
+    events: &mut [u8],
+    asserted: &mut [bool],
+    routes: &mut [u8],
+    vectors: &mut [u8],
+    width: Width,
+    offset: usize,
+    val: u64,
+) -> Queue
     requires { ⌜ WellParts (parts (now words) queue (now events) (now asserted) (now routes) (now vectors)) ⌝ }
     requires { ⌜ offset < 2 ^ 64 - 1 ⌝ }
     ensures { λ r. ⌜ Shows (parts (now (words .exit)) r (now (events .exit)) (now (asserted .exit)) (now (routes .exit)) (now (vectors .exit))) (afterWrite (shown (parts (now (words .entry)) queue (now (events .entry)) (now (asserted .entry)) (now (routes .entry)) (now (vectors .entry)))) (widthView width) offset val) ⌝ }
 {
     let low = bits::half(val, false);
     match width {
-        Width::Byte => write_byte(words, queue, events, asserted, routes, vectors, offset, bits::byte_of(low, 0), 1),
-        Width::Word => write_split_bytes(words, queue, events, asserted, routes, vectors, offset, 2, low, 2),
-        Width::Dword => write_dword(words, queue, events, asserted, routes, vectors, offset, low, 2),
+        Width::Byte => write_byte(
+            words,
+            queue,
+            events,
+            asserted,
+            routes,
+            vectors,
+            offset,
+            bits::byte_of(low, 0),
+            1,
+        ),
+        Width::Word => write_split_bytes(
+            words,
+            queue,
+            events,
+            asserted,
+            routes,
+            vectors,
+            offset,
+            2,
+            low,
+            2,
+        ),
+        Width::Dword => write_dword(
+            words,
+            queue,
+            events,
+            asserted,
+            routes,
+            vectors,
+            offset,
+            low,
+            2,
+        ),
         Width::Qword => write_qword(words, queue, events, asserted, routes, vectors, offset, val),
     }
 }
@@ -480,7 +648,17 @@ pub fn write_register(state: PchPicState, width: Width, offset: usize, val: u64)
     let mut asserted = ring.output_asserted;
     let mut routes = tables.route_entry;
     let mut vectors = tables.htmsi_vector;
-    let queue = write_access(&mut words, ring.queue, &mut events, &mut asserted, &mut routes, &mut vectors, width, offset, val);
+    let queue = write_access(
+        &mut words,
+        ring.queue,
+        &mut events,
+        &mut asserted,
+        &mut routes,
+        &mut vectors,
+        width,
+        offset,
+        val,
+    );
     PchPicState {
         lines: lines_of(&words),
         stored: stored_of(&words),

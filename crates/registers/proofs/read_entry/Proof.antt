@@ -1,86 +1,42 @@
+-- `read_entry` is right since its ranges are those of the rule, and in each the input is below 64.
+use mathlib.Core.Path.{sym, ap, _∙_}
+use native.Mathlib.Omega.{arith}
+use lib.ListN.{getD}
 use borrow.Author.Needs.{needs}
+use Rattle.rules.proofs.laws.Maps.{below, between, beyond}
+use Rattle.rules.proofs.laws.Widths.{entry-route, entry-vector, entry-none}
+use Rattle.registers.proofs.Indexes.{irq-came, no-irq}
 use Rattle.registers.proofs.read_entry.Statement.{statement}
 use Rattle.registers.proofs.read_entry.Tie as tie
-use Rattle.registers.proofs.read_entry.Reads as reads
-use Rattle.registers.proofs.read_entry.Lts as lts
-use Rattle.registers.proofs.pch_pic_irq_index.Reads as pch-pic-irq-index-reads
-
--- src/lib.rt:156:19
-pch-pic-irq-index-requires : tie.Need-pch-pic-irq-index-requires
-pch-pic-irq-index-requires c κs = search needs
-
--- src/lib.rt:157:27
-enum-known-irq : tie.Need-enum-known-irq
-enum-known-irq c = search needs
-
--- src/lib.rt:157:35
-shared-slice-read-result : tie.Need-shared-slice-read-result
-shared-slice-read-result c = ?
-
--- src/lib.rt:158:32
-enum-told : tie.Need-enum-told
-enum-told c = search needs
-
--- src/lib.rt:162:19
-pch-pic-irq-index-requires-2 : tie.Need-pch-pic-irq-index-requires-2
-pch-pic-irq-index-requires-2 c κs = search needs
-
--- src/lib.rt:163:27
-enum-known-irq-2 : tie.Need-enum-known-irq-2
-enum-known-irq-2 c = search needs
-
--- src/lib.rt:163:35
-shared-slice-read-result-2 : tie.Need-shared-slice-read-result-2
-shared-slice-read-result-2 c = ?
-
--- src/lib.rt:164:32
-enum-told-2 : tie.Need-enum-told-2
-enum-told-2 c = search needs
-
--- src/lib.rt:150:1
-returns : tie.Need-returns
-returns c = ?
-
--- src/lib.rt:150:1
-returns-2 : tie.Need-returns-2
-returns-2 c = ?
-
--- src/lib.rt:150:1
-returns-3 : tie.Need-returns-3
-returns-3 c = ?
-
--- src/lib.rt:150:1
-returns-4 : tie.Need-returns-4
-returns-4 c = ?
-
--- src/lib.rt:150:1
-returns-5 : tie.Need-returns-5
-returns-5 c = ?
-
--- src/lib.rt:150:1
-returns-6 : tie.Need-returns-6
-returns-6 c = ?
-
--- src/lib.rt:150:1
-returns-7 : tie.Need-returns-7
-returns-7 c = ?
 
 pub read-entry-spec : {M : Type 1} → statement M
 read-entry-spec =
     tie.close
     (tie.spec
-    pch-pic-irq-index-requires
-    enum-known-irq
-    shared-slice-read-result
-    enum-told
-    pch-pic-irq-index-requires-2
-    enum-known-irq-2
-    shared-slice-read-result-2
-    enum-told-2
-    returns
-    returns-2
-    returns-3
-    returns-4
-    returns-5
-    returns-6
-    returns-7)
+    (λ c κs. search needs)
+    (λ c. search needs)
+    (λ c.
+    let m = c .before .before .before .before in
+    omega (arith, irq-came _ _ (m .pch-pic-irq-index .ensures) (c .before .before .irq .given .1) .1))
+    (λ c. search needs)
+    (λ c κs. search needs)
+    (λ c. search needs)
+    (λ c.
+    let m = c .before .before .before .before in
+    omega (arith, irq-came _ _ (m .pch-pic-irq-index2 .ensures) (c .before .before .irq2 .given .1) .1))
+    (λ c. search needs)
+    (λ c.
+    let m = c .before .before .before .before in
+    let a = m .before .before .before .before .before .args in
+    let r = irq-came _ _ (m .pch-pic-irq-index .ensures) (c .before .before .irq .given .1) in
+    ap (λ i. getD (a .routes .now) i 0) (sym (r .0)) ∙ sym (entry-route _ _ (omega arith) (omega arith)))
+    (λ c. absurd (omega (arith, no-irq _ _ (c .before .before .pch-pic-irq-index .ensures) (c .enum-told .given .1))))
+    (λ c.
+    let m = c .before .before .before .before in
+    let a = m .before .before .before .before .before .before .before .args in
+    let r = irq-came _ _ (m .pch-pic-irq-index2 .ensures) (c .before .before .irq2 .given .1) in
+    ap (λ i. getD (a .vectors .now) i 0) (sym (r .0)) ∙ sym (entry-vector _ _ (omega arith) (omega arith)))
+    (λ c. absurd (omega (arith, no-irq _ _ (c .before .before .pch-pic-irq-index2 .ensures) (c .enum-told2 .given .1))))
+    (λ c. sym (entry-none _ _ (below _ (c .if1 .taken))))
+    (λ c. sym (entry-none _ _ (between _ (c .before .if2 .left) (c .if3 .taken))))
+    (λ c. sym (entry-none _ _ (beyond _ (c .if4 .left)))))

@@ -1,94 +1,42 @@
+-- `write_entry` is right since its ranges are those of the rule, and in each the input is below 64 and its byte alone changes.
+use mathlib.Core.Path.{ap, _∙_}
+use mathlib.Core.List.{[], _∷_}
+use native.Mathlib.Omega.{arith}
 use borrow.Author.Needs.{needs}
+use Rattle.rules.specs.Core.{store, setRoute, setVector}
+use Rattle.rules.proofs.laws.Maps.{below, between, beyond}
+use Rattle.rules.proofs.laws.Writes.{entry-acts-route, entry-acts-vector, entry-acts-none}
+use Rattle.registers.proofs.Indexes.{irq-came, no-irq}
+use Rattle.registers.proofs.Written.{shows-acts, shows-none, shows-route, shows-vector}
 use Rattle.registers.proofs.write_entry.Statement.{statement}
 use Rattle.registers.proofs.write_entry.Tie as tie
-use Rattle.registers.proofs.write_entry.Reads as reads
-use Rattle.registers.proofs.write_entry.Lts as lts
-use Rattle.registers.proofs.pch_pic_irq_index.Reads as pch-pic-irq-index-reads
-
--- src/lib.rt:366:37
-pch-pic-irq-index-requires : tie.Need-pch-pic-irq-index-requires
-pch-pic-irq-index-requires c κs = search needs
-
--- src/lib.rt:366:30
-enum-known-irq : tie.Need-enum-known-irq
-enum-known-irq c = search needs
-
--- src/lib.rt:367:17
-slice-write-routes : tie.Need-slice-write-routes
-slice-write-routes c = ?
-
-enum-told : tie.Need-enum-told
-enum-told c = search needs
-
--- src/lib.rt:371:37
-pch-pic-irq-index-requires-2 : tie.Need-pch-pic-irq-index-requires-2
-pch-pic-irq-index-requires-2 c κs = search needs
-
--- src/lib.rt:371:30
-enum-known-irq-2 : tie.Need-enum-known-irq-2
-enum-known-irq-2 c = search needs
-
--- src/lib.rt:372:17
-slice-write-vectors : tie.Need-slice-write-vectors
-slice-write-vectors c = ?
-
-enum-told-2 : tie.Need-enum-told-2
-enum-told-2 c = search needs
-
--- src/lib.rt:360:1
-returns : tie.Need-returns
-returns c = ?
-
--- src/lib.rt:360:1
-same-length : tie.Need-same-length
-same-length c = search needs
-
--- src/lib.rt:360:1
-returns-2 : tie.Need-returns-2
-returns-2 c = ?
-
--- src/lib.rt:360:1
-returns-3 : tie.Need-returns-3
-returns-3 c = ?
-
--- src/lib.rt:360:1
-returns-4 : tie.Need-returns-4
-returns-4 c = ?
-
--- src/lib.rt:360:1
-same-length-2 : tie.Need-same-length-2
-same-length-2 c = search needs
-
--- src/lib.rt:360:1
-returns-5 : tie.Need-returns-5
-returns-5 c = ?
-
--- src/lib.rt:360:1
-returns-6 : tie.Need-returns-6
-returns-6 c = ?
-
--- src/lib.rt:360:1
-returns-7 : tie.Need-returns-7
-returns-7 c = ?
 
 pub write-entry-spec : {M : Type 1} → statement M
 write-entry-spec =
     tie.close
     (tie.spec
-    pch-pic-irq-index-requires
-    enum-known-irq
-    slice-write-routes
-    enum-told
-    pch-pic-irq-index-requires-2
-    enum-known-irq-2
-    slice-write-vectors
-    enum-told-2
-    returns
-    same-length
-    returns-2
-    returns-3
-    returns-4
-    same-length-2
-    returns-5
-    returns-6
-    returns-7)
+    (λ c κs. search needs)
+    (λ c. search needs)
+    (λ c. omega (arith, irq-came _ _ (c .before .before .before .pch-pic-irq-index .ensures) (c .before .irq .given .1) .1))
+    (λ c. search needs)
+    (λ c κs. search needs)
+    (λ c. search needs)
+    (λ c. omega (arith, irq-came _ _ (c .before .before .before .pch-pic-irq-index2 .ensures) (c .before .irq2 .given .1) .1))
+    (λ c. search needs)
+    (λ c ws q es fs w. shows-acts _ (entry-acts-none _ _ (below _ (c .if1 .taken))) (shows-none w))
+    (λ c. search needs)
+    (λ c ws q es fs w.
+    let i = c .before .before .before in
+    let a = i .before .before .before .before .before .args in
+    let r = irq-came _ _ (i .pch-pic-irq-index .ensures) (c .before .irq .given .1) in
+    shows-acts _ (entry-acts-route (a .index) (a .val) (omega arith) (omega arith) ∙ ap (λ n. store (setRoute n (a .val)) ∷ []) (r .0)) (shows-route ws q es fs _ _ w _ _))
+    (λ c. absurd (omega (arith, no-irq _ _ (c .before .before .pch-pic-irq-index .ensures) (c .enum-told .given .1))))
+    (λ c ws q es fs w. shows-acts _ (entry-acts-none _ _ (between _ (c .before .if2 .left) (c .if3 .taken))) (shows-none w))
+    (λ c. search needs)
+    (λ c ws q es fs w.
+    let i = c .before .before .before in
+    let a = i .before .before .before .before .before .before .before .args in
+    let r = irq-came _ _ (i .pch-pic-irq-index2 .ensures) (c .before .irq2 .given .1) in
+    shows-acts _ (entry-acts-vector (a .index) (a .val) (omega arith) (omega arith) ∙ ap (λ n. setVector n (a .val) ∷ []) (r .0)) (shows-vector ws q es fs _ _ w _ _))
+    (λ c. absurd (omega (arith, no-irq _ _ (c .before .before .pch-pic-irq-index2 .ensures) (c .enum-told2 .given .1))))
+    (λ c ws q es fs w. shows-acts _ (entry-acts-none _ _ (beyond _ (c .if4 .left))) (shows-none w)))
