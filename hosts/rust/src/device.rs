@@ -1,6 +1,8 @@
 //! The device: an image of its own, and the calls on it.
 
 use crate::{ffi, reg, Error, Event, Events, Width, Window, EVENTS, EVENT_LEN, IMAGE_LEN};
+use core::cell::Cell;
+use core::marker::PhantomData;
 
 /// Where the image has the number of waiting events.
 const WAITING: usize = 222;
@@ -9,12 +11,19 @@ const DROPS: usize = 223;
 
 /// A LoongArch PCH-PIC.
 ///
-/// It owns its image, so a clone is a snapshot, and equal devices answer every later call alike. A `PchPic` is plain bytes: it can be
-/// sent to another thread, and a `Mutex` makes it shared.
+/// It owns its image, so a clone is a snapshot, and equal devices answer every later call alike. It is `Send`. The library's promises
+/// are about one call at a time, reads too, so it is not `Sync`: a `Mutex` makes it shared.
+///
+/// ```compile_fail,E0277
+/// fn shared<T: Sync>(_: T) {}
+/// shared(pch_pic::PchPic::new());
+/// ```
 #[derive(Clone, Debug, PartialEq, Eq)]
 pub struct PchPic {
     /// An accepted image: made by reset or tested by load, and every call keeps it so.
     image: [u8; IMAGE_LEN],
+    /// Not `Sync`.
+    one_call_at_a_time: PhantomData<Cell<()>>,
 }
 
 impl Default for PchPic {
@@ -26,14 +35,19 @@ impl Default for PchPic {
 impl PchPic {
     /// The device after reset: every input masked, vector n for input n, nothing latched, nothing waiting.
     pub fn new() -> Self {
-        let mut pic = PchPic { image: [0; IMAGE_LEN] };
-        pic.reset();
-        pic
+        let mut image = [0; IMAGE_LEN];
+        ffi::reset(&mut image).expect("a reset takes any 259 bytes");
+        PchPic::of(image)
+    }
+
+    /// The device of an accepted image.
+    const fn of(image: [u8; IMAGE_LEN]) -> Self {
+        PchPic { image, one_call_at_a_time: PhantomData }
     }
 
     /// Back to the state after reset.
     pub fn reset(&mut self) {
-        ffi::reset(&mut self.image).expect("a reset takes any 259 bytes");
+        *self = PchPic::new();
     }
 
     /// What the guest reads at `address`; 0 where no register stands. A read changes nothing.
@@ -210,11 +224,10 @@ impl PchPic {
     ///
     /// [`Error::Length`], [`Error::Contents`] or [`Error::Body`] where the bytes are no image or a damaged one.
     pub fn load(image: &[u8]) -> Result<Self, Error> {
+        let image: [u8; IMAGE_LEN] = image.try_into().map_err(|_| Error::Length)?;
         // A read tests the image and changes nothing.
-        ffi::read(image, Window::at(0), reg::ID, Width::Dword.bytes())?;
-        let mut pic = PchPic { image: [0; IMAGE_LEN] };
-        pic.image.copy_from_slice(image);
-        Ok(pic)
+        ffi::read(&image, Window::at(0), reg::ID, Width::Dword.bytes())?;
+        Ok(PchPic::of(image))
     }
 }
 

@@ -1,7 +1,7 @@
 //! The six calls of libpch_pic.a (include/pch_pic.h), over slices. All that is unsafe stands here.
 //!
-//! What the library asks of its host holds by the types: a slice's length is true, a mutable slice overlaps no other, and while
-//! an image is lent mutably nobody else has it.
+//! What the library asks of its host holds by the types: a slice's length is true, a mutable slice overlaps no other, and `PchPic`
+//! lends its image to one call at a time, since it is not `Sync`.
 
 use crate::{Error, Window};
 
