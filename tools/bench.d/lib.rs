@@ -1,0 +1,218 @@
+//! The driver of tools/bench: reads what is asked, holds the sides against each other, measures, and prints the table.
+
+#[path = "../harness/call.rs"]
+mod call;
+#[allow(dead_code)]
+#[path = "../harness/chance.rs"]
+mod chance;
+mod count;
+mod day;
+#[cfg(oracle)]
+mod device;
+#[cfg(oracle)]
+#[allow(dead_code)]
+#[path = "../harness/image.rs"]
+mod image;
+mod kinds;
+mod measure;
+mod sides;
+mod stack;
+mod table;
+mod verify;
+
+use call::Call;
+use kinds::Kind;
+use measure::{BATCH, Bench};
+use std::process::ExitCode;
+use table::Row;
+
+const WITH_C: bool = cfg!(oracle);
+
+/// What is asked for on the command line.
+pub struct Asked {
+    rounds: usize,
+    calls: usize,
+    day: usize,
+    random: u64,
+    kinds: Vec<String>,
+    sides: Vec<char>,
+    times: bool,
+    instructions: bool,
+    markdown: bool,
+    stack: bool,
+    list: bool,
+    counted: bool,
+}
+
+fn asked() -> Result<Asked, String> {
+    let mut asked = Asked {
+        rounds: 150,
+        calls: 6400,
+        day: 20_000,
+        random: 300_000,
+        kinds: vec!["all".into()],
+        sides: if WITH_C { vec!['n', 'a', 'b', 'c'] } else { vec!['n', 'a', 'b'] },
+        times: true,
+        instructions: true,
+        markdown: false,
+        stack: false,
+        list: false,
+        counted: false,
+    };
+    let mut words = std::env::args().skip(1);
+    while let Some(word) = words.next() {
+        let mut value = || words.next().ok_or(format!("{word} needs a value"));
+        let number = |text: String| text.parse::<usize>().ok().filter(|&n| n > 0).ok_or(format!("{text} is no number above 0"));
+        match word.as_str() {
+            "--rounds" => asked.rounds = number(value()?)?,
+            "--calls" => asked.calls = number(value()?)?.next_multiple_of(BATCH),
+            "--day" => asked.day = number(value()?)?,
+            "--random" => asked.random = number(value()?)? as u64,
+            "--kind" => asked.kinds = value()?.split(',').map(String::from).collect(),
+            "--side" => asked.sides = sides(&value()?)?,
+            "--no-time" => asked.times = false,
+            "--no-instructions" => asked.instructions = false,
+            "--markdown" => asked.markdown = true,
+            "--stack" => asked.stack = true,
+            "--list" => asked.list = true,
+            "--counted" => asked.counted = true,
+            _ => return Err(format!("unknown word {word}; see tools/bench --help")),
+        }
+    }
+    Ok(asked)
+}
+
+fn sides(list: &str) -> Result<Vec<char>, String> {
+    let mut sides = Vec::new();
+    for side in list.split(',') {
+        match side {
+            "c" if !WITH_C => eprintln!("bench: side c is left out: it was built without the published Rust"),
+            "a" | "b" | "c" | "n" => sides.extend(side.chars()),
+            _ => return Err(format!("no side {side}: a, b, c or n")),
+        }
+    }
+    if sides.is_empty() { Err("no side is left".into()) } else { Ok(sides) }
+}
+
+/// The kinds that are asked for, and whether the day is. A name's beginning with a star stands for all that begin so.
+fn chosen(asked: &Asked) -> Result<(Vec<Kind>, bool), String> {
+    let all = kinds::all();
+    let fits = |pattern: &str, name: &str| match pattern.strip_suffix('*') {
+        Some(beginning) => name.starts_with(beginning),
+        None => pattern == "all" || pattern == name,
+    };
+    for pattern in &asked.kinds {
+        if !fits(pattern, "day") && !all.iter().any(|kind| fits(pattern, kind.name)) {
+            return Err(format!("no kind {pattern}; see tools/bench --list"));
+        }
+    }
+    let asked_for = |name: &str| asked.kinds.iter().any(|pattern| fits(pattern, name));
+    let day = asked_for("day");
+    Ok((all.into_iter().filter(|kind| asked_for(kind.name)).collect(), day))
+}
+
+fn verified(asked: &Asked, day: &[Call]) -> Result<(), String> {
+    for kind in kinds::all() {
+        verify::kind(&kind)?;
+    }
+    verify::day(day)?;
+    let numbers = verify::random(asked.random)?;
+    let beside = if WITH_C { ", on kinds and day beside the published Rust too" } else { "" };
+    eprintln!(
+        "bench: {} kinds, a day of {} calls and {} random calls left the same bytes on the sides{beside}; random numbers 0..7: {numbers:?}",
+        kinds::all().len(),
+        day.len(),
+        asked.random
+    );
+    Ok(())
+}
+
+fn timed(asked: &Asked, kinds: &[Kind], day: Option<&[Call]>) -> Vec<Vec<f64>> {
+    let mut bench = Bench::new();
+    let mut rows = Vec::new();
+    for (k, kind) in kinds.iter().enumerate() {
+        eprint!("\rbench: timing {}/{} {:24}", k + 1, kinds.len() + day.is_some() as usize, kind.name);
+        rows.push(measure::best(asked.rounds, &asked.sides, asked.calls, |side| bench.kind(side, kind, asked.calls / BATCH)));
+    }
+    if let Some(calls) = day {
+        eprint!("\rbench: timing the mixed day {:24}", "");
+        rows.push(measure::best(asked.rounds, &asked.sides, calls.len(), |side| bench.day(side, calls)));
+    }
+    eprintln!("\rbench: timed {:40}", "");
+    rows
+}
+
+fn run() -> Result<(), String> {
+    let mut asked = asked()?;
+    let (kinds, with_day) = chosen(&asked)?;
+    if asked.list {
+        kinds.iter().for_each(|kind| println!("{:20}{}", kind.name, kind.title));
+        println!("{:20}a mixed day of calls, on one image", "day");
+        return Ok(());
+    }
+    let calls = day::calls(asked.day);
+    let day = with_day.then_some(calls.as_slice());
+    if asked.counted {
+        count::counted(&asked, &kinds, day);
+        return Ok(());
+    }
+    if asked.stack {
+        return stack::print(&asked.markdown);
+    }
+    let cpu = measure::pin();
+    verified(&asked, &calls)?;
+    let times = if asked.times { timed(&asked, &kinds, day) } else { Vec::new() };
+    let instructions = if asked.instructions {
+        eprintln!("bench: counting instructions with callgrind");
+        count::per_call(&asked, kinds.len(), day.map(<[Call]>::len)).unwrap_or_else(|why| {
+            eprintln!("bench: instructions are left out: {why}");
+            asked.instructions = false;
+            Vec::new()
+        })
+    } else {
+        Vec::new()
+    };
+    let titles = kinds.iter().map(|kind| (kind.title, has_c(kind))).chain(day.map(|_| ("mixed day", true)));
+    let row = |(k, (title, c)): (usize, (&str, bool))| Row {
+        title: title.into(),
+        times: times.get(k).cloned().unwrap_or_default(),
+        instructions: instructions.get(k).cloned().unwrap_or_default(),
+        c,
+    };
+    let rows: Vec<Row> = titles.enumerate().map(row).collect();
+    table::print(&rows, &asked.sides, asked.times, asked.instructions, asked.markdown);
+    tell(&asked, cpu, day);
+    Ok(())
+}
+
+fn has_c(_kind: &Kind) -> bool {
+    #[cfg(oracle)]
+    return device::has(_kind);
+    #[cfg(not(oracle))]
+    false
+}
+
+/// What the figures are.
+fn tell(asked: &Asked, cpu: Option<usize>, day: Option<&[Call]>) {
+    println!();
+    println!("a: the library. b: plain Rust, whole load and save. c: the published Rust in memory, with a mutex. n: nothing, the loop alone, not subtracted.");
+    if asked.times {
+        let pinned = cpu.map_or("not pinned".into(), |cpu| format!("pinned to CPU {cpu}"));
+        println!("Time: best of {} rounds of {} calls, sides in turn, {pinned}; images prepared outside the clock.", asked.rounds, asked.calls);
+    }
+    if let Some(calls) = day {
+        let share = |&(sort, count): &(&str, usize)| format!("{sort} {:.1}", 100.0 * count as f64 / calls.len() as f64);
+        let shares: Vec<String> = day::shares(calls).iter().map(share).collect();
+        println!("Mixed day: {} calls on one image, back to back; in a hundred: {}.", calls.len(), shares.join(", "));
+    }
+}
+
+pub fn main() -> ExitCode {
+    match run() {
+        Ok(()) => ExitCode::SUCCESS,
+        Err(why) => {
+            eprintln!("bench: {why}");
+            ExitCode::FAILURE
+        }
+    }
+}
