@@ -22,7 +22,7 @@ mod verify;
 
 use call::Call;
 use kinds::Kind;
-use measure::{BATCH, Bench};
+use measure::{BATCH, Bench, Best};
 use std::process::ExitCode;
 use table::Row;
 
@@ -127,19 +127,27 @@ fn verified(asked: &Asked, day: &[Call]) -> Result<(), String> {
     Ok(())
 }
 
+/// How often all kinds are gone through.
+const PASSES: usize = 10;
+
 fn timed(asked: &Asked, kinds: &[Kind], day: Option<&[Call]>) -> Vec<Vec<f64>> {
     let mut bench = Bench::new();
-    let mut rows = Vec::new();
-    for (k, kind) in kinds.iter().enumerate() {
-        eprint!("\rbench: timing {}/{} {:24}", k + 1, kinds.len() + day.is_some() as usize, kind.name);
-        rows.push(measure::best(asked.rounds, &asked.sides, asked.calls, |side| bench.kind(side, kind, asked.calls / BATCH)));
+    let lengths = kinds.iter().map(|_| asked.calls).chain(day.map(<[Call]>::len));
+    let mut rows: Vec<Best> = lengths.map(|calls| Best::new(asked.sides.len(), calls)).collect();
+    let rounds = asked.rounds.div_ceil(PASSES);
+    for pass in 0..PASSES {
+        eprint!("\rbench: timing, pass {} of {PASSES} ", pass + 1);
+        measure::deeper(pass, &mut || {
+            for (row, kind) in rows.iter_mut().zip(kinds) {
+                row.rounds(rounds, &asked.sides, |side| bench.kind(side, kind, asked.calls / BATCH));
+            }
+            if let Some(calls) = day {
+                rows[kinds.len()].rounds(rounds, &asked.sides, |side| bench.day(side, calls));
+            }
+        });
     }
-    if let Some(calls) = day {
-        eprint!("\rbench: timing the mixed day {:24}", "");
-        rows.push(measure::best(asked.rounds, &asked.sides, calls.len(), |side| bench.day(side, calls)));
-    }
-    eprintln!("\rbench: timed {:40}", "");
-    rows
+    eprintln!();
+    rows.iter().map(Best::per_call).collect()
 }
 
 fn run() -> Result<(), String> {

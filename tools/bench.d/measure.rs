@@ -1,4 +1,5 @@
-//! The clock: the sides take turns, round by round, so that the machine's other work hits all alike, and the best round of each counts.
+//! The clock: the sides take turns, round by round, so that the machine's other work hits all alike, and the best round of each counts. All
+//! kinds are gone through several times, since a spell of other work may outlast the rounds of one kind.
 
 use crate::call::Call;
 use crate::kinds::{Kind, LENGTH, Slot};
@@ -72,15 +73,38 @@ impl Bench {
     }
 }
 
-/// Nanoseconds per call of each side, the best of the rounds.
-pub fn best(rounds: usize, sides: &[char], calls: usize, mut round: impl FnMut(char) -> u64) -> Vec<f64> {
-    let mut best = vec![u64::MAX; sides.len()];
-    for _ in 0..rounds {
-        for (best, &side) in best.iter_mut().zip(sides) {
-            *best = round(side).min(*best);
+/// What a row has come to so far: the best round of each side.
+pub struct Best {
+    calls: usize,
+    least: Vec<u64>,
+}
+
+impl Best {
+    pub fn new(sides: usize, calls: usize) -> Self {
+        Best { calls, least: vec![u64::MAX; sides] }
+    }
+
+    /// More rounds, the sides in turn.
+    pub fn rounds(&mut self, rounds: usize, sides: &[char], mut round: impl FnMut(char) -> u64) {
+        for _ in 0..rounds {
+            for (least, &side) in self.least.iter_mut().zip(sides) {
+                *least = round(side).min(*least);
+            }
         }
     }
-    best.into_iter().map(|nanoseconds| nanoseconds as f64 / calls as f64).collect()
+
+    /// Nanoseconds per call of each side.
+    pub fn per_call(&self) -> Vec<f64> {
+        self.least.iter().map(|&nanoseconds| nanoseconds as f64 / self.calls as f64).collect()
+    }
+}
+
+/// Does it so many frames further down the stack, so that no side meets only a stack that happens to lie badly for it.
+#[inline(never)]
+pub fn deeper(frames: usize, work: &mut dyn FnMut()) {
+    let frame = std::hint::black_box([frames as u64; 2]);
+    if frames == 0 { work() } else { deeper(frames - 1, work) }
+    std::hint::black_box(&frame);
 }
 
 /// Keeps the program on the processor that it runs on; gives its number.
