@@ -44,14 +44,21 @@ fn word(image: &[u8; LENGTH], at: usize) -> u64 {
     u64::from_le_bytes(image[at..at + 8].try_into().unwrap())
 }
 
-/// Whether the bodies keep 01's rules: the copy of IRR, the count, the flags of waiting pairs, the unused pairs.
-fn bodies_good(image: &[u8; LENGTH]) -> bool {
+/// Refusals 5 and 6: the contents, and the rules of the bodies, which are the copy of IRR, the count, the flags of waiting pairs and the
+/// zeros of unused ones.
+fn check(image: &[u8; LENGTH]) -> Result<(), Refusal> {
+    if image[..REGISTERS] != CONTENTS {
+        return Err(refusal(5));
+    }
     let count = image[COUNT] as usize;
     if word(image, REGISTERS + 24) != word(image, REGISTERS + 32) || count > 16 {
-        return false;
+        return Err(refusal(6));
     }
     let (waiting, unused) = image[PAIRS..].split_at(2 * count);
-    waiting.chunks_exact(2).all(|pair| pair[1] <= 1) && unused.iter().all(|&byte| byte == 0)
+    if waiting.chunks_exact(2).any(|pair| pair[1] > 1) || *unused != [0; 32][2 * count..] {
+        return Err(refusal(6));
+    }
+    Ok(())
 }
 
 /// The image at its length, or refusal 4.
@@ -82,14 +89,9 @@ impl State {
         }
     }
 
-    fn load(image: &[u8; LENGTH]) -> Result<Self, Refusal> {
-        if image[..REGISTERS] != CONTENTS {
-            return Err(refusal(5));
-        }
-        if !bodies_good(image) {
-            return Err(refusal(6));
-        }
-        Ok(State {
+    /// The state of an image that was checked.
+    fn load(image: &[u8; LENGTH]) -> Self {
+        State {
             mask: word(image, REGISTERS),
             htmsi_en: word(image, REGISTERS + 8),
             edge: word(image, REGISTERS + 16),
@@ -103,7 +105,7 @@ impl State {
             waiting: image[COUNT] as usize,
             drops: u32::from_le_bytes(image[DROPS..DROPS + 4].try_into().unwrap()),
             pairs: image[PAIRS..].try_into().unwrap(),
-        })
+        }
     }
 
     fn save(&self, image: &mut [u8; LENGTH]) {
@@ -336,7 +338,8 @@ fn told(answer: &mut [u8; 16], outcome: Outcome) -> u8 {
 /// Load, change, save.
 fn changed(image: &mut [u8], change: impl FnOnce(&mut State) -> Outcome) -> Outcome {
     let image = whole_mut(image)?;
-    let mut state = State::load(image)?;
+    check(image)?;
+    let mut state = State::load(image);
     let value = change(&mut state)?;
     state.save(image);
     Ok(value)
@@ -358,7 +361,9 @@ pub fn reset(image: &mut [u8], answer: &mut [u8]) -> u8 {
 pub fn read(image: &[u8], base: u64, size: u64, address: u64, width: u64, answer: &mut [u8]) -> u8 {
     let Some(answer) = answer.first_chunk_mut() else { return 7 };
     let looked = || {
-        let state = State::load(whole(image)?)?;
+        let image = whole(image)?;
+        check(image)?;
+        let state = State::load(image);
         let width = Width::of(width)?;
         Ok(Some(state.read(width, offset_of(base, size, address)?)))
     };
