@@ -4,7 +4,7 @@
 use crate::call::Call;
 use crate::image;
 use crate::kinds::{BASE, Kind, SIZE, Slot};
-use oracle::{AccessWidth, GuestPhysAddr, LoongArchPchPic, PchPicOutputEvent, Plain};
+use oracle::{AccessWidth, DeviceError, GuestPhysAddr, LoongArchPchPic, PchPicOutputEvent, Plain};
 use std::hint::black_box;
 
 /// A device and the event buffer that its drain writes to.
@@ -43,56 +43,75 @@ fn width_of(width: u64) -> AccessWidth {
     }
 }
 
+#[inline(always)]
+fn read(standing: &mut Standing, address: u64, width: AccessWidth) -> Option<u64> {
+    match standing.device.read_register(GuestPhysAddr::from_usize(address as usize), width) {
+        Ok(value) => Some(value as u64),
+        Err(DeviceError::OutOfRange { addr }) => Some(addr),
+        Err(_) => None,
+    }
+}
+
+#[inline(always)]
+fn write(standing: &mut Standing, address: u64, width: AccessWidth, value: u64) -> Option<u64> {
+    match standing.device.write_register(GuestPhysAddr::from_usize(address as usize), width, value as usize) {
+        Err(DeviceError::OutOfRange { addr }) => Some(addr),
+        _ => None,
+    }
+}
+
+/// The events go to the buffer in the boundary's form, so that this side does no less.
+#[inline(always)]
+fn drain(standing: &mut Standing) -> Option<u64> {
+    let Standing { device, events } = standing;
+    let mut moved = 0;
+    device.drain_output_events(|event: PchPicOutputEvent| {
+        events[2 * moved] = event.vector as u8;
+        events[2 * moved + 1] = event.asserted as u8;
+        moved += 1;
+    });
+    Some(moved as u64)
+}
+
 /// What the call gives: the value read or returned, the number drained, the address outside.
 #[inline(always)]
-fn make(call: &Call, width: AccessWidth, standing: &mut Standing) -> Option<u64> {
-    let Standing { device, events } = standing;
+fn make(call: &Call, standing: &mut Standing) -> Option<u64> {
     match *call {
         Call::Reset => {
-            device.reset();
+            standing.device.reset();
             None
         }
-        Call::Read { address, .. } => match device.read_register(GuestPhysAddr::from_usize(address as usize), width) {
-            Ok(value) => Some(value as u64),
-            Err(error) => {
-                black_box(error);
-                Some(address)
-            }
-        },
-        Call::Write { address, value, .. } => {
-            match device.write_register(GuestPhysAddr::from_usize(address as usize), width, value as usize) {
-                Ok(()) => None,
-                Err(error) => {
-                    black_box(error);
-                    Some(address)
-                }
-            }
-        }
-        Call::Level { input, level } => device.set_irq_level(input as usize, level != 0).map(|vector| vector as u64),
-        Call::Poll { input } => device.pending_vector(input as usize).map(|vector| vector as u64),
-        Call::Drain { .. } => {
-            let mut moved = 0;
-            device.drain_output_events(|event: PchPicOutputEvent| {
-                events[2 * moved] = event.vector as u8;
-                events[2 * moved + 1] = event.asserted as u8;
-                moved += 1;
-            });
-            Some(moved as u64)
-        }
+        Call::Read { address, width, .. } => read(standing, address, width_of(width)),
+        Call::Write { address, width, value, .. } => write(standing, address, width_of(width), value),
+        Call::Level { input, level } => standing.device.set_irq_level(input as usize, level != 0).map(|vector| vector as u64),
+        Call::Poll { input } => standing.device.pending_vector(input as usize).map(|vector| vector as u64),
+        Call::Drain { .. } => drain(standing),
     }
 }
 
 #[unsafe(no_mangle)]
 #[inline(never)]
 pub fn bench_timed_each_c(kind: &Kind, devices: &mut [Standing]) {
-    let call = black_box(kind.call);
-    let width = match call {
-        Call::Read { width, .. } | Call::Write { width, .. } => width_of(width),
-        _ => AccessWidth::Byte,
-    };
-    // the call is one and the same, so the match in make is predicted; it costs some instructions
-    for standing in devices {
-        black_box(make(&call, width, standing));
+    macro_rules! all {
+        ($standing:ident => $call:expr) => {
+            for $standing in devices {
+                black_box($call);
+            }
+        };
+    }
+    match black_box(kind.call) {
+        Call::Reset => all!(standing => standing.device.reset()),
+        Call::Read { address, width, .. } => {
+            let width = width_of(width);
+            all!(standing => read(standing, address, width))
+        }
+        Call::Write { address, width, value, .. } => {
+            let width = width_of(width);
+            all!(standing => write(standing, address, width, value))
+        }
+        Call::Level { input, level } => all!(standing => standing.device.set_irq_level(input as usize, level != 0)),
+        Call::Poll { input } => all!(standing => standing.device.pending_vector(input as usize)),
+        Call::Drain { .. } => all!(standing => drain(standing)),
     }
 }
 
@@ -100,22 +119,14 @@ pub fn bench_timed_each_c(kind: &Kind, devices: &mut [Standing]) {
 #[inline(never)]
 pub fn bench_timed_day_c(calls: &[Call], standing: &mut Standing) {
     for call in calls {
-        let width = match *call {
-            Call::Read { width, .. } | Call::Write { width, .. } => width_of(width),
-            _ => AccessWidth::Byte,
-        };
-        black_box(make(call, width, standing));
+        black_box(make(call, standing));
     }
 }
 
-/// Makes the call and says what the boundary would: the image, and the value if there is one.
+/// Makes the call and says what the boundary would: the image, the events, and the value if there is one.
 pub fn as_boundary(call: &Call, standing: &mut Standing, drops: &mut u32, slot: &mut Slot) -> Option<u64> {
     oracle::take_warnings();
-    let width = match *call {
-        Call::Read { width, .. } | Call::Write { width, .. } => width_of(width),
-        _ => AccessWidth::Byte,
-    };
-    let value = make(call, width, standing);
+    let value = make(call, standing);
     *drops = if let Call::Reset = call { 0 } else { *drops + oracle::take_warnings() as u32 };
     image::encode(&standing.device.plain(), *drops, &mut slot.image);
     slot.events = standing.events;

@@ -33,7 +33,6 @@ pub struct Asked {
     rounds: usize,
     calls: usize,
     day: usize,
-    random: u64,
     kinds: Vec<String>,
     sides: Vec<char>,
     times: bool,
@@ -46,10 +45,9 @@ pub struct Asked {
 
 fn asked() -> Result<Asked, String> {
     let mut asked = Asked {
-        rounds: 150,
+        rounds: 600,
         calls: 6400,
         day: 20_000,
-        random: 300_000,
         kinds: vec!["all".into()],
         sides: if WITH_C { vec!['n', 'a', 'b', 'c'] } else { vec!['n', 'a', 'b'] },
         times: true,
@@ -67,7 +65,6 @@ fn asked() -> Result<Asked, String> {
             "--rounds" => asked.rounds = number(value()?)?,
             "--calls" => asked.calls = number(value()?)?.next_multiple_of(BATCH),
             "--day" => asked.day = number(value()?)?,
-            "--random" => asked.random = number(value()?)? as u64,
             "--kind" => asked.kinds = value()?.split(',').map(String::from).collect(),
             "--side" => asked.sides = sides(&value()?)?,
             "--no-time" => asked.times = false,
@@ -111,24 +108,24 @@ fn chosen(asked: &Asked) -> Result<(Vec<Kind>, bool), String> {
     Ok((all.into_iter().filter(|kind| asked_for(kind.name)).collect(), day))
 }
 
-fn verified(asked: &Asked, day: &[Call]) -> Result<(), String> {
+fn verified(day: &[Call]) -> Result<(), String> {
     for kind in kinds::all() {
         verify::kind(&kind)?;
     }
     verify::day(day)?;
-    let numbers = verify::random(asked.random)?;
+    let numbers = verify::random()?;
     let beside = if WITH_C { ", on kinds and day beside the published Rust too" } else { "" };
     eprintln!(
         "bench: {} kinds, a day of {} calls and {} random calls left the same bytes on the sides{beside}; random numbers 0..7: {numbers:?}",
         kinds::all().len(),
         day.len(),
-        asked.random
+        verify::RANDOM
     );
     Ok(())
 }
 
 /// How often all kinds are gone through.
-const PASSES: usize = 10;
+const PASSES: usize = 20;
 
 fn timed(asked: &Asked, kinds: &[Kind], day: Option<&[Call]>) -> Vec<Vec<f64>> {
     let mut bench = Bench::new();
@@ -150,9 +147,7 @@ fn timed(asked: &Asked, kinds: &[Kind], day: Option<&[Call]>) -> Vec<Vec<f64>> {
     rows.iter().map(Best::per_call).collect()
 }
 
-fn run() -> Result<(), String> {
-    let mut asked = asked()?;
-    let (kinds, with_day) = chosen(&asked)?;
+fn run(mut asked: Asked, kinds: Vec<Kind>, with_day: bool) -> Result<(), String> {
     if asked.list {
         kinds.iter().for_each(|kind| println!("{:20}{}", kind.name, kind.title));
         println!("{:20}a mixed day of calls, on one image", "day");
@@ -165,10 +160,10 @@ fn run() -> Result<(), String> {
         return Ok(());
     }
     if asked.stack {
-        return stack::print(&asked.markdown);
+        return stack::print(asked.markdown);
     }
     let cpu = measure::pin();
-    verified(&asked, &calls)?;
+    verified(&calls)?;
     let times = if asked.times { timed(&asked, &kinds, day) } else { Vec::new() };
     let instructions = if asked.instructions {
         eprintln!("bench: counting instructions with callgrind");
@@ -203,10 +198,15 @@ fn has_c(_kind: &Kind) -> bool {
 /// What the figures are.
 fn tell(asked: &Asked, cpu: Option<usize>, day: Option<&[Call]>) {
     println!();
-    println!("a: the library. b: plain Rust, whole load and save. c: the published Rust in memory, with a mutex. n: nothing, the loop alone, not subtracted.");
+    println!(
+        "a: the library. b: plain Rust, whole load and save. c: the published Rust in memory, with a mutex. n: nothing, the loop alone, not subtracted."
+    );
     if asked.times {
         let pinned = cpu.map_or("not pinned".into(), |cpu| format!("pinned to CPU {cpu}"));
-        println!("Time: best of {} rounds of {} calls, sides in turn, {pinned}; images prepared outside the clock.", asked.rounds, asked.calls);
+        println!(
+            "Time: best of {} rounds of {} calls, sides in turn, {pinned}; images prepared outside the clock.",
+            asked.rounds, asked.calls
+        );
     }
     if let Some(calls) = day {
         let share = |&(sort, count): &(&str, usize)| format!("{sort} {:.1}", 100.0 * count as f64 / calls.len() as f64);
@@ -216,11 +216,16 @@ fn tell(asked: &Asked, cpu: Option<usize>, day: Option<&[Call]>) {
 }
 
 pub fn main() -> ExitCode {
-    match run() {
-        Ok(()) => ExitCode::SUCCESS,
-        Err(why) => {
-            eprintln!("bench: {why}");
-            ExitCode::FAILURE
-        }
+    let told = |why: String, status: u8| {
+        eprintln!("bench: {why}");
+        ExitCode::from(status)
+    };
+    let asked = match asked() {
+        Ok(asked) => asked,
+        Err(why) => return told(why, 2),
+    };
+    match chosen(&asked) {
+        Ok((kinds, with_day)) => run(asked, kinds, with_day).map_or_else(|why| told(why, 1), |()| ExitCode::SUCCESS),
+        Err(why) => told(why, 2),
     }
 }

@@ -103,7 +103,11 @@ impl Best {
 #[inline(never)]
 pub fn deeper(frames: usize, work: &mut dyn FnMut()) {
     let frame = std::hint::black_box([frames as u64; 2]);
-    if frames == 0 { work() } else { deeper(frames - 1, work) }
+    if frames == 0 {
+        work()
+    } else {
+        deeper(frames - 1, work)
+    }
     std::hint::black_box(&frame);
 }
 

@@ -110,8 +110,7 @@ impl State {
 
     fn save(&self, image: &mut [u8; LENGTH]) {
         image[..REGISTERS].copy_from_slice(&CONTENTS);
-        let registers =
-            [self.mask, self.htmsi_en, self.edge, self.irr, self.irr, self.isr, self.polarity, self.auto0, self.auto1];
+        let registers = [self.mask, self.htmsi_en, self.edge, self.irr, self.irr, self.isr, self.polarity, self.auto0, self.auto1];
         for (place, register) in image[REGISTERS..ROUTES].chunks_exact_mut(8).zip(registers) {
             place.copy_from_slice(&register.to_le_bytes());
         }
@@ -313,11 +312,7 @@ impl Width {
 }
 
 fn offset_of(base: u64, size: u64, address: u64) -> Result<u64, Refusal> {
-    if (base..base.saturating_add(size)).contains(&address) {
-        Ok(address - base)
-    } else {
-        Err(Refusal { number: 1, value: Some(address) })
-    }
+    if (base..base.saturating_add(size)).contains(&address) { Ok(address - base) } else { Err(Refusal { number: 1, value: Some(address) }) }
 }
 
 fn input_of(input: u64) -> Result<usize, Refusal> {

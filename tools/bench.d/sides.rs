@@ -10,7 +10,17 @@ mod library {
     unsafe extern "C" {
         pub fn pch_pic_reset(image: *mut u8, il: usize, answer: *mut u8, al: usize) -> u8;
         pub fn pch_pic_read(i: *const u8, il: usize, base: u64, size: u64, address: u64, width: u64, answer: *mut u8, al: usize) -> u8;
-        pub fn pch_pic_write(i: *mut u8, il: usize, base: u64, size: u64, at: u64, width: u64, value: u64, answer: *mut u8, al: usize) -> u8;
+        pub fn pch_pic_write(
+            i: *mut u8,
+            il: usize,
+            base: u64,
+            size: u64,
+            at: u64,
+            width: u64,
+            value: u64,
+            answer: *mut u8,
+            al: usize,
+        ) -> u8;
         pub fn pch_pic_level(image: *mut u8, il: usize, input: u64, level: u64, answer: *mut u8, al: usize) -> u8;
         pub fn pch_pic_poll(image: *mut u8, il: usize, input: u64, answer: *mut u8, al: usize) -> u8;
         pub fn pch_pic_drain(image: *mut u8, il: usize, events: *mut u8, el: usize, place: usize, answer: *mut u8, al: usize) -> u8;

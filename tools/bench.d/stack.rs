@@ -1,11 +1,14 @@
 //! The stack that each exported call uses: it runs on a painted stack of its own, and one looks how deep the paint is gone.
 
 use crate::call::Call;
+use crate::chance::Chance;
 use crate::kinds::{self, Slot};
 use crate::sides;
+use crate::verify;
 use std::arch::asm;
 
-const DEPTH: usize = 1 << 16;
+/// Some times more than any call needs: what is used is told, and a call that came near the end would be seen.
+const DEPTH: usize = 1 << 14;
 
 #[repr(align(64))]
 struct Painted([u8; DEPTH]);
@@ -16,7 +19,9 @@ fn numbers(call: &Call, slot: &mut Slot, il: usize, al: usize) -> (usize, [u64; 
     let (a, al) = (slot.answer.as_mut_ptr() as u64, al as u64);
     match *call {
         Call::Reset => (sides::pch_pic_reset as *const () as usize, [i, il, a, al, 0, 0, 0, 0, 0]),
-        Call::Read { base, size, address, width } => (sides::pch_pic_read as *const () as usize, [i, il, base, size, address, width, a, al, 0]),
+        Call::Read { base, size, address, width } => {
+            (sides::pch_pic_read as *const () as usize, [i, il, base, size, address, width, a, al, 0])
+        }
         Call::Write { base, size, address, width, value } => {
             (sides::pch_pic_write as *const () as usize, [i, il, base, size, address, width, value, a, al])
         }
@@ -72,8 +77,11 @@ fn name(call: &Call) -> &'static str {
     }
 }
 
-/// The most that each of the six uses, over all the kinds and over every offset and width, read and written.
-pub fn print(markdown: &bool) -> Result<(), String> {
+/// How many random calls are made beside the kinds and the registers.
+const RANDOM: usize = 20_000;
+
+/// The most that each of the six uses: over all the kinds, every offset and width read and written, and random calls on random images.
+pub fn print(markdown: bool) -> Result<(), String> {
     let mut stack = Box::new(Painted([0; DEPTH]));
     let mut most: Vec<(&str, usize)> = Vec::new();
     let mut note = |call: &Call, slot: &Slot, il, al| {
@@ -96,11 +104,19 @@ pub fn print(markdown: &bool) -> Result<(), String> {
             }
         }
     }
-    if *markdown {
+    let mut chance = Chance::new(3);
+    for _ in 0..RANDOM {
+        let slot = Slot { image: verify::random_image(&mut chance), answer: [0; 16], events: [0; 32] };
+        note(&verify::random_call(&mut chance), &slot, 259, 16);
+    }
+    if most.iter().any(|one| one.1 > DEPTH / 2) {
+        return Err("the painted stack is too small".into());
+    }
+    if markdown {
         println!("| Call | Stack, bytes |\n|---|---:|");
     }
     for (name, bytes) in most {
-        if *markdown { println!("| `{name}` | {bytes} |") } else { println!("{name:16}{bytes:>7} bytes of stack") }
+        if markdown { println!("| `{name}` | {bytes} |") } else { println!("{name:16}{bytes:>7} bytes of stack") }
     }
     Ok(())
 }

@@ -68,12 +68,15 @@ pub fn day(calls: &[Call]) -> Result<(), String> {
     Ok(())
 }
 
+/// How many random calls are compared.
+pub const RANDOM: u64 = 300_000;
+
 /// Random calls on random states, with refusals of every number among them; gives how often each number came.
-pub fn random(count: u64) -> Result<[u64; 8], String> {
+pub fn random() -> Result<[u64; 8], String> {
     let mut chance = Chance::new(7);
     let mut numbers = [0; 8];
     let mut slot = Slot { image: Prepared::new().0, answer: [0xee; 16], events: [0xdd; 32] };
-    for k in 0..count {
+    for k in 0..RANDOM {
         if k % 40 == 0 {
             slot.image = random_image(&mut chance);
         }
@@ -96,7 +99,7 @@ pub fn random(count: u64) -> Result<[u64; 8], String> {
     }
 }
 
-fn random_image(chance: &mut Chance) -> [u8; LENGTH] {
+pub fn random_image(chance: &mut Chance) -> [u8; LENGTH] {
     let few = |chance: &mut Chance| chance.number() & chance.number() & chance.one_of(&[0, !0, chance_mask(3), chance_mask(20)]);
     let (latched, in_service) = (few(chance), few(chance));
     let mut image = Prepared::new().latched(latched).in_service(in_service).waiting(chance.below(17) as usize);
@@ -118,7 +121,7 @@ fn chance_mask(bits: u32) -> u64 {
     (1 << bits) - 1
 }
 
-fn random_call(chance: &mut Chance) -> Call {
+pub fn random_call(chance: &mut Chance) -> Call {
     let input = if chance.percent(3) { chance.number() } else { chance.below(65) };
     let width = if chance.percent(3) { chance.below(10) } else { chance.one_of(&[1, 2, 4, 8]) };
     let near = chance.one_of(&[0, 0x20, 0x40, 0x60, 0x80, 0xc0, 0xe0, 0x100, 0x138, 0x200, 0x238, 0x380, 0x39c, 0x3a0, 0x3e0, 0x3fc]);
