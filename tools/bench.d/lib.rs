@@ -184,7 +184,7 @@ fn run(mut asked: Asked, kinds: Vec<Kind>, with_day: bool) -> Result<(), String>
     };
     let rows: Vec<Row> = titles.enumerate().map(row).collect();
     table::print(&rows, &asked.sides, asked.times, asked.instructions, asked.markdown);
-    tell(&asked, cpu, day);
+    tell(&asked, &rows, cpu, day);
     Ok(())
 }
 
@@ -196,23 +196,25 @@ fn has_c(_kind: &Kind) -> bool {
 }
 
 /// What the figures are.
-fn tell(asked: &Asked, cpu: Option<usize>, day: Option<&[Call]>) {
+fn tell(asked: &Asked, rows: &[Row], cpu: Option<usize>, day: Option<&[Call]>) {
     println!();
-    println!(
-        "a: the library. b: plain Rust, whole load and save. c: the published Rust in memory, with a mutex. n: nothing, the loop alone, not subtracted."
-    );
+    println!("a: the library. b: plain Rust, whole load and save. c: the published Rust in memory, with a mutex.");
+    if let Some(empty) = table::empty(rows, &asked.sides) {
+        println!("An empty call in the same loop, not subtracted: {empty}.");
+    }
     if asked.times {
         let pinned = cpu.map_or("not pinned".into(), |cpu| format!("pinned to CPU {cpu}"));
-        println!(
-            "Time: best of {} rounds of {} calls, sides in turn, {pinned}; images prepared outside the clock.",
-            asked.rounds, asked.calls
-        );
+        let (rounds, calls) = (asked.rounds, asked.calls);
+        println!("Time: best of {rounds} rounds of {calls} calls, sides in turn, {pinned}; areas prepared outside the clock.");
     }
     if let Some(calls) = day {
         let share = |&(sort, count): &(&str, usize)| format!("{sort} {:.1}", 100.0 * count as f64 / calls.len() as f64);
         let shares: Vec<String> = day::shares(calls).iter().map(share).collect();
         println!("Mixed day: {} calls on one image, back to back; in a hundred: {}.", calls.len(), shares.join(", "));
     }
+    let processor = std::fs::read_to_string("/proc/cpuinfo").unwrap_or_default();
+    let model = processor.lines().find_map(|line| line.strip_prefix("model name")?.split(": ").nth(1));
+    println!("Machine: {}; {}.", model.unwrap_or("unknown"), std::env::var("BENCH_RUSTC").unwrap_or_default());
 }
 
 pub fn main() -> ExitCode {

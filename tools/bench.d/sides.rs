@@ -45,38 +45,60 @@ pub trait Side {
 
 pub struct Library;
 
-#[rustfmt::skip]
 impl Side for Library {
     #[inline(always)]
-    unsafe fn reset(i: Area, a: Area) -> u8 { unsafe { pch_pic_reset(i.0, i.1, a.0, a.1) } }
+    unsafe fn reset(i: Area, a: Area) -> u8 {
+        unsafe { pch_pic_reset(i.0, i.1, a.0, a.1) }
+    }
     #[inline(always)]
-    unsafe fn read(i: Area, w: (u64, u64), at: u64, width: u64, a: Area) -> u8 { unsafe { pch_pic_read(i.0, i.1, w.0, w.1, at, width, a.0, a.1) } }
+    unsafe fn read(i: Area, (base, size): (u64, u64), address: u64, width: u64, a: Area) -> u8 {
+        unsafe { pch_pic_read(i.0, i.1, base, size, address, width, a.0, a.1) }
+    }
     #[inline(always)]
-    unsafe fn write(i: Area, w: (u64, u64), at: u64, width: u64, value: u64, a: Area) -> u8 { unsafe { pch_pic_write(i.0, i.1, w.0, w.1, at, width, value, a.0, a.1) } }
+    unsafe fn write(i: Area, (base, size): (u64, u64), address: u64, width: u64, value: u64, a: Area) -> u8 {
+        unsafe { pch_pic_write(i.0, i.1, base, size, address, width, value, a.0, a.1) }
+    }
     #[inline(always)]
-    unsafe fn level(i: Area, input: u64, level: u64, a: Area) -> u8 { unsafe { pch_pic_level(i.0, i.1, input, level, a.0, a.1) } }
+    unsafe fn level(i: Area, input: u64, level: u64, a: Area) -> u8 {
+        unsafe { pch_pic_level(i.0, i.1, input, level, a.0, a.1) }
+    }
     #[inline(always)]
-    unsafe fn poll(i: Area, input: u64, a: Area) -> u8 { unsafe { pch_pic_poll(i.0, i.1, input, a.0, a.1) } }
+    unsafe fn poll(i: Area, input: u64, a: Area) -> u8 {
+        unsafe { pch_pic_poll(i.0, i.1, input, a.0, a.1) }
+    }
     #[inline(always)]
-    unsafe fn drain(i: Area, e: Area, place: usize, a: Area) -> u8 { unsafe { pch_pic_drain(i.0, i.1, e.0, e.1, place, a.0, a.1) } }
+    unsafe fn drain(i: Area, e: Area, place: usize, a: Area) -> u8 {
+        unsafe { pch_pic_drain(i.0, i.1, e.0, e.1, place, a.0, a.1) }
+    }
 }
 
 pub struct Plain;
 
-#[rustfmt::skip]
 impl Side for Plain {
     #[inline(always)]
-    unsafe fn reset(i: Area, a: Area) -> u8 { unsafe { plain::reset(part_mut(i.0, i.1), part_mut(a.0, a.1)) } }
+    unsafe fn reset(i: Area, a: Area) -> u8 {
+        unsafe { plain::reset(part_mut(i.0, i.1), part_mut(a.0, a.1)) }
+    }
     #[inline(always)]
-    unsafe fn read(i: Area, w: (u64, u64), at: u64, width: u64, a: Area) -> u8 { unsafe { plain::read(part(i.0, i.1), w.0, w.1, at, width, part_mut(a.0, a.1)) } }
+    unsafe fn read(i: Area, (base, size): (u64, u64), address: u64, width: u64, a: Area) -> u8 {
+        unsafe { plain::read(part(i.0, i.1), base, size, address, width, part_mut(a.0, a.1)) }
+    }
     #[inline(always)]
-    unsafe fn write(i: Area, w: (u64, u64), at: u64, width: u64, value: u64, a: Area) -> u8 { unsafe { plain::write(part_mut(i.0, i.1), w.0, w.1, at, width, value, part_mut(a.0, a.1)) } }
+    unsafe fn write(i: Area, (base, size): (u64, u64), address: u64, width: u64, value: u64, a: Area) -> u8 {
+        unsafe { plain::write(part_mut(i.0, i.1), base, size, address, width, value, part_mut(a.0, a.1)) }
+    }
     #[inline(always)]
-    unsafe fn level(i: Area, input: u64, level: u64, a: Area) -> u8 { unsafe { plain::level(part_mut(i.0, i.1), input, level, part_mut(a.0, a.1)) } }
+    unsafe fn level(i: Area, input: u64, level: u64, a: Area) -> u8 {
+        unsafe { plain::level(part_mut(i.0, i.1), input, level, part_mut(a.0, a.1)) }
+    }
     #[inline(always)]
-    unsafe fn poll(i: Area, input: u64, a: Area) -> u8 { unsafe { plain::poll(part_mut(i.0, i.1), input, part_mut(a.0, a.1)) } }
+    unsafe fn poll(i: Area, input: u64, a: Area) -> u8 {
+        unsafe { plain::poll(part_mut(i.0, i.1), input, part_mut(a.0, a.1)) }
+    }
     #[inline(always)]
-    unsafe fn drain(i: Area, e: Area, place: usize, a: Area) -> u8 { unsafe { plain::drain(part_mut(i.0, i.1), part_mut(e.0, e.1), place, part_mut(a.0, a.1)) } }
+    unsafe fn drain(i: Area, e: Area, place: usize, a: Area) -> u8 {
+        unsafe { plain::drain(part_mut(i.0, i.1), part_mut(e.0, e.1), place, part_mut(a.0, a.1)) }
+    }
 }
 
 pub struct Nothing;
@@ -87,20 +109,31 @@ extern "C" fn nothing(image: *mut u8, answer: *mut u8) -> u8 {
     0
 }
 
-#[rustfmt::skip]
 impl Side for Nothing {
     #[inline(always)]
-    unsafe fn reset(i: Area, a: Area) -> u8 { nothing(i.0, a.0) }
+    unsafe fn reset(i: Area, a: Area) -> u8 {
+        nothing(i.0, a.0)
+    }
     #[inline(always)]
-    unsafe fn read(i: Area, _: (u64, u64), _: u64, _: u64, a: Area) -> u8 { nothing(i.0, a.0) }
+    unsafe fn read(i: Area, _: (u64, u64), _: u64, _: u64, a: Area) -> u8 {
+        nothing(i.0, a.0)
+    }
     #[inline(always)]
-    unsafe fn write(i: Area, _: (u64, u64), _: u64, _: u64, _: u64, a: Area) -> u8 { nothing(i.0, a.0) }
+    unsafe fn write(i: Area, _: (u64, u64), _: u64, _: u64, _: u64, a: Area) -> u8 {
+        nothing(i.0, a.0)
+    }
     #[inline(always)]
-    unsafe fn level(i: Area, _: u64, _: u64, a: Area) -> u8 { nothing(i.0, a.0) }
+    unsafe fn level(i: Area, _: u64, _: u64, a: Area) -> u8 {
+        nothing(i.0, a.0)
+    }
     #[inline(always)]
-    unsafe fn poll(i: Area, _: u64, a: Area) -> u8 { nothing(i.0, a.0) }
+    unsafe fn poll(i: Area, _: u64, a: Area) -> u8 {
+        nothing(i.0, a.0)
+    }
     #[inline(always)]
-    unsafe fn drain(i: Area, _: Area, _: usize, a: Area) -> u8 { nothing(i.0, a.0) }
+    unsafe fn drain(i: Area, _: Area, _: usize, a: Area) -> u8 {
+        nothing(i.0, a.0)
+    }
 }
 
 /// The call, made once, on the lengths said.
