@@ -62,7 +62,7 @@ fn asked() -> Result<Asked, String> {
         let mut value = || words.next().ok_or(format!("{word} needs a value"));
         let number = |text: String| text.parse::<usize>().ok().filter(|&n| n > 0).ok_or(format!("{text} is no number above 0"));
         match word.as_str() {
-            "--rounds" => asked.rounds = number(value()?)?,
+            "--rounds" => asked.rounds = number(value()?)?.next_multiple_of(PASSES),
             "--calls" => asked.calls = number(value()?)?.next_multiple_of(BATCH),
             "--day" => asked.day = number(value()?)?,
             "--kind" => asked.kinds = value()?.split(',').map(String::from).collect(),
@@ -131,7 +131,7 @@ fn timed(asked: &Asked, kinds: &[Kind], day: Option<&[Call]>) -> Vec<Vec<f64>> {
     let mut bench = Bench::new();
     let lengths = kinds.iter().map(|_| asked.calls).chain(day.map(<[Call]>::len));
     let mut rows: Vec<Best> = lengths.map(|calls| Best::new(asked.sides.len(), calls)).collect();
-    let rounds = asked.rounds.div_ceil(PASSES);
+    let rounds = asked.rounds / PASSES;
     for pass in 0..PASSES {
         eprint!("\rbench: timing, pass {} of {PASSES} ", pass + 1);
         measure::deeper(pass, &mut || {
