@@ -1,0 +1,37 @@
+//! Links libpch_pic.a, from PCH_PIC_LIB_DIR or from the repository's target/staticlib, and says what to run where it is missing.
+
+use std::env;
+use std::path::{Path, PathBuf};
+use std::process::exit;
+
+const LIBRARY: &str = "libpch_pic.a";
+
+/// Where the library is looked for.
+fn library_dir() -> PathBuf {
+    match env::var_os("PCH_PIC_LIB_DIR") {
+        Some(dir) => PathBuf::from(dir),
+        None => {
+            let here = env::var_os("CARGO_MANIFEST_DIR").expect("cargo tells where the crate stands");
+            Path::new(&here).join("../../target/staticlib")
+        }
+    }
+}
+
+fn main() {
+    let dir = library_dir();
+    println!("cargo:rerun-if-env-changed=PCH_PIC_LIB_DIR");
+    println!("cargo:rerun-if-changed={}", dir.join(LIBRARY).display());
+    // The linker is run elsewhere, so the path must be whole.
+    match dir.canonicalize() {
+        Ok(whole) if whole.join(LIBRARY).is_file() => {
+            println!("cargo:rustc-link-search=native={}", whole.display());
+            println!("cargo:rustc-link-lib=static=pch_pic");
+        }
+        _ => {
+            eprintln!("{LIBRARY} is not in {}", dir.display());
+            eprintln!("To prove and build it, run 'rt staticlib pch_pic' at the top of the repository.");
+            eprintln!("If it stands elsewhere, set PCH_PIC_LIB_DIR to its folder.");
+            exit(1);
+        }
+    }
+}

@@ -1,0 +1,71 @@
+//! Where and how wide a guest accesses the device.
+
+use crate::{reg, Error};
+
+/// The guest-physical addresses of a device: `size` bytes from `base` on.
+///
+/// The window ends before address 2^64 - 1, and only the first byte of an access has to lie inside.
+#[derive(Clone, Copy, Debug, PartialEq, Eq)]
+pub struct Window {
+    /// The first address.
+    pub base: u64,
+    /// How many bytes.
+    pub size: u64,
+}
+
+impl Window {
+    /// The window of `size` bytes from `base` on.
+    pub const fn new(base: u64, size: u64) -> Self {
+        Window { base, size }
+    }
+
+    /// The window that just holds the registers.
+    pub const fn at(base: u64) -> Self {
+        Window::new(base, reg::WINDOW_LEN)
+    }
+}
+
+/// How many bytes an access has.
+#[derive(Clone, Copy, Debug, PartialEq, Eq)]
+pub enum Width {
+    /// One byte.
+    Byte,
+    /// Two bytes: one, and then the other.
+    Word,
+    /// Four bytes, half a register.
+    Dword,
+    /// Eight bytes: a Dword, and then the next.
+    Qword,
+}
+
+impl Width {
+    /// The number of bytes.
+    pub const fn bytes(self) -> usize {
+        match self {
+            Width::Byte => 1,
+            Width::Word => 2,
+            Width::Dword => 4,
+            Width::Qword => 8,
+        }
+    }
+}
+
+/// ```
+/// use pch_pic::{Error, Width};
+///
+/// assert_eq!(Width::try_from(4), Ok(Width::Dword));
+/// assert_eq!(Width::try_from(3), Err(Error::Width));
+/// ```
+impl TryFrom<usize> for Width {
+    type Error = Error;
+
+    fn try_from(bytes: usize) -> Result<Self, Error> {
+        match bytes {
+            1 => Ok(Width::Byte),
+            2 => Ok(Width::Word),
+            4 => Ok(Width::Dword),
+            8 => Ok(Width::Qword),
+            _ => Err(Error::Width),
+        }
+    }
+}

@@ -1,0 +1,154 @@
+//! The six calls of libpch_pic.a (include/pch_pic.h), over slices. All that is unsafe stands here.
+//!
+//! What the library asks of its host holds by the types: a slice's length is true, a mutable slice overlaps no other, and `PchPic`
+//! lends its image to one call at a time, since it is not `Sync`.
+
+use crate::{Error, Window};
+
+const ANSWER_LEN: usize = 16;
+
+type Answer = [u8; ANSWER_LEN];
+
+extern "C" {
+    fn pch_pic_reset(image: *mut u8, image_len: usize, answer: *mut u8, answer_len: usize) -> u8;
+    fn pch_pic_read(
+        image: *const u8,
+        image_len: usize,
+        base: u64,
+        size: u64,
+        address: u64,
+        width: u64,
+        answer: *mut u8,
+        answer_len: usize,
+    ) -> u8;
+    fn pch_pic_write(
+        image: *mut u8,
+        image_len: usize,
+        base: u64,
+        size: u64,
+        address: u64,
+        width: u64,
+        value: u64,
+        answer: *mut u8,
+        answer_len: usize,
+    ) -> u8;
+    fn pch_pic_level(image: *mut u8, image_len: usize, input: u64, level: u64, answer: *mut u8, answer_len: usize) -> u8;
+    fn pch_pic_poll(image: *mut u8, image_len: usize, input: u64, answer: *mut u8, answer_len: usize) -> u8;
+    fn pch_pic_drain(
+        image: *mut u8,
+        image_len: usize,
+        events: *mut u8,
+        events_len: usize,
+        place: usize,
+        answer: *mut u8,
+        answer_len: usize,
+    ) -> u8;
+}
+
+/// What a call gives: the value, if one is present, or why it was refused.
+type Outcome = Result<Option<u64>, Error>;
+
+/// The number handed back, and the value of the answer area.
+fn outcome(number: u8, answer: &Answer) -> Outcome {
+    let mut bytes = [0; 8];
+    bytes.copy_from_slice(&answer[8..]);
+    let value = (answer[1] == 1).then_some(u64::from_le_bytes(bytes));
+    match (number, Error::from_answer(number, value)) {
+        (0, _) => Ok(value),
+        (_, Some(error)) => Err(error),
+        // The library is proved to hand back no other number; so it is another library.
+        (_, None) => panic!("libpch_pic.a handed back {number}: it is not the library of this crate"),
+    }
+}
+
+pub fn reset(image: &mut [u8]) -> Outcome {
+    let mut answer: Answer = [0; ANSWER_LEN];
+    // SAFETY: both slices are valid for their lengths and apart.
+    let number = unsafe { pch_pic_reset(image.as_mut_ptr(), image.len(), answer.as_mut_ptr(), ANSWER_LEN) };
+    outcome(number, &answer)
+}
+
+pub fn read(image: &[u8], window: Window, address: u64, width: usize) -> Outcome {
+    let mut answer: Answer = [0; ANSWER_LEN];
+    // SAFETY: both slices are valid for their lengths and apart; the library only reads the image.
+    let number = unsafe {
+        pch_pic_read(image.as_ptr(), image.len(), window.base, window.size, address, width as u64, answer.as_mut_ptr(), ANSWER_LEN)
+    };
+    outcome(number, &answer)
+}
+
+pub fn write(image: &mut [u8], window: Window, address: u64, width: usize, value: u64) -> Outcome {
+    let mut answer: Answer = [0; ANSWER_LEN];
+    // SAFETY: both slices are valid for their lengths and apart.
+    let number = unsafe {
+        pch_pic_write(
+            image.as_mut_ptr(),
+            image.len(),
+            window.base,
+            window.size,
+            address,
+            width as u64,
+            value,
+            answer.as_mut_ptr(),
+            ANSWER_LEN,
+        )
+    };
+    outcome(number, &answer)
+}
+
+pub fn level(image: &mut [u8], input: u64, level: bool) -> Outcome {
+    let mut answer: Answer = [0; ANSWER_LEN];
+    // SAFETY: both slices are valid for their lengths and apart.
+    let number = unsafe { pch_pic_level(image.as_mut_ptr(), image.len(), input, u64::from(level), answer.as_mut_ptr(), ANSWER_LEN) };
+    outcome(number, &answer)
+}
+
+pub fn poll(image: &mut [u8], input: u64) -> Outcome {
+    let mut answer: Answer = [0; ANSWER_LEN];
+    // SAFETY: both slices are valid for their lengths and apart.
+    let number = unsafe { pch_pic_poll(image.as_mut_ptr(), image.len(), input, answer.as_mut_ptr(), ANSWER_LEN) };
+    outcome(number, &answer)
+}
+
+pub fn drain(image: &mut [u8], events: &mut [u8], place: usize) -> Outcome {
+    let mut answer: Answer = [0; ANSWER_LEN];
+    // SAFETY: the three slices are valid for their lengths and apart.
+    let number = unsafe {
+        pch_pic_drain(image.as_mut_ptr(), image.len(), events.as_mut_ptr(), events.len(), place, answer.as_mut_ptr(), ANSWER_LEN)
+    };
+    outcome(number, &answer)
+}
+
+#[cfg(test)]
+mod tests {
+    use super::*;
+
+    #[test]
+    fn a_value_is_read_little_end_first() {
+        let mut answer = [0; ANSWER_LEN];
+        assert_eq!(outcome(0, &answer), Ok(None));
+        answer[1] = 1;
+        answer[8] = 0x34;
+        answer[9] = 0x12;
+        assert_eq!(outcome(0, &answer), Ok(Some(0x1234)));
+        assert_eq!(outcome(1, &answer), Err(Error::Outside(0x1234)));
+    }
+
+    #[test]
+    #[should_panic(expected = "handed back 9")]
+    fn another_library_is_noticed() {
+        let _ = outcome(9, &[0; ANSWER_LEN]);
+    }
+
+    #[test]
+    fn every_call_refuses_a_short_image() {
+        let window = Window::at(0);
+        let mut image = [0; crate::IMAGE_LEN - 1];
+        assert_eq!(reset(&mut image), Err(Error::Length));
+        assert_eq!(read(&image, window, 0, 4), Err(Error::Length));
+        assert_eq!(write(&mut image, window, 0, 4, 0), Err(Error::Length));
+        assert_eq!(level(&mut image, 0, true), Err(Error::Length));
+        assert_eq!(poll(&mut image, 0), Err(Error::Length));
+        assert_eq!(drain(&mut image, &mut [], 0), Err(Error::Length));
+    }
+}

@@ -1,0 +1,68 @@
+//! The C header and this crate name the same numbers.
+
+use pch_pic::{reg, Error, EVENTS, EVENT_LEN, IMAGE_LEN, INPUTS};
+use std::collections::HashMap;
+
+/// Each `PCH_PIC_NAME = NUMBER` of include/pch_pic.h, without its prefix.
+fn header() -> HashMap<String, u64> {
+    let text = include_str!("../../../include/pch_pic.h");
+    let pairs = text.lines().filter_map(|line| {
+        let (name, rest) = line.trim().strip_prefix("PCH_PIC_")?.split_once(" = ")?;
+        let number = rest.split([',', ' ']).next()?;
+        let value = match number.strip_prefix("0x") {
+            Some(digits) => u64::from_str_radix(digits, 16),
+            None => number.parse(),
+        };
+        Some((name.to_string(), value.ok()?))
+    });
+    pairs.collect()
+}
+
+#[test]
+fn sizes() {
+    let header = header();
+    for (name, value) in [("IMAGE_LEN", IMAGE_LEN), ("INPUTS", INPUTS), ("EVENTS", EVENTS), ("EVENT_LEN", EVENT_LEN)] {
+        assert_eq!(header[name], value as u64, "{name}");
+    }
+}
+
+#[test]
+fn refusals() {
+    let header = header();
+    for (name, error) in [
+        ("OUTSIDE", Error::Outside(0)),
+        ("WIDTH", Error::Width),
+        ("INPUT", Error::Input),
+        ("LENGTH", Error::Length),
+        ("CONTENTS", Error::Contents),
+        ("BODY", Error::Body),
+        ("ROOM", Error::Room),
+    ] {
+        assert_eq!(header[name], u64::from(error.number()), "{name}");
+    }
+}
+
+#[test]
+fn registers() {
+    let ours = [
+        ("REG_ID", reg::ID),
+        ("REG_MASK", reg::MASK),
+        ("REG_HTMSI_EN", reg::HTMSI_EN),
+        ("REG_EDGE", reg::EDGE),
+        ("REG_CLEAR", reg::CLEAR),
+        ("REG_AUTO0", reg::AUTO0),
+        ("REG_AUTO1", reg::AUTO1),
+        ("REG_ROUTES", reg::ROUTES),
+        ("REG_VECTORS", reg::VECTORS),
+        ("REG_IRR", reg::IRR),
+        ("REG_ISR", reg::ISR),
+        ("REG_POL", reg::POL),
+        ("REG_HIGH", reg::HIGH),
+    ];
+    let header = header();
+    for (name, value) in ours {
+        assert_eq!(header[name], value, "{name}");
+    }
+    assert_eq!(header["WINDOW_LEN"], reg::WINDOW_LEN);
+    assert_eq!(header.keys().filter(|name| name.starts_with("REG_")).count(), ours.len());
+}

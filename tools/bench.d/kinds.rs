@@ -1,0 +1,165 @@
+//! The kinds of call that are measured: for each the prepared image, the call, and what its outcome must be, so that a kind is what its name says.
+
+use crate::call::Call;
+
+pub const LENGTH: usize = 259;
+pub const CONTENTS: [u8; 22] = [1, 4, 1, 22, 0, 72, 0, 2, 94, 0, 64, 0, 3, 158, 0, 64, 0, 4, 222, 0, 37, 0];
+pub const BASE: u64 = 0x1000_0000;
+pub const SIZE: u64 = 0x400;
+
+/// What is lent to one call, each area at its own fixed alignment.
+#[derive(Clone, PartialEq, Eq)]
+#[repr(C, align(64))]
+pub struct Slot {
+    pub image: [u8; LENGTH],
+    pub answer: [u8; 16],
+    pub events: [u8; 32],
+}
+
+pub struct Kind {
+    pub name: &'static str,
+    pub title: &'static str,
+    pub call: Call,
+    pub slot: Slot,
+    /// The lengths that are said of the areas.
+    pub image_len: usize,
+    pub answer_len: usize,
+    /// The number that the call must hand back, how many events must wait after it, and how many it must drop.
+    pub number: u8,
+    pub waiting: u8,
+    pub drops: u32,
+}
+
+/// An image in the making.
+#[derive(Clone)]
+pub struct Prepared(pub [u8; LENGTH]);
+
+impl Prepared {
+    /// A device that a guest has set up: all enabled and unmasked, routes 1, vector n + 0x40 for input n.
+    pub fn new() -> Self {
+        let mut image = [0; LENGTH];
+        image[..22].copy_from_slice(&CONTENTS);
+        image[94..158].fill(1);
+        for (input, byte) in image[158..222].iter_mut().enumerate() {
+            *byte = 0x40 + input as u8;
+        }
+        Prepared(image).register(1, !0)
+    }
+
+    /// Sets a register of body 1, by its place there.
+    pub fn register(mut self, place: usize, value: u64) -> Self {
+        self.0[22 + 8 * place..30 + 8 * place].copy_from_slice(&value.to_le_bytes());
+        self
+    }
+
+    pub fn mask(self, value: u64) -> Self {
+        self.register(0, value)
+    }
+
+    pub fn latched(self, value: u64) -> Self {
+        self.register(3, value).register(4, value)
+    }
+
+    pub fn in_service(self, value: u64) -> Self {
+        self.register(5, value)
+    }
+
+    pub fn waiting(mut self, count: usize) -> Self {
+        self.0[222] = count as u8;
+        for k in 0..count {
+            self.0[227 + 2 * k] = 0x50 + k as u8;
+            self.0[228 + 2 * k] = k as u8 & 1;
+        }
+        self
+    }
+
+    pub fn byte(mut self, at: usize, value: u8) -> Self {
+        self.0[at] = value;
+        self
+    }
+}
+
+fn kind(name: &'static str, title: &'static str, image: Prepared, call: Call) -> Kind {
+    let waiting = image.0[222];
+    let slot = Slot { image: image.0, answer: [0xee; 16], events: [0xdd; 32] };
+    Kind { name, title, call, slot, image_len: LENGTH, answer_len: 16, number: 0, waiting, drops: 0 }
+}
+
+fn refused(name: &'static str, title: &'static str, number: u8, image: Prepared, call: Call) -> Kind {
+    Kind { number, ..kind(name, title, image, call) }
+}
+
+fn read(offset: u64, width: u64) -> Call {
+    Call::Read { base: BASE, size: SIZE, address: BASE + offset, width }
+}
+
+fn write(offset: u64, width: u64, value: u64) -> Call {
+    Call::Write { base: BASE, size: SIZE, address: BASE + offset, width, value }
+}
+
+pub fn all() -> Vec<Kind> {
+    // a guest at work: two inputs latched and in service, input 7 masked
+    let busy = || Prepared::new().mask(0x80).latched(0x28).in_service(0x28);
+    let mut kinds = vec![kind("reset", "reset", busy(), Call::Reset)];
+    kinds.extend(reads(&busy));
+    kinds.extend(writes(&busy));
+    kinds.extend(inputs(&busy));
+    kinds.extend(refusals(&busy));
+    kinds
+}
+
+fn reads(busy: &dyn Fn() -> Prepared) -> Vec<Kind> {
+    vec![
+        kind("read-isr", "read Dword, ISR", busy(), read(0x3a0, 4)),
+        kind("read-mask", "read Dword, MASK", busy(), read(0x020, 4)),
+        kind("read-byte", "read Byte, MASK", busy(), read(0x021, 1)),
+        kind("read-byte-vector", "read Byte, vector", busy(), read(0x211, 1)),
+        kind("read-word", "read Word, HTMSI_EN", busy(), read(0x042, 2)),
+        kind("read-qword-vectors", "read Qword, vectors", busy(), read(0x210, 8)),
+        kind("read-qword-mask", "read Qword, MASK", busy(), read(0x020, 8)),
+    ]
+}
+
+fn writes(busy: &dyn Fn() -> Prepared) -> Vec<Kind> {
+    let latched = || Prepared::new().mask(!0).latched(0x20);
+    let serving = || Prepared::new().latched(0x1_ffff).in_service(0x1_ffff);
+    vec![
+        kind("mask-0", "write MASK, 0 events", latched(), write(0x020, 4, 0xffff_fffe)),
+        Kind { waiting: 1, ..kind("mask-1", "write MASK, 1 event", latched(), write(0x020, 4, 0xffff_ffdf)) },
+        Kind { waiting: 16, drops: 1, ..kind("mask-17", "write MASK, 17 events", serving(), write(0x020, 4, 0xffff_ffff)) },
+        Kind { waiting: 1, ..kind("clear", "write CLEAR, 1 event", busy(), write(0x080, 4, 0x20)) },
+        kind("clear-0", "write CLEAR, 0 events", busy(), write(0x080, 4, 0x100)),
+        kind("htmsi-en", "write HTMSI_EN", busy(), write(0x040, 4, 0x1234_5678)),
+        kind("isr", "write ISR", busy(), write(0x3a0, 4, 0x8)),
+        kind("vector-byte", "write vector, Byte", busy(), write(0x211, 1, 0x77)),
+        kind("vector-dword", "write vectors, Dword", busy(), write(0x210, 4, 0x7776_7574)),
+        kind("vector-qword", "write vectors, Qword", busy(), write(0x210, 8, 0x7776_7574_7372_7170)),
+    ]
+}
+
+fn inputs(busy: &dyn Fn() -> Prepared) -> Vec<Kind> {
+    vec![
+        kind("raise", "raise, vector returned", busy(), Call::Level { input: 9, level: 1 }),
+        kind("raise-none", "raise, masked", busy(), Call::Level { input: 7, level: 1 }),
+        kind("lower", "lower, vector returned", busy(), Call::Level { input: 5, level: 0 }),
+        kind("poll", "poll, vector returned", busy().latched(0x228), Call::Poll { input: 9 }),
+        kind("poll-none", "poll, nothing", busy(), Call::Poll { input: 9 }),
+        Kind { waiting: 0, ..kind("drain-16", "drain of 16", busy().waiting(16), Call::Drain { place: 0 }) },
+        Kind { waiting: 0, ..kind("drain-1", "drain of 1", busy().waiting(1), Call::Drain { place: 0 }) },
+        kind("drain-0", "drain of 0", busy(), Call::Drain { place: 0 }),
+    ]
+}
+
+fn refusals(busy: &dyn Fn() -> Prepared) -> Vec<Kind> {
+    let level = Call::Level { input: 9, level: 1 };
+    vec![
+        Kind { answer_len: 15, ..refused("refusal-7", "refusal 7: answer area (raise)", 7, busy(), level) },
+        refused("refusal-7-place", "refusal 7: place (drain)", 7, busy(), Call::Drain { place: 33 }),
+        Kind { image_len: 258, ..refused("refusal-4", "refusal 4: length (raise)", 4, busy(), level) },
+        refused("refusal-5", "refusal 5: contents (raise)", 5, busy().byte(21, 1), level),
+        refused("refusal-6", "refusal 6: last unused pair (raise)", 6, busy().byte(258, 1), level),
+        refused("refusal-3", "refusal 3: input (raise)", 3, busy(), Call::Level { input: 64, level: 1 }),
+        refused("refusal-2", "refusal 2: width (write)", 2, busy(), write(0x020, 3, 0)),
+        refused("refusal-1", "refusal 1: address (write)", 1, busy(), write(0x400, 4, 0)),
+    ]
+}

@@ -1,0 +1,233 @@
+//! The driver of tools/bench: reads what is asked, holds the sides against each other, measures, and prints the table.
+
+#[path = "../harness/call.rs"]
+mod call;
+#[allow(dead_code)]
+#[path = "../harness/chance.rs"]
+mod chance;
+mod count;
+mod day;
+#[cfg(oracle)]
+mod device;
+#[cfg(oracle)]
+#[allow(dead_code)]
+#[path = "../harness/image.rs"]
+mod image;
+mod kinds;
+mod measure;
+mod sides;
+mod stack;
+mod table;
+mod verify;
+
+use call::Call;
+use kinds::Kind;
+use measure::{BATCH, Bench, Best};
+use std::process::ExitCode;
+use table::Row;
+
+const WITH_C: bool = cfg!(oracle);
+
+/// What is asked for on the command line.
+pub struct Asked {
+    rounds: usize,
+    calls: usize,
+    day: usize,
+    kinds: Vec<String>,
+    sides: Vec<char>,
+    times: bool,
+    instructions: bool,
+    markdown: bool,
+    stack: bool,
+    list: bool,
+    counted: bool,
+}
+
+fn asked() -> Result<Asked, String> {
+    let mut asked = Asked {
+        rounds: 600,
+        calls: 6400,
+        day: 20_000,
+        kinds: vec!["all".into()],
+        sides: if WITH_C { vec!['n', 'a', 'b', 'c'] } else { vec!['n', 'a', 'b'] },
+        times: true,
+        instructions: true,
+        markdown: false,
+        stack: false,
+        list: false,
+        counted: false,
+    };
+    let mut words = std::env::args().skip(1);
+    while let Some(word) = words.next() {
+        let mut value = || words.next().ok_or(format!("{word} needs a value"));
+        let number = |text: String| text.parse::<usize>().ok().filter(|&n| n > 0).ok_or(format!("{text} is no number above 0"));
+        match word.as_str() {
+            "--rounds" => asked.rounds = number(value()?)?.next_multiple_of(PASSES),
+            "--calls" => asked.calls = number(value()?)?.next_multiple_of(BATCH),
+            "--day" => asked.day = number(value()?)?,
+            "--kind" => asked.kinds = value()?.split(',').map(String::from).collect(),
+            "--side" => asked.sides = sides(&value()?)?,
+            "--no-time" => asked.times = false,
+            "--no-instructions" => asked.instructions = false,
+            "--markdown" => asked.markdown = true,
+            "--stack" => asked.stack = true,
+            "--list" => asked.list = true,
+            "--counted" => asked.counted = true,
+            _ => return Err(format!("unknown word {word}; see tools/bench --help")),
+        }
+    }
+    Ok(asked)
+}
+
+fn sides(list: &str) -> Result<Vec<char>, String> {
+    let mut sides = Vec::new();
+    for side in list.split(',') {
+        match side {
+            "c" if !WITH_C => eprintln!("bench: side c is left out: it was built without the published Rust"),
+            "a" | "b" | "c" | "n" => sides.extend(side.chars()),
+            _ => return Err(format!("no side {side}: a, b, c or n")),
+        }
+    }
+    if sides.is_empty() { Err("no side is left".into()) } else { Ok(sides) }
+}
+
+/// The kinds that are asked for, and whether the day is. A name's beginning with a star stands for all that begin so.
+fn chosen(asked: &Asked) -> Result<(Vec<Kind>, bool), String> {
+    let all = kinds::all();
+    let fits = |pattern: &str, name: &str| match pattern.strip_suffix('*') {
+        Some(beginning) => name.starts_with(beginning),
+        None => pattern == "all" || pattern == name,
+    };
+    for pattern in &asked.kinds {
+        if !fits(pattern, "day") && !all.iter().any(|kind| fits(pattern, kind.name)) {
+            return Err(format!("no kind {pattern}; see tools/bench --list"));
+        }
+    }
+    let asked_for = |name: &str| asked.kinds.iter().any(|pattern| fits(pattern, name));
+    let day = asked_for("day");
+    Ok((all.into_iter().filter(|kind| asked_for(kind.name)).collect(), day))
+}
+
+fn verified(day: &[Call]) -> Result<(), String> {
+    for kind in kinds::all() {
+        verify::kind(&kind)?;
+    }
+    verify::day(day)?;
+    let numbers = verify::random()?;
+    let beside = if WITH_C { ", on kinds and day beside the published Rust too" } else { "" };
+    eprintln!(
+        "bench: {} kinds, a day of {} calls and {} random calls left the same bytes on the sides{beside}; random numbers 0..7: {numbers:?}",
+        kinds::all().len(),
+        day.len(),
+        verify::RANDOM
+    );
+    Ok(())
+}
+
+/// How often all kinds are gone through.
+const PASSES: usize = 20;
+
+fn timed(asked: &Asked, kinds: &[Kind], day: Option<&[Call]>) -> Vec<Vec<f64>> {
+    let mut bench = Bench::new();
+    let lengths = kinds.iter().map(|_| asked.calls).chain(day.map(<[Call]>::len));
+    let mut rows: Vec<Best> = lengths.map(|calls| Best::new(asked.sides.len(), calls)).collect();
+    let rounds = asked.rounds / PASSES;
+    for pass in 0..PASSES {
+        eprint!("\rbench: timing, pass {} of {PASSES} ", pass + 1);
+        measure::deeper(pass, &mut || {
+            for (row, kind) in rows.iter_mut().zip(kinds) {
+                row.rounds(rounds, &asked.sides, |side| bench.kind(side, kind, asked.calls / BATCH));
+            }
+            if let Some(calls) = day {
+                rows[kinds.len()].rounds(rounds, &asked.sides, |side| bench.day(side, calls));
+            }
+        });
+    }
+    eprintln!();
+    rows.iter().map(Best::per_call).collect()
+}
+
+fn run(mut asked: Asked, kinds: Vec<Kind>, with_day: bool) -> Result<(), String> {
+    if asked.list {
+        kinds.iter().for_each(|kind| println!("{:20}{}", kind.name, kind.title));
+        println!("{:20}a mixed day of calls, on one image", "day");
+        return Ok(());
+    }
+    let calls = day::calls(asked.day);
+    let day = with_day.then_some(calls.as_slice());
+    if asked.counted {
+        count::counted(&asked, &kinds, day);
+        return Ok(());
+    }
+    if asked.stack {
+        return stack::print(asked.markdown);
+    }
+    let cpu = measure::pin();
+    verified(&calls)?;
+    let times = if asked.times { timed(&asked, &kinds, day) } else { Vec::new() };
+    let instructions = if asked.instructions {
+        eprintln!("bench: counting instructions with callgrind");
+        count::per_call(&asked, kinds.len(), day.map(<[Call]>::len)).unwrap_or_else(|why| {
+            eprintln!("bench: instructions are left out: {why}");
+            asked.instructions = false;
+            Vec::new()
+        })
+    } else {
+        Vec::new()
+    };
+    let titles = kinds.iter().map(|kind| (kind.title, has_c(kind))).chain(day.map(|_| ("mixed day", true)));
+    let row = |(k, (title, c)): (usize, (&str, bool))| Row {
+        title: title.into(),
+        times: times.get(k).cloned().unwrap_or_default(),
+        instructions: instructions.get(k).cloned().unwrap_or_default(),
+        c,
+    };
+    let rows: Vec<Row> = titles.enumerate().map(row).collect();
+    table::print(&rows, &asked.sides, asked.times, asked.instructions, asked.markdown);
+    tell(&asked, &rows, cpu, day);
+    Ok(())
+}
+
+fn has_c(_kind: &Kind) -> bool {
+    #[cfg(oracle)]
+    return device::has(_kind);
+    #[cfg(not(oracle))]
+    false
+}
+
+/// What the figures are.
+fn tell(asked: &Asked, rows: &[Row], cpu: Option<usize>, day: Option<&[Call]>) {
+    println!();
+    println!("a: the library. b: plain Rust, whole load and save. c: the published Rust in memory, with a mutex.");
+    if let Some(empty) = table::empty(rows, &asked.sides) {
+        println!("An empty call in the same loop, not subtracted: {empty}.");
+    }
+    if asked.times {
+        let pinned = cpu.map_or("not pinned".into(), |cpu| format!("pinned to CPU {cpu}"));
+        let (rounds, calls) = (asked.rounds, asked.calls);
+        println!("Time: best of {rounds} rounds of {calls} calls, sides in turn, {pinned}; areas prepared outside the clock.");
+    }
+    if let Some(calls) = day {
+        let share = |&(sort, count): &(&str, usize)| format!("{sort} {:.1}", 100.0 * count as f64 / calls.len() as f64);
+        let shares: Vec<String> = day::shares(calls).iter().map(share).collect();
+        println!("Mixed day: {} calls on one image, back to back; in a hundred: {}.", calls.len(), shares.join(", "));
+    }
+    let processor = std::fs::read_to_string("/proc/cpuinfo").unwrap_or_default();
+    let model = processor.lines().find_map(|line| line.strip_prefix("model name")?.split(": ").nth(1));
+    println!("Machine: {}; {}.", model.unwrap_or("unknown"), std::env::var("BENCH_RUSTC").unwrap_or_default());
+}
+
+pub fn main() -> ExitCode {
+    let told = |why: String, status: u8| {
+        eprintln!("bench: {why}");
+        ExitCode::from(status)
+    };
+    let asked = match asked() {
+        Ok(asked) => asked,
+        Err(why) => return told(why, 2),
+    };
+    match chosen(&asked) {
+        Ok((kinds, with_day)) => run(asked, kinds, with_day).map_or_else(|why| told(why, 1), |()| ExitCode::SUCCESS),
+        Err(why) => told(why, 2),
+    }
+}

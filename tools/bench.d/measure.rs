@@ -1,0 +1,127 @@
+//! The clock: the sides take turns, round by round, so that the machine's other work hits all alike, and the best round of each counts. All
+//! kinds are gone through several times, since a spell of other work may outlast the rounds of one kind.
+
+use crate::call::Call;
+use crate::kinds::{Kind, LENGTH, Slot};
+use crate::sides;
+use std::time::Instant;
+
+/// As many slots as fit into the first cache beside the devices of side c. They are prepared anew before each batch, outside the clock.
+pub const BATCH: usize = 64;
+
+pub struct Bench {
+    slots: Vec<Slot>,
+    #[cfg(oracle)]
+    devices: Vec<crate::device::Standing>,
+}
+
+impl Bench {
+    pub fn new() -> Self {
+        let slot = Slot { image: [0; LENGTH], answer: [0; 16], events: [0; 32] };
+        Bench {
+            slots: vec![slot; BATCH],
+            #[cfg(oracle)]
+            devices: (0..BATCH).map(|_| crate::device::Standing::new()).collect(),
+        }
+    }
+
+    /// Nanoseconds of so many batches of this kind.
+    pub fn kind(&mut self, side: char, kind: &Kind, batches: usize) -> u64 {
+        #[cfg(oracle)]
+        if side == 'c' {
+            let start = crate::device::start(kind);
+            return (0..batches)
+                .map(|_| {
+                    self.devices.iter_mut().for_each(|standing| standing.set(&start));
+                    let began = Instant::now();
+                    crate::device::bench_timed_each_c(kind, &mut self.devices);
+                    began.elapsed().as_nanos() as u64
+                })
+                .sum();
+        }
+        let timed = match side {
+            'a' => sides::bench_timed_each_a,
+            'b' => sides::bench_timed_each_b,
+            _ => sides::bench_timed_each_n,
+        };
+        (0..batches)
+            .map(|_| {
+                self.slots.fill(kind.slot.clone());
+                let began = Instant::now();
+                timed(kind, &mut self.slots);
+                began.elapsed().as_nanos() as u64
+            })
+            .sum()
+    }
+
+    /// Nanoseconds of the day, on one image from its first call on.
+    pub fn day(&mut self, side: char, calls: &[Call]) -> u64 {
+        #[cfg(oracle)]
+        if side == 'c' {
+            let began = Instant::now();
+            crate::device::bench_timed_day_c(calls, &mut self.devices[0]);
+            return began.elapsed().as_nanos() as u64;
+        }
+        let timed = match side {
+            'a' => sides::bench_timed_day_a,
+            'b' => sides::bench_timed_day_b,
+            _ => sides::bench_timed_day_n,
+        };
+        let began = Instant::now();
+        timed(calls, &mut self.slots[0]);
+        began.elapsed().as_nanos() as u64
+    }
+}
+
+/// What a row has come to so far: the best round of each side.
+pub struct Best {
+    calls: usize,
+    least: Vec<u64>,
+}
+
+impl Best {
+    pub fn new(sides: usize, calls: usize) -> Self {
+        Best { calls, least: vec![u64::MAX; sides] }
+    }
+
+    /// More rounds, the sides in turn.
+    pub fn rounds(&mut self, rounds: usize, sides: &[char], mut round: impl FnMut(char) -> u64) {
+        for _ in 0..rounds {
+            for (least, &side) in self.least.iter_mut().zip(sides) {
+                *least = round(side).min(*least);
+            }
+        }
+    }
+
+    /// Nanoseconds per call of each side.
+    pub fn per_call(&self) -> Vec<f64> {
+        self.least.iter().map(|&nanoseconds| nanoseconds as f64 / self.calls as f64).collect()
+    }
+}
+
+/// Does it so many frames further down the stack, so that no side meets only a stack that happens to lie badly for it.
+#[inline(never)]
+pub fn deeper(frames: usize, work: &mut dyn FnMut()) {
+    let frame = std::hint::black_box([frames as u64; 2]);
+    if frames == 0 {
+        work()
+    } else {
+        deeper(frames - 1, work)
+    }
+    std::hint::black_box(&frame);
+}
+
+/// Keeps the program on the processor that it runs on; gives its number.
+pub fn pin() -> Option<usize> {
+    unsafe extern "C" {
+        fn sched_getcpu() -> i32;
+        fn sched_setaffinity(process: i32, size: usize, mask: *const u64) -> i32;
+    }
+    // SAFETY: the mask is there at the size said; 0 is this process.
+    unsafe {
+        let cpu = usize::try_from(sched_getcpu()).ok()?;
+        let mut mask = [0u64; 16];
+        *mask.get_mut(cpu / 64)? |= 1 << (cpu % 64);
+        (sched_setaffinity(0, size_of_val(&mask), mask.as_ptr()) == 0).then_some(cpu)
+    }
+}

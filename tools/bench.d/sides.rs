@@ -1,0 +1,212 @@
+//! The sides that are measured, and the loops that are timed: the library, plain Rust, and nothing, which shows what the loop itself costs.
+
+use crate::call::Call;
+use crate::kinds::{Kind, LENGTH, Slot};
+use std::hint::black_box;
+use std::slice::{from_raw_parts as part, from_raw_parts_mut as part_mut};
+
+mod library {
+    // Bound when the program is linked, so that another archive needs no other build.
+    unsafe extern "C" {
+        pub fn pch_pic_reset(image: *mut u8, il: usize, answer: *mut u8, al: usize) -> u8;
+        pub fn pch_pic_read(i: *const u8, il: usize, base: u64, size: u64, address: u64, width: u64, answer: *mut u8, al: usize) -> u8;
+        pub fn pch_pic_write(
+            i: *mut u8,
+            il: usize,
+            base: u64,
+            size: u64,
+            at: u64,
+            width: u64,
+            value: u64,
+            answer: *mut u8,
+            al: usize,
+        ) -> u8;
+        pub fn pch_pic_level(image: *mut u8, il: usize, input: u64, level: u64, answer: *mut u8, al: usize) -> u8;
+        pub fn pch_pic_poll(image: *mut u8, il: usize, input: u64, answer: *mut u8, al: usize) -> u8;
+        pub fn pch_pic_drain(image: *mut u8, il: usize, events: *mut u8, el: usize, place: usize, answer: *mut u8, al: usize) -> u8;
+    }
+}
+pub use library::*;
+
+/// An area as C lends it.
+type Area = (*mut u8, usize);
+
+/// The six calls of a side.
+///
+/// SAFETY of each: the areas are there at the lengths said, apart from one another.
+pub trait Side {
+    unsafe fn reset(image: Area, answer: Area) -> u8;
+    unsafe fn read(image: Area, window: (u64, u64), address: u64, width: u64, answer: Area) -> u8;
+    unsafe fn write(image: Area, window: (u64, u64), address: u64, width: u64, value: u64, answer: Area) -> u8;
+    unsafe fn level(image: Area, input: u64, level: u64, answer: Area) -> u8;
+    unsafe fn poll(image: Area, input: u64, answer: Area) -> u8;
+    unsafe fn drain(image: Area, events: Area, place: usize, answer: Area) -> u8;
+}
+
+pub struct Library;
+
+impl Side for Library {
+    #[inline(always)]
+    unsafe fn reset(i: Area, a: Area) -> u8 {
+        unsafe { pch_pic_reset(i.0, i.1, a.0, a.1) }
+    }
+    #[inline(always)]
+    unsafe fn read(i: Area, (base, size): (u64, u64), address: u64, width: u64, a: Area) -> u8 {
+        unsafe { pch_pic_read(i.0, i.1, base, size, address, width, a.0, a.1) }
+    }
+    #[inline(always)]
+    unsafe fn write(i: Area, (base, size): (u64, u64), address: u64, width: u64, value: u64, a: Area) -> u8 {
+        unsafe { pch_pic_write(i.0, i.1, base, size, address, width, value, a.0, a.1) }
+    }
+    #[inline(always)]
+    unsafe fn level(i: Area, input: u64, level: u64, a: Area) -> u8 {
+        unsafe { pch_pic_level(i.0, i.1, input, level, a.0, a.1) }
+    }
+    #[inline(always)]
+    unsafe fn poll(i: Area, input: u64, a: Area) -> u8 {
+        unsafe { pch_pic_poll(i.0, i.1, input, a.0, a.1) }
+    }
+    #[inline(always)]
+    unsafe fn drain(i: Area, e: Area, place: usize, a: Area) -> u8 {
+        unsafe { pch_pic_drain(i.0, i.1, e.0, e.1, place, a.0, a.1) }
+    }
+}
+
+pub struct Plain;
+
+impl Side for Plain {
+    #[inline(always)]
+    unsafe fn reset(i: Area, a: Area) -> u8 {
+        unsafe { plain::reset(part_mut(i.0, i.1), part_mut(a.0, a.1)) }
+    }
+    #[inline(always)]
+    unsafe fn read(i: Area, (base, size): (u64, u64), address: u64, width: u64, a: Area) -> u8 {
+        unsafe { plain::read(part(i.0, i.1), base, size, address, width, part_mut(a.0, a.1)) }
+    }
+    #[inline(always)]
+    unsafe fn write(i: Area, (base, size): (u64, u64), address: u64, width: u64, value: u64, a: Area) -> u8 {
+        unsafe { plain::write(part_mut(i.0, i.1), base, size, address, width, value, part_mut(a.0, a.1)) }
+    }
+    #[inline(always)]
+    unsafe fn level(i: Area, input: u64, level: u64, a: Area) -> u8 {
+        unsafe { plain::level(part_mut(i.0, i.1), input, level, part_mut(a.0, a.1)) }
+    }
+    #[inline(always)]
+    unsafe fn poll(i: Area, input: u64, a: Area) -> u8 {
+        unsafe { plain::poll(part_mut(i.0, i.1), input, part_mut(a.0, a.1)) }
+    }
+    #[inline(always)]
+    unsafe fn drain(i: Area, e: Area, place: usize, a: Area) -> u8 {
+        unsafe { plain::drain(part_mut(i.0, i.1), part_mut(e.0, e.1), place, part_mut(a.0, a.1)) }
+    }
+}
+
+pub struct Nothing;
+
+#[inline(never)]
+extern "C" fn nothing(image: *mut u8, answer: *mut u8) -> u8 {
+    black_box((image, answer));
+    0
+}
+
+impl Side for Nothing {
+    #[inline(always)]
+    unsafe fn reset(i: Area, a: Area) -> u8 {
+        nothing(i.0, a.0)
+    }
+    #[inline(always)]
+    unsafe fn read(i: Area, _: (u64, u64), _: u64, _: u64, a: Area) -> u8 {
+        nothing(i.0, a.0)
+    }
+    #[inline(always)]
+    unsafe fn write(i: Area, _: (u64, u64), _: u64, _: u64, _: u64, a: Area) -> u8 {
+        nothing(i.0, a.0)
+    }
+    #[inline(always)]
+    unsafe fn level(i: Area, _: u64, _: u64, a: Area) -> u8 {
+        nothing(i.0, a.0)
+    }
+    #[inline(always)]
+    unsafe fn poll(i: Area, _: u64, a: Area) -> u8 {
+        nothing(i.0, a.0)
+    }
+    #[inline(always)]
+    unsafe fn drain(i: Area, _: Area, _: usize, a: Area) -> u8 {
+        nothing(i.0, a.0)
+    }
+}
+
+/// The call, made once, on the lengths said.
+#[inline(always)]
+pub fn make<S: Side>(call: &Call, slot: &mut Slot, image_len: usize, answer_len: usize) -> u8 {
+    assert!(image_len <= LENGTH && answer_len <= 16);
+    let image = (slot.image.as_mut_ptr(), image_len);
+    let answer = (slot.answer.as_mut_ptr(), answer_len);
+    // SAFETY: the areas are the slot's, apart from one another, and no longer than they are.
+    unsafe {
+        match *call {
+            Call::Reset => S::reset(image, answer),
+            Call::Read { base, size, address, width } => S::read(image, (base, size), address, width, answer),
+            Call::Write { base, size, address, width, value } => S::write(image, (base, size), address, width, value, answer),
+            Call::Level { input, level } => S::level(image, input, level, answer),
+            Call::Poll { input } => S::poll(image, input, answer),
+            Call::Drain { place } => S::drain(image, (slot.events.as_mut_ptr(), slot.events.len()), place as usize, answer),
+        }
+    }
+}
+
+/// The timed loop over prepared slots: one call on each. Each sort of call has a loop of its own, so that there is no match in it.
+#[inline(always)]
+fn each<S: Side>(kind: &Kind, slots: &mut [Slot]) {
+    let (il, al) = (black_box(kind.image_len), black_box(kind.answer_len));
+    assert!(il <= LENGTH && al <= 16);
+    macro_rules! all {
+        ($call:ident, $($number:expr),*) => {
+            for slot in slots {
+                // SAFETY: as in make.
+                black_box(unsafe { S::$call((slot.image.as_mut_ptr(), il), $($number,)* (slot.answer.as_mut_ptr(), al)) });
+            }
+        };
+    }
+    match black_box(kind.call) {
+        Call::Reset => all!(reset,),
+        Call::Read { base, size, address, width } => all!(read, (base, size), address, width),
+        Call::Write { base, size, address, width, value } => all!(write, (base, size), address, width, value),
+        Call::Level { input, level } => all!(level, input, level),
+        Call::Poll { input } => all!(poll, input),
+        Call::Drain { place } => {
+            for slot in slots {
+                let events = (slot.events.as_mut_ptr(), slot.events.len());
+                // SAFETY: as in make.
+                black_box(unsafe { S::drain((slot.image.as_mut_ptr(), il), events, place as usize, (slot.answer.as_mut_ptr(), al)) });
+            }
+        }
+    }
+}
+
+#[inline(always)]
+fn day<S: Side>(calls: &[Call], slot: &mut Slot) {
+    for call in calls {
+        black_box(make::<S>(call, slot, LENGTH, 16));
+    }
+}
+
+// What the instruction counter looks for by name: collection is on in functions whose names begin so.
+macro_rules! timed {
+    ($side:ty, $each:ident, $day:ident) => {
+        #[unsafe(no_mangle)]
+        #[inline(never)]
+        pub fn $each(kind: &Kind, slots: &mut [Slot]) {
+            each::<$side>(kind, slots)
+        }
+
+        #[unsafe(no_mangle)]
+        #[inline(never)]
+        pub fn $day(calls: &[Call], slot: &mut Slot) {
+            day::<$side>(calls, slot)
+        }
+    };
+}
+timed!(Library, bench_timed_each_a, bench_timed_day_a);
+timed!(Plain, bench_timed_each_b, bench_timed_day_b);
+timed!(Nothing, bench_timed_each_n, bench_timed_day_n);

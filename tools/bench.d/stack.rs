@@ -1,0 +1,122 @@
+//! The stack that each exported call uses: it runs on a painted stack of its own, and one looks how deep the paint is gone.
+
+use crate::call::Call;
+use crate::chance::Chance;
+use crate::kinds::{self, Slot};
+use crate::sides;
+use crate::verify;
+use std::arch::asm;
+
+/// Some times more than any call needs: what is used is told, and a call that came near the end would be seen.
+const DEPTH: usize = 1 << 14;
+
+#[repr(align(64))]
+struct Painted([u8; DEPTH]);
+
+/// The C function and its numbers, in the order of the C prototype; those past its own are not looked at.
+fn numbers(call: &Call, slot: &mut Slot, il: usize, al: usize) -> (usize, [u64; 9]) {
+    let (i, il) = (slot.image.as_mut_ptr() as u64, il as u64);
+    let (a, al) = (slot.answer.as_mut_ptr() as u64, al as u64);
+    match *call {
+        Call::Reset => (sides::pch_pic_reset as *const () as usize, [i, il, a, al, 0, 0, 0, 0, 0]),
+        Call::Read { base, size, address, width } => {
+            (sides::pch_pic_read as *const () as usize, [i, il, base, size, address, width, a, al, 0])
+        }
+        Call::Write { base, size, address, width, value } => {
+            (sides::pch_pic_write as *const () as usize, [i, il, base, size, address, width, value, a, al])
+        }
+        Call::Level { input, level } => (sides::pch_pic_level as *const () as usize, [i, il, input, level, a, al, 0, 0, 0]),
+        Call::Poll { input } => (sides::pch_pic_poll as *const () as usize, [i, il, input, a, al, 0, 0, 0, 0]),
+        Call::Drain { place } => {
+            let (e, el) = (slot.events.as_mut_ptr() as u64, slot.events.len() as u64);
+            (sides::pch_pic_drain as *const () as usize, [i, il, e, el, place, a, al, 0, 0])
+        }
+    }
+}
+
+/// Bytes below the caller's stack that the call wrote, its return address among them. A byte that is written with the paint's own value
+/// is not seen, so two paints are tried.
+fn used(call: &Call, slot: &Slot, il: usize, al: usize, stack: &mut Painted) -> usize {
+    let mut deepest = 0;
+    for paint in [0xa5, 0x5a] {
+        stack.0.fill(paint);
+        let mut slot = slot.clone();
+        let (function, n) = numbers(call, &mut slot, il, al);
+        let top = stack.0.as_mut_ptr().wrapping_add(DEPTH) as u64;
+        // SAFETY: the stack is 16-aligned at the call, has room, and is left before the block ends. Numbers past the sixth go by the stack.
+        unsafe {
+            asm!(
+                "mov r12, rsp",
+                "mov rsp, {top}",
+                "push 0",
+                "push {n8}",
+                "push {n7}",
+                "push {n6}",
+                "call {function}",
+                "mov rsp, r12",
+                top = in(reg) top, n6 = in(reg) n[6], n7 = in(reg) n[7], n8 = in(reg) n[8], function = in(reg) function,
+                in("rdi") n[0], in("rsi") n[1], in("rdx") n[2], in("rcx") n[3], in("r8") n[4], in("r9") n[5],
+                out("r12") _, clobber_abi("C"),
+            );
+        }
+        let below = DEPTH - 32;
+        let deepest_here = stack.0[..below].iter().position(|&byte| byte != paint).map_or(0, |first| below - first);
+        deepest = deepest.max(deepest_here);
+    }
+    deepest
+}
+
+fn name(call: &Call) -> &'static str {
+    match call {
+        Call::Reset => "pch_pic_reset",
+        Call::Read { .. } => "pch_pic_read",
+        Call::Write { .. } => "pch_pic_write",
+        Call::Level { .. } => "pch_pic_level",
+        Call::Poll { .. } => "pch_pic_poll",
+        Call::Drain { .. } => "pch_pic_drain",
+    }
+}
+
+/// How many random calls are made beside the kinds and the registers.
+const RANDOM: usize = 20_000;
+
+/// The most that each of the six uses: over all the kinds, every offset and width read and written, and random calls on random images.
+pub fn print(markdown: bool) -> Result<(), String> {
+    let mut stack = Box::new(Painted([0; DEPTH]));
+    let mut most: Vec<(&str, usize)> = Vec::new();
+    let mut note = |call: &Call, slot: &Slot, il, al| {
+        let bytes = used(call, slot, il, al, &mut stack);
+        match most.iter_mut().find(|one| one.0 == name(call)) {
+            Some(one) => one.1 = one.1.max(bytes),
+            None => most.push((name(call), bytes)),
+        }
+    };
+    let all = kinds::all();
+    for kind in &all {
+        note(&kind.call, &kind.slot, kind.image_len, kind.answer_len);
+    }
+    let slot = &all[0].slot;
+    for address in 0..0x400 {
+        for width in [1, 2, 4, 8] {
+            note(&Call::Read { base: 0, size: 0x400, address, width }, slot, 259, 16);
+            for value in [0, !0] {
+                note(&Call::Write { base: 0, size: 0x400, address, width, value }, slot, 259, 16);
+            }
+        }
+    }
+    let mut chance = Chance::new(3);
+    for _ in 0..RANDOM {
+        let slot = Slot { image: verify::random_image(&mut chance), answer: [0; 16], events: [0; 32] };
+        note(&verify::random_call(&mut chance), &slot, 259, 16);
+    }
+    if most.iter().any(|one| one.1 > DEPTH / 2) {
+        return Err("the painted stack is too small".into());
+    }
+    if markdown {
+        println!("| Call | Stack, bytes |\n|---|---:|");
+    }
+    for (name, bytes) in most {
+        if markdown { println!("| `{name}` | {bytes} |") } else { println!("{name:16}{bytes:>7} bytes of stack") }
+    }
+    Ok(())
+}
