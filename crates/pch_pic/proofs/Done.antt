@@ -11,8 +11,8 @@ use borrow.Rule.Slice.PartMut.{putMid}
 use Rattle.rules.specs.Numbers.{Bytes, part}
 use Rattle.rules.specs.Lines.{Turn, polled}
 use Rattle.rules.specs.Ring.{Event, Drawn, drawn, pairsOf}
-use Rattle.rules.specs.Access.{Width, readAt, writeActs}
-use Rattle.rules.specs.Device.{Device, Call, Value, none, some, acted, step, value, returned}
+use Rattle.rules.specs.Access.{Width, readAt}
+use Rattle.rules.specs.Device.{Device, Call, Value, none, some, step, value, returned}
 use Rattle.rules.specs.Device as device
 use Rattle.rules.specs.Image.{imageTest, accepted, encode, decode, vectorsBodyAt, bytesLength}
 use Rattle.rules.specs.Calls.{Tested, pass, widthTest, addressTest, accessCall, inputCall, Request, calls, askedBy, answered, bufferOf, placeOf, written, leaves, outcome}
@@ -20,33 +20,36 @@ use Rattle.rules.specs.Calls as asked
 use Rattle.rules.proofs.laws.Images.{encode-decode, decode-well-formed}
 use Rattle.rules.proofs.laws.Outcomes.{access-passed, input-passed}
 use Rattle.rules.proofs.laws.Steps.{withLines, withRing, levelled, level-device, level-value, poll-device, poll-value, drain-device, drain-drained, read-device, write-device}
-use Rattle.state.specs.View.{Is, view, linesView, ringView}
-use Rattle.state.specs.declared.PchPicState.{PchPicState}
+use Rattle.state.specs.View.{linesView, ringOf, ringView}
 use Rattle.state.specs.declared.Lines.{Lines}
 use Rattle.state.specs.declared.Ring.{Ring}
 use Rattle.engine.specs.Moves.{Answers, Drains, answerValue}
 use Rattle.engine.specs.declared.Routed.{Routed}
 use Rattle.engine.specs.declared.Drained.{Drained}
+use Rattle.registers.specs.Bytes.{afterWrite}
 use Rattle.image.specs.Shown.{Saves}
 use Rattle.pch_pic.proofs.Ends.{by-done, no-events}
 
+-- the ring that a drain leaves
+abbrev left : Ring → Drained → Ring
+left r d = ringOf (d .queue) (r .«output_vectors») (r .«output_asserted»)
+
 module _ (i a : List ℕ) (roomy : 16 ≤ length a) (bytes : Bytes i) (e : imageTest i ≡ accepted) where
   -- ---- read and write
-  module _ (base size address width : ℕ) (w : Width) (o : ℕ) (wide : widthTest width ≡ pass w) (at : addressTest base size address ≡ pass o) (s : PchPicState) (loaded : Is s (decode i)) where
-    pub read-done : (v : ℕ) (b : List ℕ) → v ≡ readAt (view s .core) w o → b ≡ answered 0 (some v) a → leaves 0 i b [] ≡ outcome (asked.read base size address width) i a
+  module _ (base size address width : ℕ) (w : Width) (o : ℕ) (wide : widthTest width ≡ pass w) (at : addressTest base size address ≡ pass o) where
+    pub read-done : (v : ℕ) (b : List ℕ) → v ≡ readAt (decode i .core) w o → b ≡ answered 0 (some v) a → leaves 0 i b [] ≡ outcome (asked.read base size address width) i a
     unfolding value
     read-done v b f g =
         by-done (asked.read base size address width) i a roomy zero-le (accessCall base size address width device.read) refl e (device.read w o) (decode i) (some v) i b []
         (access-passed base size address width device.read w o wide at) (sym (encode-decode i bytes e)) (sym (read-device (decode i) w o)) g
-        (ap some (f ∙ ap (λ (d : Device). readAt (d .core) w o) (loaded .shows))) (no-events (decode i) (device.read w o) refl)
+        (ap some f) (no-events (decode i) (device.read w o) refl)
 
-    pub write-done : (v : ℕ) (t : PchPicState) (j b : List ℕ) → Is t (acted (view s) (writeActs (view s .core) w o v)) → j ≡ encode (view t) → b ≡ answered 0 none a
-        → leaves 0 j b [] ≡ outcome (asked.write base size address width v) i a
+    pub write-done : (v : ℕ) (j b : List ℕ) → j ≡ encode (afterWrite (decode i) w o v) → b ≡ answered 0 none a → leaves 0 j b [] ≡ outcome (asked.write base size address width v) i a
     unfolding value
-    write-done v t j b f g h =
-        by-done (asked.write base size address width v) i a roomy zero-le (accessCall base size address width (λ w o. device.write w o v)) refl e (device.write w o v) (view t) none j b []
+    write-done v j b g h =
+        by-done (asked.write base size address width v) i a roomy zero-le (accessCall base size address width (λ w o. device.write w o v)) refl e (device.write w o v) (afterWrite (decode i) w o v) none j b []
         (access-passed base size address width (λ w o. device.write w o v) w o wide at) g
-        (f .shows ∙ ap (λ (d : Device). acted d (writeActs (d .core) w o v)) (loaded .shows) ∙ sym (write-device (decode i) w o v)) h refl (no-events (decode i) (device.write w o v) refl)
+        (sym (write-device (decode i) w o v)) h refl (no-events (decode i) (device.write w o v) refl)
 
   -- ---- level and poll
   module _ (n : ℕ) (below : n < 64) (l : Lines) (loaded : linesView l ≡ decode i .core .lines) (vs : List ℕ) (lent : vs ≡ decode i .core .vectors) (r : Routed) (j : List ℕ)
@@ -77,7 +80,7 @@ module _ (i a : List ℕ) (roomy : 16 ≤ length a) (bytes : Bytes i) (e : image
 
   -- ---- drain
   module _ (ev : List ℕ) (place : ℕ) (within : place ≤ length ev) (r : Ring) (loaded : ringView r ≡ decode i .ring) (d : Drained) (exit : List ℕ)
-      (drained : Drains d (ringView r) (part place (length ev - place) ev) exit) (j : List ℕ) (saved : Saves i j (λ x. withRing x (ringView (d .ring)))) (b : List ℕ) (p : b ≡ answered 0 (some (d .count)) a) where
+      (drained : Drains d (r .«output_vectors») (r .«output_asserted») (ringView r) (part place (length ev - place) ev) exit) (j : List ℕ) (saved : Saves i j (λ x. withRing x (ringView (left r d)))) (b : List ℕ) (p : b ≡ answered 0 (some (d .count)) a) where
     abbrev room : ℕ
     room = (length ev - place) / 2
 
@@ -108,7 +111,7 @@ module _ (i a : List ℕ) (roomy : 16 ≤ length a) (bytes : Bytes i) (e : image
     pub drain-done : leaves 0 j b (putMid place (length ev - place) ev exit) ≡ outcome (asked.drain ev place) i a
     unfolding value
     drain-done =
-        by-done (asked.drain ev place) i a roomy within (pass (device.drain room)) refl e (device.drain room) (withRing (decode i) (ringView (d .ring))) (some (d .count)) j b _
+        by-done (asked.drain ev place) i a roomy within (pass (device.drain room)) refl e (device.drain room) (withRing (decode i) (ringView (left r d))) (some (d .count)) j b _
         refl (saved (decode i) (decode-well-formed i bytes e) (sym (encode-decode i bytes e)))
         (ap (withRing (decode i)) (drained .ring ∙ ap (λ (t : Drawn). t .after) drew) ∙ sym (drain-device (decode i) room)) p
         (ap some (drained .count ∙ ap (λ (t : Drawn). length (t .drained)) drew ∙ sym (ap length (drain-drained (decode i) room)))) events-written

@@ -3,18 +3,27 @@
 
 use image::answer::Value;
 use image::check::Checked;
+use registers::Width;
 use state::PchPicState;
+use state::Queue;
+use state::Ring;
 use window::Known;
 use window::Located;
 ghost use mathlib.Core.Path.{_≡_};
+ghost use mathlib.Core.Bool.{not, _&&_};
 ghost use mathlib.Core.List.{[]};
-ghost use Prim.Native.Nat.{_≤_};
+ghost use Prim.Native.Nat.{_-_, _^_, _≤_, _<_};
+ghost use lib.Dec.{eqb};
 ghost use lib.ListN.{length};
+ghost use Rattle.rules.specs.Access.{readAt};
+ghost use Rattle.rules.specs.Image.{accepted, imageTest, encode, decode};
 ghost use Rattle.rules.specs.Calls.{answered, leaves, outcome};
 ghost use Rattle.rules.specs.Calls as asked;
 ghost use Rattle.rules.proofs.laws.Outcomes.{imageNumber};
 ghost use Rattle.image.specs.Shown.{checkedView, valueView};
 ghost use Rattle.engine.specs.Moves.{answerValue};
+ghost use Rattle.registers.specs.Views.{widthView};
+ghost use Rattle.registers.specs.Bytes.{afterWrite};
 
 // A refusal: its number goes into the answer area with its value, and is handed back.
 fn refuse(answer: &mut [u8], number: u8, value: Value) -> u8
@@ -44,6 +53,55 @@ fn vector_value(answer: engine::Answer) -> Value
     match answer {
         engine::Answer::Vector(vector) => Value::Present(vector as u64),
         engine::Answer::None => Value::Absent,
+    }
+}
+
+// What an access reads of an accepted image: the registers as words, route and vector bytes where they stand.
+fn read_accepted(image: &[u8], width: Width, offset: usize) -> u64
+    requires { ⌜ (imageTest (now image) ≡ accepted) × (offset < 2 ^ 64 - 1) ⌝ }
+    ensures { λ r. ⌜ r ≡ readAt (decode (now (image .entry)) .core) (widthView width) offset ⌝ }
+{
+    let words = image::load::load_words(image);
+    registers::read_access(&words, &image[94..158], &image[158..222], width, offset)
+}
+
+// Whether a write has offered events to the ring: it drains none, so its numbers tell.
+fn moved_on(before: Queue, after: Queue) -> bool
+    ensures { λ r. ⌜ r ≡ not (eqb (after .«output_len») (before .«output_len») && eqb (after .«output_drops») (before .«output_drops»)) ⌝ }
+{
+    after.output_len != before.output_len || after.output_drops != before.output_drops
+}
+
+// An access writes to an accepted image. Route bytes are written where they stand; of the ring only what changed is saved.
+fn write_accepted(image: &mut [u8], width: Width, offset: usize, value: u64)
+    requires { ⌜ (imageTest (now image) ≡ accepted) × (offset < 2 ^ 64 - 1) ⌝ }
+    ensures { λ _. ⌜ now (image .exit) ≡ encode (afterWrite (decode (now (image .entry))) (widthView width) offset value) ⌝ }
+{
+    let mut words = image::load::load_words(image);
+    let mut vectors = image::load::load_vectors(image);
+    let ring = image::load::load_ring(image);
+    let mut output_vectors = ring.output_vectors;
+    let mut output_asserted = ring.output_asserted;
+    let queue = registers::write_access(
+        &mut words,
+        ring.queue,
+        &mut output_vectors,
+        &mut output_asserted,
+        &mut image[94..158],
+        &mut vectors,
+        width,
+        offset,
+        value,
+    );
+    image::save::save_words(image, &words);
+    image::save::save_vectors(image, &vectors);
+    if moved_on(ring.queue, queue) {
+        let left = Ring {
+            output_vectors,
+            output_asserted,
+            queue,
+        };
+        image::save::save_ring(image, left);
     }
 }
 
@@ -86,8 +144,7 @@ pub extern "C" fn pch_pic_read(
     let Located::At(offset) = window::locate(base, size, address) else {
         return refuse(answer, 1, Value::Present(address));
     };
-    let state = image::load::load(image);
-    let value = registers::read_register(state, known, offset);
+    let value = read_accepted(image, known, offset);
     image::answer::put_answer(answer, 0, Value::Present(value));
     0
 }
@@ -117,9 +174,7 @@ pub extern "C" fn pch_pic_write(
     let Located::At(offset) = window::locate(base, size, address) else {
         return refuse(answer, 1, Value::Present(address));
     };
-    let state = image::load::load(image);
-    let written = registers::write_register(state, known, offset, value);
-    image::save::save(image, written);
+    write_accepted(image, known, offset, value);
     image::answer::put_answer(answer, 0, Value::Absent);
     0
 }
@@ -190,8 +245,20 @@ pub extern "C" fn pch_pic_drain(
         return refuse(answer, image_number(checked), Value::Absent);
     };
     let ring = image::load::load_ring(image);
-    let drained = engine::drain_output_events(ring, &mut events[place..]);
-    let left = drained.ring;
+    let output_vectors = ring.output_vectors;
+    let output_asserted = ring.output_asserted;
+    let drained = engine::drain_output_events(
+        ring.queue,
+        &output_vectors,
+        &output_asserted,
+        &mut events[place..],
+    );
+    let queue = drained.queue;
+    let left = Ring {
+        output_vectors,
+        output_asserted,
+        queue,
+    };
     image::save::save_ring(image, left);
     image::answer::put_answer(answer, 0, Value::Present(drained.count as u64));
     0

@@ -70,11 +70,18 @@ part-drain-output-events-end c = search needs
 drain-output-events-requires : tie.Need-drain-output-events-requires
 drain-output-events-requires c κs = search needs
 
+slice-aggregate-drain-output-events : tie.Need-slice-aggregate-drain-output-events
+slice-aggregate-drain-output-events c = search needs
+
+slice-aggregate-drain-output-events-2 : tie.Need-slice-aggregate-drain-output-events-2
+slice-aggregate-drain-output-events-2 c = search needs
+
 save-ring-requires : tie.Need-save-ring-requires
 save-ring-requires c κs =
-    let t = c .before .before .before .before .before .before .before .before in
-    let k = t .before .before in
-    (sized (k .before .before .before .before .before .before .before .args .image .now) (sym (k .check .ensures) ∙ passed (k .check .result) (t .before .match .keys1)) .0, c .before .before .before .before .drain-output-events .ensures .wellRing)
+    let d = c .before .before .before .before in
+    let t = d .before .before .before .before .before .before .before in
+    let k = t .before .before .before in
+    (sized (k .before .before .before .before .before .before .before .args .image .now) (sym (k .check .ensures) ∙ passed (k .check .result) (t .before .before .match .keys1)) .0, d .drain-output-events .ensures .wellRing)
 
 put-answer-requires : tie.Need-put-answer-requires
 put-answer-requires c κs = search needs
@@ -93,15 +100,15 @@ returns-4 c =
     let p = c .before .before in
     let s = p .before .before .before .before in
     let d = s .before .before .before .before .before in
-    let l = d .before .before in
-    let t = l .before .before in
-    let k = t .before .before in
+    let l = d .before .before .before .before .before .before in
+    let t = l .before in
+    let k = t .before .before .before in
     let a = k .before .before .before .before .before .before .before .args in
-    drain-done (a .image .now) (a .answer .now) (k .before .before .before .if1 .left) (λ n. k .before .before .before .before .before .before .slice-known .given n .fits) (sym (k .check .ensures) ∙ passed (k .check .result) (t .before .match .keys1))
-    (a .events .now) (a .place) (k .before .before .if2 .left) (l .load-ring .result) (l .load-ring .ensures .shows) (d .drain-output-events .result) (d .drain-output-events .last .1 .0)
+    drain-done (a .image .now) (a .answer .now) (k .before .before .before .if1 .left) (λ n. k .before .before .before .before .before .before .slice-known .given n .fits) (sym (k .check .ensures) ∙ passed (k .check .result) (t .before .before .match .keys1))
+    (a .events .now) (a .place) (k .before .before .if2 .left) (l .load-ring .result) (l .load-ring .ensures .shows) (d .drain-output-events .result) (d .drain-output-events .last .1 .1 .1 .0)
     (d .drain-output-events .ensures) (s .save-ring .last .0) (s .save-ring .ensures) (p .put-answer .last .0) (p .put-answer .ensures)
 
 pub pch-pic-drain-spec : {M : Type 1} → statement M
 pch-pic-drain-spec =
     tie.close
-    (tie.spec returns returns-2 check-requires enum-told image-number-requires refuse-requires same-length same-length-2 returns-3 load-ring-requires sub-drain-output-events part-drain-output-events-start part-drain-output-events-end drain-output-events-requires save-ring-requires put-answer-requires same-length-3 same-length-4 same-length-5 returns-4)
+    (tie.spec returns returns-2 check-requires enum-told image-number-requires refuse-requires same-length same-length-2 returns-3 load-ring-requires slice-aggregate-drain-output-events slice-aggregate-drain-output-events-2 sub-drain-output-events part-drain-output-events-start part-drain-output-events-end drain-output-events-requires save-ring-requires put-answer-requires same-length-3 same-length-4 same-length-5 returns-4)

@@ -9,7 +9,7 @@ use Rattle.rules.specs.Calls as asked
 use Rattle.rules.proofs.laws.Outcomes.{answer-short, width-refused, address-refused}
 use Rattle.window.specs.Tests.{knownView, locatedView}
 use Rattle.registers.specs.Views.{widthView}
-use Rattle.pch_pic.proofs.Ends.{passed, sized, by-image, by-call, offset-fits}
+use Rattle.pch_pic.proofs.Ends.{passed, by-image, by-call, offset-fits}
 use Rattle.pch_pic.proofs.Done.{read-done}
 use borrow.Author.Needs.{needs}
 use Rattle.pch_pic.proofs.pch_pic_read.Statement.{statement}
@@ -99,21 +99,18 @@ returns-4 c =
     (sym (l .locate .ensures) ∙ ap (locatedView (a .address)) (r .before .before .enum-told3 .given .1)))
     (r .refuse3 .ensures .0) (r .refuse3 .ensures .1)
 
-load-requires : tie.Need-load-requires
-load-requires c κs =
-    let w = c .before .before .before .before .before .before .before in
+read-accepted-requires : tie.Need-read-accepted-requires
+read-accepted-requires c κs =
+    let l = c .before .before .before in
+    let w = l .before .before .before .before in
     let k = w .before .before .before in
-    sized (k .before .before .before .before .args .image .now) (sym (k .check .ensures) ∙ passed (k .check .result) (w .before .before .match .keys1))
-
-read-register-requires : tie.Need-read-register-requires
-read-register-requires c κs =
-    let u = c .before in
-    let l = u .before .before .before in
-    let a = l .before .before .before .before .before .before .before .before .before .before .before .args in
-    offset-fits (a .base) (a .size) (a .address) _ (sym (l .locate .ensures) ∙ ap (locatedView (a .address)) (u .before .offset .given .1))
+    let a = k .before .before .before .before .args in (
+      sym (k .check .ensures) ∙ passed (k .check .result) (w .before .before .match .keys1),
+      offset-fits (a .base) (a .size) (a .address) _ (sym (l .locate .ensures) ∙ ap (locatedView (a .address)) (c .before .offset .given .1)),
+    )
 
 put-answer-requires : tie.Need-put-answer-requires
-put-answer-requires c κs = c .before .before .before .before .before .before .before .before .before .before .before .before .before .before .if1 .left
+put-answer-requires c κs = c .before .before .before .before .before .before .before .before .before .before .before .before .before .if1 .left
 
 same-length-4 : tie.Need-same-length-4
 same-length-4 c = search needs
@@ -122,7 +119,7 @@ returns-5 : tie.Need-returns-5
 returns-5 c =
     let p = c .before .before in
     let g = p .before .before in
-    let u = g .before .before in
+    let u = g .before in
     let l = u .before .before .before in
     let t = l .before in
     let w = t .before .before .before in
@@ -130,10 +127,9 @@ returns-5 c =
     let a = k .before .before .before .before .args in
     read-done (a .image .now) (a .answer .now) (k .before .if1 .left) (λ n. k .before .before .before .shared-slice-known .given n .fits) (sym (k .check .ensures) ∙ passed (k .check .result) (w .before .before .match .keys1))
     (a .base) (a .size) (a .address) (a .width) (widthView (t .before .known .given .0 .0)) (u .before .offset .given .0 .0) (sym (w .width-of .ensures) ∙ ap knownView (t .before .known .given .1))
-    (sym (l .locate .ensures) ∙ ap (locatedView (a .address)) (u .before .offset .given .1)) (g .before .load .result) (g .before .load .ensures)
-    (g .read-register .result) (p .put-answer .last .0) (g .read-register .ensures) (p .put-answer .ensures)
+    (sym (l .locate .ensures) ∙ ap (locatedView (a .address)) (u .before .offset .given .1)) (g .read-accepted .result) (p .put-answer .last .0) (g .read-accepted .ensures) (p .put-answer .ensures)
 
 pub pch-pic-read-spec : {M : Type 1} → statement M
 pch-pic-read-spec =
     tie.close
-    (tie.spec returns check-requires enum-told image-number-requires refuse-requires same-length returns-2 width-of-requires enum-known-known enum-told-2 refuse-requires-2 same-length-2 returns-3 locate-requires enum-known-offset enum-told-3 refuse-requires-3 same-length-3 returns-4 load-requires read-register-requires put-answer-requires same-length-4 returns-5)
+    (tie.spec returns check-requires enum-told image-number-requires refuse-requires same-length returns-2 width-of-requires enum-known-known enum-told-2 refuse-requires-2 same-length-2 returns-3 locate-requires enum-known-offset enum-told-3 refuse-requires-3 same-length-3 returns-4 read-accepted-requires put-answer-requires same-length-4 returns-5)
