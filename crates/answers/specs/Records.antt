@@ -7,13 +7,16 @@ use Prim.Native.Nat.{ℕ, _+_, _*_, _%_, _<_}
 use lib.Dec.{eqb, ltb}
 use lib.ListN.{take, drop, getD, set, replicate}
 use Rattle.rules.specs.Numbers.{numberOf, part}
-use Rattle.rules.specs.Image.{wordAt}
 use Rattle.rules.specs.Calls.{Request, reset, read, write, level, poll, drain, Outcome, outcome}
 use Rattle.image.specs.Shown.{withWord}
 use Rattle.answers.specs.declared.held.Verdict.{Verdict}
 use Rattle.answers.specs.declared.held.Verdict.the-variants.{Agrees, Nothing, Lent, Number, Answer, Image, Events, Whole, Cut, Kind}
 
 -- ---- fields
+
+-- the number in the eight bytes from a place on
+abbrev pub wordAt : ℕ → List ℕ → ℕ
+wordAt at r = numberOf (part at 8 r)
 
 abbrev pub kindOf : List ℕ → ℕ
 kindOf r = getD r 0 0

@@ -8,8 +8,7 @@ ghost use mathlib.Core.Path.{_≡_};
 ghost use mathlib.Core.Bool.{true};
 ghost use Prim.Native.Nat.{_<_};
 ghost use lib.ListN.{length, take, getD, set};
-ghost use Rattle.rules.specs.Image.{wordAt};
-ghost use Rattle.answers.specs.Records.{loaded, agreed, Replays};
+ghost use Rattle.answers.specs.Records.{loaded, agreed, Replays, wordAt};
 
 // The buffer becomes a recorded image, with zeros behind it.
 fn set_image(bytes: &[u8], image: &mut [u8])

@@ -7,10 +7,9 @@ use native.Mathlib.Omega.{arith}
 use lib.ListN.{length}
 use borrow.Author.Needs.{needs}
 use borrow.Author.Tests.{lt-ltb, ne-eqb}
-use Rattle.rules.specs.Image.{wordAt}
 use Rattle.rules.specs.Calls.{Request, leaves, outcome}
 use Rattle.rules.specs.Calls as asked
-use Rattle.answers.specs.Records.{kindOf, lentEvents, requestOf}
+use Rattle.answers.specs.Records.{kindOf, lentEvents, requestOf, wordAt}
 use Rattle.answers.proofs.call.make.Statement.{statement}
 use Rattle.answers.proofs.call.make.Tie as tie
 

@@ -5,9 +5,8 @@ use Prim.Native.Nat.{_+_, _*_}
 use native.Mathlib.Omega.{arith}
 use borrow.Author.Needs.{needs}
 use borrow.Author.Tests.{eq-eqb, ne-eqb}
-use Rattle.rules.specs.Image.{wordAt}
 use Rattle.image.specs.Shown.{withWord}
-use Rattle.answers.specs.Records.{answerFill, recordedAnswer}
+use Rattle.answers.specs.Records.{answerFill, recordedAnswer, wordAt}
 use Rattle.answers.proofs.held.recorded_answer.Statement.{statement}
 use Rattle.answers.proofs.held.recorded_answer.Tie as tie
 
