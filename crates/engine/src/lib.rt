@@ -87,7 +87,7 @@ pub fn queue_events_for_mask(
             asserted: flag,
         };
         out = state::push_output_event(out, events, asserted, event);
-        left &= !(1u64 << irq);
+        left &= left - 1;
     }
     out
 }

@@ -7,8 +7,7 @@ use lib.Bits.{and-le-l}
 use lib.Count.{trailing-le}
 use lib.ListN.{length}
 use Rattle.rules.specs.Inputs.{on, inputs}
-use Rattle.rules.proofs.laws.Inputs.{first-below, first-input}
-use Rattle.rules.proofs.laws.Bits.{without-only-is}
+use Rattle.rules.proofs.laws.Inputs.{first-below, first-input, lowest-dropped}
 use Rattle.state.specs.View.{ringOf, ringView}
 use Rattle.engine.specs.Moves.{queued}
 use Rattle.engine.proofs.Queue.{Queued, queue-step, queue-done, queue-less}
@@ -35,18 +34,15 @@ shared-slice-read-t14 c = let l = c .before .before .loop in omega (arith, first
 push-output-event-requires : tie.Need-push-output-event-requires Inv-loop μ-loop
 push-output-event-requires c κs = c .before .before .before .before .loop .inv .0 .well
 
-shl-left : tie.Need-shl-left Inv-loop μ-loop
-shl-left c =
-    let t = c .before .before .before .before .before .before .before .before in
-    let l = t .before .loop in
-    first-below (l .left) (l .inv .1) (t .loop-test .taken)
+sub-left : tie.Need-sub-left Inv-loop μ-loop
+sub-left c = let t = c .before .before .before .before .before .before .before .before in omega (arith, t .loop-test .taken)
 
 loop-less : tie.Need-loop-less Inv-loop μ-loop
 loop-less c =
     let t = c .before .before .before .before .before .before .before .before in
     let l = t .before .loop in
     let some-left = t .loop-test .taken in
-    queue-less (l .left) _ _ (first-input (l .left) (l .inv .1) some-left) (without-only-is (l .left) _ (l .inv .1) (first-below (l .left) (l .inv .1) some-left))
+    queue-less (l .left) _ _ (first-input (l .left) (l .inv .1) some-left) (lowest-dropped (l .left) (l .inv .1) some-left)
 
 loop-again : tie.Need-loop-again Inv-loop μ-loop
 loop-again c =
@@ -54,7 +50,7 @@ loop-again c =
     let t = p .before .before .before .before in
     let l = t .before .loop in
     let some-left = t .loop-test .taken in (
-      queue-step (l .inv .0) (first-input (l .left) (l .inv .1) some-left) (p .push-output-event .ensures) (without-only-is (l .left) _ (l .inv .1) (first-below (l .left) (l .inv .1) some-left)),
+      queue-step (l .inv .0) (first-input (l .left) (l .inv .1) some-left) (p .push-output-event .ensures) (lowest-dropped (l .left) (l .inv .1) some-left),
       lt-of-le-of-lt (and-le-l (l .left) _) (l .inv .1),
     )
 
@@ -70,4 +66,4 @@ returns c = queue-done (c .before .loop .inv .0) (c .loop-test .left)
 pub queue-events-for-mask-spec : {M : Type 1} → statement M
 queue-events-for-mask-spec =
     tie.close
-    (tie.spec Inv-loop μ-loop loop-holds cast-irq shared-slice-read-t14 push-output-event-requires shl-left loop-less loop-again same-length same-length-2 returns)
+    (tie.spec Inv-loop μ-loop loop-holds cast-irq shared-slice-read-t14 push-output-event-requires sub-left loop-less loop-again same-length same-length-2 returns)

@@ -5,14 +5,14 @@ use mathlib.Core.Logic.{⊎-elim}
 use mathlib.Core.Bool.{Bool, true, false, cond, not, _&&_, and-true, and-assoc, and-comm}
 use mathlib.Core.List.{List, [], _∷_, map}
 use Prim.Native.Nat.{ℕ, zero, suc, _+_, _-_, _*_, _/_, _%_, _^_, _≤_, _<_, suc-le-suc, zero-le}
-use native.Mathlib.Nat.{eq-or-lt-of-le, le-of-suc-le-suc}
+use native.Mathlib.Nat.{eq-or-lt-of-le, le-of-suc-le-suc, lt-of-le-of-lt}
 use native.Mathlib.Omega.{arith}
-use lib.Bits.{bitAnd}
+use lib.Bits.{bitAnd, and-le-l}
 use lib.Count.{trailingZeros, under}
-use borrow.Author.Tests.{eq-eqb, ne-eqb, eqb-true}
+use borrow.Author.Tests.{eq-eqb, ne-eqb, eqb-true, eqb-false}
 use Rattle.rules.specs.Inputs.{on, from, inputs, only, without}
 use Rattle.rules.specs.Lines.{Lines, isPending, pendingIn, servedIn, withIsr, serve, event, enter, leave}
-use Rattle.rules.proofs.laws.Bits.{digit, test, on-zero, on-suc, on-none, on-and, on-and-not, on-without, without-ext, without-only-is}
+use Rattle.rules.proofs.laws.Bits.{digit, test, is-number, on-zero, on-suc, on-none, on-and, on-and-not, on-without, without-ext, without-only-is}
 
 -- ---- lists
 pub from-ext : (n k : ℕ) (f g : ℕ → Bool) → ((i : ℕ) → n ≤ i → i < n + k → f i ≡ g i) → from n k f ≡ from n k g
@@ -112,10 +112,41 @@ first-input x h n =
     from-first 0 64 t (on x) zero-le (r .below) (r .has) (r .first)
     ∙ ap (λ (l : List ℕ). t ∷ l) (inputs-ext _ _ (λ i q. sym (on-without x (only t) i q)))
 
--- the same, with the first one dropped as the code drops it: x & !(1 << trailing_zeros)
-pub first-dropped : (x : ℕ) → x < 2 ^ 64 → (x ≡ 0 → ⊥)
-    → inputs (on x) ≡ trailingZeros 64 x ∷ inputs (on (bitAnd x ((2 ^ 64 - 1) - 1 * 2 ^ trailingZeros 64 x % 2 ^ 64)))
-first-dropped x h n = rw (without-only-is x (trailingZeros 64 x) h (first-below x h n)) (first-input x h n)
+only-suc : (t i : ℕ) → only (suc t) (suc i) ≡ only t i
+only-suc t i =
+    test (only t i) (λ e. rw e (eq-eqb (suc i) (suc t) (ap suc (eqb-true i t e))))
+    (λ e. rw e (ne-eqb (suc i) (suc t) (λ q. let z : i ≡ t = omega arith in eqb-false i t e z)))
+
+-- x - 1 has the bits of x above its lowest, which it has not
+dropped-bits : (k x : ℕ) → x < 2 ^ k → (x ≡ 0 → ⊥) → (i : ℕ) → (on x i && on (x - 1) i) ≡ (on x i && not (only (trailingZeros k x) i))
+unfolding trailingZeros
+dropped-bits zero x h n = absurd (n (omega arith))
+dropped-bits (suc k) x h n =
+    digit (λ d. x % 2 ≡ d → (i : ℕ) → (on x i && on (x - 1) i) ≡ (on x i && not (only (under d (trailingZeros k (x / 2))) i)))
+    (λ e. even (trailingZeros k (x / 2)) e (dropped-bits k (x / 2) (omega arith) (λ z. n (omega arith)))) (λ e. odd e) x refl
+  where
+    even : (t : ℕ) → x % 2 ≡ 0 → ((i : ℕ) → (on (x / 2) i && on (x / 2 - 1) i) ≡ (on (x / 2) i && not (only t i))) → (i : ℕ) → (on x i && on (x - 1) i) ≡ (on x i && not (only (suc t) i))
+    even t e r zero = rw (on-zero x, e)
+    even t e r (suc i) =
+        let half : (x - 1) / 2 ≡ x / 2 - 1 = omega arith in
+        rw (on-suc x i, on-suc (x - 1) i, half, only-suc t i) (r i)
+
+    twice : (a : Bool) → (a && a) ≡ (a && true)
+    twice true = refl
+    twice false = refl
+
+    odd : x % 2 ≡ 1 → (i : ℕ) → (on x i && on (x - 1) i) ≡ (on x i && not (only 0 i))
+    odd e zero =
+        let low : (x - 1) % 2 ≡ 0 = omega arith in
+        rw (on-zero x, on-zero (x - 1), e, low)
+    odd e (suc i) =
+        let half : (x - 1) / 2 ≡ x / 2 = omega arith in
+        rw (on-suc x i, on-suc (x - 1) i, half, ne-eqb (suc i) 0 (λ q. omega arith)) (twice (on (x / 2) i))
+
+-- so x & (x - 1) drops the lowest input
+pub lowest-dropped : (x : ℕ) → x < 2 ^ 64 → (x ≡ 0 → ⊥) → bitAnd x (x - 1) ≡ without x (only (trailingZeros 64 x))
+unfolding without
+lowest-dropped x h n = is-number 64 _ _ (lt-of-le-of-lt (and-le-l x (x - 1)) h) (λ i l. on-and x (x - 1) i ∙ dropped-bits 64 x h n i)
 
 -- ---- the sets of the engine, as the code masks them
 -- the inputs that have f, are in service and are not latched
