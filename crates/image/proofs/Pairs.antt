@@ -2,7 +2,7 @@
 use mathlib.Core.Path.{_≡_, refl, sym, ap, ap₂, _∙_}
 use mathlib.Core.Bool.{Bool, true, false, false≢true, _&&_, and-true, and-assoc, and-eq-true-iff}
 use mathlib.Core.List.{List, [], _∷_, _++_}
-use Prim.Native.Nat.{ℕ, zero, suc, _+_, _-_, _*_, _/_, _%_, _<_, _≤_}
+use Prim.Native.Nat.{ℕ, zero, suc, _+_, _-_, _*_, _/_, _%_, _^_, _<_, _≤_}
 use native.Mathlib.Nat.{sub-zero, mod-eq-of-lt}
 use native.Mathlib.Omega.{arith}
 use lib.Bits.{bitAnd, bitOr, and-block, and-mask, and-high, and-zero-r, and-le-l, and-le-r, or-add-and}
@@ -114,6 +114,15 @@ four-more count i bad x b l bytes size h e f inv =
     let gathered = zero-or bad (bitAnd x b) ∙ ap (λ t. eqb bad 0 && t) clear in
     (λ t. gathered t && pairsGood (left t) (drop (end t) l)) ∙ and-assoc (eqb bad 0) (pairsGood m four) (pairsGood (m - 4) rest)
     ∙ ap (λ t. eqb bad 0 && t) (sym (pairs-append 4 m four rest (length-part l (8 * i) 8 (omega arith))) ∙ ap (pairsGood m) (part-then l (8 * i) 8)) ∙ inv
+
+-- where none waits every bit is barred, so the word itself is gathered
+pub zeros-more : (i found x : ℕ) (l : List ℕ) {goal : Bool} → Bytes l → length l ≡ pairsLength → i < 4 → x < 2 ^ 64 → x ≡ registerAt (8 * i) l
+    → (eqb found 0 && pairsGood (0 - 4 * i) (drop (8 * i) l)) ≡ goal → (eqb (bitOr found x) 0 && pairsGood (0 - 4 * (i + 1)) (drop (8 * (i + 1)) l)) ≡ goal
+zeros-more i found x l bytes size h small e inv =
+    let none : 0 - 4 * i ≡ 0 = omega arith in
+    let whole : bitAnd x (2 ^ 64 - 1) ≡ x = and-mask x 64 ∙ mod-eq-of-lt small in
+    let all : 2 ^ 64 - 1 ≡ numberOf (barred (0 - 4 * i) 4) = ap (λ n. numberOf (barred n 4)) (sym none) in
+    ap (λ y. eqb (bitOr found y) 0 && pairsGood (0 - 4 * (i + 1)) (drop (8 * (i + 1)) l)) (sym whole) ∙ four-more 0 i found x (2 ^ 64 - 1) l bytes size h e all inv
 
 pub none-more : (count i bad : ℕ) (l : List ℕ) {goal : Bool} → length l ≤ 8 * i → (eqb bad 0 && pairsGood (count - 4 * i) (drop (8 * i) l)) ≡ goal → eqb bad 0 ≡ goal
 none-more count i bad l h inv =

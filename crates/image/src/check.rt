@@ -46,6 +46,20 @@ fn pairs_good(count: usize, pairs: &[u8]) -> bool
     bad == 0
 }
 
+// Where none waits, every pair is zero. That is the commonest ring, and needs no barred bits.
+fn pairs_zero(pairs: &[u8]) -> bool
+    requires { ⌜ length (now pairs) ≡ pairsLength ⌝ }
+    ensures { λ r. ⌜ r ≡ pairsGood 0 (now (pairs .entry)) ⌝ }
+{
+    let mut found = 0u64;
+    let mut i = 0;
+    while i < 4 {
+        found |= word_at(pairs, 8 * i);
+        i += 1;
+    }
+    found == 0
+}
+
 // The four rules of the bodies.
 fn body_good(image: &[u8]) -> bool
     requires { ⌜ length (now image) ≡ imageLength ⌝ }
@@ -57,6 +71,9 @@ fn body_good(image: &[u8]) -> bool
     let count = image[222] as usize;
     if count > 16 {
         return false;
+    }
+    if count == 0 {
+        return pairs_zero(&image[227..259]);
     }
     pairs_good(count, &image[227..259])
 }
