@@ -1,4 +1,4 @@
-// What moves the input lines, after loongarch_pch_pic.rs of axdevice 0.8.5: the same functions, names and mask expressions.
+// What moves the input lines, after loongarch_pch_pic.rs of axdevice 0.8.5: the same functions and names, and the mask expressions but for one.
 // A function takes the numbers of the state that it reads or changes, and hands those back that it changes; vector bytes and the ring's slots are lent.
 use state::Lines;
 use state::PchPicOutputEvent;
@@ -66,7 +66,7 @@ pub fn update_irq(lines: Lines, vectors: &[u8], mask: u64, level: bool) -> Route
     }
 }
 
-// An event for each input in mask is offered to the ring, lowest first.
+// An event for each input in mask is offered to the ring, lowest first. A subtraction drops the lowest bit, where the Rust shifts a 1 to its place.
 pub fn queue_events_for_mask(
     queue: Queue,
     events: &mut [u8],

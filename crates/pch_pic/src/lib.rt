@@ -72,7 +72,7 @@ fn moved_on(before: Queue, after: Queue) -> bool
     after.output_len != before.output_len || after.output_drops != before.output_drops
 }
 
-// An access writes to an accepted image. Route bytes are written where they stand; of the ring only what changed is saved.
+// An access writes to an accepted image. Route bytes are written where they stand; the ring is saved only where events were offered.
 fn write_accepted(image: &mut [u8], width: Width, offset: usize, value: u64)
     requires { ⌜ (imageTest (now image) ≡ accepted) × (offset < 2 ^ 64 - 1) ⌝ }
     ensures { λ _. ⌜ now (image .exit) ≡ encode (afterWrite (decode (now (image .entry))) (widthView width) offset value) ⌝ }
