@@ -1,10 +1,9 @@
 -- The loop of a drain: at each turn the oldest event comes out of the ring and stands as a pair behind those before it.
-use mathlib.Core.Path.{_≡_, refl, sym, ap, ap₂, subst, _∙_}
-use mathlib.Core.Bool.{Bool, true, false}
+use mathlib.Core.Path.{_≡_, refl, sym, ap, ap₂, _∙_}
+use mathlib.Core.Bool.{true, false}
 use mathlib.Core.List.{List, [], _∷_, _++_, append-nil}
-use Prim.Native.Nat.{ℕ, zero, suc, _+_, _-_, _*_, _/_, _<_, _≤_, min}
+use Prim.Native.Nat.{ℕ, suc, _+_, _-_, _*_, _/_, _<_, _≤_, min}
 use native.Mathlib.Omega.{arith}
-use native.Mathlib.Numerals.{add-one}
 use lib.ListN.{length, take, drop, getD, set, length-set, length-take, take-append-drop, drop-of-length-le}
 use lib.Seq.{drop-drop, drop-set-lt, drop-cons, take-all}
 use lib.Dec.{leb}
@@ -19,7 +18,6 @@ use Rattle.state.specs.declared.Popped.{Popped}
 use Rattle.state.specs.declared.Taken.{Taken}
 use Rattle.state.specs.declared.Taken.the-variants.{Nothing, One}
 use Rattle.engine.specs.Moves.{Drains, pairPut}
-use Rattle.engine.specs.declared.Drained.{Drained}
 
 abbrev ring-of : List Event → ℕ → ring.Ring
 ring-of es n = record { waiting = es; drops = n }

@@ -1,7 +1,7 @@
 -- What `update_int_mask` comes to, in its two stages: the lowest newly unmasked input that waits enters, then the newly masked ones leave.
 use mathlib.Core.Path.{_≡_, refl, sym, ap, subst⁻¹, _∙_}
 use mathlib.Core.Bool.{Bool, true, false, _&&_, and-false}
-use mathlib.Core.List.{List, [], _∷_, map}
+use mathlib.Core.List.{List, [], map}
 use Prim.Native.Nat.{ℕ, _<_, _-_, _^_}
 use lib.Bits.{bitAnd}
 use Rattle.rules.specs.Inputs.{on, inputs, without}

@@ -1,21 +1,20 @@
 -- What `update_irq` comes to: its mask expressions hold the inputs that can move, and the lowest bit is the first of them.
 use mathlib.Core.Path.{_≡_, refl, sym, ap, subst, _∙_}
 use mathlib.Core.Bool.{true, false}
-use mathlib.Core.List.{List, [], _∷_}
+use mathlib.Core.List.{List}
 use Prim.Native.Nat.{ℕ, _<_, _-_, _*_, _%_, _^_}
 use native.Mathlib.Nat.{lt-of-le-of-lt}
 use lib.Bits.{bitAnd, bitOr, and-le-l}
 use lib.Count.{trailingZeros}
 use lib.ListN.{getD}
-use Rattle.rules.specs.Inputs.{on, inputs}
-use Rattle.rules.specs.Lines.{Turn, withIsr, serve}
+use Rattle.rules.specs.Inputs.{on}
+use Rattle.rules.specs.Lines.{withIsr, serve}
 use Rattle.rules.proofs.laws.Bits.{put-is, without-only-is}
 use Rattle.rules.proofs.laws.Inputs.{first-below, first-input, no-input, waiting-is, unlatched-is}
 use Rattle.state.specs.View.{WellLines, linesView}
 use Rattle.state.specs.declared.Lines.{Lines}
 use Rattle.engine.specs.Moves.{Answers, retire, updated}
 use Rattle.engine.specs.declared.Answer.the-variants.{None, Vector}
-use Rattle.engine.specs.declared.Routed.{Routed}
 
 pub and-lt : {a : ℕ} (b : ℕ) → a < 2 ^ 64 → bitAnd a b < 2 ^ 64
 and-lt {a} b h = lt-of-le-of-lt (and-le-l a b) h

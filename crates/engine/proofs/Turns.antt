@@ -1,14 +1,14 @@
 -- What the engine's functions come to, over the rules alone: a move that returns its event beside the same move that offers it, the moves over no input, one input.
-use mathlib.Core.Path.{_≡_, refl, sym, ap, ap₂, subst, _∙_}
-use mathlib.Core.Bool.{Bool, true, false, cond, not, _&&_, and-true, and-false}
-use mathlib.Core.List.{List, [], _∷_, _++_, map}
+use mathlib.Core.Path.{_≡_, refl, sym, ap, _∙_}
+use mathlib.Core.Bool.{Bool, true, false, cond, not, _&&_, and-false}
+use mathlib.Core.List.{List, [], _∷_, map}
 use Prim.Native.Nat.{ℕ, _*_, _%_, _^_, _<_}
 use lib.Dec.{eqb}
 use borrow.Author.Tests.{eq-eqb, eqb-true}
 use Rattle.rules.specs.Inputs.{on, inputs, only, put, without}
-use Rattle.rules.specs.Lines.{Lines, Turn, Made, stay, withIsr, withIrr, event, serve, enter, leave, andThen, pendingIn, servedIn, raised, lowered, polled}
+use Rattle.rules.specs.Lines.{Lines, Turn, stay, withIsr, withIrr, event, serve, enter, leave, andThen, pendingIn, servedIn, raised, lowered, polled}
 use Rattle.rules.specs.Ring.{Ring, RingAct, Drawn, offer, ringRun}
-use Rattle.rules.specs.Device.{Value, none, some, offers, returned}
+use Rattle.rules.specs.Device.{none, some, offers, returned}
 use Rattle.rules.proofs.laws.Bits.{test, is-number, put-lt, on-bit, on-without}
 use Rattle.rules.proofs.laws.Inputs.{inputs-ext, no-inputs, only-served, only-unlatched, enter-ext, unlatchedIn}
 use Rattle.rules.proofs.laws.Acts.{offers-append}

@@ -13,14 +13,14 @@ use Rattle.rules.specs.Lines as lines
 use Rattle.rules.specs.Ring as ring
 use Rattle.rules.specs.Ring.{capacity, stop, pairsOf}
 use Rattle.rules.specs.Device.{Device, WellFormed, reset}
-use Rattle.rules.specs.Image.{imageLength, bytesLength, maskAt, lastIrrAt, irrAt, isrAt, ringAt, ringLength, contents, registersBody, ringBody, encode, decode, accepted, imageTest}
+use Rattle.rules.specs.Image.{imageLength, bytesLength, maskAt, lastIrrAt, irrAt, isrAt, ringAt, ringLength, contents, registersBody, ringBody, encode}
 use Rattle.rules.proofs.laws.Lists.{length-part}
 use Rattle.rules.proofs.laws.Bytes.{length-bytesOf}
 use Rattle.rules.proofs.laws.Parts.{Filled, start, length-next, put, put-this, put-bytes, filled}
-use Rattle.rules.proofs.laws.Images.{length-pairsOf, length-registersBody, length-ringBody, unusedAfter, encode-decode, decode-well-formed}
+use Rattle.rules.proofs.laws.Images.{length-pairsOf, length-registersBody, length-ringBody, unusedAfter}
 use Rattle.state.specs.View.{WellLines, linesView}
 use Rattle.state.specs.declared.Lines.{Lines}
-use Rattle.image.specs.Shown.{withWord, spelled, withLines, withRing, Saves}
+use Rattle.image.specs.Shown.{withWord, spelled, withLines, withRing}
 
 -- ---- words
 
@@ -179,7 +179,3 @@ module _ {d : Device} (w : WellFormed d) where
     waiting = k;
     drops = m;
   }
-
--- what an accepted image is after a part is saved into it
-pub accepted-saved : (l : List ℕ) (f : Device → Device) {m : List ℕ} → Bytes l → imageTest l ≡ accepted → Saves l m f → m ≡ encode (f (decode l))
-accepted-saved l f b e s = s (decode l) (decode-well-formed l b e) (sym (encode-decode l b e))

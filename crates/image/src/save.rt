@@ -26,7 +26,7 @@ fn flag_byte(asserted: bool) -> u8
 }
 
 // The n oldest events as pairs, from the front of dst; every other byte stays.
-pub fn put_events(dst: &mut [u8], ring: Ring, n: usize)
+fn put_events(dst: &mut [u8], ring: Ring, n: usize)
     requires { ⌜ WellRing ring × (n ≤ ring .queue .«output_len») × (2 * n ≤ length (now dst)) ⌝ }
     ensures { λ _. ⌜ now (dst .exit) ≡ pairsOf (take n (ringView ring .waiting)) ++ drop (2 * n) (now (dst .entry)) ⌝ }
 {

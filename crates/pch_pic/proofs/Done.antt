@@ -1,7 +1,7 @@
 -- A call that was done, from what its parts promise: the image that was saved, the answer and the events are those of the rules' step.
 use mathlib.Core.Path.{_≡_, refl, sym, ap, ap₂, subst, _∙_}
-use mathlib.Core.Bool.{Bool, true, false, not}
-use mathlib.Core.List.{List, [], _∷_, _++_, append-nil, append-assoc}
+use mathlib.Core.Bool.{not}
+use mathlib.Core.List.{List, [], _++_, append-nil}
 use Prim.Native.Nat.{ℕ, _+_, _-_, _*_, _/_, _<_, _≤_, zero-le}
 use native.Mathlib.Omega.{arith}
 use lib.Dec.{eqb}
@@ -12,10 +12,10 @@ use Rattle.rules.specs.Numbers.{Bytes, part}
 use Rattle.rules.specs.Lines.{Turn, polled}
 use Rattle.rules.specs.Ring.{Event, Drawn, drawn, pairsOf}
 use Rattle.rules.specs.Access.{Width, readAt}
-use Rattle.rules.specs.Device.{Device, Call, Value, none, some, step, value, returned}
+use Rattle.rules.specs.Device.{Call, Value, none, some, step, value, returned}
 use Rattle.rules.specs.Device as device
-use Rattle.rules.specs.Image.{imageTest, accepted, encode, decode, vectorsBodyAt, bytesLength}
-use Rattle.rules.specs.Calls.{Tested, pass, widthTest, addressTest, accessCall, inputCall, Request, calls, askedBy, answered, bufferOf, placeOf, written, leaves, outcome}
+use Rattle.rules.specs.Image.{imageTest, accepted, encode, decode}
+use Rattle.rules.specs.Calls.{pass, widthTest, addressTest, accessCall, inputCall, Request, calls, askedBy, answered, bufferOf, placeOf, written, leaves, outcome}
 use Rattle.rules.specs.Calls as asked
 use Rattle.rules.proofs.laws.Images.{encode-decode, decode-well-formed}
 use Rattle.rules.proofs.laws.Outcomes.{access-passed, input-passed}

@@ -10,8 +10,7 @@ use borrow.Author.Tests.{eqb-true}
 use borrow.Rule.Slice.PartMut.{putMid, same-len-mid}
 use Rattle.rules.specs.Numbers.{Bytes, part}
 use Rattle.rules.specs.Ring as rules-ring
-use Rattle.rules.specs.Ring.{Event, ringRun}
-use Rattle.rules.specs.Core.{Core, turns}
+use Rattle.rules.specs.Core.{turns}
 use Rattle.rules.specs.Access.{Width, writeActs}
 use Rattle.rules.specs.Device.{Device, WellFormed, offers, acted}
 use Rattle.rules.specs.Device as device
@@ -23,7 +22,7 @@ use Rattle.rules.proofs.laws.Images.{encode-decode, decode-well-formed}
 use Rattle.rules.proofs.laws.Steps.{write-device}
 use Rattle.rules.proofs.laws.WellFormed.{step-well}
 use Rattle.state.specs.declared.Ring.{Ring}
-use Rattle.state.specs.View.{ringOf, ringView, coreOf, IsRing}
+use Rattle.state.specs.View.{ringOf, ringView, IsRing}
 use Rattle.state.proofs.Slots.{slots-length}
 use Rattle.registers.specs.Bytes.{afterWrite}
 use Rattle.registers.specs.Parts.{Parts, parts, shown, WellParts, Shows}

@@ -2,7 +2,7 @@
 use mathlib.Core.Path.{_≡_, refl, sym, ap, _∙_}
 use mathlib.Core.Bool.{Bool, false}
 use mathlib.Core.List.{List, [], _∷_}
-use Prim.Native.Nat.{ℕ, zero, suc, _+_, _^_, _<_}
+use Prim.Native.Nat.{ℕ, _+_, _^_, _<_}
 use native.Mathlib.Numerals.{add-one}
 use native.Mathlib.Omega.{arith}
 use lib.Bits.{bitAnd}
@@ -13,7 +13,7 @@ use Rattle.rules.specs.Lines.{withIsr}
 use Rattle.rules.specs.Core.{Core, Act, Move, plain, htmsiEn, edge, pol, auto0, auto1, withPlain, move, moved, setIsr, store, setPlain, setRoute, setVector}
 use Rattle.rules.specs.Map as map
 use Rattle.rules.specs.Map.{inByteArea}
-use Rattle.rules.specs.Access.{entry, valueOf, readDword, dwordActs, byteActs}
+use Rattle.rules.specs.Access.{entry, valueOf, readDword, dwordActs}
 use Rattle.rules.specs.Device.{Device, acted}
 use Rattle.rules.proofs.laws.Acts.{acted-none}
 use Rattle.rules.proofs.laws.Writes.{byte-acts-outside, deviceOf, acted-move, acted-store, acted-vector, acted-isr}

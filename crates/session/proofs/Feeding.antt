@@ -1,7 +1,6 @@
 -- A byte of the input, and then another: the line so far grows, or is played; and the end.
 use mathlib.Core.Path.{_≡_, refl, sym, ap, subst, _∙_}
-use mathlib.Core.Bool.{false}
-use mathlib.Core.List.{List, [], _∷_, _++_, append-assoc, append-nil}
+use mathlib.Core.List.{List, [], _∷_, _++_, append-assoc}
 use Prim.Native.Nat.{ℕ, _+_, _-_, _*_, _<_, _≤_}
 use native.Mathlib.Numerals.{add-one}
 use native.Mathlib.Omega.{arith}
@@ -14,7 +13,7 @@ use Rattle.rules.specs.Device.{Device}
 use Rattle.rules.specs.Session as session
 use Rattle.rules.specs.Session.{newline, played, linesOf, answers}
 use Rattle.state.specs.View.{view}
-use Rattle.session.specs.Plays.{Says, Plays}
+use Rattle.session.specs.Plays.{Plays}
 use Rattle.session.specs.Feeds.{ended, Unended, Starts, Ready, toSay, Feeds}
 use Rattle.session.specs.declared.Played.{Played}
 use Rattle.session.specs.declared.lines.Session.{Session}

@@ -1,7 +1,7 @@
 -- What each kind of line comes to: a refusal, or the call's device and its answer.
 use mathlib.Core.Path.{_≡_, refl, sym, ap, subst, _∙_}
 use mathlib.Core.Bool.{Bool, true, false, cond}
-use mathlib.Core.List.{List, [], _∷_, _++_, append-assoc, append-nil}
+use mathlib.Core.List.{List, [], _∷_, _++_}
 use Prim.Native.Nat.{ℕ, zero, suc, _+_, _-_, _*_, _/_, _^_, _<_, _≤_}
 use native.Mathlib.Nat.{le-refl}
 use native.Mathlib.Omega.{arith}
@@ -13,20 +13,19 @@ use Rattle.rules.specs.Ring.{Event, capacity, drawn, flag, pairsOf}
 use Rattle.rules.specs.Access.{Width, readAt, writeActs}
 use Rattle.rules.specs.Device.{Device, Call, level, poll, read, write, drain, step, value, acted}
 use Rattle.rules.specs.Window.{inside}
-use Rattle.rules.specs.Calls.{Refusal, Tested, pass, refuse, noInput, noWidth, outside, inputCall, widthTest, addressTest, accessCall}
-use Rattle.rules.specs.Session.{space, plus, minus, equals, letter-d, letter-e, letter-k, letter-o, digits, asks, sessionBase, sessionSize, vectorSaid, eventsSaid, said, playedLine}
+use Rattle.rules.specs.Calls.{Tested, pass, refuse, noWidth, outside, inputCall, widthTest, addressTest, accessCall}
+use Rattle.rules.specs.Session.{space, plus, minus, equals, letter-d, letter-k, letter-o, digits, asks, sessionBase, sessionSize, vectorSaid, eventsSaid, said, playedLine}
 use Rattle.rules.specs.Session as session
 use Rattle.rules.proofs.laws.Bits.{test}
 use Rattle.rules.proofs.laws.Maps as maps
 use Rattle.rules.proofs.laws.Steps.{levelled, withLines, withRing, level-device, level-value, poll-device, poll-value, drain-device, drain-drained, read-device, write-device}
 use Rattle.rules.specs.Lines.{polled}
 use Rattle.rules.proofs.laws.Outcomes.{input-refused, input-passed, width-refused, address-refused, access-passed}
-use Rattle.state.specs.View.{view, ringOf, ringView, linesView, Well, Is}
-use Rattle.state.specs.declared.PchPicState.{PchPicState}
+use Rattle.state.specs.View.{ringOf, ringView}
 use Rattle.engine.specs.declared.Routed.{Routed}
 use Rattle.engine.specs.declared.Drained.{Drained}
-use Rattle.engine.specs.Moves.{Answers, Drains, answerValue}
-use Rattle.session.specs.Plays.{Says, Plays, refusedWith, routedWith, pairSaid, pairsSaid}
+use Rattle.engine.specs.Moves.{Answers, Drains}
+use Rattle.session.specs.Plays.{Plays, refusedWith, routedWith, pairSaid, pairsSaid}
 use Rattle.session.specs.declared.Played.{Played}
 
 pub plays-as : {r : Played} {entry exit : List ℕ} {p q : session.Played} → Plays r entry exit p → p ≡ q → Plays r entry exit q

@@ -1,14 +1,13 @@
 -- An input split into lines: what an ending does, what any other byte does, and why the front of a long line is enough.
 use mathlib.Core.Path.{_≡_, refl, sym, ap, _∙_}
-use mathlib.Core.Bool.{Bool, true, false, cond, _&&_}
-use mathlib.Core.List.{List, [], _∷_, _++_, append-assoc, append-nil}
-use Prim.Native.Nat.{ℕ, zero, suc, _+_, _-_, _<_, _≤_}
-use native.Mathlib.Numerals.{add-one}
+use mathlib.Core.Bool.{Bool, true, false, cond}
+use mathlib.Core.List.{List, [], _∷_, _++_, append-nil}
+use Prim.Native.Nat.{ℕ, _+_, _-_, _<_, _≤_}
 use native.Mathlib.Omega.{arith}
-use lib.Dec.{eqb, leb}
-use lib.ListN.{length, take, drop, getD, set, length-append, length-drop}
+use lib.Dec.{eqb}
+use lib.ListN.{length, drop, length-append, length-drop}
 use Rattle.rules.specs.Device.{Device, Value, none, some}
-use Rattle.rules.specs.Session.{newline, space, letter-l, letter-p, letter-r, letter-w, letter-d, spelled, Fields, wrong, right, joined, fields, Line, unknown, ifRight, levelLine, pollLine, readLine, writeLine, drainLine, lineOf, playedLine, played, inFront, linesOf, answers}
+use Rattle.rules.specs.Session.{newline, letter-l, letter-p, letter-r, letter-w, letter-d, wrong, joined, fields, Line, unknown, ifRight, levelLine, pollLine, readLine, writeLine, drainLine, lineOf, playedLine, played, inFront, linesOf, answers}
 use Rattle.session.specs.Requests.{fieldOf}
 use Rattle.session.specs.Feeds.{Unended}
 use Rattle.session.proofs.Fields.{first-field, goes-on}

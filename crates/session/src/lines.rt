@@ -7,7 +7,7 @@ ghost use Prim.Native.Nat.{_≤_};
 ghost use lib.ListN.{length, take};
 ghost use Rattle.rules.specs.Device.{reset};
 ghost use Rattle.rules.specs.Session.{played, linesOf, answers};
-ghost use Rattle.state.specs.View.{view, Well, Is};
+ghost use Rattle.state.specs.View.{view, Well};
 ghost use Rattle.session.specs.Plays.{Says, Plays};
 ghost use Rattle.session.specs.Feeds.{ended, Starts, Ready, Feeds, Takes};
 

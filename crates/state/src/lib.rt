@@ -3,7 +3,7 @@
 ghost use mathlib.Core.Path.{_≡_};
 ghost use Rattle.rules.specs.Device.{reset};
 ghost use Rattle.rules.specs.Ring.{offered};
-ghost use Rattle.state.specs.View.{eventOf, ringOf, ringView, view, wordsOf, WellRing, IsRing, Is, Pops};
+ghost use Rattle.state.specs.View.{eventOf, ringOf, ringView, wordsOf, WellRing, IsRing, Is, Pops};
 
 // The registers that move, of all 64 inputs.
 pub struct Lines {
@@ -115,6 +115,7 @@ pub fn pop_output_event(queue: Queue, vectors: &[u8], asserted: &[bool]) -> Popp
 }
 
 impl PchPicState {
+    // Where the halves of the registers stand, by the Rust's names; a high half stands 4 above its low one.
     pub const INT_ID_LO: usize = 0x000;
 
     pub const INT_ID_HI: usize = 0x004;

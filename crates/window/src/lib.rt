@@ -1,7 +1,7 @@
 // Which accesses are the device's: the width, and the address within the window.
 use registers::Width;
 ghost use mathlib.Core.Path.{_≡_};
-ghost use mathlib.Core.Bool.{Bool, true, false};
+ghost use mathlib.Core.Bool.{false};
 ghost use Prim.Native.Nat.{_+_, _-_, _^_, min};
 ghost use Rattle.rules.specs.Window.{inside};
 ghost use Rattle.rules.specs.Calls.{widthTest, addressTest};

@@ -1,6 +1,5 @@
 -- `replay_file` is safe: a number of four bytes is small.
-use mathlib.Core.Path.{refl, sym, subst}
-use Prim.Native.Nat.{ℕ, _^_, _<_}
+use mathlib.Core.Path.{refl}
 use native.Mathlib.Omega.{arith}
 use borrow.Author.Needs.{needs}
 use Rattle.rules.proofs.laws.Bytes.{part-below}

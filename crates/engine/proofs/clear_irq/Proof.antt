@@ -1,5 +1,5 @@
 -- `clear_irq`: latches and service lose the inputs of the mask, and those of them that were in service are queued.
-use mathlib.Core.Path.{_≡_, sym, ap, _∙_}
+use mathlib.Core.Path.{ap, _∙_}
 use mathlib.Core.Bool.{true, false}
 use mathlib.Core.List.{List, map}
 use Prim.Native.Nat.{ℕ, _-_, _<_, _^_}

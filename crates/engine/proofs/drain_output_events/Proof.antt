@@ -1,12 +1,11 @@
 -- `drain_output_events` pops as many events as wait or as fit, and writes each as a pair behind those before it.
-use mathlib.Core.Path.{_≡_, refl, sym, ap, subst, _∙_}
-use Prim.Native.Nat.{ℕ, _+_, _-_, _*_, _/_, _≤_, min}
+use mathlib.Core.Path.{_≡_, sym, ap, subst, _∙_}
+use Prim.Native.Nat.{ℕ, _-_, _/_, min}
 use native.Mathlib.Omega.{arith}
 use lib.ListN.{length}
 use Rattle.state.specs.View.{ringOf, ringView}
 use Rattle.state.specs.declared.Ring.{Ring}
 use Rattle.state.proofs.Slots.{slots-length}
-use Rattle.engine.specs.Moves.{Drains}
 use Rattle.engine.proofs.Draining.{Draining, drain-start, drain-step, drain-done}
 use borrow.Author.Needs.{needs}
 use Rattle.engine.proofs.drain_output_events.Statement.{statement}

@@ -1,7 +1,6 @@
 -- `put_event` stores the vector and then the flag; where there is no event it stores nothing.
-use mathlib.Core.Path.{_≡_, sym, ap, _∙_}
+use mathlib.Core.Path.{sym, ap, _∙_}
 use mathlib.Core.Logic.{⊎-elim}
-use mathlib.Core.List.{List}
 use Prim.Native.Nat.{ℕ, _+_, _*_}
 use lib.ListN.{set}
 use Rattle.rules.specs.Ring.{flag}

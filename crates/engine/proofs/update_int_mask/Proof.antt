@@ -1,7 +1,7 @@
 -- `update_int_mask` in its two stages: where the ways of the first meet, what entered service is known (`entered`); the second takes out what is newly masked.
-use mathlib.Core.Path.{_≡_, sym, ap, subst, _∙_}
+use mathlib.Core.Path.{sym, ap, subst, _∙_}
 use mathlib.Core.Logic.{⊎-elim}
-use mathlib.Core.Bool.{Bool, true, false}
+use mathlib.Core.Bool.{false}
 use Prim.Native.Nat.{ℕ, _<_, _^_}
 use Rattle.rules.specs.Inputs.{on, withHalf}
 use Rattle.rules.specs.Lines.{withMask, enter}

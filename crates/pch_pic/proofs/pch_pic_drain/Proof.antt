@@ -1,8 +1,5 @@
 -- `pch_pic_drain`: each refusal leaves where 01's order puts it; done, the ring drew what the room allows, and the pairs stand from the place on.
-use mathlib.Core.Path.{_≡_, refl, sym, ap, ap₂, _∙_}
-use mathlib.Core.List.{List, []}
-use Prim.Native.Nat.{ℕ, zero-le}
-use native.Mathlib.Omega.{arith}
+use mathlib.Core.Path.{refl, sym, _∙_}
 use Prim.Native.Nat.{_-_, _/_}
 use lib.ListN.{length}
 use Rattle.rules.specs.Device as device

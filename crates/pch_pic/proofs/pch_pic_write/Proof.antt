@@ -1,8 +1,6 @@
 -- `pch_pic_write`: each refusal leaves where 01's order puts it; done, the image is that of the device after the write.
-use mathlib.Core.Path.{_≡_, refl, sym, ap, ap₂, _∙_}
-use mathlib.Core.List.{List, []}
-use Prim.Native.Nat.{ℕ, zero-le}
-use native.Mathlib.Omega.{arith}
+use mathlib.Core.Path.{refl, sym, ap, _∙_}
+use Prim.Native.Nat.{zero-le}
 use Rattle.rules.specs.Device as device
 use Rattle.rules.specs.Calls.{noWidth, outside, accessCall}
 use Rattle.rules.specs.Calls as asked

@@ -1,5 +1,5 @@
 -- `write_accepted` is right since what is lent shows the device that the image holds, and what is saved is what the writers left.
-use mathlib.Core.Path.{_≡_, sym, ap, _∙_}
+use mathlib.Core.Path.{sym, ap, _∙_}
 use mathlib.Core.List.{List}
 use Prim.Native.Nat.{ℕ}
 use native.Mathlib.Omega.{arith}
@@ -8,8 +8,6 @@ use borrow.Rule.Slice.PartMut.{putMid, same-len-mid}
 use Rattle.rules.specs.Numbers.{Bytes}
 use Rattle.rules.proofs.laws.Lists.{length-part}
 use Rattle.rules.proofs.laws.Images.{decode-well-formed}
-use Rattle.registers.specs.Views.{widthView}
-use Rattle.registers.specs.Parts.{parts}
 use Rattle.pch_pic.proofs.Ends.{sized}
 use Rattle.pch_pic.proofs.Writing.{length-words-put, length-vectors-put, lent-well, ring-written, ring-stayed}
 use borrow.Author.Needs.{needs}

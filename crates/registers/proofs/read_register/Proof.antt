@@ -1,5 +1,4 @@
 -- `read_register` is right since the words and the bytes of the state show what the state shows.
-use mathlib.Core.Path.{_∙_}
 use borrow.Author.Needs.{needs}
 use Rattle.registers.proofs.read_register.Statement.{statement}
 use Rattle.registers.proofs.read_register.Tie as tie

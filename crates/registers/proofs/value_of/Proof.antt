@@ -1,5 +1,5 @@
 -- `value_of` is right since each arm is told its register, at which the rule computes; ISR & !MASK is ISR without the masked inputs.
-use mathlib.Core.Path.{sym, ap, _∙_}
+use mathlib.Core.Path.{ap, _∙_}
 use mathlib.Core.List.{[]}
 use native.Mathlib.Omega.{arith}
 use lib.ListN.{getD}

@@ -5,7 +5,7 @@ use mathlib.Core.List.{List, [], _∷_, _++_, map}
 use Prim.Native.Nat.{ℕ, zero, suc, _<_}
 use lib.ListN.{getD}
 use Rattle.rules.specs.Inputs.{on, inputs, without}
-use Rattle.rules.specs.Lines.{Lines, Made, event, isPending, withMask, withIrr, serve, leave, pendingIn, servedIn, newlyUnmasked, newlyMasked, cleared, masked}
+use Rattle.rules.specs.Lines.{Lines, Made, event, isPending, withMask, serve, pendingIn, servedIn, newlyUnmasked, newlyMasked, cleared, masked}
 use Rattle.rules.proofs.laws.Bits.{on-without}
 
 abbrev asserts : List Made → List Bool

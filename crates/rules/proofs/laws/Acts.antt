@@ -1,5 +1,5 @@
 -- Acts, one after another: acting in two parts is acting in one, in the core, in what is made, in what is offered, and in the device.
-use mathlib.Core.Path.{_≡_, refl, sym, ap, ap₂, _∙_}
+use mathlib.Core.Path.{_≡_, refl, sym, ap, _∙_}
 use mathlib.Core.Bool.{Bool, true, false, cond}
 use mathlib.Core.List.{List, [], _∷_, _++_, append-assoc}
 use Rattle.rules.specs.Lines.{Made}

@@ -66,12 +66,6 @@ on-below k b x i l = sym (on-mod k (b * 2 ^ k + x) i l) ∙ rw mul-add-mod-self-
 pub on-above : (k b x i : ℕ) → x < 2 ^ k → on (b * 2 ^ k + x) (k + i) ≡ on b i
 on-above k b x i h = sym (on-down k (b * 2 ^ k + x) i) ∙ rw (high b k h)
 
-pub on-up : (k x i : ℕ) → on (x * 2 ^ k) (k + i) ≡ on x i
-on-up k x i = rw add-zero at (on-above k x 0 i (pow-pos k))
-
-pub on-up-below : (k x i : ℕ) → i < k → on (x * 2 ^ k) i ≡ false
-on-up-below k x i l = rw add-zero at (on-below k x 0 i l) ∙ on-none i
-
 -- ---- mask operations
 -- an operation that works digit by digit
 bitwise : (op : ℕ → ℕ → ℕ) (F : Bool → Bool → Bool) → ((a b k : ℕ) → op a b / 2 ^ k ≡ op (a / 2 ^ k) (b / 2 ^ k))

@@ -4,7 +4,7 @@ use mathlib.Core.Path.{_≡_, refl, sym, ap, ap₂, _∙_}
 use mathlib.Core.Logic.{⊎-elim}
 use mathlib.Core.Bool.{Bool, true, false, cond, not, _&&_, and-true, and-assoc, and-comm}
 use mathlib.Core.List.{List, [], _∷_, map}
-use Prim.Native.Nat.{ℕ, zero, suc, _+_, _-_, _*_, _/_, _%_, _^_, _≤_, _<_, suc-le-suc, zero-le}
+use Prim.Native.Nat.{ℕ, zero, suc, _+_, _-_, _/_, _%_, _^_, _≤_, _<_, suc-le-suc, zero-le}
 use native.Mathlib.Nat.{eq-or-lt-of-le, le-of-suc-le-suc, lt-of-le-of-lt}
 use native.Mathlib.Omega.{arith}
 use lib.Bits.{bitAnd, and-le-l}
@@ -12,7 +12,7 @@ use lib.Count.{trailingZeros, under}
 use borrow.Author.Tests.{eq-eqb, ne-eqb, eqb-true, eqb-false}
 use Rattle.rules.specs.Inputs.{on, from, inputs, only, without}
 use Rattle.rules.specs.Lines.{Lines, isPending, pendingIn, servedIn, withIsr, serve, event, enter, leave}
-use Rattle.rules.proofs.laws.Bits.{digit, test, is-number, on-zero, on-suc, on-none, on-and, on-and-not, on-without, without-ext, without-only-is}
+use Rattle.rules.proofs.laws.Bits.{digit, test, is-number, on-zero, on-suc, on-none, on-and, on-and-not, on-without, without-ext}
 
 -- ---- lists
 pub from-ext : (n k : ℕ) (f g : ℕ → Bool) → ((i : ℕ) → n ≤ i → i < n + k → f i ≡ g i) → from n k f ≡ from n k g
@@ -62,9 +62,6 @@ no-inputs f e = from-none 0 64 f (λ i p q. e i q)
 -- an empty mask has no input, whatever else is asked
 pub no-input : (x : ℕ) → x ≡ 0 → inputs (on x) ≡ []
 no-input x e = no-inputs (on x) (λ i l. rw e (on-none i))
-
-pub no-common : (x : ℕ) (f : ℕ → Bool) → x ≡ 0 → inputs (λ n. on x n && f n) ≡ []
-no-common x f e = no-inputs _ (λ i l. rw (e, on-none i))
 
 -- the one input n, if it has f
 pub only-input : (n : ℕ) (f : ℕ → Bool) → n < 64 → inputs (λ m. only n m && f m) ≡ cond (f n) (n ∷ []) []

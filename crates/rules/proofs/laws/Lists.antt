@@ -8,7 +8,7 @@ use native.Mathlib.Numerals.{add-one}
 use native.Mathlib.Omega.{arith}
 use lib.Dec.{eqb}
 use lib.ListN.{length, take, drop, getD, set, length-drop, drop-of-length-le, take-append-drop}
-use lib.Seq.{length-take-le, take-suc-set, take-all, take-take, take-add, drop-cons, drop-drop, getD-take, getD-drop}
+use lib.Seq.{length-take-le, take-suc-set, take-all, take-take, take-add, drop-cons, drop-drop}
 use borrow.Author.Tests.{eq-eqb, eqb-true}
 use Rattle.rules.specs.Numbers.{bytesOf, part}
 use Rattle.rules.specs.Image.{same}
@@ -76,9 +76,6 @@ part-part l a n b m h = go (drop a l) b n h ∙ ap (take m) (drop-drop b a l)
     go l (suc b) zero h = absurd (omega arith)
     go [] (suc b) (suc n) h = refl
     go (x ∷ l) (suc b) (suc n) h = go l b n (omega arith)
-
-pub getD-part : (l : List ℕ) (a n i d : ℕ) → i < n → getD (part a n l) i d ≡ getD l (a + i) d
-getD-part l a n i d h = getD-take n (drop a l) i d h ∙ getD-drop a l i d
 
 -- ---- two lists tested for sameness
 

@@ -1,15 +1,14 @@
 -- One call of the device, in terms of the lines or of the ring alone: a level or poll call moves the lines and returns its event, a drain draws from the ring, a read changes nothing.
-use mathlib.Core.Path.{_≡_, refl, sym, ap, _∙_}
+use mathlib.Core.Path.{_≡_, refl, ap, _∙_}
 use mathlib.Core.Bool.{Bool, true, false}
-use mathlib.Core.List.{List, [], _∷_, _++_, map, append-nil}
+use mathlib.Core.List.{List, [], _∷_, map, append-nil}
 use Prim.Native.Nat.{ℕ}
-use lib.ListN.{length}
 use Rattle.rules.specs.Inputs.{inputs, only, put, without}
 use Rattle.rules.specs.Lines.{Lines, Made, Turn, withIrr, event, serve, enter, leave, pendingIn, servedIn, polled, raised, lowered}
 use Rattle.rules.specs.Ring.{Ring, RingAct, drawn, ringStep, ringRun}
 use Rattle.rules.specs.Core.{Core, Act, move, Move, poll, raise, lower, CoreTurn, turn, turns, lineTurn, moved, vectorsAfter, storedAfter}
-use Rattle.rules.specs.Access.{Width, readAt, writeActs}
-use Rattle.rules.specs.Device.{Device, level, read, write, drain, Value, none, some, actsOf, offers, acted, Step, step, value, returned}
+use Rattle.rules.specs.Access.{Width, writeActs}
+use Rattle.rules.specs.Device.{Device, level, read, write, drain, none, actsOf, offers, acted, Step, step, value, returned}
 use Rattle.rules.specs.Device as device
 use Rattle.rules.proofs.laws.Acts.{acted-none, step-acted}
 

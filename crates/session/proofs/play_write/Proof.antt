@@ -1,5 +1,5 @@
 -- `play_write` is right since an unknown width and then an address outside are refused, and of any other access the registers do what the rule says.
-use mathlib.Core.Path.{_≡_, refl, sym, ap, _∙_}
+use mathlib.Core.Path.{_≡_, sym, ap, _∙_}
 use Prim.Native.Nat.{ℕ}
 use borrow.Author.Needs.{needs}
 use Rattle.rules.specs.Device.{write}

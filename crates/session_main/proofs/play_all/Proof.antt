@@ -3,7 +3,6 @@ use mathlib.Core.Path.{_≡_, refl, _∙_}
 use native.Mathlib.Omega.{arith}
 use lib.ListN.{length}
 use borrow.Author.Tests.{ltb-true}
-use borrow.Author.Needs.{needs}
 use Rattle.session.specs.Feeds.{Ready}
 use Rattle.session.proofs.Feeding.{start-ready}
 use Rattle.session_main.proofs.play_all.Statement.{statement}

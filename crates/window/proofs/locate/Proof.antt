@@ -1,12 +1,11 @@
 -- `locate`: an address inside is not below the base, so that the difference is its offset.
-use mathlib.Core.Path.{_≡_, sym, ap, _∙_}
-use mathlib.Core.Bool.{Bool, true, false, cond, _&&_, and-eq-true-iff}
+use mathlib.Core.Path.{_≡_, sym, _∙_}
+use mathlib.Core.Bool.{true, and-eq-true-iff}
 use Prim.Native.Nat.{ℕ, _≤_}
-use lib.Dec.{leb, ltb}
+use lib.Dec.{leb}
 use borrow.Author.Tests.{leb-true}
 use borrow.Author.Needs.{needs}
 use Rattle.rules.specs.Window.{inside, offset}
-use Rattle.rules.specs.Calls.{Tested, pass, refuse, outside}
 use Rattle.window.proofs.locate.Statement.{statement}
 use Rattle.window.proofs.locate.Tie as tie
 

@@ -1,11 +1,8 @@
 -- `lent_events` is right since the test of the kind is the definition's.
-use mathlib.Core.Path.{sym, ap, _∙_}
-use mathlib.Core.Bool.{cond}
 use borrow.Author.Needs.{needs}
 use borrow.Author.Tests.{lt-ltb, le-ltb}
 use Rattle.answers.proofs.call.lent_events.Statement.{statement}
 use Rattle.answers.proofs.call.lent_events.Tie as tie
-use Rattle.answers.specs.Records.{wordAt}
 
 returns : tie.Need-returns
 returns c = rw (lt-ltb _ 6 (c .if1 .taken))

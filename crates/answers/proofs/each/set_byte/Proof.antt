@@ -1,6 +1,5 @@
 -- `set_byte` is right since the place that is tested is the one that is written.
-use mathlib.Core.Path.{sym, ap}
-use mathlib.Core.List.{List}
+use mathlib.Core.Path.{ap}
 use Prim.Native.Nat.{ℕ}
 use native.Mathlib.Omega.{arith}
 use lib.ListN.{getD, set}

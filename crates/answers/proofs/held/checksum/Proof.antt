@@ -1,9 +1,8 @@
 -- `checksum` is right since the sum so far, taken on over the bytes that are left, is the sum of all.
 use mathlib.Core.Path.{_≡_, refl, sym, ap, _∙_}
-use Prim.Native.Nat.{ℕ, _+_, _-_, _*_, _%_, _≤_, _<_}
+use Prim.Native.Nat.{_+_, _-_, _*_, _%_, _≤_, _<_}
 use native.Mathlib.Omega.{arith}
 use lib.ListN.{length, drop, drop-of-length-le}
-use borrow.Author.Needs.{needs}
 use Rattle.rules.proofs.laws.Lists.{next}
 use Rattle.answers.specs.Records.{checksumOf}
 use Rattle.answers.proofs.held.checksum.Statement.{statement}

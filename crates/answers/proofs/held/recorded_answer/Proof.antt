@@ -1,12 +1,11 @@
 -- `recorded_answer` is right since each of the two words that are written is the definition's.
-use mathlib.Core.Path.{sym, ap, _∙_}
-use mathlib.Core.Bool.{cond}
+use mathlib.Core.Path.{_∙_}
 use Prim.Native.Nat.{_+_, _*_}
 use native.Mathlib.Omega.{arith}
 use borrow.Author.Needs.{needs}
 use borrow.Author.Tests.{eq-eqb, ne-eqb}
 use Rattle.image.specs.Shown.{withWord}
-use Rattle.answers.specs.Records.{answerFill, recordedAnswer, wordAt}
+use Rattle.answers.specs.Records.{answerFill, wordAt}
 use Rattle.answers.proofs.held.recorded_answer.Statement.{statement}
 use Rattle.answers.proofs.held.recorded_answer.Tie as tie
 

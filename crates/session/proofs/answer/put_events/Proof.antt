@@ -1,11 +1,9 @@
 -- `put_events` is right since after i turns the first i pairs are said at the front, and what lies behind is as it was.
 use mathlib.Core.Path.{_≡_, refl, subst}
-use mathlib.Core.List.{[]}
 use Prim.Native.Nat.{ℕ, _+_, _-_, _*_, _≤_}
 use native.Mathlib.Omega.{arith}
 use lib.ListN.{length, take, drop, length-drop}
 use lib.Seq.{length-take-le}
-use borrow.Author.Needs.{needs}
 use Rattle.rules.proofs.laws.Parts.{Filled, start}
 use Rattle.session.specs.Plays.{Says, pairsSaid}
 use Rattle.session.proofs.Writing.{pair-said, size, says}

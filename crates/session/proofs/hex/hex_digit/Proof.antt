@@ -1,6 +1,5 @@
 -- `hex_digit` is right since the test of the rule is the test of the code.
-use mathlib.Core.Path.{_≡_}
-use Prim.Native.Nat.{_+_, _-_}
+use Prim.Native.Nat.{_-_}
 use native.Mathlib.Omega.{arith}
 use borrow.Author.Tests.{lt-ltb, le-ltb}
 use borrow.Author.Needs.{needs}

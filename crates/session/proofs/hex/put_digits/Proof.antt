@@ -1,10 +1,9 @@
 -- `put_digits` is right since the digits still to come, and what stands behind them, are the whole at every turn.
-use mathlib.Core.Path.{_≡_, refl, sym, ap, _∙_}
-use mathlib.Core.List.{List, _++_}
-use Prim.Native.Nat.{ℕ, _+_, _-_, _/_, _%_, _≤_}
+use mathlib.Core.Path.{_≡_, refl}
+use mathlib.Core.List.{_++_}
+use Prim.Native.Nat.{_+_, _-_, _≤_}
 use native.Mathlib.Omega.{arith}
 use lib.ListN.{length, drop, length-set}
-use borrow.Author.Needs.{needs}
 use Rattle.rules.specs.Session.{digits}
 use Rattle.session.proofs.Digits.{digit-stored}
 use Rattle.session.proofs.hex.put_digits.Statement.{statement}

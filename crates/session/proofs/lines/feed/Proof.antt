@@ -1,10 +1,8 @@
 -- `feed` is right since the bytes are taken one after another, as long as there is room for an answer.
-use mathlib.Core.Path.{_≡_, refl}
-use Prim.Native.Nat.{ℕ, _+_, _-_, _≤_}
+use Prim.Native.Nat.{_-_, _≤_}
 use native.Mathlib.Omega.{arith}
 use lib.ListN.{length, take, drop, length-drop}
 use lib.Seq.{length-take-le}
-use borrow.Author.Needs.{needs}
 use borrow.Author.Tests.{leb-true, leb-false}
 use Rattle.session.proofs.Writing.{fits}
 use Rattle.session.proofs.Feeding.{Feeding, feed-start, feed-next}

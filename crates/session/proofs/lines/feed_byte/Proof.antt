@@ -1,7 +1,6 @@
 -- `feed_byte` is right since an ending closes the line so far, and any other byte only makes it longer; a long line may lose it.
 use mathlib.Core.Path.{sym}
 use native.Mathlib.Omega.{arith}
-use lib.ListN.{length-set}
 use lib.Seq.{length-take-le}
 use borrow.Author.Needs.{needs}
 use Rattle.session.proofs.Feeding.{fed-ending, fed-kept, fed-lost}
