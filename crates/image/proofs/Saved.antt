@@ -20,16 +20,16 @@ use Rattle.rules.proofs.laws.Parts.{Filled, start, length-next, put, put-this, 
 use Rattle.rules.proofs.laws.Images.{length-pairsOf, length-registersBody, length-ringBody, unusedAfter}
 use Rattle.state.specs.View.{WellLines, linesView}
 use Rattle.state.specs.declared.Lines.{Lines}
-use Rattle.image.specs.Shown.{withWord, spelled, withLines, withRing}
+use Rattle.image.specs.Shown.{withBytes, withWord, spelled, withLines, withRing}
 
 -- ---- words
 
--- a word is written over a part that is lent with the eight places from `at` on
-pub word-over : (at x : ℕ) (l : List ℕ) {ys : List ℕ} → at + 8 ≤ length l → ys ≡ bytesOf (length (part at (at + 8 - at) l)) x → putMid at (at + 8 - at) l ys ≡ withWord at x l
-word-over at x l {ys} h e =
-    let w : at + 8 - at ≡ 8 = omega arith in
-    let eight : ys ≡ bytesOf 8 x = e ∙ ap (λ k. bytesOf (length (part at k l)) x) w ∙ ap (λ n. bytesOf n x) (length-part l at 8 h) in
-    rw w (λ i. take at l ++ (eight i ++ drop-drop 8 at l i))
+-- bytes are written over a part that is lent with the n places from `at` on
+pub bytes-over : (at n x : ℕ) (l : List ℕ) {ys : List ℕ} → at + n ≤ length l → ys ≡ bytesOf (length (part at (at + n - at) l)) x → putMid at (at + n - at) l ys ≡ withBytes at n x l
+bytes-over at n x l {ys} h e =
+    let w : at + n - at ≡ n = omega arith in
+    let low : ys ≡ bytesOf n x = e ∙ ap (λ k. bytesOf (length (part at k l)) x) w ∙ ap (λ m. bytesOf m x) (length-part l at n h) in
+    rw w (λ i. take at l ++ (low i ++ drop-drop n at l i))
 
 -- a word is put behind what is written
 pub word-put : {l l₀ front : List ℕ} {a : ℕ} (x : ℕ) (m : List ℕ) → Filled l l₀ front a → m ≡ withWord a x l → Filled m l₀ (front ++ bytesOf 8 x) (a + 8)

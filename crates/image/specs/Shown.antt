@@ -29,9 +29,12 @@ barred n zero = []
 barred zero (suc k) = 255 ∷ 255 ∷ barred zero k
 barred (suc n) (suc k) = 0 ∷ 254 ∷ barred n k
 
--- bytes with the eight from a place on replaced by those of x
+-- bytes with the n from a place on replaced by the low ones of x, and with the eight of a word
+abbrev pub withBytes : ℕ → ℕ → ℕ → List ℕ → List ℕ
+withBytes at n x l = take at l ++ (bytesOf n x ++ drop (at + n) l)
+
 abbrev pub withWord : ℕ → ℕ → List ℕ → List ℕ
-withWord at x l = take at l ++ (bytesOf 8 x ++ drop (at + 8) l)
+withWord at x l = withBytes at 8 x l
 
 -- words one after another, eight bytes each
 abbrev pub spelled : List ℕ → List ℕ

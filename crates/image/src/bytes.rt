@@ -4,7 +4,7 @@ ghost use Prim.Native.Nat.{_+_, _*_, _≤_};
 ghost use lib.ListN.{length, replicate};
 ghost use Rattle.rules.specs.Numbers.{numberOf, bytesOf};
 ghost use Rattle.rules.specs.Image.{registerAt};
-ghost use Rattle.image.specs.Shown.{withWord, spelled};
+ghost use Rattle.image.specs.Shown.{withBytes, withWord, spelled};
 
 pub fn wide(x: u8) -> u64
     ensures { λ r. ⌜ r ≡ x ⌝ }
@@ -48,13 +48,21 @@ pub fn word_at(image: &[u8], at: usize) -> u64
     number(&image[at..end])
 }
 
-// The eight bytes of x from a place on; every other byte stays.
+// The n low bytes of x from a place on; every other byte stays.
+pub fn put_bytes(dst: &mut [u8], at: usize, n: usize, x: u64)
+    requires { ⌜ at + n ≤ length (now dst) ⌝ }
+    ensures { λ _. ⌜ now (dst .exit) ≡ withBytes at n x (now (dst .entry)) ⌝ }
+{
+    let end = at + n;
+    put_number(&mut dst[at..end], x);
+}
+
+// All eight bytes of x.
 pub fn put_word(dst: &mut [u8], at: usize, x: u64)
     requires { ⌜ at + 8 ≤ length (now dst) ⌝ }
     ensures { λ _. ⌜ now (dst .exit) ≡ withWord at x (now (dst .entry)) ⌝ }
 {
-    let end = at + 8;
-    put_number(&mut dst[at..end], x);
+    put_bytes(dst, at, 8, x);
 }
 
 // Words, eight bytes each.
