@@ -12,7 +12,7 @@ use Rattle.rules.specs.Numbers.{Bytes, part}
 use Rattle.rules.specs.Ring as rules-ring
 use Rattle.rules.specs.Core.{turns}
 use Rattle.rules.specs.Access.{Width, writeActs}
-use Rattle.rules.specs.Device.{Device, WellFormed, offers, acted}
+use Rattle.rules.specs.Device.{Device, WellFormed, acted}
 use Rattle.rules.specs.Device as device
 use Rattle.rules.specs.Image.{imageTest, accepted, encode, decode}
 use Rattle.rules.proofs.laws.Lists.{length-part}

@@ -3,6 +3,7 @@
 
 use image::answer::Value;
 use image::check::Checked;
+use registers::Index;
 use registers::Width;
 use state::PchPicState;
 use state::Queue;
@@ -19,11 +20,13 @@ ghost use Rattle.rules.specs.Access.{readAt};
 ghost use Rattle.rules.specs.Image.{accepted, imageTest, encode, decode};
 ghost use Rattle.rules.specs.Calls.{answered, leaves, outcome};
 ghost use Rattle.rules.specs.Calls as asked;
+ghost use Rattle.rules.proofs.laws.Entries.{lengthOf};
 ghost use Rattle.rules.proofs.laws.Outcomes.{imageNumber};
 ghost use Rattle.image.specs.Shown.{checkedView, valueView};
 ghost use Rattle.engine.specs.Moves.{answerValue};
 ghost use Rattle.registers.specs.Views.{widthView};
 ghost use Rattle.registers.specs.Bytes.{afterWrite};
+ghost use Rattle.pch_pic.specs.Places.{bodyPlace, entriesPlace};
 
 // A refusal: its number goes into the answer area with its value, and is handed back.
 fn refuse(answer: &mut [u8], number: u8, value: Value) -> u8
@@ -72,8 +75,8 @@ fn moved_on(before: Queue, after: Queue) -> bool
     after.output_len != before.output_len || after.output_drops != before.output_drops
 }
 
-// An access writes to an accepted image. Route bytes are written where they stand; the ring is saved only where events were offered.
-fn write_accepted(image: &mut [u8], width: Width, offset: usize, value: u64)
+// An access writes to the state that an accepted image holds. Route bytes are written where they stand; the ring is saved only where events were offered.
+fn write_loaded(image: &mut [u8], width: Width, offset: usize, value: u64)
     requires { ⌜ (imageTest (now image) ≡ accepted) × (offset < 2 ^ 64 - 1) ⌝ }
     ensures { λ _. ⌜ now (image .exit) ≡ encode (afterWrite (decode (now (image .entry))) (widthView width) offset value) ⌝ }
 {
@@ -103,6 +106,56 @@ fn write_accepted(image: &mut [u8], width: Width, offset: usize, value: u64)
         };
         image::save::save_ring(image, left);
     }
+}
+
+// How many bytes an access has.
+fn length_of(width: Width) -> usize
+    ensures { λ r. ⌜ r ≡ lengthOf (widthView width) ⌝ }
+{
+    match width {
+        Width::Byte => 1,
+        Width::Word => 2,
+        Width::Dword => 4,
+        Width::Qword => 8,
+    }
+}
+
+// Where in an image the body starts that has the byte of an offset: routes and vectors are 64 bytes each, from offsets that 64 divides.
+fn body_place(offset: usize) -> Index
+    ensures { λ r. ⌜ r ≡ bodyPlace offset ⌝ }
+{
+    match offset / 64 {
+        4 => Index::At(94),
+        8 => Index::At(158),
+        _ => Index::None,
+    }
+}
+
+// Where in an image an access stands that lies wholly among the route bytes, or wholly among the vector bytes.
+fn entries_place(width: Width, offset: usize) -> Index
+    ensures { λ r. ⌜ r ≡ entriesPlace offset (lengthOf (widthView width)) ⌝ }
+{
+    let Index::At(body) = body_place(offset) else {
+        return Index::None;
+    };
+    let at = offset % 64;
+    if at + length_of(width) <= 64 {
+        Index::At(body + at)
+    } else {
+        Index::None
+    }
+}
+
+// An access writes to an accepted image. Wholly among the route or vector bytes it is stored where these stand, and nothing is loaded.
+fn write_accepted(image: &mut [u8], width: Width, offset: usize, value: u64)
+    requires { ⌜ (imageTest (now image) ≡ accepted) × (offset < 2 ^ 64 - 1) ⌝ }
+    ensures { λ _. ⌜ now (image .exit) ≡ encode (afterWrite (decode (now (image .entry))) (widthView width) offset value) ⌝ }
+{
+    if let Index::At(at) = entries_place(width, offset) {
+        image::bytes::put_bytes(image, at, length_of(width), value);
+        return;
+    }
+    write_loaded(image, width, offset, value);
 }
 
 #[no_mangle]

@@ -165,7 +165,7 @@ module _ (d : Device) (well : WellFormed d) (w : Width) (o v : ℕ) where
   routes-written h k =
       let fits : o - routesAt + length stored ≤ length (d .core .stored .routes) = omega (arith, length-bytesOf (lengthOf w) v, well .routes) in
       ap encode (write-stored routesAt (omega arith) (omega arith) route-cells routed
-        (λ l p b low high. ap (acted (routed l)) (entry-acts-route p b low high) ∙ acted-store (routed l) (setRoute (p - routesAt) b)) (d .core .stored .routes) w o v h k)
+      (λ l p b low high. ap (acted (routed l)) (entry-acts-route p b low high) ∙ acted-store (routed l) (setRoute (p - routesAt) b)) (d .core .stored .routes) w o v h k)
       ∙ sym (sets-within (contents ++ registersBody d) (d .core .stored .routes) (d .core .vectors ++ ringBody d) stored routesBodyAt (o - routesAt) refl fits)
 
   pub vectors-written : vectorsAt ≤ o → o + lengthOf w ≤ vectorsEnd → encode written ≡ sets (encode d) (vectorsBodyAt + (o - vectorsAt)) stored
@@ -174,5 +174,5 @@ module _ (d : Device) (well : WellFormed d) (w : Width) (o v : ℕ) where
       let fits : o - vectorsAt + length stored ≤ length (d .core .vectors) = omega (arith, length-bytesOf (lengthOf w) v, well .vectors) in
       let size : length (contents ++ (registersBody d ++ d .core .stored .routes)) ≡ vectorsBodyAt = omega (arith, well .routes) in
       ap encode (write-stored vectorsAt (omega arith) (omega arith) vector-cells vectored
-        (λ l p b low high. ap (acted (vectored l)) (entry-acts-vector p b low high) ∙ acted-vector (vectored l) (p - vectorsAt) b) (d .core .vectors) w o v h k)
+      (λ l p b low high. ap (acted (vectored l)) (entry-acts-vector p b low high) ∙ acted-vector (vectored l) (p - vectorsAt) b) (d .core .vectors) w o v h k)
       ∙ sym (sets-within (contents ++ (registersBody d ++ d .core .stored .routes)) (d .core .vectors) (ringBody d) stored vectorsBodyAt (o - vectorsAt) size fits)

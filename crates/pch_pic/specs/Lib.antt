@@ -1,0 +1,2 @@
+-- Where an access stands in an image.
+pub mod Places
