@@ -1,7 +1,8 @@
 -- What the functions of this crate hand back, as the rules see it.
 use mathlib.Core.Path.{_≡_}
 use mathlib.Core.List.{List, [], _∷_, _++_}
-use Prim.Native.Nat.{ℕ, zero, suc, _+_}
+use Prim.Native.Nat.{ℕ, zero, suc, _+_, _*_}
+use lib.Bits.{bitOr}
 use lib.ListN.{take, drop}
 use Rattle.rules.specs.Numbers.{bytesOf}
 use Rattle.rules.specs.Lines as rules-lines
@@ -23,11 +24,10 @@ checkedView WrongLength = wrongLength
 checkedView WrongContents = wrongContents
 checkedView WrongBody = wrongBody
 
--- the bits that k pairs must not have where n wait: in a waiting pair those of the flag above its lowest, in an unused one all
-abbrev pub barred : ℕ → ℕ → List ℕ
-barred n zero = []
-barred zero (suc k) = 255 ∷ 255 ∷ barred zero k
-barred (suc n) (suc k) = 0 ∷ 254 ∷ barred n k
+-- the bits that any of the first k words has
+abbrev pub bitsOf : ℕ → List ℕ → ℕ
+bitsOf zero l = 0
+bitsOf (suc k) l = bitOr (bitsOf k l) (registerAt (8 * k) l)
 
 -- bytes with the n from a place on replaced by the low ones of x, and with the eight of a word
 abbrev pub withBytes : ℕ → ℕ → ℕ → List ℕ → List ℕ

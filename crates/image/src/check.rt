@@ -1,13 +1,14 @@
-// Whether an image may be loaded. Bytes are compared as numbers, eight at a time, and the ring's pairs with no early end.
+// Whether an image may be loaded. Bytes are compared as numbers, eight at a time. Of the ring's pairs the bits are gathered that any has:
+// they settle the commonest ring, and all flags at once.
 use crate::bytes::word_at;
 use crate::contents;
 ghost use mathlib.Core.Path.{_≡_};
-ghost use Prim.Native.Nat.{_-_};
-ghost use lib.ListN.{length};
-ghost use Rattle.rules.specs.Numbers.{numberOf};
-ghost use Rattle.rules.specs.Image.{imageLength, pairsLength, imageTest};
+ghost use Prim.Native.Nat.{_*_, _≤_};
+ghost use lib.ListN.{length, drop};
+ghost use Rattle.rules.specs.Ring.{capacity};
+ghost use Rattle.rules.specs.Image.{imageLength, pairsLength, allZero, imageTest};
 ghost use Rattle.rules.proofs.laws.Images.{bodyRules, pairsGood};
-ghost use Rattle.image.specs.Shown.{checkedView, barred};
+ghost use Rattle.image.specs.Shown.{checkedView, bitsOf};
 
 // What testing an image finds.
 pub enum Checked {
@@ -17,39 +18,10 @@ pub enum Checked {
     WrongBody,
 }
 
-// The bits that the four pairs from `from` on must not have where count wait.
-fn barred_bits(count: usize, from: usize) -> u64
-    ensures { λ r. ⌜ r ≡ numberOf (barred (count - from) 4) ⌝ }
-{
-    if count <= from {
-        return 0xffff_ffff_ffff_ffff;
-    }
-    match count - from {
-        1 => 0xffff_ffff_ffff_fe00,
-        2 => 0xffff_ffff_fe00_fe00,
-        3 => 0xffff_fe00_fe00_fe00,
-        _ => 0xfe00_fe00_fe00_fe00,
-    }
-}
-
-// Flags of waiting pairs are 0 or 1, and unused pairs are zero.
-fn pairs_good(count: usize, pairs: &[u8]) -> bool
+// The bits that any of the four words of the pairs has.
+fn all_bits(pairs: &[u8]) -> u64
     requires { ⌜ length (now pairs) ≡ pairsLength ⌝ }
-    ensures { λ r. ⌜ r ≡ pairsGood count (now (pairs .entry)) ⌝ }
-{
-    let mut bad = 0u64;
-    let mut i = 0;
-    while i < 4 {
-        bad |= word_at(pairs, 8 * i) & barred_bits(count, 4 * i);
-        i += 1;
-    }
-    bad == 0
-}
-
-// Where none waits, every pair is zero. That is the commonest ring, and needs no barred bits.
-fn pairs_zero(pairs: &[u8]) -> bool
-    requires { ⌜ length (now pairs) ≡ pairsLength ⌝ }
-    ensures { λ r. ⌜ r ≡ pairsGood 0 (now (pairs .entry)) ⌝ }
+    ensures { λ r. ⌜ r ≡ bitsOf 4 (now (pairs .entry)) ⌝ }
 {
     let mut found = 0u64;
     let mut i = 0;
@@ -57,7 +29,42 @@ fn pairs_zero(pairs: &[u8]) -> bool
         found |= word_at(pairs, 8 * i);
         i += 1;
     }
+    found
+}
+
+// Unused pairs are zero. In the word where they begin, the pairs that wait are shifted out.
+fn unused_zero(count: usize, pairs: &[u8]) -> bool
+    requires { ⌜ (length (now pairs) ≡ pairsLength) × (count ≤ capacity) ⌝ }
+    ensures { λ r. ⌜ r ≡ allZero (drop (2 * count) (now (pairs .entry))) ⌝ }
+{
+    if count == 16 {
+        return true;
+    }
+    let first = count / 4;
+    let mut found = word_at(pairs, 8 * first) >> (16 * (count % 4));
+    let mut i = first + 1;
+    while i < 4 {
+        found |= word_at(pairs, 8 * i);
+        i += 1;
+    }
     found == 0
+}
+
+// Flags of waiting pairs are 0 or 1, and unused pairs are zero.
+fn pairs_good(count: usize, pairs: &[u8]) -> bool
+    requires { ⌜ (length (now pairs) ≡ pairsLength) × (count ≤ capacity) ⌝ }
+    ensures { λ r. ⌜ r ≡ pairsGood count (now (pairs .entry)) ⌝ }
+{
+    let found = all_bits(pairs);
+    // every pair is zero: the commonest ring
+    if found == 0 {
+        return true;
+    }
+    // a flag is over 1, of a waiting pair or of an unused one
+    if found & 0xfe00_fe00_fe00_fe00 != 0 {
+        return false;
+    }
+    unused_zero(count, pairs)
 }
 
 // The four rules of the bodies.
@@ -71,9 +78,6 @@ fn body_good(image: &[u8]) -> bool
     let count = image[222] as usize;
     if count > 16 {
         return false;
-    }
-    if count == 0 {
-        return pairs_zero(&image[227..259]);
     }
     pairs_good(count, &image[227..259])
 }

@@ -1,5 +1,5 @@
 -- `body_good`: the four rules, looked at in their order; the pairs are tested for the last two together.
-use mathlib.Core.Path.{_≡_, refl, sym, ap, _∙_}
+use mathlib.Core.Path.{_≡_, refl, sym, _∙_}
 use mathlib.Core.Bool.{Bool, true, false, _&&_}
 use mathlib.Core.List.{List}
 use Prim.Native.Nat.{ℕ}
@@ -44,18 +44,7 @@ returns-2 c =
 
 returns-3 : tie.Need-returns-3
 returns-3 c =
-    let none = c .before .before in
-    let few = none .before in
-    let same = few .before .before in
-    let two = same .before in
-    let one = two .before in
-    let l = one .before .before .args .image .now in
-    c .pairs-zero .ensures ∙ ap (λ n. pairsGood n (pairsIn l)) (sym (none .if3 .taken))
-    ∙ sym (rules-are l (copied l (one .word-at .ensures) (two .word-at2 .ensures) (same .if1 .left)) (le-leb (countOf l) capacity (few .if2 .left)))
-
-returns-4 : tie.Need-returns-4
-returns-4 c =
-    let few = c .before .before .before in
+    let few = c .before .before in
     let same = few .before .before in
     let two = same .before in
     let one = two .before in
@@ -72,6 +61,4 @@ body-good-spec =
     cast-count
     returns-2
     (λ c. search needs) (λ c. search needs) (λ c. search needs) (λ c κs. search needs)
-    returns-3
-    (λ c. search needs) (λ c. search needs) (λ c. search needs) (λ c κs. search needs)
-    returns-4)
+    returns-3)

@@ -1,49 +1,32 @@
--- `pairs_good`: nothing is gathered from the pairs looked at, and the pairs to come are good, exactly where all are good. Four pairs are good where they have no barred bit.
-use mathlib.Core.Path.{_≡_, ap}
-use mathlib.Core.Bool.{_&&_}
-use Prim.Native.Nat.{_-_, _*_, _≤_}
-use native.Mathlib.Nat.{sub-zero}
+-- `pairs_good`: with no bit at all every pair is zero; else the bits of the flags tell whether all flags are good, and then the unused pairs decide.
+use mathlib.Core.Path.{_∙_}
 use native.Mathlib.Omega.{arith}
 use borrow.Author.Needs.{needs}
-use lib.Dec.{eqb}
-use lib.ListN.{drop}
-use Rattle.rules.proofs.laws.Images.{pairsGood}
-use Rattle.image.proofs.Pairs.{four-more, none-more}
+use Rattle.rules.specs.Numbers.{Bytes}
+use Rattle.image.proofs.Pairs.{pairs-empty, pairs-flagged, pairs-unused}
 use Rattle.image.proofs.check.pairs_good.Statement.{statement}
 use Rattle.image.proofs.check.pairs_good.Tie as tie
 
-abbrev Inv-loop : tie.InvT-loop
-Inv-loop count pairs bad₀ i₀ bad i = (i ≤ 4) × ((eqb bad 0 && pairsGood (count - 4 * i) (drop (8 * i) pairs)) ≡ pairsGood count pairs)
+bytes : (c : tie.After-all-bits) → Bytes (c .before .before .args .pairs .now)
+bytes c j = omega (arith, c .before .shared-slice-known .given j)
 
-abbrev μ-loop : tie.MeasureT-loop
-μ-loop count pairs bad₀ i₀ bad i = 4 - i
-
-loop-holds : tie.Need-loop-holds Inv-loop μ-loop
-loop-holds c = (omega arith, ap (λ n. pairsGood n (c .before .args .pairs .now)) (sub-zero (c .before .args .count)))
-
-loop-again : tie.Need-loop-again Inv-loop μ-loop
-loop-again c =
-    let w = c .before in
-    let l = w .before .before .loop in
-    let k = w .before .before .before in
-    let a = k .before .args in (
-      omega arith,
-      four-more (a .count) (l .i) (l .bad) (w .word-at .result) (c .barred-bits .result) (a .pairs .now) (λ j. omega (arith, k .shared-slice-known .given j)) (omega arith) (omega arith) (w .word-at .ensures)
-          (c .barred-bits .ensures) (l .inv .1),
-    )
-
-returns : tie.Need-returns Inv-loop μ-loop
+returns : tie.Need-returns
 returns c =
-    let l = c .before .loop in
-    let a = c .before .before .before .args in
-    none-more (a .count) (l .i) (l .bad) (a .pairs .now) (omega arith) (l .inv .1)
+    let g = c .before in
+    let a = g .before .before .args in
+    pairs-empty (a .pairs .now) (bytes g) (a .count) (omega arith) (omega arith) (g .all-bits .ensures) (c .if1 .taken)
+
+returns-2 : tie.Need-returns-2
+returns-2 c =
+    let g = c .before .before in
+    let a = g .before .before .args in
+    pairs-flagged (a .pairs .now) (bytes g) (a .count) (omega arith) (omega arith) (g .all-bits .ensures) (c .if2 .taken)
+
+returns-3 : tie.Need-returns-3
+returns-3 c =
+    let g = c .before .before .before in
+    let a = g .before .before .args in
+    c .unused-zero .ensures ∙ pairs-unused (a .pairs .now) (bytes g) (a .count) (omega arith) (omega arith) (g .all-bits .ensures) (c .before .if2 .left)
 
 pub pairs-good-spec : {M : Type 1} → statement M
-pairs-good-spec =
-    tie.close
-    (tie.spec Inv-loop μ-loop loop-holds
-    (λ c. search needs) (λ c κs. omega arith)
-    (λ c. search needs) (λ c κs. search needs)
-    (λ c. search needs) (λ c. search needs)
-    loop-again
-    returns)
+pairs-good-spec = tie.close (tie.spec (λ c κs. search needs) returns returns-2 (λ c κs. search needs) returns-3)
