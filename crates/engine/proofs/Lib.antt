@@ -3,4 +3,3 @@ pub mod Turns
 pub mod Queue
 pub mod Service
 pub mod MaskWrite
-pub mod Draining

@@ -3,16 +3,15 @@
 use state::Lines;
 use state::PchPicOutputEvent;
 use state::Queue;
-use state::Taken;
 ghost use mathlib.Core.Path.{_≡_};
 ghost use mathlib.Core.Bool.{true, false};
-ghost use Prim.Native.Nat.{_+_, _*_, _/_, _<_, min};
+ghost use Prim.Native.Nat.{_/_, _<_, min};
 ghost use lib.ListN.{length};
 ghost use Rattle.rules.specs.Inputs.{withHalf};
 ghost use Rattle.rules.specs.Lines.{polled, cleared, masked};
 ghost use Rattle.rules.proofs.laws.Steps.{levelled};
 ghost use Rattle.state.specs.View.{WellLines, WellRing, IsRing, linesView, ringOf, ringView};
-ghost use Rattle.engine.specs.Moves.{Answers, Moves, Drains, updated, queued, pairPut};
+ghost use Rattle.engine.specs.Moves.{Answers, Moves, Drains, updated, queued};
 
 // What update_irq hands back: the vector of the input that went into service or left it, if one did.
 pub enum Answer {
@@ -198,17 +197,6 @@ fn fitting(waiting: usize, bytes: usize) -> usize
     if waiting < pairs { waiting } else { pairs }
 }
 
-// An event as a pair of bytes at its place; nothing where there is none.
-fn put_event(buf: &mut [u8], i: usize, event: Taken)
-    requires { ⌜ 2 * i + 1 < length (now buf) ⌝ }
-    ensures { λ _. ⌜ now (buf .exit) ≡ pairPut (now (buf .entry)) i event ⌝ }
-{
-    if let Taken::One(e) = event {
-        buf[2 * i] = e.vector;
-        buf[2 * i + 1] = if e.asserted { 1 } else { 0 };
-    }
-}
-
 // The events that wait, oldest first, are written to the lent buffer from its front on; every other byte stays.
 pub fn drain_output_events(
     queue: Queue,
@@ -221,13 +209,8 @@ pub fn drain_output_events(
 {
     let mut out = queue;
     let count = fitting(out.output_len, buf.len());
-    let mut i = 0;
-    while i < count {
-        let popped = state::pop_output_event(out, events, asserted);
-        let event = popped.event;
-        out = popped.queue;
-        put_event(buf, i, event);
-        i += 1;
-    }
+    state::put_events(queue, events, asserted, buf, count);
+    out.output_head = (out.output_head + count) % 16;
+    out.output_len -= count;
     Drained { queue: out, count }
 }

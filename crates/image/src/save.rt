@@ -9,35 +9,12 @@ use state::Lines;
 use state::PchPicState;
 use state::Ring;
 ghost use mathlib.Core.Path.{_≡_};
-ghost use mathlib.Core.List.{_++_};
-ghost use Prim.Native.Nat.{_*_, _≤_};
-ghost use lib.ListN.{length, take, drop};
+ghost use lib.ListN.{length};
 ghost use borrow.Rule.Slice.PartMut.{putMid};
 ghost use Rattle.rules.specs.Device.{reset};
-ghost use Rattle.rules.specs.Ring.{flag, pairsOf};
 ghost use Rattle.rules.specs.Image.{imageLength, registersAt, registersLength, vectorsBodyAt, bytesLength, ringLength, ringBody, encode};
 ghost use Rattle.state.specs.View.{WellLines, WellRing, Well, linesView, ringView, view};
 ghost use Rattle.image.specs.Shown.{spelled, withLines, withRing, Saves};
-
-fn flag_byte(asserted: bool) -> u8
-    ensures { λ r. ⌜ r ≡ flag asserted ⌝ }
-{
-    if asserted { 1 } else { 0 }
-}
-
-// The n oldest events as pairs, from the front of dst; every other byte stays.
-fn put_events(dst: &mut [u8], ring: Ring, n: usize)
-    requires { ⌜ WellRing ring × (n ≤ ring .queue .«output_len») × (2 * n ≤ length (now dst)) ⌝ }
-    ensures { λ _. ⌜ now (dst .exit) ≡ pairsOf (take n (ringView ring .waiting)) ++ drop (2 * n) (now (dst .entry)) ⌝ }
-{
-    let mut i = 0;
-    while i < n {
-        let at = (ring.queue.output_head + i) % 16;
-        dst[2 * i] = ring.output_vectors[at];
-        dst[2 * i + 1] = flag_byte(ring.output_asserted[at]);
-        i += 1;
-    }
-}
 
 // Body 4: the unused pairs are zeroed with all the others, before the waiting ones are written.
 fn put_ring(dst: &mut [u8], ring: Ring)
@@ -48,7 +25,14 @@ fn put_ring(dst: &mut [u8], ring: Ring)
     put_number(&mut dst[0..1], len as u64);
     put_number(&mut dst[1..5], ring.queue.output_drops as u64);
     put_zeros(&mut dst[5..37]);
-    put_events(&mut dst[5..37], ring, len);
+    let asserted = ring.output_asserted;
+    state::put_events(
+        ring.queue,
+        &ring.output_vectors,
+        &asserted,
+        &mut dst[5..37],
+        len,
+    );
 }
 
 pub fn save_lines(image: &mut [u8], lines: Lines)

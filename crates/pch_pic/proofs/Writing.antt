@@ -23,14 +23,11 @@ use Rattle.rules.proofs.laws.Steps.{write-device}
 use Rattle.rules.proofs.laws.WellFormed.{step-well}
 use Rattle.state.specs.declared.Ring.{Ring}
 use Rattle.state.specs.View.{ringOf, ringView, IsRing}
-use Rattle.state.proofs.Slots.{slots-length}
+use Rattle.state.proofs.Slots.{waiting-length}
 use Rattle.registers.specs.Bytes.{afterWrite}
 use Rattle.registers.specs.Parts.{Parts, parts, shown, WellParts, Shows}
 use Rattle.image.specs.Shown.{imageWords, spelled, withRing, Saves}
 use Rattle.image.proofs.Words.{words-core, words-well, core-saved}
-
-waiting-length : (r : Ring) → length (ringView r .waiting) ≡ r .queue .«output_len»
-waiting-length r = slots-length (r .«output_vectors») (r .«output_asserted») (r .queue .«output_head») (r .queue .«output_len»)
 
 -- an image keeps its length where words and vectors are put
 length-spelled : (ws : List ℕ) → length (spelled ws) ≡ 8 * length ws

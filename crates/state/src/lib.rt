@@ -1,8 +1,11 @@
 // The state of the PCH-PIC and its ring of output events, after loongarch_pch_pic.rs of axdevice 0.8.5.
 // The Rust's fields stand in four parts, which mirror the Device of the rules, so that a function takes only the part that it changes.
 ghost use mathlib.Core.Path.{_≡_};
+ghost use mathlib.Core.List.{_++_};
+ghost use Prim.Native.Nat.{_*_, _≤_};
+ghost use lib.ListN.{length, take, drop};
 ghost use Rattle.rules.specs.Device.{reset};
-ghost use Rattle.rules.specs.Ring.{offered};
+ghost use Rattle.rules.specs.Ring.{offered, flag, pairsOf};
 ghost use Rattle.state.specs.View.{eventOf, ringOf, ringView, wordsOf, WellRing, IsRing, Is, Pops};
 
 // The registers that move, of all 64 inputs.
@@ -111,6 +114,27 @@ pub fn pop_output_event(queue: Queue, vectors: &[u8], asserted: &[bool]) -> Popp
     Popped {
         queue: out,
         event: Taken::One(event),
+    }
+}
+
+fn flag_byte(asserted: bool) -> u8
+    ensures { λ r. ⌜ r ≡ flag asserted ⌝ }
+{
+    if asserted { 1 } else { 0 }
+}
+
+// The n oldest events as pairs of bytes, from the front of buf; every other byte stays.
+pub fn put_events(queue: Queue, vectors: &[u8], asserted: &[bool], buf: &mut [u8], n: usize)
+    requires { ⌜ WellRing (ringOf queue (now vectors) (now asserted)) × (n ≤ queue .«output_len») × (2 * n ≤ length (now buf)) ⌝ }
+    ensures { λ _. ⌜ now (buf .exit) ≡ pairsOf (take n (ringView (ringOf queue (now (vectors .entry)) (now (asserted .entry))) .waiting)) ++ drop (2 * n) (now (buf .entry)) ⌝ }
+{
+    let head = queue.output_head;
+    let mut i = 0;
+    while i < n {
+        let at = (head + i) % 16;
+        buf[2 * i] = vectors[at];
+        buf[2 * i + 1] = flag_byte(asserted[at]);
+        i += 1;
     }
 }
 

@@ -4,7 +4,7 @@ use mathlib.Core.List.{[], _∷_}
 use native.Mathlib.Omega.{arith}
 use Rattle.rules.specs.Image.{registersBody, ringBody}
 use Rattle.state.specs.View.{view}
-use Rattle.state.proofs.Slots.{slots-length}
+use Rattle.state.proofs.Slots.{waiting-length}
 use Rattle.image.specs.Shown.{spelled}
 use Rattle.image.proofs.Saved.{image-put}
 use borrow.Author.Needs.{needs}
@@ -27,7 +27,7 @@ returns c =
     let r = a .ring in
     let copied = ap (λ x. spelled (l .«int_mask» ∷ t .«htmsi_en» ∷ t .intedge ∷ x ∷ l .intirr ∷ l .intisr ∷ t .«int_polarity» ∷ t .«auto_ctrl0» ∷ t .«auto_ctrl1» ∷ [])) (s .pre .1 .copy) in
     image-put (view a) (s .args .image .now) (s .pre .0) (search needs) (search needs)
-    (omega (arith, slots-length (r .«output_vectors») (r .«output_asserted») (r .queue .«output_head») (r .queue .«output_len»), s .pre .1 .ring .len))
+    (omega (arith, waiting-length r, s .pre .1 .ring .len))
     (contents .put-contents .ensures) (words .put-words .ensures ∙ ap spelled (nine .words .ensures) ∙ copied) (routes .copy .ensures) (vectors .copy2 .ensures) (ring .put-ring .ensures)
 
 pub save-spec : {M : Type 1} → statement M

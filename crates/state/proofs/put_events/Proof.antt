@@ -1,0 +1,52 @@
+-- `put_events`: after i turns the first i events stand in front as pairs, and every byte past them is as it was.
+use mathlib.Core.Path.{sym, ap, _∙_}
+use mathlib.Core.List.{_++_}
+use Prim.Native.Nat.{_-_, _*_, _≤_}
+use native.Mathlib.Omega.{arith}
+use borrow.Author.Needs.{needs}
+use lib.ListN.{drop, length-set}
+use Rattle.rules.specs.Ring.{pairsOf}
+use Rattle.state.proofs.Slots.{take-slots}
+use Rattle.state.proofs.Written.{Written, written-none, written-next, written-all}
+use Rattle.state.proofs.put_events.Statement.{statement}
+use Rattle.state.proofs.put_events.Tie as tie
+
+abbrev Inv-loop : tie.InvT-loop
+Inv-loop vectors asserted buf₀ n head i₀ buf i = (i ≤ n) × Written vectors asserted head n buf₀ buf i
+
+abbrev μ-loop : tie.MeasureT-loop
+μ-loop vectors asserted buf₀ n head i₀ buf i = n - i
+
+loop-holds : tie.Need-loop-holds Inv-loop μ-loop
+loop-holds c =
+    let a = c .before .before .before .args in
+    (omega arith, written-none (a .vectors .now) (a .asserted .now) (a .queue .«output_head») (a .n) (a .buf .now))
+
+loop-again : tie.Need-loop-again Inv-loop μ-loop
+loop-again c =
+    let l = c .before .before .before .before in
+    let a = l .before .before .before .before .args in (
+      omega arith,
+      written-next (a .vectors .now) (a .asserted .now) (l .loop .inv .1) (omega arith) (omega arith) (c .flag-byte .result) (c .flag-byte .ensures),
+    )
+
+returns : tie.Need-returns Inv-loop μ-loop
+returns c =
+    let l = c .before .loop in
+    let a = c .before .before .before .before .before .args in
+    let vs = a .vectors .now in
+    let fs = a .asserted .now in
+    written-all vs fs (l .inv .1) (omega arith)
+    ∙ ap (λ es. pairsOf es ++ drop (2 * a .n) (a .buf .now)) (sym (take-slots vs fs (a .queue .«output_head») (a .n) (a .queue .«output_len») (omega arith)))
+
+pub put-events-spec : {M : Type 1} → statement M
+put-events-spec =
+    tie.close
+    (tie.spec Inv-loop μ-loop loop-holds
+    (λ c. search needs) (λ c. search needs) (λ c. search needs) (λ c. search needs) (λ c. search needs) (λ c κs. search needs)
+    (λ c. search needs) (λ c. search needs)
+    (λ c. simp length-set (omega arith))
+    (λ c. search needs) (λ c. search needs)
+    loop-again
+    (λ c. search needs)
+    returns)
