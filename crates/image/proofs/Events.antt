@@ -11,6 +11,7 @@ use Rattle.rules.specs.Image.{eventsOf}
 use Rattle.rules.proofs.laws.Rings.{offered-room}
 use Rattle.state.specs.View.{slots, ringOf, ringView}
 use Rattle.state.proofs.Slots.{ev, slots-length, push-room}
+use Rattle.image.specs.Shown.{Held}
 
 -- one pair more is one event more
 events-more : (i : ℕ) (l : List ℕ) → 2 * i + 1 < length l → eventsOf (suc i) l ≡ eventsOf i l ++ (ev (getD l (2 * i) 0) (eqb (getD l (2 * i + 1) 0) 1) ∷ [])
@@ -31,15 +32,9 @@ slots-more vs fs n v a lv lf h =
     ap (λ j. slots (set vs j v) (set fs j a) 0 (n + 1)) at
     ∙ ap (λ s. s .waiting) (push-room r v a lv lf h ∙ offered-room (ringView r) (ev v a) (omega (arith, slots-length vs fs 0 n)))
 
--- sixteen slots of which the first i hold the first i events that the bytes l spell
-pub record Held (l vs : List ℕ) (fs : List Bool) (i : ℕ) : Type 0 where
-  pub vectors : length vs ≡ 16
-  pub asserted : length fs ≡ 16
-  pub held : slots vs fs 0 i ≡ eventsOf i l
-
-pub held-none : (l : List ℕ) → Held l (replicate 16 0) (replicate 16 false) 0
+pub held-none : (l vs : List ℕ) (fs : List Bool) → length vs ≡ 16 → length fs ≡ 16 → Held l vs fs 0
 unfolding slots
-held-none l = record { vectors = refl; asserted = refl; held = refl }
+held-none l vs fs h k = record { vectors = h; asserted = k; held = refl }
 
 pub held-next : {l vs : List ℕ} {fs : List Bool} {i : ℕ} → Held l vs fs i → i < 16 → 2 * i + 1 < length l
     → Held l (set vs i (getD l (2 * i) 0)) (set fs i (eqb (getD l (2 * i + 1) 0) 1)) (i + 1)

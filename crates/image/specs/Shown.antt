@@ -1,17 +1,18 @@
 -- What the functions of this crate hand back, as the rules see it.
 use mathlib.Core.Path.{_≡_}
+use mathlib.Core.Bool.{Bool}
 use mathlib.Core.List.{List, [], _∷_, _++_}
 use Prim.Native.Nat.{ℕ, zero, suc, _+_, _*_}
 use lib.Bits.{bitOr}
-use lib.ListN.{take, drop}
+use lib.ListN.{length, take, drop}
 use Rattle.rules.specs.Numbers.{bytesOf}
 use Rattle.rules.specs.Lines as rules-lines
 use Rattle.rules.specs.Ring as rules-ring
 use Rattle.rules.specs.Device.{Device, WellFormed}
 use Rattle.rules.specs.Device as device
 use Rattle.rules.specs.Image.{maskAt, htmsiEnAt, edgeAt, lastIrrAt, irrAt, isrAt, polAt, auto0At, auto1At, registerAt}
-use Rattle.rules.specs.Image.{encode, ImageTest, accepted, wrongLength, wrongContents, wrongBody}
-use Rattle.state.specs.View.{linesView, WellLines}
+use Rattle.rules.specs.Image.{encode, eventsOf, ImageTest, accepted, wrongLength, wrongContents, wrongBody}
+use Rattle.state.specs.View.{slots, linesView, WellLines}
 use Rattle.state.specs.declared.Lines.{Lines}
 use Rattle.image.specs.declared.check.Checked.{Checked}
 use Rattle.image.specs.declared.check.Checked.the-variants.{Accepted, WrongLength, WrongContents, WrongBody}
@@ -51,6 +52,12 @@ imageWords l =
 pub record IsLines (l : Lines) (shown : rules-lines.Lines) : Type 0 where
   pub well : WellLines l
   pub shows : linesView l ≡ shown
+
+-- sixteen slots of which the first i hold the first i events that the bytes l spell
+pub record Held (l vs : List ℕ) (fs : List Bool) (i : ℕ) : Type 0 where
+  pub vectors : length vs ≡ 16
+  pub asserted : length fs ≡ 16
+  pub held : slots vs fs 0 i ≡ eventsOf i l
 
 -- a device with other lines, and with another ring
 abbrev pub withLines : rules-lines.Lines → Device → Device

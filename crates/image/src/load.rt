@@ -5,14 +5,13 @@ use crate::bytes::word_at;
 use crate::contents;
 use state::Lines;
 use state::Queue;
-use state::Ring;
 ghost use mathlib.Core.Path.{_≡_};
 ghost use Prim.Native.Nat.{_≤_};
 ghost use lib.ListN.{length};
 ghost use Rattle.rules.specs.Ring.{capacity};
-ghost use Rattle.rules.specs.Image.{imageLength, pairsLength, countOf, eventsOf, decode};
-ghost use Rattle.state.specs.View.{IsRing};
-ghost use Rattle.image.specs.Shown.{imageWords, IsLines};
+ghost use Rattle.rules.specs.Image.{imageLength, pairsLength, countOf, decode};
+ghost use Rattle.state.specs.View.{ringOf, IsRing};
+ghost use Rattle.image.specs.Shown.{imageWords, IsLines, Held};
 
 pub fn load_lines(image: &[u8]) -> Lines
     requires { ⌜ length (now image) ≡ imageLength ⌝ }
@@ -55,35 +54,30 @@ pub fn load_vectors(image: &[u8]) -> [u8; 64]
     fill_entries(&image[158..222])
 }
 
-// The ring of the events that pairs spell, from the first slot on.
-fn ring_of(pairs: &[u8], len: usize, drops: u32) -> Ring
-    requires { ⌜ (length (now pairs) ≡ pairsLength) × (len ≤ capacity) ⌝ }
-    ensures { λ r. ⌜ IsRing r (record { waiting = eventsOf len (now (pairs .entry)); drops = drops }) ⌝ }
+// The events that pairs spell, in the slots from the first on.
+fn fill_slots(pairs: &[u8], len: usize, vectors: &mut [u8], asserted: &mut [bool])
+    requires { ⌜ (length (now pairs) ≡ pairsLength) × (len ≤ capacity) × (length (now vectors) ≡ capacity) × (length (now asserted) ≡ capacity) ⌝ }
+    ensures { λ _. ⌜ Held (now (pairs .entry)) (now (vectors .exit)) (now (asserted .exit)) len ⌝ }
 {
-    let mut output_vectors = [0u8; 16];
-    let mut output_asserted = [false; 16];
     let mut i = 0;
     while i < len {
-        output_vectors[i] = pairs[2 * i];
-        output_asserted[i] = pairs[2 * i + 1] == 1;
+        vectors[i] = pairs[2 * i];
+        asserted[i] = pairs[2 * i + 1] == 1;
         i += 1;
-    }
-    Ring {
-        output_vectors,
-        output_asserted,
-        queue: Queue {
-            output_head: 0,
-            output_len: len,
-            output_drops: drops,
-        },
     }
 }
 
-pub fn load_ring(image: &[u8]) -> Ring
-    requires { ⌜ (length (now image) ≡ imageLength) × (countOf (now image) ≤ capacity) ⌝ }
-    ensures { λ r. ⌜ IsRing r (decode (now (image .entry)) .ring) ⌝ }
+// The ring, into lent slots.
+pub fn load_ring(image: &[u8], vectors: &mut [u8], asserted: &mut [bool]) -> Queue
+    requires { ⌜ (length (now image) ≡ imageLength) × (countOf (now image) ≤ capacity) × (length (now vectors) ≡ capacity) × (length (now asserted) ≡ capacity) ⌝ }
+    ensures { λ r. ⌜ IsRing (ringOf r (now (vectors .exit)) (now (asserted .exit))) (decode (now (image .entry)) .ring) ⌝ }
 {
     let len = image[222] as usize;
     let drops = number(&image[223..227]) as u32;
-    ring_of(&image[227..259], len, drops)
+    fill_slots(&image[227..259], len, vectors, asserted);
+    Queue {
+        output_head: 0,
+        output_len: len,
+        output_drops: drops,
+    }
 }

@@ -7,32 +7,25 @@ use crate::bytes::put_zeros;
 use crate::contents;
 use state::Lines;
 use state::PchPicState;
-use state::Ring;
+use state::Queue;
 ghost use mathlib.Core.Path.{_≡_};
 ghost use lib.ListN.{length};
 ghost use borrow.Rule.Slice.PartMut.{putMid};
 ghost use Rattle.rules.specs.Device.{reset};
 ghost use Rattle.rules.specs.Image.{imageLength, registersAt, registersLength, vectorsBodyAt, bytesLength, ringLength, ringBody, encode};
-ghost use Rattle.state.specs.View.{WellLines, WellRing, Well, linesView, ringView, view};
+ghost use Rattle.state.specs.View.{WellLines, WellRing, Well, linesView, ringOf, ringView, view};
 ghost use Rattle.image.specs.Shown.{spelled, withLines, withRing, Saves};
 
 // Body 4: the unused pairs are zeroed with all the others, before the waiting ones are written.
-fn put_ring(dst: &mut [u8], ring: Ring)
-    requires { ⌜ (length (now dst) ≡ ringLength) × WellRing ring ⌝ }
-    ensures { λ _. ⌜ now (dst .exit) ≡ ringBody (withRing (ringView ring) reset) ⌝ }
+fn put_ring(dst: &mut [u8], queue: Queue, vectors: &[u8], asserted: &[bool])
+    requires { ⌜ (length (now dst) ≡ ringLength) × WellRing (ringOf queue (now vectors) (now asserted)) ⌝ }
+    ensures { λ _. ⌜ now (dst .exit) ≡ ringBody (withRing (ringView (ringOf queue (now (vectors .entry)) (now (asserted .entry)))) reset) ⌝ }
 {
-    let len = ring.queue.output_len;
+    let len = queue.output_len;
     put_number(&mut dst[0..1], len as u64);
-    put_number(&mut dst[1..5], ring.queue.output_drops as u64);
+    put_number(&mut dst[1..5], queue.output_drops as u64);
     put_zeros(&mut dst[5..37]);
-    let asserted = ring.output_asserted;
-    state::put_events(
-        ring.queue,
-        &ring.output_vectors,
-        &asserted,
-        &mut dst[5..37],
-        len,
-    );
+    state::put_events(queue, vectors, asserted, &mut dst[5..37], len);
 }
 
 pub fn save_lines(image: &mut [u8], lines: Lines)
@@ -61,11 +54,11 @@ pub fn save_vectors(image: &mut [u8], vectors: &[u8])
     copy(&mut image[158..222], vectors);
 }
 
-pub fn save_ring(image: &mut [u8], ring: Ring)
-    requires { ⌜ (length (now image) ≡ imageLength) × WellRing ring ⌝ }
-    ensures { λ _. ⌜ Saves (now (image .entry)) (now (image .exit)) (withRing (ringView ring)) ⌝ }
+pub fn save_ring(image: &mut [u8], queue: Queue, vectors: &[u8], asserted: &[bool])
+    requires { ⌜ (length (now image) ≡ imageLength) × WellRing (ringOf queue (now vectors) (now asserted)) ⌝ }
+    ensures { λ _. ⌜ Saves (now (image .entry)) (now (image .exit)) (withRing (ringView (ringOf queue (now (vectors .entry)) (now (asserted .entry))))) ⌝ }
 {
-    put_ring(&mut image[222..259], ring);
+    put_ring(&mut image[222..259], queue, vectors, asserted);
 }
 
 pub fn save(image: &mut [u8], state: PchPicState)
@@ -77,5 +70,8 @@ pub fn save(image: &mut [u8], state: PchPicState)
     put_words(&mut image[22..94], &words);
     copy(&mut image[94..158], &state.tables.route_entry);
     copy(&mut image[158..222], &state.tables.htmsi_vector);
-    put_ring(&mut image[222..259], state.ring);
+    let ring = state.ring;
+    let vectors = ring.output_vectors;
+    let asserted = ring.output_asserted;
+    put_ring(&mut image[222..259], ring.queue, &vectors, &asserted);
 }

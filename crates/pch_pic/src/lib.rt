@@ -7,7 +7,6 @@ use registers::Index;
 use registers::Width;
 use state::PchPicState;
 use state::Queue;
-use state::Ring;
 use window::Known;
 use window::Located;
 ghost use mathlib.Core.Path.{_≡_};
@@ -82,12 +81,12 @@ fn write_loaded(image: &mut [u8], width: Width, offset: usize, value: u64)
 {
     let mut words = image::load::load_words(image);
     let mut vectors = image::load::load_vectors(image);
-    let ring = image::load::load_ring(image);
-    let mut output_vectors = ring.output_vectors;
-    let mut output_asserted = ring.output_asserted;
+    let mut output_vectors = [0u8; 16];
+    let mut output_asserted = [false; 16];
+    let before = image::load::load_ring(image, &mut output_vectors, &mut output_asserted);
     let queue = registers::write_access(
         &mut words,
-        ring.queue,
+        before,
         &mut output_vectors,
         &mut output_asserted,
         &mut image[94..158],
@@ -98,13 +97,8 @@ fn write_loaded(image: &mut [u8], width: Width, offset: usize, value: u64)
     );
     image::save::save_words(image, &words);
     image::save::save_vectors(image, &vectors);
-    if moved_on(ring.queue, queue) {
-        let left = Ring {
-            output_vectors,
-            output_asserted,
-            queue,
-        };
-        image::save::save_ring(image, left);
+    if moved_on(before, queue) {
+        image::save::save_ring(image, queue, &output_vectors, &output_asserted);
     }
 }
 
@@ -297,22 +291,16 @@ pub extern "C" fn pch_pic_drain(
     let Checked::Accepted = checked else {
         return refuse(answer, image_number(checked), Value::Absent);
     };
-    let ring = image::load::load_ring(image);
-    let output_vectors = ring.output_vectors;
-    let output_asserted = ring.output_asserted;
+    let mut output_vectors = [0u8; 16];
+    let mut output_asserted = [false; 16];
+    let before = image::load::load_ring(image, &mut output_vectors, &mut output_asserted);
     let drained = engine::drain_output_events(
-        ring.queue,
+        before,
         &output_vectors,
         &output_asserted,
         &mut events[place..],
     );
-    let queue = drained.queue;
-    let left = Ring {
-        output_vectors,
-        output_asserted,
-        queue,
-    };
-    image::save::save_ring(image, left);
+    image::save::save_ring(image, drained.queue, &output_vectors, &output_asserted);
     image::answer::put_answer(answer, 0, Value::Present(drained.count as u64));
     0
 }

@@ -1,5 +1,5 @@
 -- `write_loaded` is right since what is lent shows the device that the image holds, and what is saved is what the writers left.
-use mathlib.Core.Path.{sym, ap, _∙_}
+use mathlib.Core.Path.{refl, sym, ap, _∙_}
 use mathlib.Core.List.{List}
 use Prim.Native.Nat.{ℕ}
 use native.Mathlib.Omega.{arith}
@@ -8,6 +8,7 @@ use borrow.Rule.Slice.PartMut.{putMid, same-len-mid}
 use Rattle.rules.specs.Numbers.{Bytes}
 use Rattle.rules.proofs.laws.Lists.{length-part}
 use Rattle.rules.proofs.laws.Images.{decode-well-formed}
+use Rattle.state.specs.View.{ringOf}
 use Rattle.pch_pic.proofs.Ends.{sized}
 use Rattle.pch_pic.proofs.Writing.{length-words-put, length-vectors-put, lent-well, ring-written, ring-stayed}
 use borrow.Author.Needs.{needs}
@@ -28,8 +29,17 @@ load-words-requires c κs = let s = c .before .before in sized (s .args .image .
 load-vectors-requires : tie.Need-load-vectors-requires
 load-vectors-requires c κs = let s = c .before .before .before .before in sized (s .args .image .now) (s .pre .0) .0
 
+slice-aggregate-load-ring : tie.Need-slice-aggregate-load-ring
+slice-aggregate-load-ring c = search needs
+
+slice-aggregate-load-ring-2 : tie.Need-slice-aggregate-load-ring-2
+slice-aggregate-load-ring-2 c = search needs
+
 load-ring-requires : tie.Need-load-ring-requires
-load-ring-requires c κs = let s = c .before .before .before .before .before .before in sized (s .args .image .now) (s .pre .0)
+load-ring-requires c κs =
+    let s = c .before .before .before .before .before .before .before .before in
+    let z = sized (s .args .image .now) (s .pre .0) in
+    (z .0, z .1, refl, refl)
 
 slice-aggregate-write-access : tie.Need-slice-aggregate-write-access
 slice-aggregate-write-access c = search needs
@@ -47,7 +57,7 @@ part-write-access-start : tie.Need-part-write-access-start
 part-write-access-start c = search needs
 
 part-write-access-end : tie.Need-part-write-access-end
-part-write-access-end c = let s = c .before .before .before .before .before .before .before .before .before .before .before .before in omega (arith, sized (s .args .image .now) (s .pre .0) .0)
+part-write-access-end c = let s = c .before .before .before .before .before .before .before .before .before .before .before .before .before .before in omega (arith, sized (s .args .image .now) (s .pre .0) .0)
 
 slice-aggregate-write-access-4 : tie.Need-slice-aggregate-write-access-4
 slice-aggregate-write-access-4 c = search needs
@@ -55,14 +65,14 @@ slice-aggregate-write-access-4 c = search needs
 write-access-requires : tie.Need-write-access-requires
 write-access-requires c κs =
     let r = c .before .before .before .before .before .before .before in
-    let v = r .before .before in
+    let v = r .before .before .before .before in
     let w = v .before .before in
     let k = w .before .before in
     let s = k .before in
     let l = s .args .image .now in
     let bytes : Bytes l = λ n. k .slice-known .given n .fits in
     let routes = length-part l 94 64 (omega (arith, sized (s .args .image .now) (s .pre .0) .0)) in
-    (rw (w .load-words .ensures, v .load-vectors .ensures) (lent-well l bytes (s .pre .0) (r .load-ring .result) (r .load-ring .ensures) routes (decode-well-formed l bytes (s .pre .0) .vectors)), s .pre .1)
+    (rw (w .load-words .ensures, v .load-vectors .ensures) (lent-well l bytes (s .pre .0) (ringOf (r .load-ring .result) (r .load-ring .last .1 .0) (r .load-ring .last .1 .1 .0)) (r .load-ring .ensures) routes (decode-well-formed l bytes (s .pre .0) .vectors)), s .pre .1)
 
 slice-aggregate-save-words : tie.Need-slice-aggregate-save-words
 slice-aggregate-save-words c = search needs
@@ -70,7 +80,7 @@ slice-aggregate-save-words c = search needs
 save-words-requires : tie.Need-save-words-requires
 save-words-requires c κs =
     let w = c .before .before .before .before .before .before .before .before in
-    let s = w .before .before .before .before .before .before .before .before .before .before .before .before .before .before .before in
+    let s = w .before .before .before .before .before .before .before .before .before .before .before .before .before .before .before .before .before in
     let l = s .args .image .now in
     (same-len-mid 94 64 l (w .write-access .last .1 .1 .1 .1 .0) (w .write-access .ensures .well .routes ∙ sym (length-part l 94 64 (omega (arith, sized (s .args .image .now) (s .pre .0) .0)))) ∙ sized (s .args .image .now) (s .pre .0) .0, w .write-access .ensures .well .words .nine)
 
@@ -81,7 +91,7 @@ save-vectors-requires : tie.Need-save-vectors-requires
 save-vectors-requires c κs =
     let sw = c .before .before .before .before in
     let w = sw .before .before .before .before .before .before .before .before .before in
-    let s = w .before .before .before .before .before .before .before .before .before .before .before .before .before .before .before in
+    let s = w .before .before .before .before .before .before .before .before .before .before .before .before .before .before .before .before .before in
     let l = s .args .image .now in
     let routes = same-len-mid 94 64 l (w .write-access .last .1 .1 .1 .1 .0) (w .write-access .ensures .well .routes ∙ sym (length-part l 94 64 (omega (arith, sized (s .args .image .now) (s .pre .0) .0)))) ∙ sized (s .args .image .now) (s .pre .0) .0 in
     (ap length (sw .save-words .ensures) ∙ length-words-put (putMid 94 64 l (w .write-access .last .1 .1 .1 .1 .0)) (w .write-access .last .0) routes (w .write-access .ensures .well .words .nine), w .write-access .ensures .well .vectors)
@@ -89,12 +99,18 @@ save-vectors-requires c κs =
 moved-on-requires : tie.Need-moved-on-requires
 moved-on-requires c κs = search needs
 
+slice-aggregate-save-ring : tie.Need-slice-aggregate-save-ring
+slice-aggregate-save-ring c = search needs
+
+slice-aggregate-save-ring-2 : tie.Need-slice-aggregate-save-ring-2
+slice-aggregate-save-ring-2 c = search needs
+
 save-ring-requires : tie.Need-save-ring-requires
 save-ring-requires c κs =
-    let sv = c .before .before .before .before .before in
+    let sv = c .before .before .before .before .before .before .before in
     let sw = sv .before .before .before .before .before in
     let w = sw .before .before .before .before .before .before .before .before .before in
-    let s = w .before .before .before .before .before .before .before .before .before .before .before .before .before .before .before in
+    let s = w .before .before .before .before .before .before .before .before .before .before .before .before .before .before .before .before .before in
     let l = s .args .image .now in
     let routes = same-len-mid 94 64 l (w .write-access .last .1 .1 .1 .1 .0) (w .write-access .ensures .well .routes ∙ sym (length-part l 94 64 (omega (arith, sized (s .args .image .now) (s .pre .0) .0)))) ∙ sized (s .args .image .now) (s .pre .0) .0 in
     let words = ap length (sw .save-words .ensures) ∙ length-words-put (putMid 94 64 l (w .write-access .last .1 .1 .1 .1 .0)) (w .write-access .last .0) routes (w .write-access .ensures .well .words .nine) in
@@ -105,12 +121,12 @@ same-length c = search needs
 
 returns : tie.Need-returns
 returns c =
-    let m = c .before .before .before .before .before in
+    let m = c .before .before .before .before .before .before .before in
     let sv = m .before .before .before in
     let sw = sv .before .before .before .before .before in
     let wa = sw .before .before .before .before .before .before .before .before .before in
     let r = wa .before .before .before .before .before .before .before .before in
-    let v = r .before .before in
+    let v = r .before .before .before .before in
     let w = v .before .before in
     let k = w .before .before in
     let s = k .before in
@@ -118,7 +134,7 @@ returns c =
     let bytes : Bytes l = λ n. k .slice-known .given n .fits in
     let ended = rw (w .load-words .ensures, v .load-vectors .ensures) at (wa .write-access .ensures) in
     let put = sv .save-vectors .ensures ∙ ap (λ (x : List ℕ). putMid 158 64 x (wa .write-access .last .1 .1 .1 .1 .1 .0)) (sw .save-words .ensures) in
-    ring-written l bytes (s .pre .0) (r .load-ring .result) (r .load-ring .ensures) _ _ _ _ ended _ _ put (c .before .before .save-ring .ensures)
+    ring-written l bytes (s .pre .0) (ringOf (r .load-ring .result) (r .load-ring .last .1 .0) (r .load-ring .last .1 .1 .0)) (r .load-ring .ensures) _ _ _ _ ended _ _ put (c .before .before .save-ring .ensures)
 
 same-length-2 : tie.Need-same-length-2
 same-length-2 c = search needs
@@ -130,7 +146,7 @@ returns-2 c =
     let sw = sv .before .before .before .before .before in
     let wa = sw .before .before .before .before .before .before .before .before .before in
     let r = wa .before .before .before .before .before .before .before .before in
-    let v = r .before .before in
+    let v = r .before .before .before .before in
     let w = v .before .before in
     let k = w .before .before in
     let s = k .before in
@@ -138,7 +154,7 @@ returns-2 c =
     let bytes : Bytes l = λ n. k .slice-known .given n .fits in
     let ended = rw (w .load-words .ensures, v .load-vectors .ensures) at (wa .write-access .ensures) in
     let put = sv .save-vectors .ensures ∙ ap (λ (x : List ℕ). putMid 158 64 x (wa .write-access .last .1 .1 .1 .1 .1 .0)) (sw .save-words .ensures) in
-    ring-stayed l bytes (s .pre .0) (r .load-ring .result) (r .load-ring .ensures) _ _ _ _ ended _ put (sym (m .moved-on .ensures) ∙ c .if1 .left)
+    ring-stayed l bytes (s .pre .0) (ringOf (r .load-ring .result) (r .load-ring .last .1 .0) (r .load-ring .last .1 .1 .0)) (r .load-ring .ensures) _ _ _ _ ended _ put (sym (m .moved-on .ensures) ∙ c .if1 .left)
 
 pub write-loaded-spec : {M : Type 1} → statement M
 write-loaded-spec =
@@ -146,6 +162,8 @@ write-loaded-spec =
     (tie.spec
     load-words-requires
     load-vectors-requires
+    slice-aggregate-load-ring
+    slice-aggregate-load-ring-2
     load-ring-requires
     slice-aggregate-write-access
     slice-aggregate-write-access-2
@@ -160,6 +178,8 @@ write-loaded-spec =
     slice-aggregate-save-vectors
     save-vectors-requires
     moved-on-requires
+    slice-aggregate-save-ring
+    slice-aggregate-save-ring-2
     save-ring-requires
     same-length
     returns

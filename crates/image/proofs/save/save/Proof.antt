@@ -15,7 +15,7 @@ returns : tie.Need-returns
 unfolding registersBody ringBody
 returns c =
     let ring = c .before .before in
-    let vectors = ring .before .before .before .before .before in
+    let vectors = ring .before .before .before .before .before .before .before .before .before in
     let routes = vectors .before .before .before .before .before .before .before in
     let words = routes .before .before .before .before .before .before .before in
     let contents = words .before .before .before .before .before in
@@ -39,6 +39,6 @@ save-spec =
     (λ c. search needs) (λ c. search needs) (λ c. search needs) (λ c. search needs) (λ c κs. search needs)
     (λ c. search needs) (λ c. search needs) (λ c. search needs) (λ c κs. search needs)
     (λ c. search needs) (λ c. search needs) (λ c. search needs) (λ c κs. search needs)
-    (λ c. search needs) (λ c. search needs) (λ c. search needs) (λ c κs. search needs)
+    (λ c. search needs) (λ c. search needs) (λ c. search needs) (λ c. search needs) (λ c. search needs) (λ c κs. search needs)
     (λ c. search needs)
     returns)

@@ -1,5 +1,5 @@
 -- `save_ring`: over the image of a device body 4 is written where its ring stands.
-use Rattle.state.specs.View.{ringView}
+use Rattle.state.specs.View.{ringOf, ringView}
 use Rattle.image.proofs.Saved.{ring-saved}
 use borrow.Author.Needs.{needs}
 use Rattle.image.proofs.save.save_ring.Statement.{statement}
@@ -8,7 +8,8 @@ use Rattle.image.proofs.save.save_ring.Tie as tie
 returns : tie.Need-returns
 returns c d w e =
     let p = c .before .before in
-    ring-saved d w (ringView (p .before .before .before .args .ring)) e (p .put-ring .ensures)
+    let a = p .before .before .before .before .before .args in
+    ring-saved d w (ringView (ringOf (a .queue) (a .vectors .now) (a .asserted .now))) e (p .put-ring .ensures)
 
 pub save-ring-spec : {M : Type 1} → statement M
 save-ring-spec =
