@@ -73,8 +73,8 @@ pub fn load_ring(image: &[u8], vectors: &mut [u8], asserted: &mut [bool]) -> Que
     ensures { λ r. ⌜ IsRing (ringOf r (now (vectors .exit)) (now (asserted .exit))) (decode (now (image .entry)) .ring) ⌝ }
 {
     let len = image[222] as usize;
-    let drops = number(&image[223..227]) as u32;
     fill_slots(&image[227..259], len, vectors, asserted);
+    let drops = number(&image[223..227]) as u32;
     Queue {
         output_head: 0,
         output_len: len,
