@@ -1,12 +1,12 @@
 -- Events as pairs of bytes spell them, and as the slots of a ring hold them: read pair by pair.
 use mathlib.Core.Path.{_≡_, refl, sym, ap, _∙_}
-use mathlib.Core.Bool.{Bool, false}
+use mathlib.Core.Bool.{Bool}
 use mathlib.Core.List.{List, [], _∷_, _++_}
 use Prim.Native.Nat.{ℕ, zero, suc, _+_, _*_, _%_, _<_}
 use native.Mathlib.Numerals.{add-one}
 use native.Mathlib.Omega.{arith}
 use lib.Dec.{eqb}
-use lib.ListN.{length, getD, set, replicate, length-set}
+use lib.ListN.{length, getD, set, length-set}
 use Rattle.rules.specs.Image.{eventsOf}
 use Rattle.rules.proofs.laws.Rings.{offered-room}
 use Rattle.state.specs.View.{slots, ringOf, ringView}

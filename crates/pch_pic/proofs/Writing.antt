@@ -27,6 +27,7 @@ use Rattle.state.proofs.Slots.{waiting-length}
 use Rattle.registers.specs.Bytes.{afterWrite}
 use Rattle.registers.specs.Parts.{Parts, parts, shown, WellParts, Shows}
 use Rattle.image.specs.Shown.{imageWords, spelled, withRing, Saves}
+use Rattle.image.proofs.Saved.{ring-well}
 use Rattle.image.proofs.Words.{words-core, words-well, core-saved}
 
 -- an image keeps its length where words and vectors are put
@@ -72,19 +73,7 @@ module _ (l : List ℕ) (bytes : Bytes l) (e : imageTest l ≡ accepted) (ring :
     between-well =
         let d = decode-well-formed l bytes e in
         let a : WellFormed after = subst WellFormed (write-device (decode l) w o v) (step-well (decode l) (device.write w o v) d) in
-        record {
-          mask = a .mask;
-          irr = a .irr;
-          isr = a .isr;
-          plains = a .plains;
-          routeBytes = a .routeBytes;
-          routes = a .routes;
-          vectorBytes = a .vectorBytes;
-          vectors = a .vectors;
-          eventBytes = d .eventBytes;
-          waiting = d .waiting;
-          drops = d .drops;
-        }
+        ring-well a (decode l .ring) (d .eventBytes) (d .waiting) (d .drops)
 
     core-written : (j : List ℕ) → j ≡ putMid 158 64 (putMid 22 72 (putMid 94 64 l (p .routes)) (spelled (p .words))) (p .vectors) → j ≡ encode between
     core-written j f =
