@@ -6,7 +6,13 @@ pub mod Halves
 pub mod Lists
 pub mod Bytes
 pub mod Parts
+pub mod Places
+pub mod Layout
+pub mod Twos
+pub mod Tests
+pub mod Saved
 pub mod Images
+pub mod InPlace
 pub mod Rings
 pub mod Acts
 pub mod Steps

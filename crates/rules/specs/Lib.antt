@@ -18,6 +18,7 @@ pub mod Map
 pub mod Access
 pub mod Device
 pub mod Window
+pub mod Form
 pub mod Image
 pub mod Calls
 pub mod History
