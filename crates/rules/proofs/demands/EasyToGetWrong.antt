@@ -8,21 +8,21 @@ use Rattle.rules.specs.Inputs.{on, inputs, without}
 use Rattle.rules.specs.Lines.{Lines, Made, event, isPending, withMask, serve, pendingIn, servedIn, newlyUnmasked, newlyMasked, cleared, masked}
 use Rattle.rules.proofs.laws.Bits.{on-without}
 
-abbrev asserts : List Made → List Bool
-asserts ms = map (λ (m : Made). m .asserted) ms
+abbrev assertFlags : List Made → List Bool
+assertFlags ms = map (λ (m : Made). m .asserted) ms
 
-deasserts-only : (vs : List ℕ) (ns : List ℕ) (i : ℕ) → getD (asserts (map (event vs true false) ns)) i false ≡ false
+deasserts-only : (vs : List ℕ) (ns : List ℕ) (i : ℕ) → getD (assertFlags (map (event vs true false) ns)) i false ≡ false
 deasserts-only vs [] i = refl
 deasserts-only vs (n ∷ ns) zero = refl
 deasserts-only vs (n ∷ ns) (suc i) = deasserts-only vs ns i
 
 -- one event at most, and then deasserts
-first-only : (vs : List ℕ) (l : Lines) (ns ms : List ℕ) (i : ℕ) → getD (asserts (serve vs true l ns .made ++ map (event vs true false) ms)) (suc i) false ≡ false
+first-only : (vs : List ℕ) (l : Lines) (ns ms : List ℕ) (i : ℕ) → getD (assertFlags (serve vs true l ns .made ++ map (event vs true false) ms)) (suc i) false ≡ false
 first-only vs l [] ms i = deasserts-only vs ms (suc i)
 first-only vs l (n ∷ ns) ms i = deasserts-only vs ms i
 
 -- of the events of a MASK write none but the first is an assert: at most one input is announced, and before every deassert
-pub no-later-assert : (vs : List ℕ) (l : Lines) (new i : ℕ) → getD (asserts (masked vs l new .made)) (suc i) false ≡ false
+pub no-later-assert : (vs : List ℕ) (l : Lines) (new i : ℕ) → getD (assertFlags (masked vs l new .made)) (suc i) false ≡ false
 unfolding masked
 no-later-assert vs l new i =
     let begun = withMask l new in

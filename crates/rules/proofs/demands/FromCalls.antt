@@ -7,8 +7,8 @@ use mathlib.Core.List.{List, [], _∷_, _++_, append-nil, append-assoc}
 use Rattle.rules.specs.Device.{Device, WellFormed, Call, Step, value, reset}
 use Rattle.rules.specs.Image.{encode, decode}
 use Rattle.rules.specs.Calls.{afresh, askedBy, Outcome}
-use Rattle.rules.specs.History.{history, fromReset, Exported, leftBy, isDone, isReset, isLoad, callOf, Underway, carriedOn}
-use Rattle.rules.specs.Demands.{carriedThrough, NoLoads, HandedOn, doneCall, doneCalls, IsStep, GivenBytes, current, Faithful, afterReset}
+use Rattle.rules.specs.History.{history, fromReset}
+use Rattle.rules.specs.Exported.{Exported, leftBy, isDone, isReset, isLoad, callOf, Underway, carriedOn, carriedThrough, NoLoads, HandedOn, doneCall, doneCalls, IsStep, GivenBytes, current, Faithful, afterReset}
 use Rattle.rules.proofs.laws.Lists.{equal-same}
 use Rattle.rules.proofs.laws.Images.{decode-encode}
 use Rattle.rules.proofs.laws.Folds.{history-append}
@@ -26,7 +26,7 @@ a-call-is-a-step d w x g n t =
     let r = handed h x (record { began = w; left = refl }) t no in
     record {
       call = r .call;
-      is = (λ i. cond (t i) (callOf (r .asks i)) []);
+      is = (λ i. cond (t i) (callOf (r .passes i)) []);
       number = ap (λ (o : Outcome). o .number) (r .left);
       image = ap (λ (o : Outcome). o .image) (r .left);
       answer = ap (λ (o : Outcome). o .answer) (r .left);

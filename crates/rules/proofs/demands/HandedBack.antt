@@ -11,10 +11,9 @@ use Rattle.rules.specs.Lines.{Made}
 use Rattle.rules.specs.Ring.{Event}
 use Rattle.rules.specs.Device.{Call, step, reset}
 use Rattle.rules.specs.Image.{decode}
-use Rattle.rules.specs.History.{history, Along, Admitted, Exported, Underway}
-use Rattle.rules.specs.Demands.{carrying, inService, Ready, Undisturbed, asks, asEvent, foundBy, ringActs, dropped, returnedIn}
-use Rattle.rules.specs.Demands.{carriedThrough, NoLoads, doneCall, doneCalls, current, Faithful, afterReset}
-use Rattle.rules.specs.Demands.{returnedBy, drainedBy, assertsAmong, deassertsAmong}
+use Rattle.rules.specs.History.{history, Along, Admitted}
+use Rattle.rules.specs.Demands.{carrying, inService, Eligible, Undisturbed, pollsOrRaises, asEvent, foundBy, ringActs, dropped, returnedIn, assertsAmong, deassertsAmong}
+use Rattle.rules.specs.Exported.{Exported, Underway, carriedThrough, NoLoads, doneCall, doneCalls, current, Faithful, afterReset, returnedBy, drainedBy}
 use Rattle.rules.proofs.laws.Counts.{tally-nil}
 use Rattle.rules.proofs.laws.Draining.{all-accounted}
 use Rattle.rules.proofs.laws.Chains.{faithful-after-reset}
@@ -81,10 +80,10 @@ calls-split (y ∷ before) x later c e =
     ap (λ cs. doneCall y ++ cs) (calls-split before x later c e) ∙ sym (append-assoc (doneCall y) (doneCalls before) (c ∷ doneCalls later))
 
 module _ (h : Underway) (f : Faithful h) where
-  -- In the device to which a history under way has come, the input i is ready; among the exported calls from there on, none a load and all undisturbed, x
+  -- In the device to which a history under way has come, the input i is eligible; among the exported calls from there on, none a load and all undisturbed, x
   -- is done and is a poll or raise of it. Then it is in service in the image left last.
-  pub service-of-calls : (i : ℕ) → i < 64 → Ready i (current h .core .lines) → (before : List Exported) (x : Exported) (later : List Exported) (c : Call)
-      → NoLoads h (before ++ (x ∷ later)) → doneCall x ≡ c ∷ [] → asks i c ≡ true → Along (Undisturbed i) (current h) (doneCalls (before ++ (x ∷ later)))
+  pub service-of-calls : (i : ℕ) → i < 64 → Eligible i (current h .core .lines) → (before : List Exported) (x : Exported) (later : List Exported) (c : Call)
+      → NoLoads h (before ++ (x ∷ later)) → doneCall x ≡ c ∷ [] → pollsOrRaises i c ≡ true → Along (Undisturbed i) (current h) (doneCalls (before ++ (x ∷ later)))
       → inService i (decode (carriedThrough h (before ++ (x ∷ later)) .left) .core .lines) ≡ true
   service-of-calls i b r before x later c n e a p =
       let is = calls-split before x later c e in

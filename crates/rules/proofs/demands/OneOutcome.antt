@@ -4,7 +4,7 @@ use mathlib.Core.Path.{_≡_, refl, sym, _∙_}
 use mathlib.Core.List.{List}
 use Prim.Native.Nat.{ℕ}
 use Rattle.rules.specs.Calls.{Request, reset, read, write, level, poll, drain, Outcome, outcome}
-use Rattle.rules.specs.Demands.{Promised}
+use Rattle.rules.specs.Exported.{Promised}
 
 -- whatever is asked, of any image and any answer area: two outcomes that keep the promise are one
 pub one-outcome : (q : Request) (image answer : List ℕ) (x y : Outcome) → Promised q image answer x → Promised q image answer y → x ≡ y

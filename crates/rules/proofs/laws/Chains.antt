@@ -15,8 +15,8 @@ use Rattle.rules.specs.Image as image
 use Rattle.rules.specs.Calls.{Refusal, outside, noWidth, noInput, wrongLength, wrongContents, wrongBody, noRoom, refusalNumber}
 use Rattle.rules.specs.Calls.{Tested, pass, refuse, Request, Asked, afresh, calls, askedBy, Done, doneOn, performed}
 use Rattle.rules.specs.Calls.{answered, bufferOf, placeOf, written, Outcome, leaves, settled, answerLength, hasRoom, outcome}
-use Rattle.rules.specs.History.{history, Exported, leftBy, isDone, isReset, isLoad, callOf, Underway, carriedOn}
-use Rattle.rules.specs.Demands.{doneCall, afterReset, current, Faithful}
+use Rattle.rules.specs.History.{history}
+use Rattle.rules.specs.Exported.{Exported, leftBy, isDone, isReset, isLoad, callOf, Underway, carriedOn, doneCall, afterReset, current, Faithful}
 use Rattle.rules.proofs.laws.Bits.{test}
 use Rattle.rules.proofs.laws.Lists.{same-equal}
 use Rattle.rules.proofs.laws.Images.{decode-encode, decode-well-formed, reset-well-formed}
@@ -68,7 +68,7 @@ refused-leaves x e = test (hasRoom (x .asked) (x .answer)) (λ t. go t (performe
 -- a done call of the device: its image was accepted, and it gives what the call does to the device there
 record DidCall (t : Tested Call) (i : List ℕ) (y : Done) : Type 0 where
   call : Call
-  asks : t ≡ pass call
+  passes : t ≡ pass call
   accepted : imageTest i ≡ image.accepted
   gives : y ≡ doneOn (decode i) call
 
@@ -84,7 +84,7 @@ unfolding performed
 did-call t i y e = go (imageTest i) refl t refl
   where
     go : (r : ImageTest) → imageTest i ≡ r → (u : Tested Call) → t ≡ u → DidCall t i y
-    go image.accepted f (pass c) g = record { call = c; asks = g; accepted = f; gives = sym (passed (rw (f, g) at e)) }
+    go image.accepted f (pass c) g = record { call = c; passes = g; accepted = f; gives = sym (passed (rw (f, g) at e)) }
     go image.accepted f (refuse r) g = never r y (rw (f, g) at e)
     go image.wrongLength f u g = never wrongLength y (rw f at e)
     go image.wrongContents f u g = never wrongContents y (rw f at e)
@@ -149,7 +149,7 @@ module _ (h : Underway) (x : Exported) where
   -- a done call that is no reset: what it asks of the device, and what it leaves
   record Did : Type 0 where
     call : Call
-    asks : askedBy (x .asked) ≡ calls (pass call)
+    passes : askedBy (x .asked) ≡ calls (pass call)
     accepted : imageTest (x .given) ≡ image.accepted
     left : leftBy x ≡ settled (x .asked) (x .given) (x .answer) (pass (doneOn (decode (x .given)) call))
 
@@ -159,7 +159,7 @@ module _ (h : Underway) (x : Exported) where
       let c = did-call u (x .given) (p .gives) (rw e at (p .passed)) in
       record {
         call = c .call;
-        asks = e ∙ ap calls (c .asks);
+        passes = e ∙ ap calls (c .passes);
         accepted = c .accepted;
         left = p .left ∙ ap (λ y. settled (x .asked) (x .given) (x .answer) (pass y)) (c .gives);
       }
@@ -174,11 +174,11 @@ module _ (h : Underway) (x : Exported) where
       let c = r .call in
       let image-is : leftBy x .image ≡ encode (step (decode (x .given)) c .after) = ap (λ (o : Outcome). o .image) (r .left) in
       test (isLoad (h .left) x)
-      (λ n. rw (carried-done t n (r .asks)) (record { began = decode-well-formed (x .given) (b n) (r .accepted); left = image-is }))
-      (λ n. rw (carried-done t n (r .asks)) (record {
+      (λ n. rw (carried-done t n (r .passes)) (record { began = decode-well-formed (x .given) (b n) (r .accepted); left = image-is }))
+      (λ n. rw (carried-done t n (r .passes)) (record {
         began = f .began;
         left =
-            let met = meets f (given-left (h .left) x t (pass c) (r .asks) n) in
+            let met = meets f (given-left (h .left) x t (pass c) (r .passes) n) in
             image-is ∙ ap (λ d. encode (step d c .after)) met ∙ ap encode (sym (history-snoc (h .began) (h .calls) c));
       }))
 
@@ -193,7 +193,7 @@ module _ (h : Underway) (x : Exported) where
   -- a done call that is no load: it is given the history's image, is one call more of it, and hands back what that call's step gives
   pub record Handed : Type 0 where
     pub call : Call
-    pub asks : askedBy (x .asked) ≡ calls (pass call)
+    pub passes : askedBy (x .asked) ≡ calls (pass call)
     pub left : leftBy x ≡ leaves 0 (encode (step (current h) call .after)) (answered 0 (value (current h) call) (x .answer))
         (written (bufferOf (x .asked)) (placeOf (x .asked)) (step (current h) call .drained))
     pub fits : placeOf (x .asked) ≤ length (bufferOf (x .asked))
@@ -209,10 +209,10 @@ module _ (h : Underway) (x : Exported) where
           let met = meets f (given-left (h .left) x t u e n) in
           record {
             call = r .call;
-            asks = r .asks;
+            passes = r .passes;
             left = r .left ∙ ap (λ d. settled (x .asked) (x .given) (x .answer) (pass (doneOn d (r .call)))) met;
             fits = place-fits (x .asked) (x .answer) (did-pass x t .room);
-            carried = carried-done t n (r .asks);
+            carried = carried-done t n (r .passes);
           }
 
   -- so an exported call that is no load carries the history on by the calls that it is, none or one
@@ -227,7 +227,7 @@ module _ (h : Underway) (x : Exported) where
       test (isDone x)
       (λ t.
       let r = handed f t n in
-      let one : doneCall x ≡ r .call ∷ [] = (λ i. cond (t i) (callOf (r .asks i)) []) in
+      let one : doneCall x ≡ r .call ∷ [] = (λ i. cond (t i) (callOf (r .passes i)) []) in
       record {
         began = ap (λ (u : Underway). u .began) (r .carried);
         calls = rw one (ap (λ (u : Underway). u .calls) (r .carried));
