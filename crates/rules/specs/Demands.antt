@@ -1,5 +1,5 @@
 -- What demand 3 counts, and what it asks of a history beside History's `Admitted`. Each stands here once, for the theorems of proofs/demands.
-use mathlib.Core.Bool.{Bool, true, false, cond, not, _&&_}
+use mathlib.Core.Bool.{Bool, true, false, cond, not, _&&_, _||_}
 use mathlib.Core.List.{List, [], _∷_, _++_}
 use mathlib.Core.Path.{_≡_}
 use Prim.Native.Nat.{ℕ, _+_}
@@ -83,10 +83,14 @@ disturbs n (setIsr h v) = false
 disturbs n (store s) = false
 disturbs n (setVector m v) = false
 
--- a call by which n is not lowered, cleared or masked, and which is no write that reaches the ISR registers (00, demand 3)
+-- a call by which n is not lowered, cleared or masked (00, demand 3)
+abbrev pub Spared : ℕ → Device → Call → Type 0
+Spared n d c = Each (λ a. disturbs n a ≡ false) (actsOf (d .core) c)
+
+-- and which is no write that reaches the ISR registers
 pub record Undisturbed (n : ℕ) (d : Device) (c : Call) : Type 0 where
   pub noIsrWrite : writesIsr c ≡ false
-  pub notDisturbed : Each (λ a. disturbs n a ≡ false) (actsOf (d .core) c)
+  pub notDisturbed : Spared n d c
 
 -- a call is a poll or a raise of n (00, demand 3)
 abbrev pub pollsOrRaises : ℕ → Call → Bool
@@ -96,6 +100,43 @@ pollsOrRaises n (call.poll m) = only n m
 pollsOrRaises n (call.read w o) = false
 pollsOrRaises n (call.write w o v) = false
 pollsOrRaises n (call.drain k) = false
+
+-- ---- a cleared input
+
+-- an act clears n: CLEAR is written with its bit (01, Inputs: CLEAR with bits B)
+abbrev pub clears : ℕ → Act → Bool
+clears n (move (poll m)) = false
+clears n (move (raise m)) = false
+clears n (move (lower m)) = false
+clears n (move (clear b)) = on b n
+clears n (move (setMask h v)) = false
+clears n (setIsr h v) = false
+clears n (store s) = false
+clears n (setVector m v) = false
+
+-- a call of d clears n: one of its acts does
+unfoldable pub someAct : (Act → Bool) → List Act → Bool
+someAct t [] = false
+someAct t (a ∷ xs) = t a || someAct t xs
+
+abbrev pub Clears : ℕ → Device → Call → Type 0
+Clears n d c = someAct (clears n) (actsOf (d .core) c) ≡ true
+
+-- a call is no raise of n
+abbrev pub isRaise : ℕ → Call → Bool
+isRaise n (call.level m true) = only n m
+isRaise n (call.level m false) = false
+isRaise n (call.poll m) = false
+isRaise n (call.read w o) = false
+isRaise n (call.write w o v) = false
+isRaise n (call.drain k) = false
+
+abbrev pub Unraised : ℕ → Device → Call → Type 0
+Unraised n d c = isRaise n c ≡ false
+
+-- how many asserts of the input n there are among events
+abbrev pub assertsOf : ℕ → List Made → ℕ
+assertsOf n = assertsWith (λ m. only n (m .input))
 
 -- ---- order
 

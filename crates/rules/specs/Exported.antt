@@ -2,7 +2,7 @@
 use mathlib.Core.Bool.{Bool, true, false, cond, not, _&&_, _||_}
 use mathlib.Core.List.{List, [], _∷_, _++_}
 use mathlib.Core.Path.{_≡_}
-use Prim.Native.Nat.{ℕ}
+use Prim.Native.Nat.{ℕ, _+_}
 use lib.Dec.{eqb}
 use lib.ListN.{drop, getD}
 use Rattle.rules.specs.Numbers.{numberOf, part, Bytes}
@@ -13,6 +13,7 @@ use Rattle.rules.specs.Image.{same, encode, decode, eventsOf}
 use Rattle.rules.specs.Calls as request
 use Rattle.rules.specs.Calls.{Request, pass, refuse, Asked, afresh, calls, askedBy, answered, bufferOf, placeOf, written, Outcome, outcome}
 use Rattle.rules.specs.History.{history}
+use Rattle.rules.specs.Demands.{carrying, assertsAmong, deassertsAmong}
 
 -- ---- one call
 
@@ -106,6 +107,10 @@ GivenBytes (x ∷ xs) = Bytes (x .given) × GivenBytes xs
 abbrev pub current : Underway → Device
 current h = history (h .began) (h .calls) .after
 
+-- the device that the image left last holds
+abbrev pub inImage : Underway → Device
+inImage h = decode (h .left)
+
 -- a history under way is that of the image left last: it began with a device that an image can hold, and that image holds the device to which it has come
 pub record Faithful (h : Underway) : Type 0 where
   pub began : WellFormed (h .began)
@@ -114,6 +119,10 @@ pub record Faithful (h : Underway) : Type 0 where
 -- the history that a done reset begins
 abbrev pub afterReset : Underway
 afterReset = record { began = device.reset; calls = []; left = encode device.reset }
+
+-- the history that a load of the image i begins: the load's own call is the first of it (01, Saved image)
+abbrev pub atLoad : List ℕ → Underway
+atLoad i = record { began = decode i; calls = []; left = i }
 
 -- ---- what a host reads
 
@@ -154,6 +163,16 @@ returnedBy (x ∷ xs) = cond (isDone x) (returnedTo (x .asked) (leftBy x .answer
 unfoldable pub drainedBy : List Exported → List Event
 drainedBy [] = []
 drainedBy (x ∷ xs) = cond (isDone x) (drainedTo (x .asked) (leftBy x .answer) (leftBy x .events)) [] ++ drainedBy xs
+
+-- the account of a vector v between two devices, of exported calls by which the one comes to the other: asserts read in answer areas and in event
+-- buffers, asserts that wait at last and asserts that were lost, with the deasserts that waited at first and the inputs then in service with v, come to
+-- the same of deasserts, with the asserts that waited at first and the inputs in service with v at last (00, demand 3; 01, Saved image)
+abbrev pub Balances : ℕ → Device → List Exported → (lost : List Event) → Device → Type 0
+Balances v d xs lost e =
+    assertsAmong v (returnedBy xs) + assertsAmong v (drainedBy xs) + assertsAmong v (e .ring .waiting) + assertsAmong v lost
+    + deassertsAmong v (d .ring .waiting) + carrying v (d .core)
+    ≡ deassertsAmong v (returnedBy xs) + deassertsAmong v (drainedBy xs) + deassertsAmong v (e .ring .waiting) + deassertsAmong v lost
+    + assertsAmong v (d .ring .waiting) + carrying v (e .core)
 
 -- ---- promises
 

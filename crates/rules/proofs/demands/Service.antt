@@ -13,12 +13,12 @@ use Rattle.rules.specs.Core.{Core, Move, poll, raise, lower, clear, setM
 use Rattle.rules.specs.Device.{Device, Call, actsOf, acted, step}
 use Rattle.rules.specs.Device as call
 use Rattle.rules.specs.History.{history, Along}
-use Rattle.rules.specs.Demands.{inService, Eligible, disturbs, Undisturbed, pollsOrRaises}
+use Rattle.rules.specs.Demands.{Each, done, also, inService, Eligible, disturbs, Spared, Undisturbed, pollsOrRaises}
 use Rattle.rules.proofs.laws.Bits.{test, on-put, on-without}
 use Rattle.rules.proofs.laws.Inputs.{only-waiting}
 use Rattle.rules.proofs.laws.Halves.{by-halves, on-new-half, on-kept-half}
 use Rattle.rules.proofs.laws.Reach.{each-both, NotIsr, no-isr-act}
-use Rattle.rules.proofs.laws.Folds.{fold-acts, fold-calls, history-append, along-append}
+use Rattle.rules.proofs.laws.Folds.{fold-acts, fold-calls, history-append, along-append, along-each}
 
 -- a write to a half of MASK that brings no 1 to n's place leaves n unmasked
 stays-unmasked : (h : Bool) (x v n : ℕ) → n < 64 → on (asHalf h v) n ≡ false → on x n ≡ false → on (withHalf h x v) n ≡ false
@@ -99,6 +99,24 @@ module _ (n : ℕ) (b : n < 64) where
   calls-go = fold-calls (λ d ms e. Onward (d .core) ms (e .core)) (λ d. onward-none (d .core))
       (λ d e f xs ys x y. onward-next (d .core) (e .core) (f .core) xs ys x y) (Undisturbed n) call-goes
 
+  -- a write of ISR takes n out of service, or puts it in, and leaves it latched and unmasked
+  act-spares : (c : Core) (a : Act) → disturbs n a ≡ false → Eligible n (c .lines) → Eligible n (turn c a .after .lines)
+  unfolding lineTurn
+  act-spares c (move m) t r = move-goes (c .vectors) (c .lines) m t r .eligible
+  act-spares c (setIsr h v) t r = record { latched = r .latched; unmasked = r .unmasked }
+  act-spares c (store s) t r = r
+  act-spares c (setVector m v) t r = r
+
+  call-spares : (d : Device) (c : Call) → Spared n d c → Eligible n (d .core .lines) → Eligible n (step d c .after .core .lines)
+  unfolding step acted
+  call-spares d c p =
+      fold-acts (λ c ms e. Eligible n (c .lines) → Eligible n (e .lines)) (λ c r. r) (λ c d e xs ys f g r. g (f r)) (λ a. disturbs n a ≡ false) act-spares
+      (d .core) p
+
+  calls-spare : (d : Device) (cs : List Call) → Along (Spared n) d cs → Eligible n (d .core .lines) → Eligible n (history d cs .after .core .lines)
+  calls-spare =
+      fold-calls (λ d ms e. Eligible n (d .core .lines) → Eligible n (e .core .lines)) (λ d r. r) (λ d e f xs ys x y r. y (x r)) (Spared n) call-spares
+
   -- ---- a poll or a raise of n
 
   poll-serves : (vs : List ℕ) (l : Lines) → Eligible n l → inService n (polled vs l n .after) ≡ true
@@ -121,6 +139,16 @@ module _ (n : ℕ) (b : n < 64) where
       let k = withIrr l (put (l .irr) n) in
       serve-goes vs false k (inputs (pendingIn (only n) k)) (latched-eligible l e) .eligible
 
+  -- it is itself no call that disturbs n
+  request-spares : (d : Device) (c : Call) → pollsOrRaises n c ≡ true → Spared n d c
+  unfolding actsOf
+  request-spares d (call.level m true) e = also refl done
+  request-spares d (call.level m false) e = absurd (true≢false (sym e))
+  request-spares d (call.poll m) e = also refl done
+  request-spares d (call.read w o) e = done
+  request-spares d (call.write w o v) e = absurd (true≢false (sym e))
+  request-spares d (call.drain k) e = done
+
   request-serves : (d : Device) (c : Call) → pollsOrRaises n c ≡ true → Eligible n (d .core .lines) → inService n (step d c .after .core .lines) ≡ true
   unfolding step acted actsOf turns lineTurn moved
   request-serves d (call.level m true) e r = rw (eqb-true m n e) (raise-serves (d .core .vectors) (d .core .lines) (r .unmasked))
@@ -130,25 +158,35 @@ module _ (n : ℕ) (b : n < 64) where
   request-serves d (call.write w o v) e r = absurd (true≢false (sym e))
   request-serves d (call.drain k) e r = absurd (true≢false (sym e))
 
--- 'An input latched and unmasked, and after that not lowered, cleared or masked, is in service from the first poll or raise of it on.' In d the input n
--- is eligible, and the calls from there on leave it undisturbed; c among them is a poll or raise of it, the first or another. Then n is in service at their
--- end, whatever other calls lie before and after c.
+-- 'An input latched and unmasked, and after that not lowered, cleared or masked, is in service from the first poll or raise of it on.' In d the input n is
+-- eligible, and no call from there on lowers, clears or masks it; c among them is a poll or raise of it, the first or another. From c on no write reaches
+-- ISR; before c it may. Then n is in service at their end, whatever other calls lie before and after c.
+pub in-service-from-the-poll-on : (n : ℕ) → n < 64 → (d : Device) (before : List Call) (c : Call) (later : List Call) → Eligible n (d .core .lines)
+    → Along (Spared n) d before → pollsOrRaises n c ≡ true → Along (Undisturbed n) (history d (before ++ (c ∷ [])) .after) later
+    → inService n (history d (before ++ (c ∷ later)) .after .core .lines) ≡ true
+unfolding history
+in-service-from-the-poll-on n b d before c later r p e q =
+    let met = history d before .after in
+    let one = calls-spare n b d before p r in
+    let two = call-spares n b met c (request-spares n b met c e) one in
+    let after = rw (history-append d before (c ∷ [])) at q in
+    let three = calls-go n b (step met c .after) later after two in
+    rw (history-append d before (c ∷ later)) (three .served (request-serves n b met c e one))
+
+-- the same with demand 3's premise over all the calls: none of them is a write that reaches ISR
 pub in-service-from-then-on : (n : ℕ) → n < 64 → (d : Device) (before : List Call) (c : Call) (later : List Call) → Eligible n (d .core .lines)
     → Along (Undisturbed n) d (before ++ (c ∷ later)) → pollsOrRaises n c ≡ true → inService n (history d (before ++ (c ∷ later)) .after .core .lines) ≡ true
 unfolding history Along
 in-service-from-then-on n b d before c later r p e =
     let parts = along-append (Undisturbed n) d before (c ∷ later) p in
-    let met = history d before .after in
-    let one = calls-go n b d before (parts .0) r in
-    let two = call-goes n b met c (parts .1 .0) (one .eligible) in
-    let three = calls-go n b (step met c .after) later (parts .1 .1) (two .eligible) in
-    rw (history-append d before (c ∷ later)) (three .served (request-serves n b met c e (one .eligible)))
+    let spared = along-each (Undisturbed n) (Spared n) (λ x y u. u .notDisturbed) d before (parts .0) in
+    in-service-from-the-poll-on n b d before c later r spared e (rw (history-append d before (c ∷ [])) (parts .1 .1))
 
 -- the same where the raise is what latches it: an input that is unmasked and raised is in service from that raise on
 pub in-service-once-raised : (n : ℕ) → n < 64 → (d : Device) (later : List Call) → on (d .core .lines .mask) n ≡ false
-    → Along (Undisturbed n) d (call.level n true ∷ later) → inService n (history d (call.level n true ∷ later) .after .core .lines) ≡ true
-unfolding history Along step acted actsOf turns lineTurn moved
+    → Along (Undisturbed n) (step d (call.level n true) .after) later → inService n (history d (call.level n true ∷ later) .after .core .lines) ≡ true
+unfolding history step acted actsOf turns lineTurn moved
 in-service-once-raised n b d later e p =
     let vs = d .core .vectors in
     let l = d .core .lines in
-    calls-go n b (step d (call.level n true) .after) later (p .1) (raise-admits n b vs l e) .served (raise-serves n b vs l e)
+    calls-go n b (step d (call.level n true) .after) later p (raise-admits n b vs l e) .served (raise-serves n b vs l e)

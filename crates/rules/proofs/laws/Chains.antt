@@ -1,7 +1,7 @@
 -- Exported calls and the history that they carry on: what a done call was asked and what it leaves, and that the history's device is always the one
 -- that the image last left holds. A refused call changes nothing; a load begins anew from what it was given.
 use mathlib.Core.Path.{_≡_, refl, sym, ap, _∙_}
-use mathlib.Core.Bool.{Bool, true, false, cond, not, true≢false, and-eq-true-iff, Bool·not-not}
+use mathlib.Core.Bool.{Bool, true, false, cond, not, true≢false, and-false, and-eq-true-iff, Bool·not-not}
 use mathlib.Core.List.{List, [], _∷_, _++_, append-nil}
 use Prim.Native.Nat.{ℕ, _≤_}
 use native.Mathlib.Omega.{arith}
@@ -16,10 +16,10 @@ use Rattle.rules.specs.Calls.{Refusal, outside, noWidth, noInput, wrongL
 use Rattle.rules.specs.Calls.{Tested, pass, refuse, Request, Asked, afresh, calls, askedBy, Done, doneOn, performed}
 use Rattle.rules.specs.Calls.{answered, bufferOf, placeOf, written, Outcome, leaves, settled, answerLength, hasRoom, outcome}
 use Rattle.rules.specs.History.{history}
-use Rattle.rules.specs.Exported.{Exported, leftBy, isDone, isReset, isLoad, callOf, Underway, carriedOn, doneCall, afterReset, current, Faithful}
+use Rattle.rules.specs.Exported.{Exported, leftBy, isDone, isReset, isLoad, callOf, Underway, carriedOn, doneCall, afterReset, atLoad, current, Faithful}
 use Rattle.rules.proofs.laws.Bits.{test}
-use Rattle.rules.proofs.laws.Lists.{same-equal}
-use Rattle.rules.proofs.laws.Images.{decode-encode, decode-well-formed, reset-well-formed}
+use Rattle.rules.proofs.laws.Lists.{same-self, same-equal}
+use Rattle.rules.proofs.laws.Images.{decode-encode, encode-decode, decode-well-formed, reset-well-formed}
 use Rattle.rules.proofs.laws.Folds.{history-append}
 use Rattle.rules.proofs.laws.WellFormed.{history-well}
 
@@ -123,6 +123,10 @@ pub faithful-after-reset : Faithful afterReset
 unfolding history
 faithful-after-reset = record { began = reset-well-formed; left = refl }
 
+pub faithful-at-load : (i : List ℕ) → Bytes i → imageTest i ≡ image.accepted → Faithful (atLoad i)
+unfolding history
+faithful-at-load i b e = record { began = decode-well-formed i b e; left = sym (encode-decode i b e) }
+
 history-snoc : (d : Device) (cs : List Call) (c : Call) → history d (cs ++ (c ∷ [])) .after ≡ step (history d cs .after) c .after
 unfolding history
 history-snoc d cs c = ap (λ s. s .after) (history-append d cs (c ∷ []))
@@ -163,6 +167,18 @@ module _ (h : Underway) (x : Exported) where
         accepted = c .accepted;
         left = p .left ∙ ap (λ y. settled (x .asked) (x .given) (x .answer) (pass y)) (c .gives);
       }
+
+  -- a done call that is no reset: its image was accepted; and if it is a load, it begins the history from what it was given
+  module _ (t : isDone x ≡ true) (no : isReset (askedBy (x .asked)) ≡ false) where
+    done-call : Did
+    done-call = go (askedBy (x .asked)) refl
+      where
+        go : (k : Asked) → askedBy (x .asked) ≡ k → Did
+        go afresh e = absurd (true≢false (sym (ap isReset e) ∙ no))
+        go (calls u) e = did t u e
+
+    pub done-accepted : imageTest (x .given) ≡ image.accepted
+    done-accepted = done-call .accepted
 
   -- given the image that the history left, it meets the history's device
   meets : Faithful h → h .left ≡ x .given → decode (x .given) ≡ current h
@@ -240,3 +256,16 @@ module _ (h : Underway) (x : Exported) where
         calls = rw none (ap (λ (u : Underway). u .calls) (carried-refused t) ∙ sym (append-nil (h .calls)));
         current = rw none (ap current (carried-refused t));
       })
+
+-- ---- a load
+
+module _ (x : Exported) (t : isDone x ≡ true) (no : isReset (askedBy (x .asked)) ≡ false) where
+  -- given the image that it is given, it is no load
+  pub own-image : isLoad (x .given) x ≡ false
+  own-image = rw (no, same-self (x .given)) (and-false (isDone x))
+
+  -- whatever was under way, it begins the history from that image
+  pub load-begins : (h : Underway) → isLoad (h .left) x ≡ true → carriedOn h x ≡ carriedOn (atLoad (x .given)) x
+  load-begins h n =
+      let e = done-call h x t no .passes in
+      carried-done h x t n e ∙ sym (carried-done (atLoad (x .given)) x t own-image e)
