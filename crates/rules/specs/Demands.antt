@@ -124,7 +124,7 @@ Clears n d c = someAct (clears n) (actsOf (d .core) c) ≡ true
 
 -- a call is no raise of n
 abbrev pub isRaise : ℕ → Call → Bool
-isRaise n (call.level m true) = only n m
+isRaise n (call.level m true) = only m n
 isRaise n (call.level m false) = false
 isRaise n (call.poll m) = false
 isRaise n (call.read w o) = false

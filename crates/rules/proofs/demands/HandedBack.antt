@@ -137,14 +137,14 @@ module _ (h : Underway) (f : Faithful h) where
   -- The done call x makes the event m and offers it, and m finds k waiting, fewer than 16. Then m is the (k+1)th event that a host reads in the event
   -- buffers of the drains from there on, once it reads so many.
   pub order-of-calls : (x : Exported) (later : List Exported) (c : Call) → NoLoads h (x ∷ later) → doneCall x ≡ c ∷ []
-      → (earlier : List Made) (m : Made) (rest : List Made) → step (current h) c .made ≡ earlier ++ (m ∷ rest) → m .offered ≡ true
-      → (k : ℕ) → length (foundBy (current h) earlier .waiting) ≡ k → k < 16
+      → (earlier : List Made) (m : Made) (rest : List Made) → step (inImage h) c .made ≡ earlier ++ (m ∷ rest) → m .offered ≡ true
+      → (k : ℕ) → length (foundBy (inImage h) earlier .waiting) ≡ k → k < 16
       → k < length (drainedBy (x ∷ later)) → (e : Event) → getD (drainedBy (x ∷ later)) k e ≡ asEvent m
   unfolding doneCalls
   order-of-calls x later c n o earlier m rest is off k found small many e =
-      let calls-are = ap (λ cs. history (current h) cs .drained) (calls-split [] x later c o) in
-      let read : drainedBy (x ∷ later) ≡ history (current h) (c ∷ doneCalls later) .drained = drained-is-read h f (x ∷ later) n ∙ calls-are in
-      rw read (drained-in-turn (current h) c earlier m rest is off k found small (doneCalls later) (rw read at many) e)
+      let read : drainedBy (x ∷ later) ≡ history (inImage h) (c ∷ doneCalls later) .drained =
+      drained-is-read h f (x ∷ later) n ∙ (λ i. history (sym (image-holds-device h f) i) (calls-split [] x later c o i) .drained) in
+      rw read (drained-in-turn (inImage h) c earlier m rest is off k found small (doneCalls later) (rw read at many) e)
 
   -- The drop count in the image left last is that in the image left at first and the events dropped since, up to the stop.
   pub drops-of-calls : (xs : List Exported) → NoLoads h xs
