@@ -6,7 +6,11 @@ use Prim.Native.Nat.{ℕ, zero, suc, _<_}
 use lib.ListN.{getD}
 use Rattle.rules.specs.Inputs.{on, inputs, without}
 use Rattle.rules.specs.Lines.{Lines, Made, event, isPending, withMask, serve, pendingIn, servedIn, newlyUnmasked, newlyMasked, cleared, masked}
+use Rattle.rules.specs.Device.{Device, Call, step}
+use Rattle.rules.specs.History.{history, Along}
+use Rattle.rules.specs.Demands.{Clears, Unraised, assertsOf}
 use Rattle.rules.proofs.laws.Bits.{on-without}
+use Rattle.rules.proofs.laws.Latches.{quiet-until-raised, call-unlatches}
 
 abbrev assertFlags : List Made → List Bool
 assertFlags ms = map (λ (m : Made). m .asserted) ms
@@ -35,3 +39,8 @@ unfolding cleared
 cleared-needs-raise vs l b n h e =
     ap (λ (x : Bool). x && not (on (l .mask) n) && not (on (without (l .isr) (on b)) n))
     (on-without (l .irr) (on b) n h ∙ ap (λ (x : Bool). on (l .irr) n && not x) e ∙ and-false (on (l .irr) n))
+
+-- and over any calls after a CLEAR with its bit: no assert of it is made, whatever is polled, unmasked or written, until a call raises it
+pub no-assert-until-raised : (n : ℕ) → n < 64 → (d : Device) (c : Call) (later : List Call) → Clears n d c → Along (Unraised n) (step d c .after) later
+    → assertsOf n (history (step d c .after) later .made) ≡ 0
+no-assert-until-raised n b d c later s p = quiet-until-raised n b (step d c .after) later p (call-unlatches n b d c s) .silent

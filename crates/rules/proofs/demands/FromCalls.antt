@@ -87,6 +87,10 @@ calls-carry-on h f xs n =
     let left-is = c .faithful .left ∙ (λ j. encode (history (c .began j) (c .calls j) .after)) ∙ whole in
     (λ i. record { began = c .began i; calls = c .calls i; left = left-is i })
 
+-- after them the history is still that of the image left last
+pub faithful-through : (h : Underway) → Faithful h → (xs : List Exported) → NoLoads h xs → Faithful (carriedThrough h xs)
+faithful-through h f xs n = chain h xs f n .faithful
+
 -- and that image, loaded, is the device
 pub image-holds-history : (h : Underway) → Faithful h → (xs : List Exported) → NoLoads h xs
     → inImage (carriedThrough h xs) ≡ history (current h) (doneCalls xs) .after

@@ -11,22 +11,25 @@ use Rattle.rules.specs.Numbers.{Bytes}
 use Rattle.rules.specs.Inputs.{on}
 use Rattle.rules.specs.Lines.{Made}
 use Rattle.rules.specs.Ring.{Event}
-use Rattle.rules.specs.Device.{Device, Call, level, step, reset}
+use Rattle.rules.specs.Device.{Device, Call, level, none, step, value, reset}
+use Rattle.rules.specs.Device as device
 use Rattle.rules.specs.Image.{decode}
-use Rattle.rules.specs.Calls.{askedBy}
+use Rattle.rules.specs.Calls.{poll, askedBy, answered, Outcome}
 use Rattle.rules.specs.History.{history, Along, Admitted}
-use Rattle.rules.specs.Demands.{carrying, inService, Eligible, Spared, Undisturbed, pollsOrRaises, asEvent, foundBy, ringActs, dropped, returnedIn, assertsAmong, deassertsAmong}
-use Rattle.rules.specs.Exported.{Exported, isReset, isLoad, Underway, carriedOn, carriedThrough, NoLoads, doneCall, doneCalls}
+use Rattle.rules.specs.Demands.{carrying, inService, Eligible, Spared, Undisturbed, pollsOrRaises, Clears, Unraised, assertsOf, asEvent, foundBy, ringActs, dropped, returnedIn}
+use Rattle.rules.specs.Demands.{assertsAmong, deassertsAmong}
+use Rattle.rules.specs.Exported.{Exported, leftBy, isDone, isReset, isLoad, Underway, carriedOn, carriedThrough, NoLoads, doneCall, doneCalls}
 use Rattle.rules.specs.Exported.{current, inImage, Faithful, afterReset, atLoad, returnedBy, drainedBy, Balances}
 use Rattle.rules.proofs.laws.Counts.{tally-nil}
 use Rattle.rules.proofs.laws.Draining.{all-accounted}
-use Rattle.rules.proofs.laws.Chains.{faithful-after-reset, faithful-at-load}
+use Rattle.rules.proofs.laws.Chains.{faithful-after-reset, faithful-at-load, handed}
+use Rattle.rules.proofs.laws.Latches.{Quiet, quiet-until-raised, poll-finds-none, call-unlatches}
 use Rattle.rules.proofs.laws.WellFormed.{history-well}
-use Rattle.rules.proofs.laws.Readings.{read-as}
+use Rattle.rules.proofs.laws.Readings.{input-is, asked-is, read-as}
 use Rattle.rules.proofs.demands.Account.{none-served, asserts-match-service-from}
 use Rattle.rules.proofs.demands.Service.{in-service-from-the-poll-on, in-service-once-raised}
 use Rattle.rules.proofs.demands.Order.{drained-in-turn, drops-counted}
-use Rattle.rules.proofs.demands.FromCalls.{a-load-begins, image-holds-device, image-holds-history}
+use Rattle.rules.proofs.demands.FromCalls.{a-load-begins, image-holds-device, faithful-through, image-holds-history}
 
 -- ---- what is read
 
@@ -152,3 +155,41 @@ module _ (h : Underway) (f : Faithful h) where
   drops-of-calls xs n =
       let well = history-well (h .began) (h .calls) (f .began) in
       rw (image-holds-history h f xs n, image-holds-device h f) (drops-counted (current h) (doneCalls xs) (well .drops))
+
+  -- ---- a cleared input
+
+  -- The done call x clears the input i, and none of the calls after it is a load or a raise of i.
+  module _ (i : ℕ) (b : i < 64) (x : Exported) (later : List Exported) (c : Call) (n : NoLoads h (x ∷ later)) (e : doneCall x ≡ c ∷ [])
+      (s : Clears i (inImage h) c) (p : Along (Unraised i) (inImage (carriedOn h x)) (doneCalls later)) where
+    met : inImage (carriedOn h x) ≡ step (inImage h) c .after
+    unfolding history carriedThrough NoLoads doneCalls
+    met =
+        image-holds-history h f (x ∷ []) (n .0, tt) ∙ (λ j. history (sym (image-holds-device h f) j) (calls-split [] x [] c e j) .after)
+
+    quiet : Quiet i b (history (inImage (carriedOn h x)) (doneCalls later) .made) (inImage (carriedThrough h (x ∷ later)) .core .lines)
+    unfolding carriedThrough NoLoads
+    quiet =
+        let on-from = faithful-through h f (x ∷ []) (n .0, tt) in
+        let left = image-holds-history (carriedOn h x) on-from later (n .1) in
+        rw (left, ← image-holds-device (carriedOn h x) on-from)
+        (quiet-until-raised i b (inImage (carriedOn h x)) (doneCalls later) p (rw met (call-unlatches i b (inImage h) c s)))
+
+    -- Then the calls after it make no assert of i, whatever its line, the masks and the polls do.
+    pub cleared-makes-no-assert : assertsOf i (history (inImage (carriedOn h x)) (doneCalls later) .made) ≡ 0
+    cleared-makes-no-assert = quiet .silent
+
+    -- In the image left last it is not latched,
+    pub cleared-stays-unlatched : on (inImage (carriedThrough h (x ∷ later)) .core .lines .irr) i ≡ false
+    cleared-stays-unlatched = quiet .unlatched
+
+    -- and a poll of it there, if it is done, answers that it returns nothing.
+    pub cleared-polled-in-vain : (y : Exported) → y .asked ≡ poll i → isDone y ≡ true → isLoad (carriedThrough h (x ∷ later) .left) y ≡ false
+        → leftBy y .answer ≡ answered 0 none (y .answer)
+    cleared-polled-in-vain y a t l =
+        let u = carriedThrough h (x ∷ later) in
+        let still = faithful-through h f (x ∷ later) n in
+        let r = handed u y still t l in
+        let is = input-is i (device.poll i) (r .call) (asked-is (sym (ap askedBy a) ∙ r .passes)) .1 in
+        let off = ap (λ d. on (d .core .lines .irr) i) (sym (image-holds-device u still)) ∙ cleared-stays-unlatched in
+        ap (λ (o : Outcome). o .answer) (r .left)
+        ∙ ap (λ v. answered 0 v (y .answer)) (ap (value (current u)) is ∙ poll-finds-none i b (current u) off)

@@ -9,12 +9,13 @@ use Rattle.rules.specs.Inputs.{on, inputs, only, put, without, withHalf}
 use Rattle.rules.specs.Lines.{Lines, Made, event, withIrr, withMask, pendingIn, servedIn, serve, enter, leave, newlyUnmasked, newlyMasked}
 use Rattle.rules.specs.Lines.{polled, raised, lowered, cleared, masked}
 use Rattle.rules.specs.Core.{Core, Move, poll, raise, lower, clear, setMask, Act, move, setIsr, store, setVector, moved, lineTurn, turn, turns}
-use Rattle.rules.specs.Device.{Device, Call, actsOf, acted, step}
+use Rattle.rules.specs.Device.{Device, Call, none, actsOf, acted, step, value}
 use Rattle.rules.specs.Device as call
 use Rattle.rules.specs.History.{history, Along}
 use Rattle.rules.specs.Demands.{tally, Each, done, also, clears, someAct, Clears, Unraised, assertsOf}
 use Rattle.rules.proofs.laws.Bits.{test, on-put, on-without}
-use Rattle.rules.proofs.laws.Inputs.{first-has}
+use Rattle.rules.proofs.laws.Inputs.{first-has, only-waiting}
+use Rattle.rules.proofs.laws.Steps.{poll-value}
 use Rattle.rules.proofs.laws.Counts.{tally-append, tally-nil, tally-none}
 use Rattle.rules.proofs.laws.Reach.{each-so, ReturnsNone, write-returns-none}
 use Rattle.rules.proofs.laws.Folds.{fold-acts, fold-calls}
@@ -140,6 +141,11 @@ module _ (n : ℕ) (b : n < 64) where
   quiet-until-raised =
       fold-calls (λ d ms e. Onward (d .core .lines) ms (e .core .lines)) (λ d h. record { silent = tally-nil _; unlatched = h })
       (λ d e f. onward-next (d .core .lines) (e .core .lines) (f .core .lines)) (Unraised n) call-quiet
+
+  -- and a poll of it returns nothing
+  pub poll-finds-none : (d : Device) → on (d .core .lines .irr) n ≡ false → value d (call.poll n) ≡ none
+  unfolding polled
+  poll-finds-none d h = poll-value d n ∙ rw (only-waiting n (d .core .lines) b, h)
 
   -- ---- CLEAR
 

@@ -141,10 +141,10 @@ access-is (pass w) (refuse r) f c e = never r c e
 access-is (refuse r) u f c e = never r c e
 
 -- a call on an input that passed its test
-input-is : (n : ℕ) (x c : Call) → inputCall n x ≡ pass c → (n < 64) × (c ≡ x)
+pub input-is : (n : ℕ) (x c : Call) → inputCall n x ≡ pass c → (n < 64) × (c ≡ x)
 input-is n x c e = test (ltb n 64) (λ t. (ltb-true n 64 t, sym (passed (rw t at e)))) (λ t. never request.noInput c (rw t at e))
 
-asked-is : {t : Tested Call} {c : Call} → calls t ≡ calls (pass c) → t ≡ pass c
+pub asked-is : {t : Tested Call} {c : Call} → calls t ≡ calls (pass c) → t ≡ pass c
 asked-is e = cc
 
 -- ---- what is read of one call is what its step gives
