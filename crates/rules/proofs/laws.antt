@@ -17,6 +17,7 @@ pub mod Rings
 pub mod Acts
 pub mod Steps
 pub mod Outcomes
+pub mod Refusals
 pub mod Maps
 pub mod Widths
 pub mod Writes
@@ -24,6 +25,7 @@ pub mod Entries
 pub mod Reach
 pub mod Folds
 pub mod Counts
+pub mod Latches
 pub mod Draining
 pub mod WellFormed
 pub mod Chains

@@ -23,5 +23,6 @@ pub mod Image
 pub mod Calls
 pub mod History
 pub mod Demands
+pub mod Exported
 pub mod Session
 pub mod Dozen

@@ -9,7 +9,7 @@ use lib.ListN.{length, take, drop, getD, set, length-append}
 use lib.Seq.{length-take-le, set-split, drop-at}
 use Rattle.rules.specs.Map.{within}
 use Rattle.rules.specs.Device.{Value, none, some}
-use Rattle.rules.specs.Session.{digitOf, digit, digits, ifSome, spelled}
+use Rattle.rules.specs.Session.{digitOf, digit, digits, ifSome, digitsSpell}
 use Rattle.rules.proofs.laws.Bits.{test}
 use Rattle.rules.proofs.laws.Lists.{next}
 use Rattle.rules.proofs.laws.Maps.{inside, inside-from, outside}
@@ -50,14 +50,14 @@ digit-below b d e =
 
 module _ (l : List ℕ) (i x : ℕ) (h : i < length l) where
   -- one digit more
-  spelled-next : (d : ℕ) → digitOf (getD l i 0) ≡ some d → spelled x (drop i l) ≡ spelled (16 * x + d) (drop (i + 1) l)
-  unfolding spelled
-  spelled-next d e = ap (spelled x) (next l i 0 h) ∙ ap (λ (v : Value). ifSome v (λ d. spelled (16 * x + d) (drop (i + 1) l))) e
+  digitsSpell-next : (d : ℕ) → digitOf (getD l i 0) ≡ some d → digitsSpell x (drop i l) ≡ digitsSpell (16 * x + d) (drop (i + 1) l)
+  unfolding digitsSpell
+  digitsSpell-next d e = ap (digitsSpell x) (next l i 0 h) ∙ ap (λ (v : Value). ifSome v (λ d. digitsSpell (16 * x + d) (drop (i + 1) l))) e
 
   -- a byte that is no digit
-  pub spelled-wrong : digitOf (getD l i 0) ≡ none → spelled x (drop i l) ≡ none
-  unfolding spelled
-  spelled-wrong e = ap (spelled x) (next l i 0 h) ∙ ap (λ (v : Value). ifSome v (λ d. spelled (16 * x + d) (drop (i + 1) l))) e
+  pub digitsSpell-wrong : digitOf (getD l i 0) ≡ none → digitsSpell x (drop i l) ≡ none
+  unfolding digitsSpell
+  digitsSpell-wrong e = ap (digitsSpell x) (next l i 0 h) ∙ ap (λ (v : Value). ifSome v (λ d. digitsSpell (16 * x + d) (drop (i + 1) l))) e
 
 -- so many digits have room in 64 bits
 digits-fit : (x d i : ℕ) → x < 16 ^ i → d < 16 → i < 16 → (16 * x + d < 16 ^ (i + 1)) × (16 * x + d < 2 ^ 64)
@@ -69,7 +69,7 @@ digits-fit x d i h k j =
 
 -- what holds after i digits of at most 16: the rest, read on from x, gives the number of the whole
 pub record Reading (l : List ℕ) (x i : ℕ) : Type 0 where
-  pub same : spelled x (drop i l) ≡ spelled 0 l
+  pub same : digitsSpell x (drop i l) ≡ digitsSpell 0 l
   pub below : x < 16 ^ i
   pub within : i ≤ length l
 
@@ -77,7 +77,7 @@ pub reading-next : (l : List ℕ) (x i d : ℕ) → Reading l x i → i < length
     → Reading l (16 * x + d) (i + 1) × (16 * x + d < 2 ^ 64)
 reading-next l x i d r h k e =
     let f = digits-fit x d i (r .below) (digit-below (getD l i 0) d e) (omega arith) in
-    (record { same = sym (spelled-next l i x h d e) ∙ r .same; below = f .0; within = omega arith }, f .1)
+    (record { same = sym (digitsSpell-next l i x h d e) ∙ r .same; below = f .0; within = omega arith }, f .1)
 
 -- ---- a number written
 

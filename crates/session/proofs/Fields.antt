@@ -9,7 +9,7 @@ use lib.ListN.{length, take, drop, getD, length-drop, drop-of-length-le}
 use lib.Seq.{drop-drop}
 use borrow.Author.Tests.{eq-eqb, ne-eqb, le-leb, lt-leb}
 use Rattle.rules.specs.Device.{Value, none, some}
-use Rattle.rules.specs.Session.{space, letter-l, letter-p, letter-r, letter-w, letter-d, spelled, Fields, wrong, right, joined, fields, Line, unknown, ifRight, levelLine, pollLine, readLine, writeLine, drainLine, lineOf}
+use Rattle.rules.specs.Session.{space, letter-l, letter-p, letter-r, letter-w, letter-d, digitsSpell, Fields, wrong, right, joined, fields, Line, unknown, ifRight, levelLine, pollLine, readLine, writeLine, drainLine, lineOf}
 use Rattle.rules.proofs.laws.Lists.{next}
 use Rattle.session.specs.Requests.{numberView, fieldOf}
 use Rattle.session.specs.declared.hex.Number.{Number}
@@ -28,8 +28,8 @@ module _ (line : List ℕ) (at n : ℕ) where
   pub field-unmarked : at < length line → (getD line at 0 ≡ space → ⊥) → fieldOf n (drop at line) ≡ none
   field-unmarked h k = ap (fieldOf n) (next line at 0 h) ∙ rw (ne-eqb (getD line at 0) space k)
 
-  pub field-spelled : at + 1 + n ≤ length line → getD line at 0 ≡ space → fieldOf n (drop at line) ≡ spelled 0 (take n (drop (at + 1) line))
-  field-spelled h e =
+  pub field-digitsSpell : at + 1 + n ≤ length line → getD line at 0 ≡ space → fieldOf n (drop at line) ≡ digitsSpell 0 (take n (drop (at + 1) line))
+  field-digitsSpell h e =
       let k : n ≤ length (drop (at + 1) line) = simp length-drop (omega arith) in
       ap (fieldOf n) (next line at 0 (omega arith)) ∙ rw (eq-eqb (getD line at 0) space e, le-leb n (length (drop (at + 1) line)) k)
 
@@ -47,7 +47,7 @@ first-field n ns (b ∷ l) =
     let s : 1 + n ≡ suc n = omega arith in
     rw s (go (eqb b space && leb n (length l)))
   where
-    go : (t : Bool) → cond t (joined (spelled 0 (take n l)) (fields ns (drop n l))) wrong ≡ joined (cond t (spelled 0 (take n l)) none) (fields ns (drop n l))
+    go : (t : Bool) → cond t (joined (digitsSpell 0 (take n l)) (fields ns (drop n l))) wrong ≡ joined (cond t (digitsSpell 0 (take n l)) none) (fields ns (drop n l))
     go true = refl
     go false = refl
 

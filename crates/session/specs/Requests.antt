@@ -7,7 +7,7 @@ use lib.ListN.{length, take}
 use Rattle.rules.specs.Ring.{capacity}
 use Rattle.rules.specs.Device.{Value, none, some, level, poll, read, write, drain}
 use Rattle.rules.specs.Calls.{pass, inputCall, accessCall}
-use Rattle.rules.specs.Session.{space, spelled, Line, asks, unknown, sessionBase, sessionSize}
+use Rattle.rules.specs.Session.{space, digitsSpell, Line, asks, unknown, sessionBase, sessionSize}
 use Rattle.session.specs.declared.hex.Digit.{Digit}
 use Rattle.session.specs.declared.hex.Digit.the-variants.{Worth, Other}
 use Rattle.session.specs.declared.hex.Number.{Number}
@@ -26,7 +26,7 @@ numberView Wrong = none
 -- the number of one field at the front: a space and so many digits, with anything behind them
 abbrev pub fieldOf : ℕ → List ℕ → Value
 fieldOf n [] = none
-fieldOf n (b ∷ l) = cond (eqb b space && leb n (length l)) (spelled 0 (take n l)) none
+fieldOf n (b ∷ l) = cond (eqb b space && leb n (length l)) (digitsSpell 0 (take n l)) none
 
 abbrev pub requestView : Request → Line
 requestView (request.Level n b) = asks (inputCall n (level n b))

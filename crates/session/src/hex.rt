@@ -3,7 +3,7 @@ ghost use mathlib.Core.Path.{_≡_};
 ghost use mathlib.Core.List.{_++_};
 ghost use Prim.Native.Nat.{_+_, _<_, _≤_};
 ghost use lib.ListN.{length, drop};
-ghost use Rattle.rules.specs.Session.{digitOf, digit, digits, spelled};
+ghost use Rattle.rules.specs.Session.{digitOf, digit, digits, digitsSpell};
 ghost use Rattle.session.specs.Requests.{digitView, numberView, fieldOf};
 
 // What a byte is worth as a digit.
@@ -36,7 +36,7 @@ pub fn wide(x: u8) -> u64
 
 pub fn number_of(text: &[u8]) -> Number
     requires { ⌜ length (now text) ≤ 16 ⌝ }
-    ensures { λ r. ⌜ numberView r ≡ spelled 0 (now (text .entry)) ⌝ }
+    ensures { λ r. ⌜ numberView r ≡ digitsSpell 0 (now (text .entry)) ⌝ }
 {
     let mut value: u64 = 0;
     let mut i = 0;

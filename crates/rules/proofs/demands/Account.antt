@@ -64,7 +64,8 @@ module _ (v : ℕ) where
       (each-both (no-isr-act (d .core) c (p .noIsrWrite)) e))
       (lines-or-vectors (d .core) c)
 
-  none-served : carrying v (reset .core) ≡ 0
+  -- at reset no input is in service
+  pub none-served : carrying v (reset .core) ≡ 0
   none-served = ap length (no-inputs _ (λ i b. rw (on-none i)))
 
 -- 01, Saved image: 'A load begins a new history: counts of demand 3 start there from the loaded ISR.' From any device, so from any loaded image:

@@ -19,9 +19,9 @@ use Rattle.rules.specs.Device.{Device, Call, level, poll, write, drain, 
 use Rattle.rules.specs.Image.{encode}
 use Rattle.rules.specs.Calls.{Request, askedBy}
 use Rattle.rules.specs.Calls as request
-use Rattle.rules.specs.History.{history, fromReset, Along, Admitted, writesIsr, Exported, leftBy, isReset}
-use Rattle.rules.specs.Demands.{tally, asserts, deasserts, carrying, Each, done, also, inService, Ready, disturbs, Undisturbed, foundBy}
-use Rattle.rules.specs.Demands.{NoLoads, HandedOn, doneCalls, afterReset, returnedBy, drainedBy}
+use Rattle.rules.specs.History.{history, fromReset, Along, Admitted, writesIsr}
+use Rattle.rules.specs.Demands.{tally, asserts, deasserts, carrying, Each, done, also, inService, Eligible, disturbs, Undisturbed, foundBy}
+use Rattle.rules.specs.Exported.{Exported, leftBy, isReset, NoLoads, HandedOn, doneCalls, afterReset, returnedBy, drainedBy}
 use Rattle.rules.specs.Dozen.{raises}
 use Rattle.rules.proofs.laws.Computing.{computing}
 use Rattle.rules.proofs.demands.Account.{asserts-match-service}
@@ -123,7 +123,7 @@ worked-account = asserts-match-service 5 worked worked-admitted
 
 -- ---- service
 
--- raise 3 and 5 and unmask all: only 3 enters service, and 5 is ready. Then lower 3, drain, poll 5, clear 3, and mask 3
+-- raise 3 and 5 and unmask all: only 3 enters service, and 5 is eligible. Then lower 3, drain, poll 5, clear 3, and mask 3
 abbrev begun : List Call
 begun = level 3 true ∷ level 5 true ∷ write dword 0x020 0 ∷ []
 
@@ -133,9 +133,9 @@ before = level 3 false ∷ drain 1 ∷ []
 abbrev later : List Call
 later = write dword 0x080 0x8 ∷ write byte 0x020 0x8 ∷ []
 
-five-ready : Ready 5 (fromReset begun .after .core .lines)
+five-eligible : Eligible 5 (fromReset begun .after .core .lines)
 unfolding computing
-five-ready = record { latched = refl; unmasked = refl }
+five-eligible = record { latched = refl; unmasked = refl }
 
 five-waits : inService 5 (fromReset begun .after .core .lines) ≡ false
 unfolding computing
@@ -146,7 +146,7 @@ unfolding computing
 five-undisturbed = all-undisturbed 5 (fromReset begun .after) (before ++ (poll 5 ∷ later)) refl
 
 five-served : inService 5 (history (fromReset begun .after) (before ++ (poll 5 ∷ later)) .after .core .lines) ≡ true
-five-served = in-service-from-then-on 5 (lit< tt) (fromReset begun .after) before (poll 5) later five-ready five-undisturbed refl
+five-served = in-service-from-then-on 5 (lit< tt) (fromReset begun .after) before (poll 5) later five-eligible five-undisturbed refl
 
 -- ---- order
 

@@ -33,6 +33,10 @@ pub each-both : {T U : Act → Type 0} {xs : List Act} → Each T xs → Each U 
 each-both done done = done
 each-both (also t e) (also u f) = also (t, u) (each-both e f)
 
+pub each-so : {T U : Act → Type 0} {xs : List Act} → ((a : Act) → T a → U a) → Each T xs → Each U xs
+each-so f done = done
+each-so f (also {a = a} t e) = also (f a t) (each-so f e)
+
 -- ---- what stands at an offset
 
 -- a test holds of every half that a table lists, at its offset

@@ -4,8 +4,8 @@ use Prim.Native.Nat.{_+_, _-_}
 use native.Mathlib.Omega.{arith}
 use lib.ListN.{take, drop}
 use borrow.Author.Needs.{needs}
-use Rattle.rules.specs.Session.{spelled}
-use Rattle.session.proofs.Fields.{field-short, field-unmarked, field-spelled}
+use Rattle.rules.specs.Session.{digitsSpell}
+use Rattle.session.proofs.Fields.{field-short, field-unmarked, field-digitsSpell}
 use Rattle.session.proofs.hex.field.Statement.{statement}
 use Rattle.session.proofs.hex.field.Tie as tie
 
@@ -25,4 +25,4 @@ field-spec =
     (λ c.
     let a = c .before .before .before .before .before .before .args in
     let e : a .at + 1 + a .n - (a .at + 1) ≡ a .n = omega arith in
-    c .number-of .ensures ∙ ap (λ k. spelled 0 (take k (drop (a .at + 1) (a .line .now)))) e ∙ sym (field-spelled (a .line .now) (a .at) (a .n) (omega arith) (c .before .before .if2 .left))))
+    c .number-of .ensures ∙ ap (λ k. digitsSpell 0 (take k (drop (a .at + 1) (a .line .now)))) e ∙ sym (field-digitsSpell (a .line .now) (a .at) (a .n) (omega arith) (c .before .before .if2 .left))))

@@ -4,9 +4,9 @@ use Prim.Native.Nat.{_+_, _-_, _*_, _^_, _<_}
 use native.Mathlib.Omega.{arith}
 use lib.ListN.{length, drop-of-length-le}
 use borrow.Author.Needs.{needs}
-use Rattle.rules.specs.Session.{spelled}
+use Rattle.rules.specs.Session.{digitsSpell}
 use Rattle.session.specs.Requests.{digitView}
-use Rattle.session.proofs.Digits.{Reading, reading-next, spelled-wrong}
+use Rattle.session.proofs.Digits.{Reading, reading-next, digitsSpell-wrong}
 use Rattle.session.proofs.hex.number_of.Statement.{statement}
 use Rattle.session.proofs.hex.number_of.Tie as tie
 
@@ -28,16 +28,16 @@ turned c =
 returns : tie.Need-returns Inv-loop μ-loop
 returns c =
     let l = c .before .before .before .before .before in
-    sym (spelled-wrong _ (l .loop .i) _ (omega arith) (sym (c .before .before .digit-of .ensures) ∙ ap digitView (c .enum-told .given .1))) ∙ l .loop .inv .same
+    sym (digitsSpell-wrong _ (l .loop .i) _ (omega arith) (sym (c .before .before .digit-of .ensures) ∙ ap digitView (c .enum-told .given .1))) ∙ l .loop .inv .same
 
 loop-again : tie.Need-loop-again Inv-loop μ-loop
 loop-again c = rw (c .wide .ensures) (turned (c .before .before) .0)
 
 returns-2 : tie.Need-returns-2 Inv-loop μ-loop
-unfolding spelled
+unfolding digitsSpell
 returns-2 c =
     let l = c .before .loop in
-    ap (spelled (l .value)) (sym (drop-of-length-le _ (c .loop-test .left))) ∙ l .inv .same
+    ap (digitsSpell (l .value)) (sym (drop-of-length-le _ (c .loop-test .left))) ∙ l .inv .same
 
 pub number-of-spec : {M : Type 1} → statement M
 number-of-spec =
