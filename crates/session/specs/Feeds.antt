@@ -9,7 +9,7 @@ use Rattle.rules.specs.Device.{reset}
 use Rattle.rules.specs.Session as session
 use Rattle.rules.specs.Session.{newline, linesOf, answers}
 use Rattle.state.specs.View.{view, Well, Is}
-use Rattle.session.specs.Plays.{Says}
+use Rattle.reply.specs.Says.{Says}
 use Rattle.session.specs.declared.lines.Session.{Session}
 
 -- a line's answer with its ending

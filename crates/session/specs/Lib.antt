@@ -1,4 +1,3 @@
--- What the session's functions promise: what a line asks for, a line played, and the input in chunks.
-pub mod Requests
+-- What the session's functions promise: a line played, and the input in chunks.
 pub mod Plays
 pub mod Feeds

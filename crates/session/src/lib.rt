@@ -1,8 +1,5 @@
 // The session program's work, on slices: a line of bytes is read, its call is made or refused, and the answer is written.
-mod answer;
-mod hex;
 pub mod lines;
-mod request;
 
 use engine::Routed;
 use request::Request;
@@ -14,9 +11,10 @@ ghost use Prim.Native.Nat.{_<_, _≤_};
 ghost use lib.ListN.{length};
 ghost use Rattle.rules.specs.Session.{playedLine, played, ending};
 ghost use Rattle.state.specs.View.{view, Well, WellLines};
-ghost use Rattle.session.specs.Requests.{requestView};
-ghost use Rattle.session.specs.Plays.{Says, Plays, refusedWith, routedWith};
-ghost use Rattle.session.specs.declared.request.Request.the-variants.{Level, Poll, Read, Write, Drain};
+ghost use Rattle.request.specs.Requests.{requestView};
+ghost use Rattle.reply.specs.Says.{Says};
+ghost use Rattle.session.specs.Plays.{Plays, refusedWith, routedWith};
+ghost use Rattle.request.specs.declared.Request.the-variants.{Level, Poll, Read, Write, Drain};
 
 // The session's window.
 const BASE: u64 = 0;
@@ -34,7 +32,7 @@ fn refused(state: PchPicState, number: u8, out: &mut [u8]) -> Played
     requires { ⌜ Well state × (number < 10) × (2 ≤ length (now out)) ⌝ }
     ensures { λ r. ⌜ Plays r (now (out .entry)) (now (out .exit)) (refusedWith (view state) number) ⌝ }
 {
-    let len = answer::put_refusal(out, number);
+    let len = reply::put_refusal(out, number);
     Played { state, len }
 }
 
@@ -47,7 +45,7 @@ fn routed(state: PchPicState, moved: Routed, out: &mut [u8]) -> Played
     let lines = moved.lines;
     let vector = moved.answer;
     next.lines = lines;
-    let len = answer::put_vector(out, vector);
+    let len = reply::put_vector(out, vector);
     Played { state: next, len }
 }
 
@@ -86,7 +84,7 @@ fn play_read(state: PchPicState, width: u64, address: u64, out: &mut [u8]) -> Pl
         return refused(state, 1, out);
     };
     let value = registers::read_register(state, bytes, offset);
-    let len = answer::put_value(out, value);
+    let len = reply::put_value(out, value);
     Played { state, len }
 }
 
@@ -101,7 +99,7 @@ fn play_write(state: PchPicState, width: u64, address: u64, value: u64, out: &mu
         return refused(state, 1, out);
     };
     let next = registers::write_register(state, bytes, offset, value);
-    let len = answer::put_ok(out);
+    let len = reply::put_ok(out);
     Played { state: next, len }
 }
 
@@ -127,7 +125,7 @@ fn play_drain(state: PchPicState, out: &mut [u8]) -> Played
         queue,
     };
     next.ring = left;
-    let len = answer::put_drained(out, &pairs, drained.count);
+    let len = reply::put_drained(out, &pairs, drained.count);
     Played { state: next, len }
 }
 
@@ -143,7 +141,7 @@ pub fn play(state: PchPicState, line: &[u8], out: &mut [u8]) -> Played
         Request::Write(width, address, value) => play_write(state, width, address, value, out),
         Request::Drain => play_drain(state, out),
         Request::Unknown => {
-            let len = answer::put_unknown(out);
+            let len = reply::put_unknown(out);
             Played { state, len }
         }
     }
@@ -154,5 +152,5 @@ pub fn finish(state: PchPicState, out: &mut [u8]) -> usize
     requires { ⌜ 14 ≤ length (now out) ⌝ }
     ensures { λ r. ⌜ Says r (now (out .entry)) (now (out .exit)) (ending (view state)) ⌝ }
 {
-    answer::put_drops(out, state.ring.queue.output_drops)
+    reply::put_drops(out, state.ring.queue.output_drops)
 }

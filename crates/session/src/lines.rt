@@ -8,7 +8,8 @@ ghost use lib.ListN.{length, take};
 ghost use Rattle.rules.specs.Device.{reset};
 ghost use Rattle.rules.specs.Session.{played, linesOf, answers};
 ghost use Rattle.state.specs.View.{view, Well};
-ghost use Rattle.session.specs.Plays.{Says, Plays};
+ghost use Rattle.reply.specs.Says.{Says};
+ghost use Rattle.session.specs.Plays.{Plays};
 ghost use Rattle.session.specs.Feeds.{ended, Starts, Ready, Feeds, Takes};
 
 // Between two bytes of the input: the state, and how many bytes of the line so far stand at the front of the line buffer.

@@ -6,8 +6,8 @@ use borrow.Author.Needs.{needs}
 use Rattle.rules.specs.Device.{Device}
 use Rattle.rules.specs.Session.{lineOf, playedLine, played}
 use Rattle.state.specs.View.{view}
-use Rattle.session.specs.Requests.{requestView}
-use Rattle.session.specs.declared.request.Request.{Request}
+use Rattle.request.specs.Requests.{requestView}
+use Rattle.request.specs.declared.Request.{Request}
 use Rattle.session.proofs.Playing.{plays-as}
 use Rattle.session.proofs.play.Statement.{statement}
 use Rattle.session.proofs.play.Tie as tie

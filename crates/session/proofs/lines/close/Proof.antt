@@ -6,8 +6,8 @@ use lib.ListN.{length, take}
 use lib.Seq.{length-take-le}
 use borrow.Author.Needs.{needs}
 use Rattle.state.specs.View.{view}
-use Rattle.session.specs.Plays.{Says}
-use Rattle.session.proofs.Writing.{filled, put-part, says}
+use Rattle.reply.specs.Says.{Says}
+use Rattle.reply.proofs.Writing.{filled, put-part, says}
 use Rattle.session.proofs.Feeding.{none-kept, last-line}
 use Rattle.session.proofs.lines.close.Statement.{statement}
 use Rattle.session.proofs.lines.close.Tie as tie

@@ -2,7 +2,7 @@
 use native.Mathlib.Omega.{arith}
 use borrow.Author.Needs.{needs}
 use Rattle.rules.specs.Session.{newline, answers}
-use Rattle.session.proofs.Writing.{put-byte, filled, says}
+use Rattle.reply.proofs.Writing.{put-byte, filled, says}
 use Rattle.session.proofs.lines.end.Statement.{statement}
 use Rattle.session.proofs.lines.end.Tie as tie
 

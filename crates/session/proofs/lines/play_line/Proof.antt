@@ -8,8 +8,8 @@ use lib.Seq.{length-take-le}
 use borrow.Author.Needs.{needs}
 use Rattle.rules.specs.Session.{newline, played}
 use Rattle.state.specs.View.{view}
-use Rattle.session.specs.Plays.{Says}
-use Rattle.session.proofs.Writing.{put-byte, filled, fits, size, in-front, says}
+use Rattle.reply.specs.Says.{Says}
+use Rattle.reply.proofs.Writing.{put-byte, filled, fits, size, in-front, says}
 use Rattle.session.proofs.lines.play_line.Statement.{statement}
 use Rattle.session.proofs.lines.play_line.Tie as tie
 
