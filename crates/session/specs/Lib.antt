@@ -1,3 +1,2 @@
--- What the session's functions promise: a line played, and the input in chunks.
-pub mod Plays
+-- What the input in chunks leaves.
 pub mod Feeds

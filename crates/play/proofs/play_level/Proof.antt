@@ -1,9 +1,9 @@
 -- `play_level` is right since an input of 64 or more is refused, and of any other the engine's answer is said.
 use borrow.Author.Needs.{needs}
 use Rattle.state.specs.View.{view}
-use Rattle.session.proofs.Playing.{plays-as, input-refusal, level-routed}
-use Rattle.session.proofs.play_level.Statement.{statement}
-use Rattle.session.proofs.play_level.Tie as tie
+use Rattle.play.proofs.Playing.{plays-as, input-refusal, level-routed}
+use Rattle.play.proofs.play_level.Statement.{statement}
+use Rattle.play.proofs.play_level.Tie as tie
 
 returns : tie.Need-returns
 returns c =

@@ -26,8 +26,8 @@ use Rattle.engine.specs.declared.Routed.{Routed}
 use Rattle.engine.specs.declared.Drained.{Drained}
 use Rattle.engine.specs.Moves.{Answers, Drains}
 use Rattle.reply.specs.Says.{pairSaid, pairsSaid}
-use Rattle.session.specs.Plays.{Plays, refusedWith, routedWith}
-use Rattle.session.specs.declared.Played.{Played}
+use Rattle.play.specs.Plays.{Plays, refusedWith, routedWith}
+use Rattle.play.specs.declared.Played.{Played}
 
 pub plays-as : {r : Played} {entry exit : List ℕ} {p q : session.Played} → Plays r entry exit p → p ≡ q → Plays r entry exit q
 plays-as {r} {entry} {exit} h e = subst (Plays r entry exit) e h

@@ -9,8 +9,8 @@ use Rattle.state.specs.View.{view}
 use Rattle.reply.specs.Says.{Says}
 use Rattle.reply.proofs.Writing.{filled, put-part, says}
 use Rattle.session.proofs.Feeding.{none-kept, last-line}
-use Rattle.session.proofs.lines.close.Statement.{statement}
-use Rattle.session.proofs.lines.close.Tie as tie
+use Rattle.session.proofs.close.Statement.{statement}
+use Rattle.session.proofs.close.Tie as tie
 
 returns : tie.Need-returns
 returns c =

@@ -3,9 +3,9 @@ use mathlib.Core.Path.{refl}
 use native.Mathlib.Omega.{arith}
 use borrow.Author.Needs.{needs}
 use Rattle.state.specs.View.{view}
-use Rattle.session.proofs.Playing.{plays-as, drained-few, drain-done}
-use Rattle.session.proofs.play_drain.Statement.{statement}
-use Rattle.session.proofs.play_drain.Tie as tie
+use Rattle.play.proofs.Playing.{plays-as, drained-few, drain-done}
+use Rattle.play.proofs.play_drain.Statement.{statement}
+use Rattle.play.proofs.play_drain.Tie as tie
 
 put-drained-requires : tie.Need-put-drained-requires
 put-drained-requires c κs =

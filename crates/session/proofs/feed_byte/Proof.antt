@@ -4,8 +4,8 @@ use native.Mathlib.Omega.{arith}
 use lib.Seq.{length-take-le}
 use borrow.Author.Needs.{needs}
 use Rattle.session.proofs.Feeding.{fed-ending, fed-kept, fed-lost}
-use Rattle.session.proofs.lines.feed_byte.Statement.{statement}
-use Rattle.session.proofs.lines.feed_byte.Tie as tie
+use Rattle.session.proofs.feed_byte.Statement.{statement}
+use Rattle.session.proofs.feed_byte.Tie as tie
 
 returns : tie.Need-returns
 returns c =

@@ -1,9 +1,9 @@
 -- `play_poll` is right since an input of 64 or more is refused, and of any other the engine's answer is said.
 use borrow.Author.Needs.{needs}
 use Rattle.state.specs.View.{view}
-use Rattle.session.proofs.Playing.{plays-as, input-refusal, poll-routed}
-use Rattle.session.proofs.play_poll.Statement.{statement}
-use Rattle.session.proofs.play_poll.Tie as tie
+use Rattle.play.proofs.Playing.{plays-as, input-refusal, poll-routed}
+use Rattle.play.proofs.play_poll.Statement.{statement}
+use Rattle.play.proofs.play_poll.Tie as tie
 
 returns : tie.Need-returns
 returns c =

@@ -8,9 +8,9 @@ use Rattle.rules.specs.Session.{lineOf, playedLine, played}
 use Rattle.state.specs.View.{view}
 use Rattle.request.specs.Requests.{requestView}
 use Rattle.request.specs.declared.Request.{Request}
-use Rattle.session.proofs.Playing.{plays-as}
-use Rattle.session.proofs.play.Statement.{statement}
-use Rattle.session.proofs.play.Tie as tie
+use Rattle.play.proofs.Playing.{plays-as}
+use Rattle.play.proofs.play.Statement.{statement}
+use Rattle.play.proofs.play.Tie as tie
 
 -- the request is what the line asks for
 asked : (d : Device) (line : List ℕ) {r q : Request} → requestView r ≡ lineOf line → r ≡ q → playedLine d (requestView q) ≡ played d line

@@ -9,7 +9,7 @@ use Rattle.state.specs.View.{linesView, Is}
 use Rattle.engine.specs.declared.Routed.{Routed}
 use Rattle.engine.specs.Moves.{answerValue}
 use Rattle.reply.specs.Says.{Says}
-use Rattle.session.specs.declared.Played.{Played}
+use Rattle.play.specs.declared.Played.{Played}
 
 pub record Plays (r : Played) (entry exit : List ℕ) (p : session.Played) : Type 0 where
   pub state : Is (r .state) (p .after)

@@ -8,9 +8,9 @@ use Rattle.rules.specs.Session.{sessionBase, sessionSize}
 use Rattle.state.specs.View.{view}
 use Rattle.registers.specs.Views.{widthView}
 use Rattle.window.specs.Tests.{knownView, locatedView}
-use Rattle.session.proofs.Playing.{plays-as, offset-below, width-refusal, address-refusal, read-done}
-use Rattle.session.proofs.play_read.Statement.{statement}
-use Rattle.session.proofs.play_read.Tie as tie
+use Rattle.play.proofs.Playing.{plays-as, offset-below, width-refusal, address-refusal, read-done}
+use Rattle.play.proofs.play_read.Statement.{statement}
+use Rattle.play.proofs.play_read.Tie as tie
 
 width : (c : tie.After-bytes) → widthTest (c .before .before .before .before .args .width) ≡ pass (widthView (c .bytes .given .0 .0))
 width c = sym (c .before .before .width-of .ensures) ∙ ap knownView (c .bytes .given .1)

@@ -6,8 +6,8 @@ use lib.Seq.{length-take-le}
 use borrow.Author.Tests.{leb-true, leb-false}
 use Rattle.reply.proofs.Writing.{fits}
 use Rattle.session.proofs.Feeding.{Feeding, feed-start, feed-next}
-use Rattle.session.proofs.lines.feed.Statement.{statement}
-use Rattle.session.proofs.lines.feed.Tie as tie
+use Rattle.session.proofs.feed.Statement.{statement}
+use Rattle.session.proofs.feed.Tie as tie
 
 abbrev Inv-loop : tie.InvT-loop
 Inv-loop line₀ chunk out₀ room next₀ taken₀ len₀ line out next taken len = Feeding next₀ line₀ chunk out₀ next line taken len out
