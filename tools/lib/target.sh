@@ -112,6 +112,6 @@ x86_checks() {
 x86_valgrind() {
     valgrind=()
     if ! on_x86; then return 0; fi
-    command -v valgrind >/dev/null 2>&1 || install_packages valgrind
+    command -v valgrind >/dev/null 2>&1 || install_packages valgrind libc6-dbg
     if command -v valgrind >/dev/null 2>&1; then valgrind=(valgrind -q --error-exitcode=9); fi
 }
