@@ -149,7 +149,7 @@ run-written b c s ps rs ts d same u a i k ys ue h e =
 distinct-fields : (f : Form) → distinct (fields f) ≡ true
 distinct-fields one = refl
 
-length-contents : (f : Form) → length (contentsOf f) ≡ contentsLength f
+pub length-contents : (f : Form) → length (contentsOf f) ≡ contentsLength f
 length-contents one = refl
 
 -- a fact of every word, and of every field, from one for each

@@ -42,7 +42,7 @@ module _ (f : Form) (l : List ℕ) (b : Bytes l) (a : Accepted f l) where
   word-back mask h = number-back (word mask) h
   word-back irr h = number-back (word irr) h
   word-back isr h = number-back (word isr) h
-  word-back copy h = ap (bytesOf 8) (sym (a .copied h)) ∙ number-back (word copy) h
+  word-back copy h = ap (bytesOf 8) (sym (a .ruled .copied h)) ∙ number-back (word copy) h
   word-back (stored htmsiEn) h = number-back (word (stored htmsiEn)) h
   word-back (stored edge) h = number-back (word (stored edge)) h
   word-back (stored pol) h = number-back (word (stored pol)) h
@@ -54,7 +54,7 @@ module _ (f : Form) (l : List ℕ) (b : Bytes l) (a : Accepted f l) where
 
   -- as many events are spelled as wait
   many : length (eventsOf (countIn f l) (read f l pairs)) ≡ countIn f l
-  many = length-spelled eventTwos (countIn f l) (read f l pairs) (omega (arith, length-pairs, a .counted))
+  many = length-spelled eventTwos (countIn f l) (read f l pairs) (omega (arith, length-pairs, a .ruled .counted))
 
   field-back : (p : Field) → has f p ≡ true → fieldOf (decodeAs f l) p ≡ read f l p
   field-back (word w) h = word-back w h
@@ -63,8 +63,8 @@ module _ (f : Form) (l : List ℕ) (b : Bytes l) (a : Accepted f l) where
   field-back count h = ap (λ n. n ∷ []) (many ∙ sym (count-read f l)) ∙ alone (read f l count) (length-read f l (a .sized) count h)
   field-back drops h = number-back drops h
   field-back pairs h =
-      sixteen-back eventTwos (countIn f l) (read f l pairs) length-pairs (a .counted)
-      (λ i k. event-comes (getD (read f l pairs) (2 * i) 0) (getD (read f l pairs) (2 * i + 1) 0) (a .flagged (2 * i + 1) (omega arith) (omega arith))) (a .unused)
+      sixteen-back eventTwos (countIn f l) (read f l pairs) length-pairs (a .ruled .counted)
+      (λ i k. event-comes (getD (read f l pairs) (2 * i) 0) (getD (read f l pairs) (2 * i + 1) 0) (a .ruled .flagged (2 * i + 1) (omega arith) (omega arith))) (a .ruled .unused)
 
   pub encode-decode : encodeAs f (decodeAs f l) ≡ l
   encode-decode = image-known f l (fieldOf (decodeAs f l)) (a .sized) (a .headed) field-back
@@ -86,7 +86,7 @@ module _ (f : Form) (l : List ℕ) (b : Bytes l) (a : Accepted f l) where
     vectorBytes = bytes-part l (place f vectors) (size vectors) b;
     vectors = length-read f l (a .sized) vectors (has-all f vectors refl);
     eventBytes = bytes-vectors (countIn f l) (read f l pairs) (bytes-part l (place f pairs) (size pairs) b);
-    waiting = omega (arith, many, a .counted);
+    waiting = omega (arith, many, a .ruled .counted);
     drops = omega (arith, number-small drops refl);
   }
 
@@ -96,7 +96,7 @@ bytes-laid : (c : Field → List ℕ) → ((p : Field) → Bytes (c p)) → (ps 
 bytes-laid c h [] i = lit< tt
 bytes-laid c h (p ∷ ps) i = rw (laid-cons c p ps) (bytes-append (c p) (laid c ps) (h p) (bytes-laid c h ps) i)
 
-bytes-contents : (f : Form) → Bytes (contentsOf f)
+pub bytes-contents : (f : Form) → Bytes (contentsOf f)
 bytes-contents one = bytes-known (contentsOf one) refl
 
 module _ (d : Device) (w : WellFormed d) where
@@ -143,10 +143,12 @@ module _ (d : Device) (w : WellFormed d) where
         record {
           sized = length-encode;
           headed = headed-image f (fieldOf d);
-          copied = λ h. ap numberOf (stands (word copy) h) ∙ sym (ap numberOf (field-stands (word irr) refl));
-          counted = rw count-stands (w .waiting);
-          flagged = rw (count-stands, field-stands pairs refl) (written-flags es (replicate (2 * capacity - 2 * length es) 0));
-          unused = rw (count-stands, field-stands pairs refl) (sixteen-unused eventTwos es);
+          ruled = record {
+            copied = λ h. ap numberOf (stands (word copy) h) ∙ sym (ap numberOf (field-stands (word irr) refl));
+            counted = rw count-stands (w .waiting);
+            flagged = rw (count-stands, field-stands pairs refl) (written-flags es (replicate (2 * capacity - 2 * length es) 0));
+            unused = rw (count-stands, field-stands pairs refl) (sixteen-unused eventTwos es);
+          };
         }
 
     -- a device's image is accepted

@@ -12,7 +12,7 @@ use lib.Seq.{getD-drop, getD-take}
 use borrow.Author.Tests.{eq-eqb, ne-eqb, eqb-true, ltb-false, lt-ltb, le-ltb, le-leb, leb-true, ltb-true, not-false}
 use Rattle.rules.specs.Numbers.{part}
 use Rattle.rules.specs.Ring.{capacity}
-use Rattle.rules.specs.Form.{Form, one, Field, word, copy, irr, count, pairs, has, size, place, formLength, contentsLength, contentsOf, read, Known, unknown, known, formOf}
+use Rattle.rules.specs.Form.{Form, one, Field, word, copy, irr, count, pairs, has, size, place, formLength, contentsLength, contentsOf, read, Known, known, formAmong, formOf}
 use Rattle.rules.specs.Image.{wordIn, countIn, Fault, Finding, clear, found, Rule, copyRule, countRule, flagRule, unusedRule, rules}
 use Rattle.rules.specs.Image.{search, finding, orElse, firstFault, same, ImageTest, accepted, wrongLength, wrongContents, bodyTest, testAs, testKnown, imageTest}
 use Rattle.rules.proofs.laws.Lists.{Each, length-part, equal-same, differ-same, same-equal}
@@ -163,44 +163,55 @@ hold-count l e h (suc j) k = absurd (omega arith)
 
 -- ---- what an accepted image has
 
--- its length, its contents, and each rule as a fact
-pub record Accepted (f : Form) (l : List ℕ) : Type 0 where
-  pub sized : length l ≡ formLength f
-  pub headed : part 0 (contentsLength f) l ≡ contentsOf f
+-- each rule of the bodies as a fact
+pub record Ruled (f : Form) (l : List ℕ) : Type 0 where
   pub copied : has f (word copy) ≡ true → wordIn f l copy ≡ wordIn f l irr
   pub counted : countIn f l ≤ capacity
   pub flagged : Flags (countIn f l) (read f l pairs)
   pub unused : Unused (countIn f l) (read f l pairs)
 
-module _ (f : Form) (l : List ℕ) where
-  pub test-length : (length l ≡ formLength f → ⊥) → testAs f l ≡ wrongLength
-  test-length h = rw (ne-eqb (length l) (formLength f) h)
+pub record Accepted (f : Form) (l : List ℕ) : Type 0 where
+  pub sized : length l ≡ formLength f
+  pub headed : part 0 (contentsLength f) l ≡ contentsOf f
+  pub ruled : Ruled f l
 
-  pub test-contents : length l ≡ formLength f → (part 0 (contentsLength f) l ≡ contentsOf f → ⊥) → testAs f l ≡ wrongContents
-  test-contents e h = rw (eq-eqb (length l) (formLength f) e, differ-same (part 0 (contentsLength f) l) (contentsOf f) h)
-
-  pub test-body : length l ≡ formLength f → part 0 (contentsLength f) l ≡ contentsOf f → testAs f l ≡ bodyTest (firstFault f l (rules f l))
-  test-body e h = rw (eq-eqb (length l) (formLength f) e, equal-same (part 0 (contentsLength f) l) (contentsOf f) h)
-
-  -- the rules of the bodies hold where none finds anything
-  rules-hold : length l ≡ formLength f → part 0 (contentsLength f) l ≡ contentsOf f → firstFault f l (rules f l) ≡ clear → Accepted f l
-  rules-hold e h c =
+module _ (f : Form) (l : List ℕ) (e : length l ≡ formLength f) where
+  pub clear-ruled : firstFault f l (rules f l) ≡ clear → Ruled f l
+  clear-ruled c =
       let all = all-hold f l (rules f l) c in
       let n = has-all f count refl in
       let p = has-all f pairs refl in
       record {
-        sized = e;
-        headed = h;
         copied = λ k. copy-holds (wordIn f l copy) (wordIn f l irr) (read f l (word copy)) (omega (arith, length-read f l e (word copy) k)) (all .0 k);
         counted = rw (count-read f l) at (count-holds (read f l count) (omega (arith, length-read f l e count n)) (all .1 .0 n));
         flagged = flags-hold (countIn f l) (read f l pairs) (all .1 .1 .0 p);
         unused = unused-hold (countIn f l) (read f l pairs) pairs (all .1 .1 .1 .0 p);
       }
 
+  pub ruled-clear : Ruled f l → firstFault f l (rules f l) ≡ clear
+  ruled-clear r = no-fault f l (rules f l) (
+    λ k. hold-copy (wordIn f l copy) (wordIn f l irr) (read f l (word copy)) (r .copied k),
+    (
+      λ k. hold-count (read f l count) (length-read f l e count k) (rw (count-read f l) (r .counted)),
+      (λ k. hold-flags (countIn f l) (read f l pairs) (r .flagged), (λ k. hold-unused (countIn f l) (read f l pairs) pairs (r .unused), tt)),
+    ),
+  )
+
+  pub test-contents : (part 0 (contentsLength f) l ≡ contentsOf f → ⊥) → testAs f l ≡ wrongContents
+  test-contents h = rw (eq-eqb (length l) (formLength f) e, differ-same (part 0 (contentsLength f) l) (contentsOf f) h)
+
+  pub test-body : part 0 (contentsLength f) l ≡ contentsOf f → testAs f l ≡ bodyTest (firstFault f l (rules f l))
+  test-body h = rw (eq-eqb (length l) (formLength f) e, equal-same (part 0 (contentsLength f) l) (contentsOf f) h)
+
+module _ (f : Form) (l : List ℕ) where
+  pub test-length : (length l ≡ formLength f → ⊥) → testAs f l ≡ wrongLength
+  test-length h = rw (ne-eqb (length l) (formLength f) h)
+
   pub accepted-has : testAs f l ≡ accepted → Accepted f l
   accepted-has e =
       let all = all-well (eqb (length l) (formLength f)) (same (part 0 (contentsLength f) l) (contentsOf f)) (firstFault f l (rules f l)) e in
-      rules-hold (eqb-true (length l) (formLength f) (all .0)) (same-equal (part 0 (contentsLength f) l) (contentsOf f) (all .1)) (all .2)
+      let size = eqb-true (length l) (formLength f) (all .0) in
+      record { sized = size; headed = same-equal (part 0 (contentsLength f) l) (contentsOf f) (all .1); ruled = clear-ruled f l size (all .2) }
     where
       all-well : (a b : Bool) (x : Finding) → cond a (cond b (bodyTest x) wrongContents) wrongLength ≡ accepted → (a ≡ true) × (b ≡ true) × (x ≡ clear)
       all-well true true clear e = (refl, refl, refl)
@@ -209,21 +220,26 @@ module _ (f : Form) (l : List ℕ) where
       all-well false b x e = (cc, cc, cc)
 
   pub accepted-if-has : Accepted f l → testAs f l ≡ accepted
-  accepted-if-has a =
-      test-body (a .sized) (a .headed) ∙ ap bodyTest (no-fault f l (rules f l) (
-        λ k. hold-copy (wordIn f l copy) (wordIn f l irr) (read f l (word copy)) (a .copied k),
-        (
-          λ k. hold-count (read f l count) (length-read f l (a .sized) count k) (rw (count-read f l) (a .counted)),
-          (λ k. hold-flags (countIn f l) (read f l pairs) (a .flagged), (λ k. hold-unused (countIn f l) (read f l pairs) pairs (a .unused), tt)),
-        ),
-      ))
+  accepted-if-has a = test-body f l (a .sized) (a .headed) ∙ ap bodyTest (ruled-clear f l (a .sized) (a .ruled))
 
 -- ---- the form that a length decides
 
-pub known-length : (f : Form) (l : List ℕ) → length l ≡ formLength f → imageTest l ≡ testAs f l
-unfolding imageTest
-known-length one l e = ap (λ t. testKnown (cond t (known one) unknown) l) (eq-eqb (length l) (formLength one) e)
+pub form-known : (fs : List Form) (n : ℕ) (f : Form) → formAmong fs n ≡ known f → n ≡ formLength f
+form-known [] n f e = absurd (let z : _≡_ {A = ℕ} 0 1 = cc in omega arith)
+form-known (g ∷ fs) n f e =
+    test (eqb n (formLength g))
+    (λ t. let h : known g ≡ known f = rw t at e in
+    let s : g ≡ f = cc in
+    eqb-true n (formLength g) t ∙ ap formLength s)
+    (λ t. form-known fs n f (rw t at e))
 
-pub unknown-length : (l : List ℕ) → ((f : Form) → length l ≡ formLength f → ⊥) → imageTest l ≡ wrongLength
+pub test-known : (l : List ℕ) {k : Known} → formOf (length l) ≡ k → imageTest l ≡ testKnown k l
 unfolding imageTest
-unknown-length l n = rw (ne-eqb (length l) (formLength one) (n one))
+test-known l e = ap (λ k. testKnown k l) e
+
+-- a form is the one of its length
+pub form-found : (f : Form) → formOf (formLength f) ≡ known f
+form-found one = refl
+
+pub known-length : (f : Form) (l : List ℕ) → length l ≡ formLength f → imageTest l ≡ testAs f l
+known-length f l e = test-known l (ap formOf e ∙ form-found f)
