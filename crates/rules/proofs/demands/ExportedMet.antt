@@ -4,21 +4,28 @@ use mathlib.Core.Path.{_≡_, refl, sym, ap, _∙_}
 use mathlib.Core.Bool.{Bool, true, false, not, _&&_, and-eq-true-iff}
 use mathlib.Core.List.{List, [], _∷_, _++_}
 use Prim.Native.Nat.{ℕ, _+_, _<_, _≤_}
+use native.Mathlib.Omega.{arith}
 use lib.Dec.{eqb, lit<, lit≤}
-use lib.ListN.{length, replicate}
+use lib.ListN.{length, take, drop, getD, replicate}
 use borrow.Author.Tests.{not-true}
 use Rattle.rules.specs.Ring.{Event}
 use Rattle.rules.specs.Access.{dword}
-use Rattle.rules.specs.Device.{Device, level, write, drain, none, reset}
+use Rattle.rules.specs.Device.{Device, Call, level, poll, write, drain, none, step, reset}
 use Rattle.rules.specs.Image.{encode, decode}
 use Rattle.rules.specs.Calls.{Request, askedBy, answered, outcome}
 use Rattle.rules.specs.Calls as request
-use Rattle.rules.specs.History.{fromReset}
-use Rattle.rules.specs.Demands.{tally, inService, dropped, ringActs, carrying, assertsAmong, deassertsAmong}
+use Rattle.rules.specs.History.{history, fromReset}
+use Rattle.rules.specs.Demands.{tally, inService, someAct, dropped, ringActs, carrying, assertsAmong, deassertsAmong}
 use Rattle.rules.specs.Exported.{Exported, leftBy, isDone, isReset, isLoad, Underway, carriedOn, carriedThrough, NoLoads, HandedOn, doneCalls}
-use Rattle.rules.specs.Exported.{inImage, afterReset, atLoad, returnedBy, drainedBy, Balances}
+use Rattle.rules.specs.Exported.{inImage, Faithful, afterReset, atLoad, returnedBy, drainedBy, Balances}
 use Rattle.rules.proofs.laws.Computing.{computing}
+use Rattle.rules.proofs.laws.WellFormed.{history-well}
+use Rattle.rules.proofs.laws.Chains.{faithful-at-load}
+use Rattle.rules.proofs.demands.RoundTrip.{saved-is-bytes, saved-is-accepted, reset-can-be-saved}
 use Rattle.rules.proofs.demands.FromCalls.{handed-on-is-no-load}
+use Rattle.rules.proofs.demands.HandedBack.{account-from-load, drops-of-calls, service-of-calls, service-once-raised, cleared-polled-in-vain}
+use Rattle.rules.proofs.demands.Refused.{Unchanged, refused-changes-nothing}
+use Rattle.rules.proofs.demands.PremisesMet.{all-admitted, all-spared, all-undisturbed, all-unraised, begun, seventeen}
 
 -- ---- exported calls
 
@@ -63,3 +70,137 @@ exported-returned = refl
 exported-drained : drainedBy exported ≡ record { vector = 5; asserted = true } ∷ []
 unfolding computing drainedBy
 exported-drained = refl
+
+-- the history that an image of calls from reset begins
+abbrev imageOf : List Call → List ℕ
+imageOf cs = encode (fromReset cs .after)
+
+begins : (cs : List Call) → Faithful (atLoad (imageOf cs))
+begins cs =
+    let well = history-well reset cs reset-can-be-saved in
+    faithful-at-load (imageOf cs) (saved-is-bytes (fromReset cs .after) well) (saved-is-accepted (fromReset cs .after) well)
+
+-- ---- the account from a load
+
+-- a saved image in which 5 is in service and its assert waits
+abbrev savedCalls : List Call
+savedCalls = level 5 true ∷ write dword 0x020 0xffffffdf ∷ []
+
+abbrev saved : Device
+saved = fromReset savedCalls .after
+
+-- it is loaded after a reset by a call that lowers 5; then a drain
+abbrev loading : Exported
+loading = record { given = encode saved; asked = request.level 5 0; answer = replicate 16 0 }
+
+abbrev drained : List Exported
+drained = handedOn (leftBy loading .image) (request.drain (replicate 7 0xee) 1 ∷ [])
+
+loading-loads : isLoad (afterReset .left) loading ≡ true
+unfolding computing
+loading-loads = refl
+
+drained-handed-on : NoLoads (carriedOn afterReset loading) drained
+unfolding computing
+drained-handed-on = handed-on-is-no-load (carriedOn afterReset loading) drained (handed-on (leftBy loading .image) (request.drain (replicate 7 0xee) 1 ∷ []) refl)
+
+-- an assert is read that no call made, and a deassert of an input that no call put into service: both were loaded
+loaded-balances : Balances 5 (decode (encode saved)) (loading ∷ drained) [] (inImage (carriedThrough afterReset (loading ∷ drained)))
+unfolding computing doneCalls dropped ringActs
+loaded-balances =
+    account-from-load 5 afterReset loading loading-loads refl (saved-is-bytes saved (history-well reset savedCalls reset-can-be-saved)) drained drained-handed-on
+    (all-admitted (decode (encode saved)) (doneCalls (loading ∷ drained)) refl) [] refl
+
+loaded-returned : deassertsAmong 5 (returnedBy (loading ∷ drained)) ≡ 1
+unfolding computing returnedBy tally
+loaded-returned = refl
+
+loaded-drained : assertsAmong 5 (drainedBy (loading ∷ drained)) ≡ 1
+unfolding computing drainedBy tally
+loaded-drained = refl
+
+loaded-waiting : assertsAmong 5 (decode (encode saved) .ring .waiting) ≡ 1
+unfolding computing tally
+loaded-waiting = refl
+
+loaded-carrying : carrying 5 (decode (encode saved) .core) ≡ 1
+unfolding computing
+loaded-carrying = refl
+
+-- ---- the drop count
+
+-- seventeen are in service: a MASK write offers seventeen deasserts, and a refused call nothing
+abbrev masking : List Exported
+masking = handedOn (imageOf seventeen) (request.write 0 0x400 0x020 4 0xffffffff ∷ request.poll 64 ∷ [])
+
+one-dropped : inImage (carriedThrough (atLoad (imageOf seventeen)) masking) .ring .drops ≡ 1
+unfolding computing doneCalls dropped ringActs
+one-dropped =
+    drops-of-calls (atLoad (imageOf seventeen)) (begins seventeen) masking
+    (handed-on-is-no-load (atLoad (imageOf seventeen)) masking (handed-on (imageOf seventeen) (request.write 0 0x400 0x020 4 0xffffffff ∷ request.poll 64 ∷ []) refl))
+
+-- ---- service
+
+-- in the image of begun 3 is in service and 5 is latched and unmasked: write 5 into ISR, lower 3, and write ISR empty; poll 5; clear 3
+abbrev polling : List Request
+polling =
+    request.write 0 0x400 0x3a0 4 0x28 ∷ request.level 3 0 ∷ request.write 0 0x400 0x3a0 4 0 ∷ request.poll 5 ∷ request.write 0 0x400 0x080 4 0x8 ∷ []
+
+abbrev polls : List Exported
+polls = handedOn (imageOf begun) polling
+
+abbrev thePoll : Exported
+thePoll = getD polls 3 loading
+
+abbrev fromBegun : Underway
+fromBegun = atLoad (imageOf begun)
+
+five-polled : inService 5 (inImage (carriedThrough fromBegun polls) .core .lines) ≡ true
+unfolding computing doneCalls
+five-polled =
+    service-of-calls fromBegun (begins begun) 5 (lit< tt) (record { latched = refl; unmasked = refl }) (take 3 polls) thePoll (drop 4 polls) (poll 5)
+    (handed-on-is-no-load fromBegun polls (handed-on (imageOf begun) polling refl)) (all-spared 5 (inImage fromBegun) (doneCalls (take 3 polls)) refl) refl refl
+    (all-undisturbed 5 (history (inImage fromBegun) (doneCalls (take 3 polls) ++ (poll 5 ∷ [])) .after) (doneCalls (drop 4 polls)) refl)
+
+-- 7 is unmasked there: raise it; clear 3
+abbrev raising : List Request
+raising = request.level 7 1 ∷ request.write 0 0x400 0x080 4 0x8 ∷ []
+
+abbrev raised : List Exported
+raised = handedOn (imageOf begun) raising
+
+seven-raised : inService 7 (inImage (carriedThrough fromBegun raised) .core .lines) ≡ true
+unfolding computing doneCalls
+seven-raised =
+    service-once-raised fromBegun (begins begun) 7 (lit< tt) refl (getD raised 0 loading) (drop 1 raised)
+    (handed-on-is-no-load fromBegun raised (handed-on (imageOf begun) raising refl)) refl
+    (all-undisturbed 7 (step (inImage fromBegun) (level 7 true) .after) (doneCalls (drop 1 raised)) refl)
+
+-- ---- a cleared input
+
+-- clear 3, whose line is high; poll it, mask it and unmask it; then poll it once more
+abbrev clearing : List Request
+clearing = request.write 0 0x400 0x080 4 0x8 ∷ request.poll 3 ∷ request.write 0 0x400 0x020 4 0x8 ∷ request.write 0 0x400 0x020 4 0 ∷ request.poll 3 ∷ []
+
+abbrev clearedCalls : List Exported
+clearedCalls = handedOn (imageOf begun) clearing
+
+three-polled-in-vain : leftBy (getD clearedCalls 4 loading) .answer ≡ answered 0 none (replicate 16 0)
+unfolding computing doneCalls someAct carriedThrough
+three-polled-in-vain =
+    let n = handed-on-is-no-load fromBegun (take 4 clearedCalls) (handed-on (imageOf begun) (take 4 clearing) refl) in
+    cleared-polled-in-vain fromBegun (begins begun) 3 (lit< tt) (getD clearedCalls 0 loading) (take 3 (drop 1 clearedCalls)) (write dword 0x080 0x8) n refl refl
+    (all-unraised 3 (inImage (carriedOn fromBegun (getD clearedCalls 0 loading))) (doneCalls (take 3 (drop 1 clearedCalls))) refl)
+    (getD clearedCalls 4 loading) refl refl refl
+
+-- ---- refusals
+
+-- an answer area of 20 bytes, and one of 15
+input-refused : Unchanged (request.level 64 1) (imageOf begun) (replicate 20 0xaa)
+unfolding computing
+input-refused = refused-changes-nothing (request.level 64 1) (imageOf begun) (replicate 20 0xaa) (λ e. let z : _≡_ {A = ℕ} 3 0 = e in omega arith)
+
+room-refused : outcome (request.poll 5) (imageOf begun) (replicate 15 0xaa) .answer ≡ replicate 15 0xaa
+unfolding computing
+room-refused =
+    refused-changes-nothing (request.poll 5) (imageOf begun) (replicate 15 0xaa) (λ e. let z : _≡_ {A = ℕ} 7 0 = e in omega arith) .seven refl

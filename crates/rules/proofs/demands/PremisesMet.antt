@@ -199,8 +199,11 @@ three-raised = refl
 -- ---- order
 
 -- unmask 0 to 31 and raise 0 to 16, so that seventeen are in service; then mask them: seventeen deasserts are offered, lowest first
-abbrev pub seventeen : Device
-seventeen = fromReset (write dword 0x020 0 ∷ raises 0 17) .after
+abbrev pub seventeen : List Call
+seventeen = write dword 0x020 0 ∷ raises 0 17
+
+abbrev filled : Device
+filled = fromReset seventeen .after
 
 abbrev pub maskAll : Call
 maskAll = write dword 0x020 0xffffffff
@@ -212,12 +215,12 @@ abbrev deassertsFrom : ℕ → ℕ → List Made
 deassertsFrom n k = map deassertOf (upFrom n k)
 
 -- the third finds two waiting, and is the third that two drains of room for two drain
-third-drained : (x : Event) → getD (history seventeen (maskAll ∷ drain 2 ∷ drain 2 ∷ []) .drained) 2 x ≡ record { vector = 2; asserted = false }
+third-drained : (x : Event) → getD (history filled (maskAll ∷ drain 2 ∷ drain 2 ∷ []) .drained) 2 x ≡ record { vector = 2; asserted = false }
 unfolding computing
 third-drained =
-    drained-in-turn seventeen maskAll (deassertsFrom 0 2) (deassertOf 2) (deassertsFrom 3 14) refl refl 2 refl (lit< tt) (drain 2 ∷ drain 2 ∷ []) (lit< tt)
+    drained-in-turn filled maskAll (deassertsFrom 0 2) (deassertOf 2) (deassertsFrom 3 14) refl refl 2 refl (lit< tt) (drain 2 ∷ drain 2 ∷ []) (lit< tt)
 
 -- the seventeenth finds sixteen, and is dropped and counted
-seventeenth-dropped : foundBy seventeen (deassertsFrom 0 17) .drops ≡ 1
+seventeenth-dropped : foundBy filled (deassertsFrom 0 17) .drops ≡ 1
 unfolding computing
-seventeenth-dropped = ap (λ r. r .drops) (else-dropped seventeen maskAll (deassertsFrom 0 16) (deassertOf 16) [] refl refl 16 refl (lit≤ tt))
+seventeenth-dropped = ap (λ r. r .drops) (else-dropped filled maskAll (deassertsFrom 0 16) (deassertOf 16) [] refl refl 16 refl (lit≤ tt))
