@@ -1,14 +1,13 @@
 -- The premises of the theorems over exported calls can be met, and what they count is not nothing: requests, each given the image that the one before it
 -- left, with what they hand back computed.
-use mathlib.Core.Path.{_≡_, refl, sym, ap, _∙_}
+use mathlib.Core.Path.{_≡_, refl}
 use mathlib.Core.Bool.{Bool, true, false, not, _&&_, and-eq-true-iff}
 use mathlib.Core.List.{List, [], _∷_, _++_}
-use Prim.Native.Nat.{ℕ, _+_, _<_, _≤_}
+use Prim.Native.Nat.{ℕ}
 use native.Mathlib.Omega.{arith}
-use lib.Dec.{eqb, lit<, lit≤}
-use lib.ListN.{length, take, drop, getD, replicate}
+use lib.Dec.{lit<}
+use lib.ListN.{take, drop, getD, replicate}
 use borrow.Author.Tests.{not-true}
-use Rattle.rules.specs.Ring.{Event}
 use Rattle.rules.specs.Access.{dword}
 use Rattle.rules.specs.Device.{Device, Call, level, poll, write, drain, none, step, reset}
 use Rattle.rules.specs.Image.{encode, decode}
@@ -16,7 +15,7 @@ use Rattle.rules.specs.Calls.{Request, askedBy, answered, outcome}
 use Rattle.rules.specs.Calls as request
 use Rattle.rules.specs.History.{history, fromReset}
 use Rattle.rules.specs.Demands.{tally, inService, someAct, dropped, ringActs, carrying, assertsAmong, deassertsAmong}
-use Rattle.rules.specs.Exported.{Exported, leftBy, isDone, isReset, isLoad, Underway, carriedOn, carriedThrough, NoLoads, HandedOn, doneCalls}
+use Rattle.rules.specs.Exported.{Exported, leftBy, isReset, isLoad, Underway, carriedOn, carriedThrough, NoLoads, HandedOn, doneCalls}
 use Rattle.rules.specs.Exported.{inImage, Faithful, afterReset, atLoad, returnedBy, drainedBy, Balances}
 use Rattle.rules.proofs.laws.Computing.{computing}
 use Rattle.rules.proofs.laws.WellFormed.{history-well}
