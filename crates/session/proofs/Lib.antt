@@ -5,3 +5,4 @@ pub mod Writing
 pub mod Playing
 pub mod Splitting
 pub mod Feeding
+pub mod WholeSession
