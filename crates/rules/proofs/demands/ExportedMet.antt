@@ -85,44 +85,44 @@ begins cs =
 abbrev savedCalls : List Call
 savedCalls = level 5 true ∷ write dword 0x020 0xffffffdf ∷ []
 
-abbrev saved : Device
-saved = fromReset savedCalls .after
+abbrev savedDevice : Device
+savedDevice = fromReset savedCalls .after
 
 -- it is loaded after a reset by a call that lowers 5; then a drain
 abbrev loading : Exported
-loading = record { given = encode saved; asked = request.level 5 0; answer = replicate 16 0 }
+loading = record { given = encode savedDevice; asked = request.level 5 0; answer = replicate 16 0 }
 
-abbrev drained : List Exported
-drained = handedOn (leftBy loading .image) (request.drain (replicate 7 0xee) 1 ∷ [])
+abbrev thenDrained : List Exported
+thenDrained = handedOn (leftBy loading .image) (request.drain (replicate 7 0xee) 1 ∷ [])
 
 loading-loads : isLoad (afterReset .left) loading ≡ true
 unfolding computing
 loading-loads = refl
 
-drained-handed-on : NoLoads (carriedOn afterReset loading) drained
+drained-handed-on : NoLoads (carriedOn afterReset loading) thenDrained
 unfolding computing
-drained-handed-on = handed-on-is-no-load (carriedOn afterReset loading) drained (handed-on (leftBy loading .image) (request.drain (replicate 7 0xee) 1 ∷ []) refl)
+drained-handed-on = handed-on-is-no-load (carriedOn afterReset loading) thenDrained (handed-on (leftBy loading .image) (request.drain (replicate 7 0xee) 1 ∷ []) refl)
 
 -- an assert is read that no call made, and a deassert of an input that no call put into service: both were loaded
-loaded-balances : Balances 5 (decode (encode saved)) (loading ∷ drained) [] (inImage (carriedThrough afterReset (loading ∷ drained)))
+loaded-balances : Balances 5 (decode (encode savedDevice)) (loading ∷ thenDrained) [] (inImage (carriedThrough afterReset (loading ∷ thenDrained)))
 unfolding computing doneCalls dropped ringActs
 loaded-balances =
-    account-from-load 5 afterReset loading loading-loads refl (saved-is-bytes saved (history-well reset savedCalls reset-can-be-saved)) drained drained-handed-on
-    (all-admitted (decode (encode saved)) (doneCalls (loading ∷ drained)) refl) [] refl
+    account-from-load 5 afterReset loading loading-loads refl (saved-is-bytes savedDevice (history-well reset savedCalls reset-can-be-saved)) thenDrained drained-handed-on
+    (all-admitted (decode (encode savedDevice)) (doneCalls (loading ∷ thenDrained)) refl) [] refl
 
-loaded-returned : deassertsAmong 5 (returnedBy (loading ∷ drained)) ≡ 1
+loaded-returned : deassertsAmong 5 (returnedBy (loading ∷ thenDrained)) ≡ 1
 unfolding computing returnedBy tally
 loaded-returned = refl
 
-loaded-drained : assertsAmong 5 (drainedBy (loading ∷ drained)) ≡ 1
+loaded-drained : assertsAmong 5 (drainedBy (loading ∷ thenDrained)) ≡ 1
 unfolding computing drainedBy tally
 loaded-drained = refl
 
-loaded-waiting : assertsAmong 5 (decode (encode saved) .ring .waiting) ≡ 1
+loaded-waiting : assertsAmong 5 (decode (encode savedDevice) .ring .waiting) ≡ 1
 unfolding computing tally
 loaded-waiting = refl
 
-loaded-carrying : carrying 5 (decode (encode saved) .core) ≡ 1
+loaded-carrying : carrying 5 (decode (encode savedDevice) .core) ≡ 1
 unfolding computing
 loaded-carrying = refl
 
@@ -145,35 +145,35 @@ abbrev polling : List Request
 polling =
     request.write 0 0x400 0x3a0 4 0x28 ∷ request.level 3 0 ∷ request.write 0 0x400 0x3a0 4 0 ∷ request.poll 5 ∷ request.write 0 0x400 0x080 4 0x8 ∷ []
 
-abbrev polls : List Exported
-polls = handedOn (imageOf begun) polling
+abbrev pollingCalls : List Exported
+pollingCalls = handedOn (imageOf begun) polling
 
 abbrev thePoll : Exported
-thePoll = getD polls 3 loading
+thePoll = getD pollingCalls 3 loading
 
 abbrev fromBegun : Underway
 fromBegun = atLoad (imageOf begun)
 
-five-polled : inService 5 (inImage (carriedThrough fromBegun polls) .core .lines) ≡ true
+five-polled : inService 5 (inImage (carriedThrough fromBegun pollingCalls) .core .lines) ≡ true
 unfolding computing doneCalls
 five-polled =
-    service-of-calls fromBegun (begins begun) 5 (lit< tt) (record { latched = refl; unmasked = refl }) (take 3 polls) thePoll (drop 4 polls) (poll 5)
-    (handed-on-is-no-load fromBegun polls (handed-on (imageOf begun) polling refl)) (all-spared 5 (inImage fromBegun) (doneCalls (take 3 polls)) refl) refl refl
-    (all-undisturbed 5 (history (inImage fromBegun) (doneCalls (take 3 polls) ++ (poll 5 ∷ [])) .after) (doneCalls (drop 4 polls)) refl)
+    service-of-calls fromBegun (begins begun) 5 (lit< tt) (record { latched = refl; unmasked = refl }) (take 3 pollingCalls) thePoll (drop 4 pollingCalls) (poll 5)
+    (handed-on-is-no-load fromBegun pollingCalls (handed-on (imageOf begun) polling refl)) (all-spared 5 (inImage fromBegun) (doneCalls (take 3 pollingCalls)) refl) refl refl
+    (all-undisturbed 5 (history (inImage fromBegun) (doneCalls (take 3 pollingCalls) ++ (poll 5 ∷ [])) .after) (doneCalls (drop 4 pollingCalls)) refl)
 
 -- 7 is unmasked there: raise it; clear 3
 abbrev raising : List Request
 raising = request.level 7 1 ∷ request.write 0 0x400 0x080 4 0x8 ∷ []
 
-abbrev raised : List Exported
-raised = handedOn (imageOf begun) raising
+abbrev raisingCalls : List Exported
+raisingCalls = handedOn (imageOf begun) raising
 
-seven-raised : inService 7 (inImage (carriedThrough fromBegun raised) .core .lines) ≡ true
+seven-raised : inService 7 (inImage (carriedThrough fromBegun raisingCalls) .core .lines) ≡ true
 unfolding computing doneCalls
 seven-raised =
-    service-once-raised fromBegun (begins begun) 7 (lit< tt) refl (getD raised 0 loading) (drop 1 raised)
-    (handed-on-is-no-load fromBegun raised (handed-on (imageOf begun) raising refl)) refl
-    (all-undisturbed 7 (step (inImage fromBegun) (level 7 true) .after) (doneCalls (drop 1 raised)) refl)
+    service-once-raised fromBegun (begins begun) 7 (lit< tt) refl (getD raisingCalls 0 loading) (drop 1 raisingCalls)
+    (handed-on-is-no-load fromBegun raisingCalls (handed-on (imageOf begun) raising refl)) refl
+    (all-undisturbed 7 (step (inImage fromBegun) (level 7 true) .after) (doneCalls (drop 1 raisingCalls)) refl)
 
 -- ---- a cleared input
 
@@ -181,16 +181,16 @@ seven-raised =
 abbrev clearing : List Request
 clearing = request.write 0 0x400 0x080 4 0x8 ∷ request.poll 3 ∷ request.write 0 0x400 0x020 4 0x8 ∷ request.write 0 0x400 0x020 4 0 ∷ request.poll 3 ∷ []
 
-abbrev clearedCalls : List Exported
-clearedCalls = handedOn (imageOf begun) clearing
+abbrev clearingCalls : List Exported
+clearingCalls = handedOn (imageOf begun) clearing
 
-three-polled-in-vain : leftBy (getD clearedCalls 4 loading) .answer ≡ answered 0 none (replicate 16 0)
+three-polled-in-vain : leftBy (getD clearingCalls 4 loading) .answer ≡ answered 0 none (replicate 16 0)
 unfolding computing doneCalls someAct carriedThrough
 three-polled-in-vain =
-    let n = handed-on-is-no-load fromBegun (take 4 clearedCalls) (handed-on (imageOf begun) (take 4 clearing) refl) in
-    cleared-polled-in-vain fromBegun (begins begun) 3 (lit< tt) (getD clearedCalls 0 loading) (take 3 (drop 1 clearedCalls)) (write dword 0x080 0x8) n refl refl
-    (all-unraised 3 (inImage (carriedOn fromBegun (getD clearedCalls 0 loading))) (doneCalls (take 3 (drop 1 clearedCalls))) refl)
-    (getD clearedCalls 4 loading) refl refl refl
+    let n = handed-on-is-no-load fromBegun (take 4 clearingCalls) (handed-on (imageOf begun) (take 4 clearing) refl) in
+    cleared-polled-in-vain fromBegun (begins begun) 3 (lit< tt) (getD clearingCalls 0 loading) (take 3 (drop 1 clearingCalls)) (write dword 0x080 0x8) n refl refl
+    (all-unraised 3 (inImage (carriedOn fromBegun (getD clearingCalls 0 loading))) (doneCalls (take 3 (drop 1 clearingCalls))) refl)
+    (getD clearingCalls 4 loading) refl refl refl
 
 -- ---- refusals
 
