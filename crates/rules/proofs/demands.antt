@@ -11,3 +11,4 @@ pub mod Refused
 pub mod FromCalls
 pub mod HandedBack
 pub mod PremisesMet
+pub mod ExportedMet

@@ -63,6 +63,11 @@ pub data Each (T : Act → Type 0) : List Act → Type 0 where
   done : Each T []
   also : {a : Act} {xs : List Act} → T a → Each T xs → Each T (a ∷ xs)
 
+-- some act of a list has t
+unfoldable pub someAct : (Act → Bool) → List Act → Bool
+someAct t [] = false
+someAct t (a ∷ xs) = t a || someAct t xs
+
 -- the input n is in service: its stored ISR bit is on, masked or not
 abbrev pub inService : ℕ → Lines → Bool
 inService n l = on (l .isr) n
@@ -92,6 +97,13 @@ pub record Undisturbed (n : ℕ) (d : Device) (c : Call) : Type 0 where
   pub noIsrWrite : writesIsr c ≡ false
   pub notDisturbed : Spared n d c
 
+-- an act writes ISR (01, Window and register map)
+abbrev pub setsIsr : Act → Bool
+setsIsr (move m) = false
+setsIsr (setIsr h v) = true
+setsIsr (store s) = false
+setsIsr (setVector n v) = false
+
 -- a call is a poll or a raise of n (00, demand 3)
 abbrev pub pollsOrRaises : ℕ → Call → Bool
 pollsOrRaises n (call.level m true) = only n m
@@ -115,10 +127,6 @@ clears n (store s) = false
 clears n (setVector m v) = false
 
 -- a call of d clears n: one of its acts does
-unfoldable pub someAct : (Act → Bool) → List Act → Bool
-someAct t [] = false
-someAct t (a ∷ xs) = t a || someAct t xs
-
 abbrev pub Clears : ℕ → Device → Call → Type 0
 Clears n d c = someAct (clears n) (actsOf (d .core) c) ≡ true
 

@@ -1,3 +1,4 @@
 -- The laws that the proofs of this crate cite, and of the crates above it.
 pub mod Splitting
 pub mod Feeding
+pub mod WholeSession

@@ -8,7 +8,8 @@ use Rattle.rules.specs.Device.{Device, WellFormed, Call, Step, value, re
 use Rattle.rules.specs.Image.{encode, decode, imageTest, accepted}
 use Rattle.rules.specs.Calls.{afresh, askedBy, Outcome}
 use Rattle.rules.specs.History.{history, fromReset}
-use Rattle.rules.specs.Exported.{Exported, leftBy, isDone, isReset, isLoad, callOf, Underway, carriedOn, carriedThrough, NoLoads, HandedOn, doneCall, doneCalls, IsStep, GivenBytes, current, inImage, Faithful, afterReset, atLoad}
+use Rattle.rules.specs.Exported.{Exported, leftBy, isDone, isReset, isLoad, callOf, Underway, carriedOn, carriedThrough, NoLoads}
+use Rattle.rules.specs.Exported.{HandedOn, doneCall, doneCalls, IsStep, GivenBytes, current, inImage, Faithful, afterReset, atLoad}
 use Rattle.rules.proofs.laws.Lists.{equal-same}
 use Rattle.rules.proofs.laws.Images.{decode-encode}
 use Rattle.rules.proofs.laws.Folds.{history-append}

@@ -17,9 +17,9 @@ use Rattle.rules.specs.Image.{decode}
 use Rattle.rules.specs.Calls.{poll, askedBy, answered, Outcome}
 use Rattle.rules.specs.History.{history, Along, Admitted}
 use Rattle.rules.specs.Demands.{carrying, inService, Eligible, Spared, Undisturbed, pollsOrRaises, Clears, Unraised, assertsOf, asEvent, foundBy, ringActs, dropped, returnedIn}
-use Rattle.rules.specs.Demands.{assertsAmong, deassertsAmong}
+use Rattle.rules.specs.Demands.{asserts, deasserts, assertsAmong, deassertsAmong}
 use Rattle.rules.specs.Exported.{Exported, leftBy, isDone, isReset, isLoad, Underway, carriedOn, carriedThrough, NoLoads, doneCall, doneCalls}
-use Rattle.rules.specs.Exported.{current, inImage, Faithful, afterReset, atLoad, returnedBy, drainedBy, Balances}
+use Rattle.rules.specs.Exported.{GivenBytes, current, inImage, Faithful, afterReset, atLoad, returnedBy, drainedBy, Balances}
 use Rattle.rules.proofs.laws.Counts.{tally-nil}
 use Rattle.rules.proofs.laws.Draining.{all-accounted}
 use Rattle.rules.proofs.laws.Chains.{faithful-after-reset, faithful-at-load, handed}
@@ -29,7 +29,7 @@ use Rattle.rules.proofs.laws.Readings.{input-is, asked-is, read-as}
 use Rattle.rules.proofs.demands.Account.{none-served, asserts-match-service-from}
 use Rattle.rules.proofs.demands.Service.{in-service-from-the-poll-on, in-service-once-raised}
 use Rattle.rules.proofs.demands.Order.{drained-in-turn, drops-counted}
-use Rattle.rules.proofs.demands.FromCalls.{a-load-begins, image-holds-device, faithful-through, image-holds-history}
+use Rattle.rules.proofs.demands.FromCalls.{a-load-begins, image-holds-device, faithful-through, image-holds-history, history-since-load}
 
 -- ---- what is read
 
@@ -59,6 +59,16 @@ pub account-under-way : (v : ℕ) (h : Underway) → Faithful h → (xs : List E
     → (lost : List Event) → lost ≡ dropped (inImage h .ring) (ringActs (inImage h) (doneCalls xs))
     → Balances v (inImage h) xs lost (inImage (carriedThrough h xs))
 account-under-way v h f = account v (inImage h) h f (sym (image-holds-device h f))
+
+-- With loads and resets anywhere among the calls: since the last of them, asserts made and the inputs in service with v where it began come to deasserts made
+-- and the inputs in service with v in the image left last.
+pub account-since-load : (v : ℕ) (h : Underway) (xs : List Exported) → Faithful h → GivenBytes xs → let u = carriedThrough h xs in
+    Along Admitted (u .began) (u .calls)
+    → let made = history (u .began) (u .calls) .made in
+    asserts v made + carrying v (u .began .core) ≡ deasserts v made + carrying v (inImage u .core)
+account-since-load v h xs f b p =
+    let u = carriedThrough h xs in
+    rw (image-holds-device u (history-since-load h xs f b)) (asserts-match-service-from v (u .began) (u .calls) p)
 
 -- 'A load begins a new history: counts of demand 3 start there from the loaded ISR' (01, Saved image). The call x, in any history, is a load of bytes, and
 -- of the calls after it none is a load: the account is balanced between the loaded device, with the events that wait in it, and the one in the image left

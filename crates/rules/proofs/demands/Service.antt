@@ -13,7 +13,7 @@ use Rattle.rules.specs.Core.{Core, Move, poll, raise, lower, clear, setM
 use Rattle.rules.specs.Device.{Device, Call, actsOf, acted, step}
 use Rattle.rules.specs.Device as call
 use Rattle.rules.specs.History.{history, Along}
-use Rattle.rules.specs.Demands.{Each, done, also, inService, Eligible, disturbs, Spared, Undisturbed, pollsOrRaises}
+use Rattle.rules.specs.Demands.{done, also, inService, Eligible, disturbs, Spared, Undisturbed, pollsOrRaises}
 use Rattle.rules.proofs.laws.Bits.{test, on-put, on-without}
 use Rattle.rules.proofs.laws.Inputs.{only-waiting}
 use Rattle.rules.proofs.laws.Halves.{by-halves, on-new-half, on-kept-half}

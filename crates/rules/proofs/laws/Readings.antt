@@ -23,7 +23,8 @@ use Rattle.rules.specs.Calls.{amount, answered, bufferOf, placeOf, writt
 use Rattle.rules.specs.Calls as request
 use Rattle.rules.specs.History.{history}
 use Rattle.rules.specs.Demands.{returnedIn}
-use Rattle.rules.specs.Exported.{Exported, leftBy, isDone, isLoad, Underway, carriedOn, NoLoads, doneCall, doneCalls, current, Faithful, valueIn, eventIn, returnedTo, drainedTo, returnedBy, drainedBy}
+use Rattle.rules.specs.Exported.{Exported, leftBy, isDone, isLoad, Underway, carriedOn, NoLoads, doneCall}
+use Rattle.rules.specs.Exported.{doneCalls, current, Faithful, valueIn, eventIn, returnedTo, drainedTo, returnedBy, drainedBy}
 use Rattle.rules.proofs.laws.Bits.{test}
 use Rattle.rules.proofs.laws.Bytes.{numberOf-bytesOf}
 use Rattle.rules.proofs.laws.Images.{eventsOf-pairsOf}
