@@ -1,2 +1,2 @@
--- What a record of the recorded answers says, and when a call agrees with it.
-pub mod Records
+-- What a record does to the image buffer.
+pub mod Replays

@@ -1,14 +1,14 @@
 // One record of the file, with the bytes of the five that stand behind an image's, replayed on the image buffer.
-use crate::call;
-use crate::held::Verdict;
 use image::bytes::copy;
 use image::bytes::put_zeros;
 use image::bytes::word_at;
+use records::Verdict;
 ghost use mathlib.Core.Path.{_≡_};
 ghost use mathlib.Core.Bool.{true};
 ghost use Prim.Native.Nat.{_<_};
 ghost use lib.ListN.{length, take, getD, set};
-ghost use Rattle.replay.specs.Records.{loaded, agreed, Replays, wordAt};
+ghost use Rattle.records.specs.Records.{agreed, wordAt};
+ghost use Rattle.replay.specs.Replays.{loaded, Replays};
 
 // The buffer becomes a recorded image, with zeros behind it.
 fn set_image(bytes: &[u8], image: &mut [u8])
@@ -44,12 +44,12 @@ fn set_byte(noted: &[u8], image: &mut [u8]) -> Verdict
     Verdict::Nothing
 }
 
-pub fn replay(noted: &[u8], bytes: &[u8], image: &mut [u8]) -> Verdict
+pub fn replay_record(noted: &[u8], bytes: &[u8], image: &mut [u8]) -> Verdict
     requires { ⌜ (length (now noted) ≡ 64) × (length (now bytes) ≡ 320) × (length (now image) ≡ 300) ⌝ }
     ensures { λ r. ⌜ Replays (now (noted .entry)) (now (bytes .entry)) (now (image .entry)) (now (image .exit)) r ⌝ }
 {
     match noted[0] {
-        1..=6 => call::replay(noted, image),
+        1..=6 => replay_call::replay_call(noted, image),
         7 => {
             set_image(bytes, image);
             Verdict::Nothing

@@ -1,12 +1,10 @@
 // Replays the recorded answers of the published Rust, data/answers.bin, through the six exported calls. The form of that file is told in
 // tools/harness/records.rs. The last line written is 'N passed, M failed'.
-mod call;
 mod each;
-mod held;
 mod say;
 
-use held::Verdict;
 use image::bytes::number;
+use records::Verdict;
 ghost use mathlib.Core.Path.{_≡_};
 ghost use Prim.Native.Nat.{_+_, _^_, _<_, _≤_};
 ghost use lib.ListN.{length};
@@ -80,7 +78,7 @@ fn replay_next(fd: i32, at: u64, image: &mut [u8], passed: &mut [u64], failed: &
         return u64::MAX;
     }
     let kind = noted[0];
-    let verdict = each::replay(&noted, &bytes, image);
+    let verdict = each::replay_record(&noted, &bytes, image);
     tally(at, kind, verdict, passed, failed);
     at + together(kind)
 }

@@ -1,14 +1,14 @@
 // A record of a call: the call is made on what the record lends, and what it left is held against the record.
-use crate::held;
-use crate::held::Verdict;
 use image::bytes::number;
 use image::bytes::wide;
 use image::bytes::word_at;
+use records::Verdict;
 ghost use mathlib.Core.Path.{_≡_};
 ghost use mathlib.Core.Bool.{true};
 ghost use lib.ListN.{length};
 ghost use Rattle.rules.specs.Calls.{leaves, outcome};
-ghost use Rattle.replay.specs.Records.{kindOf, lentImage, lentAnswer, lentEvents, requestOf, Recorded, agreed};
+ghost use Rattle.records.specs.Records.{kindOf, lentImage, lentAnswer, lentEvents, agreed};
+ghost use Rattle.replay_call.specs.Recorded.{requestOf, Recorded};
 
 fn lent_image(noted: &[u8]) -> usize
     requires { ⌜ length (now noted) ≡ 64 ⌝ }
@@ -58,7 +58,7 @@ fn make(noted: &[u8], image: &mut [u8], answer: &mut [u8], events: &mut [u8]) ->
 }
 
 // A record that agrees is what 01's rules give on the image, in every byte that it tells of.
-pub fn replay(noted: &[u8], image: &mut [u8]) -> Verdict
+pub fn replay_call(noted: &[u8], image: &mut [u8]) -> Verdict
     requires { ⌜ length (now noted) ≡ 64 ⌝ }
     requires { ⌜ length (now image) ≡ 300 ⌝ }
     ensures { λ r. ⌜ (agreed r ≡ true → Recorded (now (noted .entry)) (now (image .entry)) (now (image .exit))) ⌝ }
@@ -78,5 +78,5 @@ pub fn replay(noted: &[u8], image: &mut [u8]) -> Verdict
     let mut answer = [0xeeu8; 32];
     let mut events = [0xddu8; 64];
     let handed = make(noted, &mut image[..n], &mut answer[..m], &mut events[..k]);
-    held::compare(noted, handed, image, &answer, &events)
+    records::compare(noted, handed, image, &answer, &events)
 }

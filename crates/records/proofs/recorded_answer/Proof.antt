@@ -5,9 +5,9 @@ use native.Mathlib.Omega.{arith}
 use borrow.Author.Needs.{needs}
 use borrow.Author.Tests.{eq-eqb, ne-eqb}
 use Rattle.image.specs.Shown.{withWord}
-use Rattle.replay.specs.Records.{answerFill, wordAt}
-use Rattle.replay.proofs.held.recorded_answer.Statement.{statement}
-use Rattle.replay.proofs.held.recorded_answer.Tie as tie
+use Rattle.records.specs.Records.{answerFill, wordAt}
+use Rattle.records.proofs.recorded_answer.Statement.{statement}
+use Rattle.records.proofs.recorded_answer.Tie as tie
 
 returns : tie.Need-returns
 returns c = rw (eq-eqb _ 7 (c .if1 .taken))

@@ -1,4 +1,4 @@
--- `replay` is right since what the call left is what the rules give, and the rest of each area stays.
+-- `replay_call` is right since what the call left is what the rules give, and the rest of each area stays.
 use mathlib.Core.Path.{_≡_, sym, ap, _∙_}
 use mathlib.Core.Bool.{false≢true}
 use mathlib.Core.List.{List, _++_}
@@ -8,9 +8,10 @@ use lib.ListN.{length, take, drop, length-append, length-drop}
 use lib.Seq.{length-take-le}
 use borrow.Author.Needs.{needs}
 use Rattle.rules.specs.Calls.{Outcome, leaves, outcome}
-use Rattle.replay.specs.Records.{kindOf, lentImage, lentAnswer, lentEvents, requestOf, answerFill, eventFill, checksumOf, Held, ruled, Recorded}
-use Rattle.replay.proofs.call.replay.Statement.{statement}
-use Rattle.replay.proofs.call.replay.Tie as tie
+use Rattle.records.specs.Records.{kindOf, lentImage, lentAnswer, lentEvents, answerFill, eventFill, checksumOf, Held}
+use Rattle.replay_call.specs.Recorded.{requestOf, ruled, Recorded}
+use Rattle.replay_call.proofs.replay_call.Statement.{statement}
+use Rattle.replay_call.proofs.replay_call.Tie as tie
 
 -- a front that is written and comes back leaves the length
 whole : (n : ℕ) (l ys : List ℕ) → length ys ≡ length (take n l) → n ≤ length l → length (ys ++ drop n l) ≡ length l
@@ -70,8 +71,8 @@ returns-4 c t =
     as-ruled (s .args .noted .now) (s .args .image .now) (i .lent-image .result) (a .lent-answer .result) (l .lent-events .result) (m .make .result) _ _ _
     (i .lent-image .ensures) (a .lent-answer .ensures) (l .lent-events .ensures) (m .make .ensures) (c .compare .ensures t)
 
-pub replay-spec : {M : Type 1} → statement M
-replay-spec =
+pub replay-call-spec : {M : Type 1} → statement M
+replay-call-spec =
     tie.close
     (tie.spec
     (λ c κs. search needs)

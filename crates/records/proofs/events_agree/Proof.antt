@@ -2,8 +2,8 @@
 use mathlib.Core.Path.{sym, _∙_}
 use borrow.Author.Needs.{needs}
 use borrow.Author.Tests.{eqb-true}
-use Rattle.replay.proofs.held.events_agree.Statement.{statement}
-use Rattle.replay.proofs.held.events_agree.Tie as tie
+use Rattle.records.proofs.events_agree.Statement.{statement}
+use Rattle.records.proofs.events_agree.Tie as tie
 
 returns-2 : tie.Need-returns-2
 returns-2 c t k =

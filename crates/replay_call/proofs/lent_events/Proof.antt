@@ -1,8 +1,8 @@
 -- `lent_events` is right since the test of the kind is the definition's.
 use borrow.Author.Needs.{needs}
 use borrow.Author.Tests.{lt-ltb, le-ltb}
-use Rattle.replay.proofs.call.lent_events.Statement.{statement}
-use Rattle.replay.proofs.call.lent_events.Tie as tie
+use Rattle.replay_call.proofs.lent_events.Statement.{statement}
+use Rattle.replay_call.proofs.lent_events.Tie as tie
 
 returns : tie.Need-returns
 returns c = rw (lt-ltb _ 6 (c .if1 .taken))

@@ -6,7 +6,7 @@ use image::bytes::word_at;
 ghost use mathlib.Core.Path.{_≡_};
 ghost use mathlib.Core.Bool.{true};
 ghost use lib.ListN.{length};
-ghost use Rattle.replay.specs.Records.{kindOf, eventSum, checksumOf, recordedAnswer, Held, agreed};
+ghost use Rattle.records.specs.Records.{kindOf, eventSum, checksumOf, recordedAnswer, Held, agreed};
 
 // What is found of a record: it agrees, or what differs, or why there is nothing to compare.
 pub enum Verdict {

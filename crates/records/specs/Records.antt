@@ -1,16 +1,15 @@
--- A record of the recorded answers: what it asks, what it lends, and when what a call left is what was recorded.
+-- A record of the recorded answers: what it says, what it lends, and when what a call left is what was recorded.
 -- The form of the file is told in tools/harness/records.rs.
 use mathlib.Core.Path.{_≡_}
 use mathlib.Core.Bool.{Bool, true, false, cond}
-use mathlib.Core.List.{List, [], _∷_, _++_}
-use Prim.Native.Nat.{ℕ, _+_, _*_, _%_, _<_}
+use mathlib.Core.List.{List, [], _∷_}
+use Prim.Native.Nat.{ℕ, _+_, _*_, _%_}
 use lib.Dec.{eqb, ltb}
-use lib.ListN.{take, drop, getD, set, replicate}
+use lib.ListN.{getD, replicate}
 use Rattle.rules.specs.Numbers.{numberOf, part}
-use Rattle.rules.specs.Calls.{Request, reset, read, write, level, poll, drain, Outcome, outcome}
 use Rattle.image.specs.Shown.{withWord}
-use Rattle.replay.specs.declared.held.Verdict.{Verdict}
-use Rattle.replay.specs.declared.held.Verdict.the-variants.{Agrees, Nothing, Lent, Number, Answer, Image, Events, Whole, Cut, Kind}
+use Rattle.records.specs.declared.Verdict.{Verdict}
+use Rattle.records.specs.declared.Verdict.the-variants.{Agrees, Nothing, Lent, Number, Answer, Image, Events, Whole, Cut, Kind}
 
 -- ---- fields
 
@@ -43,16 +42,6 @@ imageSum r = numberOf (part 4 4 r)
 abbrev pub eventSum : List ℕ → ℕ
 eventSum r = numberOf (part 56 4 r)
 
--- what a call's record asks, by its kind, with the event buffer that a drain is lent
-abbrev pub requestOf : ℕ → List ℕ → List ℕ → Request
-requestOf kind r e =
-    cond (eqb kind 1) reset
-    (cond (eqb kind 2) (read (wordAt 16 r) (wordAt 24 r) (wordAt 32 r) (wordAt 40 r))
-    (cond (eqb kind 3) (write (wordAt 16 r) (wordAt 24 r) (wordAt 32 r) (wordAt 40 r) (wordAt 48 r))
-    (cond (eqb kind 4) (level (wordAt 16 r) (wordAt 24 r))
-    (cond (eqb kind 5) (poll (wordAt 16 r))
-    (drain e (wordAt 16 r))))))
-
 -- ---- the areas
 
 -- what stands in the answer area and in the event buffer before every call
@@ -81,16 +70,6 @@ pub record Held (r : List ℕ) (number : ℕ) (image answer events : List ℕ) :
   pub kept : checksumOf 0 image ≡ imageSum r
   pub drained : kindOf r ≡ 6 → checksumOf 0 events ≡ eventSum r
 
--- what 01's rules give for a record, on an image
-abbrev pub ruled : List ℕ → List ℕ → Outcome
-ruled r i =
-    outcome (requestOf (kindOf r) r (take (lentEvents (kindOf r) r) eventFill)) (take (lentImage r) i) (take (lentAnswer r) answerFill)
-
--- the answer that was recorded is the one that 01's rules give; an image i became j
-pub record Recorded (r i j : List ℕ) : Type 0 where
-  pub after : j ≡ ruled r i .image ++ drop (lentImage r) i
-  pub held : Held r (ruled r i .number) j (ruled r i .answer ++ drop (lentAnswer r) answerFill) (ruled r i .events ++ drop (lentEvents (kindOf r) r) eventFill)
-
 abbrev pub agreed : Verdict → Bool
 agreed Agrees = true
 agreed Nothing = false
@@ -102,14 +81,3 @@ agreed Events = false
 agreed Whole = false
 agreed Cut = false
 agreed Kind = false
-
--- the image buffer that a recorded image makes
-abbrev pub loaded : List ℕ → List ℕ
-loaded b = take 259 b ++ replicate 41 0
-
--- a record, by its kind: an image i became j; b are the bytes behind the record of an image
-pub record Replays (r b i j : List ℕ) (v : Verdict) : Type 0 where
-  pub called : kindOf r < 7 → agreed v ≡ true → Recorded r i j
-  pub replaced : kindOf r ≡ 7 → j ≡ loaded b
-  pub compared : kindOf r ≡ 8 → (j ≡ i) × (agreed v ≡ true → i ≡ take 300 b)
-  pub damaged : kindOf r ≡ 9 → wordAt 16 r < 300 → j ≡ set i (wordAt 16 r) (getD r 24 0)

@@ -3,8 +3,8 @@ use mathlib.Core.Path.{sym, _∙_}
 use mathlib.Core.Bool.{false≢true}
 use borrow.Author.Needs.{needs}
 use borrow.Author.Tests.{not-false}
-use Rattle.replay.proofs.held.compare.Statement.{statement}
-use Rattle.replay.proofs.held.compare.Tie as tie
+use Rattle.records.proofs.compare.Statement.{statement}
+use Rattle.records.proofs.compare.Tie as tie
 
 returns-5 : tie.Need-returns-5
 returns-5 c t =

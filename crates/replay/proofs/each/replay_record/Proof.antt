@@ -1,10 +1,10 @@
--- `replay` is right since each arm does what the definition says of its kind, and says nothing of another.
+-- `replay_record` is right since each arm does what the definition says of its kind, and says nothing of another.
 use mathlib.Core.Path.{refl}
 use mathlib.Core.Bool.{false≢true}
 use native.Mathlib.Omega.{arith}
 use borrow.Author.Needs.{needs}
-use Rattle.replay.proofs.each.replay.Statement.{statement}
-use Rattle.replay.proofs.each.replay.Tie as tie
+use Rattle.replay.proofs.each.replay_record.Statement.{statement}
+use Rattle.replay.proofs.each.replay_record.Tie as tie
 
 returns : tie.Need-returns
 returns c =
@@ -43,7 +43,7 @@ returns-4 c =
     let p = c .before .before in
     let k = p .before .before .if2 .taken in
     record {
-      called = λ h. p .replay .ensures;
+      called = λ h. p .replay-call .ensures;
       replaced = λ h. absurd (omega (arith, k));
       compared = λ h. absurd (omega (arith, k));
       damaged = λ h l. absurd (omega (arith, k));
@@ -69,8 +69,8 @@ returns-6 c =
       damaged = λ h l. absurd (rest .1 h);
     }
 
-pub replay-spec : {M : Type 1} → statement M
-replay-spec =
+pub replay-record-spec : {M : Type 1} → statement M
+replay-record-spec =
     tie.close
     (tie.spec
     (λ c. search needs)

@@ -9,9 +9,10 @@ use borrow.Author.Needs.{needs}
 use borrow.Author.Tests.{lt-ltb, ne-eqb}
 use Rattle.rules.specs.Calls.{Request, leaves, outcome}
 use Rattle.rules.specs.Calls as asked
-use Rattle.replay.specs.Records.{kindOf, lentEvents, requestOf, wordAt}
-use Rattle.replay.proofs.call.make.Statement.{statement}
-use Rattle.replay.proofs.call.make.Tie as tie
+use Rattle.records.specs.Records.{kindOf, lentEvents, wordAt}
+use Rattle.replay_call.specs.Recorded.{requestOf}
+use Rattle.replay_call.proofs.make.Statement.{statement}
+use Rattle.replay_call.proofs.make.Tie as tie
 
 empty : (e : List ℕ) → length e ≡ 0 → e ≡ []
 empty [] h = refl

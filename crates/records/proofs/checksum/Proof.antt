@@ -4,9 +4,9 @@ use Prim.Native.Nat.{_+_, _-_, _*_, _%_, _≤_, _<_}
 use native.Mathlib.Omega.{arith}
 use lib.ListN.{length, drop, drop-of-length-le}
 use Rattle.rules.proofs.laws.Lists.{next}
-use Rattle.replay.specs.Records.{checksumOf}
-use Rattle.replay.proofs.held.checksum.Statement.{statement}
-use Rattle.replay.proofs.held.checksum.Tie as tie
+use Rattle.records.specs.Records.{checksumOf}
+use Rattle.records.proofs.checksum.Statement.{statement}
+use Rattle.records.proofs.checksum.Tie as tie
 
 abbrev Inv-loop : tie.InvT-loop
 Inv-loop b sum₀ i₀ sum i = (i ≤ length b) × (sum < 4294967291) × (checksumOf sum (drop i b) ≡ checksumOf 0 b)
