@@ -1,0 +1,31 @@
+# How the tools read their words. Sourced. A tool sets 'tool' to its name and has a function 'usage'.
+#
+# Options are read before anything is built. A word that a tool does not know ends it with status 2 and one line; --help tells the usage; a reader that has
+# closed its pipe ends it quietly.
+
+# bad WHAT: what is wrong with the words.
+bad() {
+    echo "$tool: $1 (see --help)" >&2
+    exit 2
+}
+
+# wants OPTION WHAT COUNT: an option that has a value must have a word after it; COUNT is how many words there are, with the option.
+wants() { [ "$3" -gt 1 ] || bad "$1 wants $2"; }
+
+# number OPTION VALUE: a value that is to be a number.
+number() {
+    case $2 in
+    '' | *[!0-9]*) bad "$1 wants a number, and not '$2'" ;;
+    esac
+}
+
+# file OPTION VALUE: a value that is to be a file that can be read.
+file() { [ -f "$2" ] && [ -r "$2" ] || bad "$1 wants a file that can be read, and not '$2'"; }
+
+# needs_rt: what rt builds, only rt builds.
+needs_rt() {
+    command -v rt >/dev/null 2>&1 || {
+        echo "$tool: Rattle's command rt is needed to make $1, and it is not on the PATH" >&2
+        exit 2
+    }
+}
