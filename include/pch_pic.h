@@ -60,15 +60,14 @@
 #ifndef PCH_PIC_H
 #define PCH_PIC_H
 
-#include <stddef.h>
-#include <stdint.h>
-
-#if !defined(__x86_64__) || !defined(__linux__) || SIZE_MAX != UINT64_MAX
+#if !defined(__x86_64__) || defined(__ILP32__) || !defined(__linux__)
 #error "pch_pic.h: libpch_pic.a is for x86-64 Linux only; this is another target"
-#endif
-#if !defined(__SSE2__) || defined(__KERNEL__)
+#elif !defined(__SSE2__) || defined(__KERNEL__)
 #error "pch_pic.h: libpch_pic.a is for user space only; it uses SSE registers and the red zone"
 #endif
+
+#include <stddef.h>
+#include <stdint.h>
 
 /* The version of the header and of what it says about the library. */
 #define PCH_PIC_VERSION_MAJOR 0
