@@ -1,7 +1,7 @@
 //! A device in a file, which is replaced whole or not at all.
 //!
-//! A file has 8 bytes of magic, the image's length (4 bytes), the image, and a checksum of all before it (4 bytes); numbers have the little end
-//! first. The checksum is the usual CRC-32, as in gzip. `hosts/c/pic_file.c` writes and reads the same files.
+//! A file has 8 bytes of magic, the image's length (4 bytes), the image, and a checksum of all before it (4 bytes); numbers have the
+//! little end first. The checksum is the usual CRC-32, as in gzip. `hosts/c/pic_file.c` writes and reads the same files.
 //!
 //! ```
 //! use pch_pic::{file, PchPic, Wires};

@@ -8,8 +8,8 @@ use core::fmt;
 /// Which vectors are on is worked out from the device as it stands, so nothing that a guest does can make it wrong: after each call here
 /// exactly the vectors of the inputs in service are on.
 ///
-/// Each call takes a `route`, which is called for each vector that is to be asserted or deasserted above. An assert may come for a vector that
-/// is on: another input that carries it wants service. A deassert comes only when no input carries it any more.
+/// Each call takes a `route`, which is called for each vector that is to be asserted or deasserted above. An assert may come for a vector
+/// that is on: another input that carries it wants service. A deassert comes only when no input carries it any more.
 ///
 /// ```
 /// use pch_pic::{reg, PchPic, Width, Window, Wires};
@@ -74,8 +74,8 @@ impl Wires {
         self.on[usize::from(vector)] = on;
     }
 
-    /// Brings the wires in line with the device, whatever the guest did: drains and passes on, counts afresh which vectors are on and passes on
-    /// what no event told, and raises each line again that is still high. To be called after each write and each reset.
+    /// Brings the wires in line with the device, whatever the guest did: drains and passes on, counts afresh which vectors are on and passes
+    /// on what no event told, and raises each line again that is still high. To be called after each write and each reset.
     pub fn settle(&mut self, pic: &mut PchPic, mut route: impl FnMut(Event)) {
         // Waiting events are older than those of the lines. And a line that a CLEAR took goes off above before it goes on again.
         self.catch_up(pic, &mut route);
@@ -100,8 +100,8 @@ impl Wires {
         Ok(())
     }
 
-    /// After a load: the lines are as `high` says, bit n for input n, and the rest follows. Wires that are new say that the controller above has
-    /// nothing on; see [`assume`](Wires::assume).
+    /// After a load: the lines are as `high` says, bit n for input n, and the rest follows. Wires that are new say that the controller above
+    /// has nothing on; see [`assume`](Wires::assume).
     pub fn resume(&mut self, pic: &mut PchPic, high: u64, route: impl FnMut(Event)) {
         // A line that was high when the device was saved may have gone low since: then its input is still latched.
         for input in inputs(pic.latched() & !high) {
