@@ -1,5 +1,6 @@
-//! Instructions per call, by valgrind's callgrind on this same program. Only the timed loops are collected, and of each kind a short and a
-//! longer run, so that in the difference nothing but the calls is left. The figures come out the same each time.
+//! Instructions per call, counted on this same program: by valgrind's callgrind or, on a machine that runs it on QEMU, by a plugin (count.c). Only the
+//! timed loops are counted, of each kind over one slot and over a whole batch, so that in the difference nothing but the calls is left. The
+//! figures come out the same each time.
 
 use crate::Asked;
 use crate::call::Call;
@@ -9,9 +10,6 @@ use std::hint::black_box;
 use std::path::Path;
 use std::process::{Command, Stdio};
 
-/// The longer run has so many batches more.
-const MORE: usize = 4;
-
 /// Callgrind writes what it has collected, and begins anew, each time this returns.
 #[unsafe(no_mangle)]
 #[inline(never)]
@@ -19,19 +17,32 @@ pub fn bench_mark() {
     black_box(());
 }
 
-/// What is run under callgrind: the runs of one side after another, a mark after each.
+/// Tells the plugin where a count begins or ends: a system call that takes no words, with words that it knows. To anyone else it is nothing.
+pub fn sign(what: u64) {
+    const GETPID: i64 = 39;
+    const SIGN: u64 = 0x636e_7431;
+    unsafe extern "C" {
+        fn syscall(number: i64, ...) -> i64;
+    }
+    // SAFETY: getpid looks at no memory.
+    unsafe { syscall(GETPID, SIGN, what) };
+}
+pub const BEGIN: u64 = 1;
+pub const END: u64 = 2;
+
+/// What is run under the counter: the runs of one side after another, a mark after each.
 pub fn counted(asked: &Asked, kinds: &[Kind], day: Option<&[Call]>) {
     let mut bench = Bench::new();
     for &side in &asked.sides {
         for kind in kinds {
-            for batches in [1, 1 + MORE] {
-                bench.kind(side, kind, batches);
+            for slots in [1, BATCH] {
+                bench.once(side, kind, slots);
                 bench_mark();
             }
         }
         if let Some(calls) = day {
             for calls in [&calls[..1], calls] {
-                bench.day(side, calls);
+                bench.day_once(side, calls);
                 bench_mark();
             }
         }
@@ -47,30 +58,48 @@ pub fn per_call(asked: &Asked, kinds: usize, day: Option<usize>) -> Result<Vec<V
     let totals = totals?;
     let rows = kinds + day.is_some() as usize;
     if totals.len() != 2 * rows * asked.sides.len() {
-        return Err(format!("callgrind wrote {} totals, expected {}", totals.len(), 2 * rows * asked.sides.len()));
+        return Err(format!("there are {} totals, expected {}", totals.len(), 2 * rows * asked.sides.len()));
     }
     let of = |side: usize, row: usize| {
         let at = 2 * (side * rows + row);
-        let calls = if row < kinds { MORE * BATCH } else { day.unwrap_or(0) - 1 };
+        let calls = if row < kinds { BATCH - 1 } else { day.unwrap_or(0) - 1 };
         (totals[at + 1] - totals[at]) as f64 / calls as f64
     };
     Ok((0..rows).map(|row| (0..asked.sides.len()).map(|side| of(side, row)).collect()).collect())
+}
+
+/// What counts, by name.
+pub fn counter() -> &'static str {
+    if std::env::var_os("BENCH_COUNTER").is_some() { "QEMU" } else { "callgrind" }
 }
 
 fn run(asked: &Asked, folder: &Path) -> Result<Vec<u64>, String> {
     let out = folder.join("out");
     let program = std::env::current_exe().map_err(|error| error.to_string())?;
     let sides = asked.sides.iter().map(char::to_string).collect::<Vec<_>>().join(",");
-    let status = Command::new("valgrind")
-        .args(["--tool=callgrind", "--quiet", "--toggle-collect=bench_timed_*", "--dump-after=bench_mark"])
-        .arg(format!("--callgrind-out-file={}", out.display()))
-        .arg(program)
-        .args(["--counted", "--side", &sides, "--kind", &asked.kinds.join(","), "--day", &asked.day.to_string()])
-        .stdout(Stdio::null())
-        .status()
-        .map_err(|error| format!("valgrind cannot be run: {error}"))?;
+    let words = ["--counted", "--side", &sides, "--kind", &asked.kinds.join(","), "--day", &asked.day.to_string()];
+    let mut command = match std::env::var_os("BENCH_COUNTER") {
+        Some(counter) => {
+            let mut command = Command::new(counter);
+            command.arg(&out);
+            command
+        }
+        None => {
+            let mut command = Command::new("valgrind");
+            command.args(["--tool=callgrind", "--quiet", "--toggle-collect=bench_timed_*", "--dump-after=bench_mark"]);
+            command.arg(format!("--callgrind-out-file={}", out.display()));
+            command
+        }
+    };
+    let status = command.arg(program).args(words).stdout(Stdio::null()).status();
+    let status = status.map_err(|error| format!("{} cannot be run: {error}", counter()))?;
     if !status.success() {
-        return Err(format!("valgrind ended with {status}"));
+        return Err(format!("{} ended with {status}", counter()));
+    }
+    // The plugin writes a file with a line for each, callgrind a file for each.
+    if let Ok(text) = std::fs::read_to_string(&out) {
+        let totals: Result<Vec<u64>, _> = text.lines().map(str::parse).collect();
+        return totals.map_err(|_| "the plugin wrote something else than numbers".into());
     }
     let mut totals = Vec::new();
     while let Ok(text) = std::fs::read_to_string(folder.join(format!("out.{}", totals.len() + 1))) {

@@ -15,6 +15,8 @@ mod device;
 mod image;
 mod kinds;
 mod measure;
+#[path = "../harness/quiet.rs"]
+mod quiet;
 mod sides;
 mod stack;
 mod table;
@@ -49,7 +51,7 @@ fn asked() -> Result<Asked, String> {
         calls: 6400,
         day: 20_000,
         kinds: vec!["all".into()],
-        sides: if WITH_C { vec!['n', 'a', 'b', 'c'] } else { vec!['n', 'a', 'b'] },
+        sides: if WITH_C { vec!['n', 'a', 'b', 'c', 'd'] } else { vec!['n', 'a', 'b', 'd'] },
         times: true,
         instructions: true,
         markdown: false,
@@ -84,8 +86,8 @@ fn sides(list: &str) -> Result<Vec<char>, String> {
     for side in list.split(',') {
         match side {
             "c" if !WITH_C => eprintln!("bench: side c is left out: it was built without the published Rust"),
-            "a" | "b" | "c" | "n" => sides.extend(side.chars()),
-            _ => return Err(format!("no side {side}: a, b, c or n")),
+            "a" | "b" | "c" | "d" | "n" => sides.extend(side.chars()),
+            _ => return Err(format!("no side {side}: a, b, c, d or n")),
         }
     }
     if sides.is_empty() { Err("no side is left".into()) } else { Ok(sides) }
@@ -100,7 +102,7 @@ fn chosen(asked: &Asked) -> Result<(Vec<Kind>, bool), String> {
     };
     for pattern in &asked.kinds {
         if !fits(pattern, "day") && !all.iter().any(|kind| fits(pattern, kind.name)) {
-            return Err(format!("no kind {pattern}; see tools/bench --list"));
+            return Err(format!("no kind {pattern} (see tools/bench --list)"));
         }
     }
     let asked_for = |name: &str| asked.kinds.iter().any(|pattern| fits(pattern, name));
@@ -166,7 +168,7 @@ fn run(mut asked: Asked, kinds: Vec<Kind>, with_day: bool) -> Result<(), String>
     verified(&calls)?;
     let times = if asked.times { timed(&asked, &kinds, day) } else { Vec::new() };
     let instructions = if asked.instructions {
-        eprintln!("bench: counting instructions with callgrind");
+        eprintln!("bench: counting instructions with {}", count::counter());
         count::per_call(&asked, kinds.len(), day.map(<[Call]>::len)).unwrap_or_else(|why| {
             eprintln!("bench: instructions are left out: {why}");
             asked.instructions = false;
@@ -198,7 +200,7 @@ fn has_c(_kind: &Kind) -> bool {
 /// What the figures are.
 fn tell(asked: &Asked, rows: &[Row], cpu: Option<usize>, day: Option<&[Call]>) {
     println!();
-    println!("a: the library. b: plain Rust, whole load and save. c: the published Rust in memory, with a mutex.");
+    println!("a: the library. b: plain Rust, whole load and save. c: the published Rust in memory, with a mutex. d: lean Rust, in place.");
     if let Some(empty) = table::empty(rows, &asked.sides) {
         println!("An empty call in the same loop, not subtracted: {empty}.");
     }
@@ -218,6 +220,7 @@ fn tell(asked: &Asked, rows: &[Row], cpu: Option<usize>, day: Option<&[Call]>) {
 }
 
 pub fn main() -> ExitCode {
+    quiet::on_closed_pipes();
     let told = |why: String, status: u8| {
         eprintln!("bench: {why}");
         ExitCode::from(status)

@@ -2,6 +2,7 @@
 //! kinds are gone through several times, since a spell of other work may outlast the rounds of one kind.
 
 use crate::call::Call;
+use crate::count::{BEGIN, END, sign};
 use crate::kinds::{Kind, LENGTH, Slot};
 use crate::sides;
 use std::time::Instant;
@@ -39,11 +40,7 @@ impl Bench {
                 })
                 .sum();
         }
-        let timed = match side {
-            'a' => sides::bench_timed_each_a,
-            'b' => sides::bench_timed_each_b,
-            _ => sides::bench_timed_each_n,
-        };
+        let timed = each(side);
         (0..batches)
             .map(|_| {
                 self.slots.fill(kind.slot.clone());
@@ -54,6 +51,23 @@ impl Bench {
             .sum()
     }
 
+    /// This kind once on each of the first slots, for the counter.
+    pub fn once(&mut self, side: char, kind: &Kind, slots: usize) {
+        #[cfg(oracle)]
+        if side == 'c' {
+            let start = crate::device::start(kind);
+            self.devices.iter_mut().for_each(|standing| standing.set(&start));
+            sign(BEGIN);
+            crate::device::bench_timed_each_c(kind, &mut self.devices[..slots]);
+            return sign(END);
+        }
+        let timed = each(side);
+        self.slots.fill(kind.slot.clone());
+        sign(BEGIN);
+        timed(kind, &mut self.slots[..slots]);
+        sign(END);
+    }
+
     /// Nanoseconds of the day, on one image from its first call on.
     pub fn day(&mut self, side: char, calls: &[Call]) -> u64 {
         #[cfg(oracle)]
@@ -62,14 +76,44 @@ impl Bench {
             crate::device::bench_timed_day_c(calls, &mut self.devices[0]);
             return began.elapsed().as_nanos() as u64;
         }
-        let timed = match side {
-            'a' => sides::bench_timed_day_a,
-            'b' => sides::bench_timed_day_b,
-            _ => sides::bench_timed_day_n,
-        };
+        let timed = day(side);
         let began = Instant::now();
         timed(calls, &mut self.slots[0]);
         began.elapsed().as_nanos() as u64
+    }
+
+    /// The day once, for the counter.
+    pub fn day_once(&mut self, side: char, calls: &[Call]) {
+        #[cfg(oracle)]
+        if side == 'c' {
+            sign(BEGIN);
+            crate::device::bench_timed_day_c(calls, &mut self.devices[0]);
+            return sign(END);
+        }
+        let timed = day(side);
+        sign(BEGIN);
+        timed(calls, &mut self.slots[0]);
+        sign(END);
+    }
+}
+
+/// A side's timed loop over slots.
+fn each(side: char) -> fn(&Kind, &mut [Slot]) {
+    match side {
+        'a' => sides::bench_timed_each_a,
+        'b' => sides::bench_timed_each_b,
+        'd' => sides::bench_timed_each_d,
+        _ => sides::bench_timed_each_n,
+    }
+}
+
+/// A side's day.
+fn day(side: char) -> fn(&[Call], &mut Slot) {
+    match side {
+        'a' => sides::bench_timed_day_a,
+        'b' => sides::bench_timed_day_b,
+        'd' => sides::bench_timed_day_d,
+        _ => sides::bench_timed_day_n,
     }
 }
 

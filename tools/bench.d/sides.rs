@@ -1,4 +1,5 @@
-//! The sides that are measured, and the loops that are timed: the library, plain Rust, and nothing, which shows what the loop itself costs.
+//! The sides that are measured, and the loops that are timed: the library, plain Rust in two shapes, and nothing, which shows what the loop itself
+//! costs.
 
 use crate::call::Call;
 use crate::kinds::{Kind, LENGTH, Slot};
@@ -72,34 +73,41 @@ impl Side for Library {
     }
 }
 
-pub struct Plain;
+/// A side that is a crate of plain Rust.
+macro_rules! rust {
+    ($side:ident, $of:ident) => {
+        pub struct $side;
 
-impl Side for Plain {
-    #[inline(always)]
-    unsafe fn reset(i: Area, a: Area) -> u8 {
-        unsafe { plain::reset(part_mut(i.0, i.1), part_mut(a.0, a.1)) }
-    }
-    #[inline(always)]
-    unsafe fn read(i: Area, (base, size): (u64, u64), address: u64, width: u64, a: Area) -> u8 {
-        unsafe { plain::read(part(i.0, i.1), base, size, address, width, part_mut(a.0, a.1)) }
-    }
-    #[inline(always)]
-    unsafe fn write(i: Area, (base, size): (u64, u64), address: u64, width: u64, value: u64, a: Area) -> u8 {
-        unsafe { plain::write(part_mut(i.0, i.1), base, size, address, width, value, part_mut(a.0, a.1)) }
-    }
-    #[inline(always)]
-    unsafe fn level(i: Area, input: u64, level: u64, a: Area) -> u8 {
-        unsafe { plain::level(part_mut(i.0, i.1), input, level, part_mut(a.0, a.1)) }
-    }
-    #[inline(always)]
-    unsafe fn poll(i: Area, input: u64, a: Area) -> u8 {
-        unsafe { plain::poll(part_mut(i.0, i.1), input, part_mut(a.0, a.1)) }
-    }
-    #[inline(always)]
-    unsafe fn drain(i: Area, e: Area, place: usize, a: Area) -> u8 {
-        unsafe { plain::drain(part_mut(i.0, i.1), part_mut(e.0, e.1), place, part_mut(a.0, a.1)) }
-    }
+        impl Side for $side {
+            #[inline(always)]
+            unsafe fn reset(i: Area, a: Area) -> u8 {
+                unsafe { $of::reset(part_mut(i.0, i.1), part_mut(a.0, a.1)) }
+            }
+            #[inline(always)]
+            unsafe fn read(i: Area, (base, size): (u64, u64), address: u64, width: u64, a: Area) -> u8 {
+                unsafe { $of::read(part(i.0, i.1), base, size, address, width, part_mut(a.0, a.1)) }
+            }
+            #[inline(always)]
+            unsafe fn write(i: Area, (base, size): (u64, u64), address: u64, width: u64, value: u64, a: Area) -> u8 {
+                unsafe { $of::write(part_mut(i.0, i.1), base, size, address, width, value, part_mut(a.0, a.1)) }
+            }
+            #[inline(always)]
+            unsafe fn level(i: Area, input: u64, level: u64, a: Area) -> u8 {
+                unsafe { $of::level(part_mut(i.0, i.1), input, level, part_mut(a.0, a.1)) }
+            }
+            #[inline(always)]
+            unsafe fn poll(i: Area, input: u64, a: Area) -> u8 {
+                unsafe { $of::poll(part_mut(i.0, i.1), input, part_mut(a.0, a.1)) }
+            }
+            #[inline(always)]
+            unsafe fn drain(i: Area, e: Area, place: usize, a: Area) -> u8 {
+                unsafe { $of::drain(part_mut(i.0, i.1), part_mut(e.0, e.1), place, part_mut(a.0, a.1)) }
+            }
+        }
+    };
 }
+rust!(Plain, plain);
+rust!(Lean, lean);
 
 pub struct Nothing;
 
@@ -209,4 +217,5 @@ macro_rules! timed {
 }
 timed!(Library, bench_timed_each_a, bench_timed_day_a);
 timed!(Plain, bench_timed_each_b, bench_timed_day_b);
+timed!(Lean, bench_timed_each_d, bench_timed_day_d);
 timed!(Nothing, bench_timed_each_n, bench_timed_day_n);

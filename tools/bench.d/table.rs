@@ -23,7 +23,7 @@ fn columns<'a>(sides: &'a [char], times: bool, instructions: bool) -> Vec<Column
             columns.push((format!("{unit} {side}"), Box::new(shown)));
         }
         let Some(a) = sides.iter().position(|&side| side == 'a') else { continue };
-        for (place, &side) in sides.iter().enumerate().filter(|other| *other.1 == 'b' || *other.1 == 'c') {
+        for (place, &side) in sides.iter().enumerate().filter(|other| !['a', 'n'].contains(other.1)) {
             let shown = move |row: &Row| (side != 'c' || row.c).then(|| format!("{:.2}", of(row)[a] / of(row)[place]));
             columns.push((format!("{unit} a/{side}"), Box::new(shown)));
         }

@@ -3,23 +3,28 @@
 use crate::call::Call;
 use crate::chance::Chance;
 use crate::kinds::{BASE, Kind, LENGTH, Prepared, SIZE, Slot};
-use crate::sides::{Library, Plain, make};
+use crate::sides::{Lean, Library, Plain, make};
 
-/// Both sides make the call; they must hand back the same number and leave the same bytes.
+/// The sides make the call; they must hand back the same number and leave the same bytes.
 fn same(what: &str, call: &Call, slot: &mut Slot, image_len: usize, answer_len: usize) -> Result<u8, String> {
-    let mut other = slot.clone();
+    let (mut plain, mut lean) = (slot.clone(), slot.clone());
     let number = make::<Library>(call, slot, image_len, answer_len);
-    let plain = make::<Plain>(call, &mut other, image_len, answer_len);
-    if number == plain && *slot == other {
-        return Ok(number);
-    }
+    let others = [
+        ("plain Rust", make::<Plain>(call, &mut plain, image_len, answer_len), plain),
+        ("lean Rust", make::<Lean>(call, &mut lean, image_len, answer_len), lean),
+    ];
     let first = |a: &[u8], b: &[u8]| a.iter().zip(b).position(|(a, b)| a != b);
-    Err(format!(
-        "{what}: {call:?}: the library hands back {number}, plain Rust {plain}; first different byte: image {:?}, answer {:?}, events {:?}",
-        first(&slot.image, &other.image),
-        first(&slot.answer, &other.answer),
-        first(&slot.events, &other.events)
-    ))
+    for (name, handed, other) in &others {
+        if number != *handed || slot != other {
+            return Err(format!(
+                "{what}: {call:?}: the library hands back {number}, {name} {handed}; first different byte: image {:?}, answer {:?}, events {:?}",
+                first(&slot.image, &other.image),
+                first(&slot.answer, &other.answer),
+                first(&slot.events, &other.events)
+            ));
+        }
+    }
+    Ok(number)
 }
 
 /// A kind is what its name says, and the sides agree on it.

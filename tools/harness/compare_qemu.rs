@@ -8,6 +8,7 @@ mod call;
 mod chance;
 mod lent;
 mod qtest;
+mod quiet;
 mod steps;
 mod under_test;
 
@@ -166,6 +167,7 @@ fn run(words: &[String]) -> Result<Counts, String> {
 }
 
 fn main() -> ExitCode {
+    quiet::on_closed_pipes();
     match run(&std::env::args().skip(1).collect::<Vec<_>>()) {
         Ok(Counts { agree, known, unexpected }) => {
             let steps = agree + known + unexpected;

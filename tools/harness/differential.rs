@@ -11,6 +11,7 @@ mod generate;
 mod histories;
 mod image;
 mod lent;
+mod quiet;
 mod sweeps;
 mod text;
 mod under_test;
@@ -23,6 +24,7 @@ use std::time::Instant;
 const BAD_USAGE: u8 = 2;
 
 fn main() -> ExitCode {
+    quiet::on_closed_pipes();
     caught::prepare();
     match run(std::env::args().skip(1).collect()) {
         Ok(code) => code,

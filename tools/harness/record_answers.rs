@@ -9,6 +9,7 @@ mod chance;
 mod fixed;
 mod generate;
 mod image;
+mod quiet;
 mod records;
 
 use boundary::Boundary;
@@ -102,6 +103,7 @@ const RECORDS: usize = 4500;
 const SEED: u64 = 20;
 
 fn main() {
+    quiet::on_closed_pipes();
     let path = std::env::args().nth(1).expect("the path of the file to write");
     let mut recorder = Recorder::new();
     let mut chance = Chance::new(SEED);

@@ -6,6 +6,7 @@
 
 mod call;
 mod lent;
+mod quiet;
 mod records;
 mod under_test;
 
@@ -16,6 +17,7 @@ use records::{
 use std::process::ExitCode;
 
 fn main() -> ExitCode {
+    quiet::on_closed_pipes();
     let path = std::env::args().nth(1).expect("the path of the file");
     match std::fs::read(&path).map_err(|error| error.to_string()).and_then(|file| replay(&file)) {
         Ok((passed, failed)) => {

@@ -29,3 +29,12 @@ needs_rt() {
         exit 2
     }
 }
+
+# recorded: the file of recorded answers. It is data of the crate that replays it.
+recorded() {
+    local found
+    for found in "$(dirname "$here")"/crates/*/data/answers.bin; do
+        echo "$found"
+        return
+    done
+}
