@@ -23,14 +23,14 @@ pub struct Stored {
 
 // The bytes that each input has.
 pub struct Tables {
-    pub route_entry: [u8; 64],
-    pub htmsi_vector: [u8; 64],
+    pub route_entry: [u8; PchPicState::IRQ_COUNT],
+    pub htmsi_vector: [u8; PchPicState::IRQ_COUNT],
 }
 
 // The output events that wait: output_len of them, from output_head on and round; and how many were dropped.
 pub struct Ring {
-    pub output_vectors: [u8; 16],
-    pub output_asserted: [bool; 16],
+    pub output_vectors: [u8; PchPicState::OUTPUT_QUEUE_CAPACITY],
+    pub output_asserted: [bool; PchPicState::OUTPUT_QUEUE_CAPACITY],
     pub output_head: usize,
     pub output_len: usize,
     pub output_drops: u32,
@@ -41,76 +41,6 @@ pub struct PchPicState {
     pub stored: Stored,
     pub tables: Tables,
     pub ring: Ring,
-}
-
-pub struct PchPicOutputEvent {
-    pub vector: u8,
-    pub asserted: bool,
-}
-
-// The ring after a push, and whether the event was kept.
-pub struct Pushed {
-    pub ring: Ring,
-    pub kept: bool,
-}
-
-// What pop_output_event takes out: the Rust's Option<PchPicOutputEvent>.
-pub enum Taken {
-    Nothing,
-    One(PchPicOutputEvent),
-}
-
-pub struct Popped {
-    pub ring: Ring,
-    pub event: Taken,
-}
-
-// The newest event waits last; where 16 wait it is dropped, and counted as far as the count goes.
-pub fn push_output_event(ring: Ring, event: PchPicOutputEvent) -> Pushed
-    requires { ⌜ WellRing ring ⌝ }
-    ensures { λ r. ⌜ Pushes r (ringView ring) (eventOf event) ⌝ }
-{
-    let mut out = ring;
-    if out.output_len == 16 {
-        if out.output_drops < 0xffff_ffff {
-            out.output_drops += 1;
-        }
-        return Pushed {
-            ring: out,
-            kept: false,
-        };
-    }
-    let index = (out.output_head + out.output_len) % 16;
-    out.output_vectors[index] = event.vector;
-    out.output_asserted[index] = event.asserted;
-    out.output_len += 1;
-    Pushed {
-        ring: out,
-        kept: true,
-    }
-}
-
-// The oldest event comes out.
-pub fn pop_output_event(ring: Ring) -> Popped
-    requires { ⌜ WellRing ring ⌝ }
-    ensures { λ r. ⌜ Pops r (ringView ring) ⌝ }
-{
-    let mut out = ring;
-    if out.output_len == 0 {
-        return Popped {
-            ring: out,
-            event: Taken::Nothing,
-        };
-    }
-    let head = out.output_head;
-    let vector = out.output_vectors[head];
-    let asserted = out.output_asserted[head];
-    out.output_head = (head + 1) % 16;
-    out.output_len -= 1;
-    Popped {
-        ring: out,
-        event: Taken::One(PchPicOutputEvent { vector, asserted }),
-    }
 }
 
 impl PchPicState {
@@ -163,13 +93,17 @@ impl PchPicState {
 
     pub const POL_HI: usize = 0x3e4;
 
+    pub const IRQ_COUNT: usize = 64;
+
+    pub const OUTPUT_QUEUE_CAPACITY: usize = 16;
+
     // The state after reset.
     pub fn reset() -> Self
         ensures { λ r. ⌜ Is r reset ⌝ }
     {
-        let mut vectors = [0u8; 64];
+        let mut vectors = [0u8; PchPicState::IRQ_COUNT];
         let mut irq = 0;
-        while irq < 64 {
+        while irq < PchPicState::IRQ_COUNT {
             vectors[irq] = irq as u8;
             irq += 1;
         }
@@ -188,16 +122,86 @@ impl PchPicState {
                 auto_ctrl1: 0,
             },
             tables: Tables {
-                route_entry: [1u8; 64],
+                route_entry: [1u8; PchPicState::IRQ_COUNT],
                 htmsi_vector: vectors,
             },
             ring: Ring {
-                output_vectors: [0u8; 16],
-                output_asserted: [false; 16],
+                output_vectors: [0u8; PchPicState::OUTPUT_QUEUE_CAPACITY],
+                output_asserted: [false; PchPicState::OUTPUT_QUEUE_CAPACITY],
                 output_head: 0,
                 output_len: 0,
                 output_drops: 0,
             },
         }
+    }
+}
+
+pub struct PchPicOutputEvent {
+    pub vector: u8,
+    pub asserted: bool,
+}
+
+// The ring after a push, and whether the event was kept.
+pub struct Pushed {
+    pub ring: Ring,
+    pub kept: bool,
+}
+
+// What pop_output_event takes out: the Rust's Option<PchPicOutputEvent>.
+pub enum Taken {
+    Nothing,
+    One(PchPicOutputEvent),
+}
+
+pub struct Popped {
+    pub ring: Ring,
+    pub event: Taken,
+}
+
+// The newest event waits last; where 16 wait it is dropped, and counted as far as the count goes.
+pub fn push_output_event(ring: Ring, event: PchPicOutputEvent) -> Pushed
+    requires { ⌜ WellRing ring ⌝ }
+    ensures { λ r. ⌜ Pushes r (ringView ring) (eventOf event) ⌝ }
+{
+    let mut out = ring;
+    if out.output_len == PchPicState::OUTPUT_QUEUE_CAPACITY {
+        if out.output_drops < 0xffff_ffff {
+            out.output_drops += 1;
+        }
+        return Pushed {
+            ring: out,
+            kept: false,
+        };
+    }
+    let index = (out.output_head + out.output_len) % PchPicState::OUTPUT_QUEUE_CAPACITY;
+    out.output_vectors[index] = event.vector;
+    out.output_asserted[index] = event.asserted;
+    out.output_len += 1;
+    Pushed {
+        ring: out,
+        kept: true,
+    }
+}
+
+// The oldest event comes out.
+pub fn pop_output_event(ring: Ring) -> Popped
+    requires { ⌜ WellRing ring ⌝ }
+    ensures { λ r. ⌜ Pops r (ringView ring) ⌝ }
+{
+    let mut out = ring;
+    if out.output_len == 0 {
+        return Popped {
+            ring: out,
+            event: Taken::Nothing,
+        };
+    }
+    let head = out.output_head;
+    let vector = out.output_vectors[head];
+    let asserted = out.output_asserted[head];
+    out.output_head = (head + 1) % PchPicState::OUTPUT_QUEUE_CAPACITY;
+    out.output_len -= 1;
+    Popped {
+        ring: out,
+        event: Taken::One(PchPicOutputEvent { vector, asserted }),
     }
 }
