@@ -13,7 +13,6 @@ use Rattle.rules.specs.Device.{Device}
 use Rattle.state.specs.declared.PchPicOutputEvent.{PchPicOutputEvent}
 use Rattle.state.specs.declared.Lines.{Lines}
 use Rattle.state.specs.declared.Stored.{Stored}
-use Rattle.state.specs.declared.Tables.{Tables}
 use Rattle.state.specs.declared.Ring.{Ring}
 use Rattle.state.specs.declared.PchPicState.{PchPicState}
 use Rattle.state.specs.declared.Pushed.{Pushed}

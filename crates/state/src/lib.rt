@@ -1,6 +1,5 @@
 // The state of the PCH-PIC and its ring of output events, after loongarch_pch_pic.rs of axdevice 0.8.5.
 // The Rust's fields stand in four parts, which mirror the Device of the rules, so that a function takes only the part that it changes.
-ghost use mathlib.Core.Path.{_≡_};
 ghost use Rattle.rules.specs.Device.{reset};
 ghost use Rattle.state.specs.View.{eventOf, ringView, WellRing, Pushes, Pops, Is};
 
