@@ -92,6 +92,9 @@ impl PchPicState {
 
     pub const POL_HI: usize = 0x3e4;
 
+    // ID as one register: INT_ID_VAL is its low half; the version and the last input are its high one.
+    pub const INT_ID: u64 = 0x003f_0001_0700_0000;
+
     pub const IRQ_COUNT: usize = 64;
 
     pub const OUTPUT_QUEUE_CAPACITY: usize = 16;
