@@ -279,7 +279,7 @@ static bool refused(const char *path, int number)
     struct pic pic, before;
     pic_init(&pic, BASE);
     before = pic;
-    return pic_load(&pic, path) == number && memcmp(&pic, &before, sizeof pic) == 0;
+    return pic_load(&pic, path) == number && memcmp(pic.image, before.image, sizeof pic.image) == 0;
 }
 
 /* With the checksum made anew, so that the library has to find it. */
@@ -289,7 +289,7 @@ static bool forged(const char *path, const uint8_t saved[SAVED_LEN], size_t plac
     memcpy(bytes, saved, sizeof bytes);
     bytes[HEAD_LEN + place] = byte;
     uint32_t sum = checksum(bytes, sizeof bytes - SUM_LEN);
-    for (int i = 0; i < SUM_LEN; i++) {
+    for (size_t i = 0; i < SUM_LEN; i++) {
         bytes[sizeof bytes - SUM_LEN + i] = (uint8_t)(sum >> 8 * i);
     }
     put_file(path, bytes, sizeof bytes);
@@ -326,6 +326,8 @@ static void files(const char *path)
     expect("so is a broken rule", forged(path, saved, PCH_PIC_IMAGE_LEN - 1, 1, PCH_PIC_BODY));
     remove(path);
     expect("no file, no load", refused(path, PIC_FILE));
+    expect("what an earlier save left is no hindrance", mkfifo(beside, 0600) == 0 && pic_save(&pic, path) == PCH_PIC_DONE);
+    remove(path);
     expect("what is no plain file is not replaced", mkfifo(path, 0600) == 0 && pic_save(&pic, path) == PIC_FILE);
     remove(path);
     snprintf(beside, sizeof beside, "%s/device", path);
