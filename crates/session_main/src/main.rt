@@ -1,5 +1,6 @@
 // The session program: lines from standard input, their answers to standard output. The work is done, and proved, in `session`; here bytes are
-// read and written. What is read or written cannot be in a contract.
+// read and written. What is read or written cannot be in a contract. A read or write that fails is told on standard error; `main` has no status to
+// end with, so `./run` ends with 1 where something was told there.
 use libc::STDIN_FILENO;
 use libc::STDOUT_FILENO;
 use session::lines;
@@ -14,6 +15,15 @@ struct Turn {
     more: bool,
 }
 
+// Whether it was written, all of it.
+fn put(text: &[u8]) -> bool {
+    if io::write_all(STDOUT_FILENO, text) {
+        return true;
+    }
+    os::fail(b"session: standard output cannot be written");
+    false
+}
+
 // The answers to a chunk are written together, as many as the buffer holds. The program ends where they cannot be written.
 fn play_chunk(session: Session, line: &mut [u8], chunk: &[u8]) -> Turn
     requires { ⌜ Ready session (now line) ⌝ }
@@ -26,7 +36,7 @@ fn play_chunk(session: Session, line: &mut [u8], chunk: &[u8]) -> Turn
     while more && at < chunk.len() {
         let fed = lines::feed(next, line, &chunk[at..], &mut out);
         let len = fed.len;
-        more = io::write_all(STDOUT_FILENO, &out[..len]);
+        more = put(&out[..len]);
         next = fed.session;
         at += fed.taken;
     }
@@ -43,6 +53,9 @@ fn play_some(session: Session, line: &mut [u8]) -> Turn
 {
     let mut buf = io::buffer();
     let got = libc::read(STDIN_FILENO, &mut buf);
+    if got < 0 {
+        os::fail(b"session: standard input cannot be read");
+    }
     let n = io::count(got, &buf);
     if n == 0 {
         return Turn {
@@ -75,5 +88,5 @@ fn main() {
     let session = play_all(&mut line);
     let mut out = [0u8; 128];
     let len = lines::close(session, &line, &mut out);
-    io::write_all(STDOUT_FILENO, &out[..len]);
+    put(&out[..len]);
 }
