@@ -11,13 +11,16 @@
 extern "C" {
 #endif
 
+/* What can be wrong with a file. */
 enum {
-    PIC_FILE = 100,    /* a file cannot be read or written; errno says why */
-    PIC_FOREIGN = 101, /* the file is no saved PCH-PIC */
-    PIC_TORN = 102,    /* the file is shorter or longer than it says */
-    PIC_DAMAGED = 103, /* the file's checksum is not that of its bytes */
-    PIC_VECTORS = 256  /* the vectors of the controller above */
+    PIC_FILE = 100,    /* it cannot be read or written; errno says why */
+    PIC_FOREIGN = 101, /* it is no saved PCH-PIC */
+    PIC_TORN = 102,    /* it is shorter or longer than it says */
+    PIC_DAMAGED = 103  /* its checksum is not that of its bytes */
 };
+
+/* The vectors of the controller above. */
+enum { PIC_VECTORS = 256 };
 
 struct pic {
     uint8_t image[PCH_PIC_IMAGE_LEN];

@@ -38,22 +38,30 @@ static uint32_t get(const uint8_t *bytes)
     return bytes[0] | (uint32_t)bytes[1] << 8 | (uint32_t)bytes[2] << 16 | (uint32_t)bytes[3] << 24;
 }
 
+/* A new file with these bytes, on the disk. What is left there of a save that did not end is taken away first: it may be anything. */
 static bool write_and_sync(const char *path, const uint8_t *bytes, size_t len)
 {
-    FILE *file = fopen(path, "wb");
-    if (!file) {
+    remove(path);
+    int file = open(path, O_WRONLY | O_CREAT | O_EXCL | O_CLOEXEC, 0666);
+    if (file < 0) {
         return false;
     }
-    bool written = fwrite(bytes, 1, len, file) == len && fflush(file) == 0 && fsync(fileno(file)) == 0;
+    bool written = true;
+    for (size_t done = 0; done < len && written;) {
+        ssize_t more = write(file, bytes + done, len - done);
+        written = more > 0 || (more < 0 && errno == EINTR);
+        done += more > 0 ? (size_t)more : 0;
+    }
+    written = written && fsync(file) == 0;
     int why = errno;
-    bool closed = fclose(file) == 0;
+    bool closed = close(file) == 0;
     if (!written) {
         errno = why;
     }
     return written && closed;
 }
 
-/* The new name is on the disk only when the folder is. */
+/* The new name is on the disk only when the folder is. Some file systems cannot sync a folder, and say so. */
 static bool sync_folder(const char *path)
 {
     char folder[PATH_LEN] = ".";
@@ -63,12 +71,14 @@ static bool sync_folder(const char *path)
         memcpy(folder, path, len);
         folder[len] = 0;
     }
-    int opened = open(folder, O_RDONLY | O_DIRECTORY);
+    int opened = open(folder, O_RDONLY | O_DIRECTORY | O_CLOEXEC);
     if (opened < 0) {
         return false;
     }
-    bool synced = fsync(opened) == 0;
+    bool synced = fsync(opened) == 0 || errno == EINVAL;
+    int why = errno;
     close(opened);
+    errno = why;
     return synced;
 }
 

@@ -62,6 +62,28 @@ mod tests {
     }
 
     #[test]
+    fn the_header_says_the_same() {
+        let header = include_str!("../../../include/pch_pic.h");
+        for (name, value) in [
+            ("IMAGE_BODIES", BODIES),
+            ("IMAGE_ENTRIES", ENTRIES),
+            ("ENTRY_LEN", ENTRY_LEN),
+            ("KIND_REGISTERS", usize::from(REGISTERS)),
+            ("KIND_ROUTES", usize::from(ROUTES)),
+            ("KIND_VECTORS", usize::from(VECTORS)),
+            ("KIND_EVENTS", usize::from(EVENTS)),
+            ("REGISTERS_IRR_BACK", IRR_BACK),
+            ("REGISTERS_ISR_BACK", ISR_BACK),
+            ("EVENTS_WAITING", WAITING),
+            ("EVENTS_DROPS", DROPS),
+        ] {
+            let line = header.lines().find(|line| line.trim().starts_with(&format!("PCH_PIC_{name} = ")));
+            let number = line.and_then(|line| line.split(['=', ',', '/']).nth(1)?.trim().parse().ok());
+            assert_eq!(number, Some(value), "{name}");
+        }
+    }
+
+    #[test]
     fn registers_are_counted_from_the_end() {
         let mut image = [0; 7 + 64];
         image[..7].copy_from_slice(&[2, 1, REGISTERS, 7, 0, 64, 0]);

@@ -115,17 +115,20 @@ fn beside(path: &Path) -> PathBuf {
     name.into()
 }
 
+/// A new file with these bytes, on the disk. What is left there of a save that did not end is taken away first: it may be anything.
 fn write_and_sync(path: &Path, bytes: &[u8]) -> io::Result<()> {
-    let mut file = File::create(path)?;
+    let _ = fs::remove_file(path);
+    let mut file = File::create_new(path)?;
     file.write_all(bytes)?;
     file.sync_all()
 }
 
-/// The new name is on the disk only when the folder is.
+/// The new name is on the disk only when the folder is. Some file systems cannot sync a folder, and say so.
 fn sync_folder(path: &Path) -> io::Result<()> {
-    match path.parent() {
-        Some(folder) if !folder.as_os_str().is_empty() => File::open(folder)?.sync_all(),
-        _ => File::open(".")?.sync_all(),
+    let folder = path.parent().filter(|folder| !folder.as_os_str().is_empty()).unwrap_or(Path::new("."));
+    match File::open(folder)?.sync_all() {
+        Err(why) if why.kind() == io::ErrorKind::InvalidInput => Ok(()),
+        synced => synced,
     }
 }
 

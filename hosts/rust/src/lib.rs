@@ -42,7 +42,7 @@
 //! # Ok::<(), pch_pic::Error>(())
 //! ```
 
-#![cfg_attr(not(feature = "std"), no_std)]
+#![cfg_attr(not(any(feature = "std", test)), no_std)]
 
 #[cfg(not(target_pointer_width = "64"))]
 compile_error!("pch-pic serves 64-bit hosts only");

@@ -70,3 +70,14 @@ fn what_is_no_plain_file_is_not_replaced() {
     assert!(matches!(file::load(folder.0.join("nothing")), Err(LoadError::Io(_))));
     assert!(file::save(&PchPic::new(), folder.0.join("nothing/device")).is_err());
 }
+
+#[test]
+fn what_an_earlier_save_left_is_no_hindrance() {
+    let folder = Folder::new("left");
+    let path = folder.0.join("device");
+    fs::write(folder.0.join("kept"), "kept").unwrap();
+    std::os::unix::fs::symlink(folder.0.join("kept"), folder.0.join("device.new")).unwrap();
+    file::save(&PchPic::new(), &path).unwrap();
+    assert_eq!(file::load(&path).unwrap(), PchPic::new());
+    assert_eq!(fs::read(folder.0.join("kept")).unwrap(), b"kept");
+}
