@@ -8,7 +8,7 @@ use lib.Dec.{eqb, ltb}
 use lib.ListN.{take, drop, getD, set, replicate}
 use Rattle.rules.specs.Numbers.{numberOf, part}
 use Rattle.rules.specs.Calls.{Request, reset, read, write, level, poll, drain, Outcome, outcome}
-use Rattle.image.specs.Shown.{withWord}
+use Rattle.bytes.specs.Put.{withWord}
 use Rattle.answers.specs.declared.held.Verdict.{Verdict}
 use Rattle.answers.specs.declared.held.Verdict.the-variants.{Agrees, Nothing, Lent, Number, Answer, Image, Events, Whole, Cut, Kind}
 

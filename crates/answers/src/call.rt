@@ -1,9 +1,9 @@
 // A record of a call: the call is made on what the record lends, and what it left is held against the record.
 use crate::held;
 use crate::held::Verdict;
-use image::bytes::number;
-use image::bytes::wide;
-use image::bytes::word_at;
+use bytes::number;
+use bytes::wide;
+use bytes::word_at;
 ghost use mathlib.Core.Path.{_≡_};
 ghost use mathlib.Core.Bool.{true};
 ghost use lib.ListN.{length};

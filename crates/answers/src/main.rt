@@ -5,8 +5,8 @@ mod each;
 mod held;
 mod say;
 
+use bytes::number;
 use held::Verdict;
-use image::bytes::number;
 ghost use mathlib.Core.Path.{_≡_};
 ghost use Prim.Native.Nat.{_+_, _^_, _<_, _≤_};
 ghost use lib.ListN.{length};

@@ -1,12 +1,12 @@
 -- Bodies written into an image: words one after another, the ring, and a part of the image of a device replaced.
-use mathlib.Core.Path.{_≡_, refl, sym, ap, _∙_, subst}
+use mathlib.Core.Path.{_≡_, refl, sym, ap, _∙_}
 use mathlib.Core.List.{List, [], _∷_, _++_, map, append-assoc, append-nil}
 use Prim.Native.Nat.{ℕ, zero, suc, _+_, _-_, _*_, _%_, _^_, _≤_, _<_}
 use native.Mathlib.Nat.{sub-zero, mod-eq-of-lt}
 use native.Mathlib.Numerals.{add-one}
 use native.Mathlib.Omega.{arith}
 use lib.ListN.{length, take, drop, getD, replicate, length-append, length-drop, length-replicate, drop-of-length-le}
-use lib.Seq.{length-take-le, take-all, take-at, drop-at, drop-drop, take-suc}
+use lib.Seq.{length-take-le, take-all, take-at, drop-at, take-suc}
 use borrow.Rule.Slice.PartMut.{putMid}
 use Rattle.rules.specs.Numbers.{bytesOf, part, Bytes}
 use Rattle.rules.specs.Lines as lines
@@ -14,27 +14,14 @@ use Rattle.rules.specs.Ring as ring
 use Rattle.rules.specs.Ring.{capacity, stop, pairsOf}
 use Rattle.rules.specs.Device.{Device, WellFormed, reset}
 use Rattle.rules.specs.Image.{imageLength, bytesLength, maskAt, lastIrrAt, irrAt, isrAt, ringAt, ringLength, contents, registersBody, ringBody, encode}
-use Rattle.rules.proofs.laws.Lists.{length-part}
-use Rattle.rules.proofs.laws.Bytes.{length-bytesOf}
-use Rattle.rules.proofs.laws.Parts.{Filled, start, length-next, put, put-this, put-bytes, filled}
+use Rattle.rules.proofs.laws.Parts.{Filled, start, length-next, put-this, put-bytes, filled}
 use Rattle.rules.proofs.laws.Images.{length-pairsOf, length-registersBody, length-ringBody, unusedAfter}
 use Rattle.state.specs.View.{WellLines, linesView}
 use Rattle.state.specs.declared.Lines.{Lines}
-use Rattle.image.specs.Shown.{withBytes, withWord, spelled, withLines, withRing}
+use Rattle.bytes.specs.Put.{withWord}
+use Rattle.image.specs.Shown.{spelled, withLines, withRing}
 
 -- ---- words
-
--- bytes are written over a part that is lent with the n places from `at` on
-pub bytes-over : (at n x : ℕ) (l : List ℕ) {ys : List ℕ} → at + n ≤ length l → ys ≡ bytesOf (length (part at (at + n - at) l)) x → putMid at (at + n - at) l ys ≡ withBytes at n x l
-bytes-over at n x l {ys} h e =
-    let w : at + n - at ≡ n = omega arith in
-    let low : ys ≡ bytesOf n x = e ∙ ap (λ k. bytesOf (length (part at k l)) x) w ∙ ap (λ m. bytesOf m x) (length-part l at n h) in
-    rw w (λ i. take at l ++ (low i ++ drop-drop n at l i))
-
--- a word is put behind what is written
-pub word-put : {l l₀ front : List ℕ} {a : ℕ} (x : ℕ) (m : List ℕ) → Filled l l₀ front a → m ≡ withWord a x l → Filled m l₀ (front ++ bytesOf 8 x) (a + 8)
-word-put {l} {l₀} {front} {a} x m f e =
-    subst (λ n. Filled n l₀ (front ++ bytesOf 8 x) (a + 8)) ((λ i. take a l ++ (bytesOf 8 x ++ drop-drop 8 a l i)) ∙ sym e) (put f 8 (bytesOf 8 x) (length-bytesOf 8 x))
 
 spelled-snoc : (l : List ℕ) (x : ℕ) → spelled (l ++ (x ∷ [])) ≡ spelled l ++ bytesOf 8 x
 spelled-snoc [] x = refl

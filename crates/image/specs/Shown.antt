@@ -2,22 +2,19 @@
 use mathlib.Core.Path.{_≡_}
 use mathlib.Core.Bool.{Bool}
 use mathlib.Core.List.{List, [], _∷_, _++_}
-use Prim.Native.Nat.{ℕ, zero, suc, _+_, _*_}
+use Prim.Native.Nat.{ℕ, zero, suc, _*_}
 use lib.Bits.{bitOr}
-use lib.ListN.{length, take, drop}
+use lib.ListN.{length}
 use Rattle.rules.specs.Numbers.{bytesOf}
 use Rattle.rules.specs.Lines as rules-lines
 use Rattle.rules.specs.Ring as rules-ring
 use Rattle.rules.specs.Device.{Device, WellFormed}
-use Rattle.rules.specs.Device as device
 use Rattle.rules.specs.Image.{maskAt, htmsiEnAt, edgeAt, lastIrrAt, irrAt, isrAt, polAt, auto0At, auto1At, registerAt}
 use Rattle.rules.specs.Image.{encode, eventsOf, ImageTest, accepted, wrongLength, wrongContents, wrongBody}
 use Rattle.state.specs.View.{slots, linesView, WellLines}
 use Rattle.state.specs.declared.Lines.{Lines}
 use Rattle.image.specs.declared.check.Checked.{Checked}
 use Rattle.image.specs.declared.check.Checked.the-variants.{Accepted, WrongLength, WrongContents, WrongBody}
-use Rattle.image.specs.declared.answer.Value.{Value}
-use Rattle.image.specs.declared.answer.Value.the-variants.{Absent, Present}
 
 abbrev pub checkedView : Checked → ImageTest
 checkedView Accepted = accepted
@@ -29,13 +26,6 @@ checkedView WrongBody = wrongBody
 abbrev pub bitsOf : ℕ → List ℕ → ℕ
 bitsOf zero l = 0
 bitsOf (suc k) l = bitOr (bitsOf k l) (registerAt (8 * k) l)
-
--- bytes with the n from a place on replaced by the low ones of x, and with the eight of a word
-abbrev pub withBytes : ℕ → ℕ → ℕ → List ℕ → List ℕ
-withBytes at n x l = take at l ++ (bytesOf n x ++ drop (at + n) l)
-
-abbrev pub withWord : ℕ → ℕ → List ℕ → List ℕ
-withWord at x l = withBytes at 8 x l
 
 -- words one after another, eight bytes each
 abbrev pub spelled : List ℕ → List ℕ
@@ -69,7 +59,3 @@ withRing r d = record { core = d .core; ring = r }
 -- what a function that saves a part promises: it turns the image of a device into that of the device with the part replaced
 abbrev pub Saves : List ℕ → List ℕ → (Device → Device) → Type 0
 Saves entry exit f = (d : Device) → WellFormed d → entry ≡ encode d → exit ≡ encode (f d)
-
-abbrev pub valueView : Value → device.Value
-valueView Absent = device.none
-valueView (Present v) = device.some v

@@ -1,6 +1,6 @@
 // The contents of an image: form 1, and the kind, place and length of each of its four bodies. And where the registers of body 1 stand.
-use crate::bytes::put_word;
-use crate::bytes::word_at;
+use bytes::put_word;
+use bytes::word_at;
 ghost use mathlib.Core.Path.{_≡_};
 ghost use Prim.Native.Nat.{_≤_};
 ghost use lib.ListN.{length};

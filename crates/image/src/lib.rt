@@ -1,6 +1,4 @@
-// The boundary's bytes: the saved image checked, loaded and saved, and the answer area.
-pub mod answer;
-pub mod bytes;
+// The saved image: checked, loaded and saved.
 pub mod check;
 mod contents;
 pub mod load;

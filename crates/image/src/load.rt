@@ -1,8 +1,8 @@
 // Loading: each part of the state from its bytes. What is asked of an image is its length, and of its ring the count.
-use crate::bytes::fill_entries;
-use crate::bytes::number;
-use crate::bytes::word_at;
 use crate::contents;
+use bytes::copy;
+use bytes::number;
+use bytes::word_at;
 use state::Lines;
 use state::Queue;
 ghost use mathlib.Core.Path.{_≡_};
@@ -44,6 +44,16 @@ pub fn load_words(image: &[u8]) -> [u64; 9]
         word_at(image, contents::AUTO0),
         word_at(image, contents::AUTO1),
     ]
+}
+
+// The 64 entries that a part of the image holds, a byte for each input.
+pub fn fill_entries(part: &[u8]) -> [u8; 64]
+    requires { ⌜ length (now part) ≡ 64 ⌝ }
+    ensures { λ r. ⌜ r ≡ now (part .entry) ⌝ }
+{
+    let mut out = [0u8; 64];
+    copy(&mut out, part);
+    out
 }
 
 // The vector body is handed on to the leaf that fills 64 entries.

@@ -1,20 +1,32 @@
 // Saving: each part of the state into its bytes, and no other byte.
-use crate::bytes::copy;
-use crate::bytes::put_number;
-use crate::bytes::put_word;
-use crate::bytes::put_words;
-use crate::bytes::put_zeros;
 use crate::contents;
+use bytes::copy;
+use bytes::put_number;
+use bytes::put_word;
+use bytes::put_zeros;
 use state::Lines;
 use state::PchPicState;
 use state::Queue;
 ghost use mathlib.Core.Path.{_≡_};
+ghost use Prim.Native.Nat.{_*_};
 ghost use lib.ListN.{length};
 ghost use borrow.Rule.Slice.PartMut.{putMid};
 ghost use Rattle.rules.specs.Device.{reset};
 ghost use Rattle.rules.specs.Image.{imageLength, registersAt, registersLength, vectorsBodyAt, bytesLength, ringLength, ringBody, encode};
 ghost use Rattle.state.specs.View.{WellLines, WellRing, Well, linesView, ringOf, ringView, view};
 ghost use Rattle.image.specs.Shown.{spelled, withLines, withRing, Saves};
+
+// Words, eight bytes each.
+pub fn put_words(dst: &mut [u8], words: &[u64])
+    requires { ⌜ length (now dst) ≡ 8 * length (now words) ⌝ }
+    ensures { λ _. ⌜ now (dst .exit) ≡ spelled (now (words .entry)) ⌝ }
+{
+    let mut i = 0;
+    while i < words.len() {
+        put_word(dst, 8 * i, words[i]);
+        i += 1;
+    }
+}
 
 // Body 4: the unused pairs are zeroed with all the others, before the waiting ones are written.
 fn put_ring(dst: &mut [u8], queue: Queue, vectors: &[u8], asserted: &[bool])

@@ -6,8 +6,8 @@ use Prim.Native.Nat.{_≤_}
 use lib.ListN.{length, drop, length-drop, drop-of-length-le}
 use Rattle.rules.specs.Image.{contents, registerAt}
 use Rattle.rules.proofs.laws.Parts.{start}
-use Rattle.image.specs.Shown.{withWord}
-use Rattle.image.proofs.Saved.{word-put}
+use Rattle.bytes.specs.Put.{withWord}
+use Rattle.bytes.proofs.Putting.{word-put}
 use borrow.Author.Needs.{needs}
 use Rattle.image.proofs.contents.put_contents.Statement.{statement}
 use Rattle.image.proofs.contents.put_contents.Tie as tie

@@ -1,7 +1,7 @@
 -- `save_lines`: over the image of a device the four words are written where its lines stand.
 use mathlib.Core.Path.{ap, _∙_}
 use Rattle.rules.specs.Image.{maskAt, lastIrrAt, irrAt, isrAt}
-use Rattle.image.specs.Shown.{withWord}
+use Rattle.bytes.specs.Put.{withWord}
 use Rattle.image.proofs.Saved.{lines-saved}
 use borrow.Author.Needs.{needs}
 use Rattle.image.proofs.save.save_lines.Statement.{statement}

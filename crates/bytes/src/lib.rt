@@ -1,10 +1,10 @@
-// Numbers and runs of bytes: the leaves that read and write parts of the image.
+// A number and its bytes, little end first, read and written where they stand; runs of bytes copied and zeroed.
 ghost use mathlib.Core.Path.{_≡_};
-ghost use Prim.Native.Nat.{_+_, _*_, _≤_};
+ghost use Prim.Native.Nat.{_+_, _≤_};
 ghost use lib.ListN.{length, replicate};
 ghost use Rattle.rules.specs.Numbers.{numberOf, bytesOf};
 ghost use Rattle.rules.specs.Image.{registerAt};
-ghost use Rattle.image.specs.Shown.{withBytes, withWord, spelled};
+ghost use Rattle.bytes.specs.Put.{withBytes, withWord};
 
 pub fn wide(x: u8) -> u64
     ensures { λ r. ⌜ r ≡ x ⌝ }
@@ -65,18 +65,6 @@ pub fn put_word(dst: &mut [u8], at: usize, x: u64)
     put_bytes(dst, at, 8, x);
 }
 
-// Words, eight bytes each.
-pub fn put_words(dst: &mut [u8], words: &[u64])
-    requires { ⌜ length (now dst) ≡ 8 * length (now words) ⌝ }
-    ensures { λ _. ⌜ now (dst .exit) ≡ spelled (now (words .entry)) ⌝ }
-{
-    let mut i = 0;
-    while i < words.len() {
-        put_word(dst, 8 * i, words[i]);
-        i += 1;
-    }
-}
-
 // All of src over all of dst.
 pub fn copy(dst: &mut [u8], src: &[u8])
     requires { ⌜ length (now dst) ≡ length (now src) ⌝ }
@@ -98,14 +86,4 @@ pub fn put_zeros(dst: &mut [u8])
         dst[i] = 0;
         i += 1;
     }
-}
-
-// The 64 entries that a part of the image holds, a byte for each input.
-pub fn fill_entries(part: &[u8]) -> [u8; 64]
-    requires { ⌜ length (now part) ≡ 64 ⌝ }
-    ensures { λ r. ⌜ r ≡ now (part .entry) ⌝ }
-{
-    let mut out = [0u8; 64];
-    copy(&mut out, part);
-    out
 }

@@ -1,11 +1,11 @@
 // The answer area: the refusal, whether a value is present, and the value.
-use crate::bytes::put_word;
-use crate::bytes::wide;
+use bytes::put_word;
+use bytes::wide;
 ghost use mathlib.Core.Path.{_≡_};
 ghost use Prim.Native.Nat.{_≤_};
 ghost use lib.ListN.{length};
 ghost use Rattle.rules.specs.Calls.{answerLength, present, amount, answered};
-ghost use Rattle.image.specs.Shown.{valueView};
+ghost use Rattle.answer.specs.Given.{valueView};
 
 // What a call gives, if it gives something.
 pub enum Value {

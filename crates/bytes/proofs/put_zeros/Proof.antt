@@ -7,8 +7,8 @@ use native.Mathlib.Omega.{arith}
 use borrow.Author.Needs.{needs}
 use lib.ListN.{length, take, replicate, length-set}
 use Rattle.rules.proofs.laws.Lists.{turn, done}
-use Rattle.image.proofs.bytes.put_zeros.Statement.{statement}
-use Rattle.image.proofs.bytes.put_zeros.Tie as tie
+use Rattle.bytes.proofs.put_zeros.Statement.{statement}
+use Rattle.bytes.proofs.put_zeros.Tie as tie
 
 abbrev Inv-loop : tie.InvT-loop
 Inv-loop dst₀ i₀ dst i = (i ≤ length dst) × (length dst ≡ length dst₀) × (take i dst ++ replicate (length dst₀ - i) 0 ≡ replicate (length dst₀) 0)

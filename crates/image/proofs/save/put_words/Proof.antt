@@ -7,10 +7,12 @@ use borrow.Author.Needs.{needs}
 use lib.ListN.{length, take, getD}
 use lib.Seq.{take-all}
 use Rattle.rules.proofs.laws.Parts.{Filled, start, filled}
-use Rattle.image.specs.Shown.{withWord, spelled}
-use Rattle.image.proofs.Saved.{word-put, spelled-next, length-filled}
-use Rattle.image.proofs.bytes.put_words.Statement.{statement}
-use Rattle.image.proofs.bytes.put_words.Tie as tie
+use Rattle.bytes.specs.Put.{withWord}
+use Rattle.bytes.proofs.Putting.{word-put}
+use Rattle.image.specs.Shown.{spelled}
+use Rattle.image.proofs.Saved.{spelled-next, length-filled}
+use Rattle.image.proofs.save.put_words.Statement.{statement}
+use Rattle.image.proofs.save.put_words.Tie as tie
 
 abbrev Inv-loop : tie.InvT-loop
 Inv-loop dst₀ words i₀ dst i = (i ≤ length words) × (length dst ≡ length dst₀) × Filled dst dst₀ (spelled (take i words)) (8 * i)

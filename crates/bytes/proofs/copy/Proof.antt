@@ -6,8 +6,8 @@ use native.Mathlib.Omega.{arith}
 use borrow.Author.Needs.{needs}
 use lib.ListN.{length, take, drop, length-set}
 use Rattle.rules.proofs.laws.Lists.{copied, copied-all}
-use Rattle.image.proofs.bytes.copy.Statement.{statement}
-use Rattle.image.proofs.bytes.copy.Tie as tie
+use Rattle.bytes.proofs.copy.Statement.{statement}
+use Rattle.bytes.proofs.copy.Tie as tie
 
 abbrev Inv-loop : tie.InvT-loop
 Inv-loop dst₀ src i₀ dst i = (i ≤ length src) × (length dst ≡ length src) × (take i dst ++ drop i src ≡ src)

@@ -9,11 +9,11 @@ use Rattle.rules.specs.Numbers.{bytesOf}
 use Rattle.rules.specs.Device.{Value, none, some}
 use Rattle.rules.specs.Calls.{answerLength, present, answered}
 use Rattle.rules.proofs.laws.Parts.{start}
-use Rattle.image.specs.Shown.{valueView}
-use Rattle.image.proofs.Saved.{word-put}
+use Rattle.answer.specs.Given.{valueView}
+use Rattle.bytes.proofs.Putting.{word-put}
 use borrow.Author.Needs.{needs}
-use Rattle.image.proofs.answer.put_answer.Statement.{statement}
-use Rattle.image.proofs.answer.put_answer.Tie as tie
+use Rattle.answer.proofs.put_answer.Statement.{statement}
+use Rattle.answer.proofs.put_answer.Tie as tie
 
 present-small : (v : Value) → present v ≤ 1
 present-small none = lit≤ tt
