@@ -1,6 +1,7 @@
 // Whether an image may be loaded. Bytes are compared as numbers, eight at a time. Of the ring's pairs the bits are gathered that any has:
 // they settle the commonest ring, and all flags at once.
 use crate::contents;
+use crate::places;
 use bytes::word_at;
 ghost use mathlib.Core.Path.{_≡_};
 ghost use Prim.Native.Nat.{_*_, _≤_};
@@ -72,20 +73,20 @@ fn body_good(image: &[u8]) -> bool
     requires { ⌜ length (now image) ≡ imageLength ⌝ }
     ensures { λ r. ⌜ r ≡ bodyRules (now (image .entry)) ⌝ }
 {
-    if word_at(image, contents::LAST_IRR) != word_at(image, contents::IRR) {
+    if word_at(image, places::LAST_IRR) != word_at(image, places::IRR) {
         return false;
     }
-    let count = image[222] as usize;
+    let count = image[places::COUNT] as usize;
     if count > 16 {
         return false;
     }
-    pairs_good(count, &image[227..259])
+    pairs_good(count, &image[places::PAIRS..places::LENGTH])
 }
 
 pub fn check(image: &[u8]) -> Checked
     ensures { λ r. ⌜ checkedView r ≡ imageTest (now (image .entry)) ⌝ }
 {
-    if image.len() != 259 {
+    if image.len() != places::LENGTH {
         return Checked::WrongLength;
     }
     if !contents::contents_good(image) {

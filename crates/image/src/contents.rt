@@ -1,4 +1,4 @@
-// The contents of an image: form 1, and the kind, place and length of each of its four bodies. And where the registers of body 1 stand.
+// The contents of an image: form 1, and the kind, place and length of each of its four bodies.
 use bytes::put_word;
 use bytes::word_at;
 ghost use mathlib.Core.Path.{_≡_};
@@ -13,24 +13,6 @@ const FIRST: u64 = 0x0200_4800_1601_0401;
 const SECOND: u64 = 0x4000_9e03_0040_005e;
 
 const THIRD: u64 = 0x0025_00de_0400_4000;
-
-pub const MASK: usize = 22;
-
-pub const HTMSI_EN: usize = 30;
-
-pub const EDGE: usize = 38;
-
-pub const LAST_IRR: usize = 46;
-
-pub const IRR: usize = 54;
-
-pub const ISR: usize = 62;
-
-pub const POL: usize = 70;
-
-pub const AUTO0: usize = 78;
-
-pub const AUTO1: usize = 86;
 
 pub fn contents_good(image: &[u8]) -> bool
     requires { ⌜ registersAt ≤ length (now image) ⌝ }

@@ -2,4 +2,5 @@
 pub mod check;
 mod contents;
 pub mod load;
+pub mod places;
 pub mod save;

@@ -1,5 +1,5 @@
 // Loading: each part of the state from its bytes. What is asked of an image is its length, and of its ring the count.
-use crate::contents;
+use crate::places;
 use bytes::copy;
 use bytes::number;
 use bytes::word_at;
@@ -17,9 +17,9 @@ pub fn load_lines(image: &[u8]) -> Lines
     requires { ⌜ length (now image) ≡ imageLength ⌝ }
     ensures { λ r. ⌜ IsLines r (decode (now (image .entry)) .core .lines) ⌝ }
 {
-    let int_mask = word_at(image, contents::MASK);
-    let intirr = word_at(image, contents::IRR);
-    let intisr = word_at(image, contents::ISR);
+    let int_mask = word_at(image, places::MASK);
+    let intirr = word_at(image, places::IRR);
+    let intisr = word_at(image, places::ISR);
     Lines {
         int_mask,
         last_intirr: intirr,
@@ -34,15 +34,15 @@ pub fn load_words(image: &[u8]) -> [u64; 9]
     ensures { λ r. ⌜ r ≡ imageWords (now (image .entry)) ⌝ }
 {
     [
-        word_at(image, contents::MASK),
-        word_at(image, contents::HTMSI_EN),
-        word_at(image, contents::EDGE),
-        word_at(image, contents::LAST_IRR),
-        word_at(image, contents::IRR),
-        word_at(image, contents::ISR),
-        word_at(image, contents::POL),
-        word_at(image, contents::AUTO0),
-        word_at(image, contents::AUTO1),
+        word_at(image, places::MASK),
+        word_at(image, places::HTMSI_EN),
+        word_at(image, places::EDGE),
+        word_at(image, places::LAST_IRR),
+        word_at(image, places::IRR),
+        word_at(image, places::ISR),
+        word_at(image, places::POL),
+        word_at(image, places::AUTO0),
+        word_at(image, places::AUTO1),
     ]
 }
 
@@ -82,8 +82,8 @@ pub fn load_ring(image: &[u8], vectors: &mut [u8], asserted: &mut [bool]) -> Que
     requires { ⌜ (length (now image) ≡ imageLength) × (countOf (now image) ≤ capacity) × (length (now vectors) ≡ capacity) × (length (now asserted) ≡ capacity) ⌝ }
     ensures { λ r. ⌜ IsRing (ringOf r (now (vectors .exit)) (now (asserted .exit))) (decode (now (image .entry)) .ring) ⌝ }
 {
-    let len = image[222] as usize;
-    fill_slots(&image[227..259], len, vectors, asserted);
+    let len = image[places::COUNT] as usize;
+    fill_slots(&image[places::PAIRS..places::LENGTH], len, vectors, asserted);
     let drops = number(&image[223..227]) as u32;
     Queue {
         output_head: 0,

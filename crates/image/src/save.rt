@@ -1,5 +1,6 @@
 // Saving: each part of the state into its bytes, and no other byte.
 use crate::contents;
+use crate::places;
 use bytes::copy;
 use bytes::put_number;
 use bytes::put_word;
@@ -44,10 +45,10 @@ pub fn save_lines(image: &mut [u8], lines: Lines)
     requires { ⌜ (length (now image) ≡ imageLength) × WellLines lines ⌝ }
     ensures { λ _. ⌜ Saves (now (image .entry)) (now (image .exit)) (withLines (linesView lines)) ⌝ }
 {
-    put_word(image, contents::MASK, lines.int_mask);
-    put_word(image, contents::LAST_IRR, lines.last_intirr);
-    put_word(image, contents::IRR, lines.intirr);
-    put_word(image, contents::ISR, lines.intisr);
+    put_word(image, places::MASK, lines.int_mask);
+    put_word(image, places::LAST_IRR, lines.last_intirr);
+    put_word(image, places::IRR, lines.intirr);
+    put_word(image, places::ISR, lines.intisr);
 }
 
 // Body 1, from nine words in its order.

@@ -1,0 +1,17 @@
+-- `routes`: the bytes from the input's place on spell the number.
+use Rattle.inplace.proofs.Tables.{routes-read}
+use borrow.Author.Needs.{needs}
+use Rattle.inplace.proofs.entries.routes.Statement.{statement}
+use Rattle.inplace.proofs.entries.routes.Tie as tie
+
+pub routes-spec : {M : Type 1} → statement M
+routes-spec =
+    tie.close
+    (tie.spec
+    (λ c. search needs)
+    (λ c. search needs)
+    (λ c. search needs)
+    (λ c. search needs)
+    (λ c. search needs)
+    (λ c κs. search needs)
+    (λ c. let s = c .before .before .before in routes-read (s .args .image .now) (s .args .input) (s .args .n) (s .pre .1) (c .number .ensures)))
