@@ -3,6 +3,7 @@ use mathlib.Core.Path.{_≡_, sym, ap, _∙_}
 use mathlib.Core.Bool.{true, false}
 use mathlib.Core.List.{List, _++_, append-nil}
 use Prim.Native.Nat.{ℕ, _+_, _-_, _^_, _<_, _≤_}
+use native.Mathlib.Omega.{arith}
 use lib.Bits.{bitAnd}
 use borrow.Author.Tests.{le-leb, lt-leb}
 use Rattle.rules.specs.Numbers.{byteOf, withByte}
@@ -13,6 +14,10 @@ use Rattle.rules.specs.Access.{word, qword, readDword, byteActs, dwordActs, wri
 use Rattle.rules.proofs.laws.Writes.{byte-acts-outside}
 use Rattle.inplace.specs.Held.{Reads, Writes}
 use Rattle.inplace.proofs.Doing.{writes-same, writes-then}
+
+-- the low half keeps the low bytes
+pub low-bytes : (v w : ℕ) → w ≡ half false v → (byteOf w 0 ≡ byteOf v 0) × (byteOf w 1 ≡ byteOf v 1)
+low-bytes v w e = (omega arith, omega arith)
 
 -- a Byte outside 0x100..0x39f: the Dword as read, with the byte replaced, is written
 pub outside-written : (o v : ℕ) {i j : List ℕ} {n old : ℕ} {new : ℕ} → o < 2 ^ 64 → inByteArea o ≡ false → Reads i old (λ d. readDword (d .core) (bitAnd o 0xffff_ffff_ffff_fffc)) → new ≡ withByte old (bitAnd o 0x3) v

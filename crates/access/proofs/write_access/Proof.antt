@@ -5,7 +5,7 @@ use Prim.Native.Nat.{_+_}
 use native.Mathlib.Omega.{arith}
 use Rattle.rules.specs.Core.{turns}
 use Rattle.rules.specs.Access.{word, byteActs, dwordActs, writeActs}
-use Rattle.registers.proofs.Bytes.{low-bytes}
+use Rattle.access.proofs.Reaching.{low-bytes}
 use Rattle.inplace.proofs.Doing.{writes-same}
 use borrow.Author.Needs.{needs}
 use Rattle.access.proofs.write_access.Statement.{statement}
