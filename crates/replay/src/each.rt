@@ -1,7 +1,7 @@
 // One record of the file, with the bytes of the five that stand behind an image's, replayed on the image buffer.
-use image::bytes::copy;
-use image::bytes::put_zeros;
-use image::bytes::word_at;
+use bytes::copy;
+use bytes::put_zeros;
+use bytes::word_at;
 use records::Verdict;
 ghost use mathlib.Core.Path.{_≡_};
 ghost use mathlib.Core.Bool.{true};

@@ -3,7 +3,7 @@
 mod each;
 mod say;
 
-use image::bytes::number;
+use bytes::number;
 use records::Verdict;
 ghost use mathlib.Core.Path.{_≡_};
 ghost use Prim.Native.Nat.{_+_, _^_, _<_, _≤_};

@@ -1,7 +1,7 @@
 // A record of a call: the call is made on what the record lends, and what it left is held against the record.
-use image::bytes::number;
-use image::bytes::wide;
-use image::bytes::word_at;
+use bytes::number;
+use bytes::wide;
+use bytes::word_at;
 use records::Verdict;
 ghost use mathlib.Core.Path.{_≡_};
 ghost use mathlib.Core.Bool.{true};
