@@ -14,9 +14,9 @@ use borrow.Rule.Slice.PartMut.{putMid}
 use Rattle.rules.specs.Numbers.{bytesOf, part}
 use Rattle.rules.specs.Ring.{flag, Event, drawn, pairsOf}
 use Rattle.rules.specs.Device.{Device, WellFormed, drain}
-use Rattle.rules.specs.Image.{contents, registersBody, ringBody, encode, countOf}
+use Rattle.rules.specs.Image.{countAt, pairsAt, contents, registersBody, ringBody, encode, countOf}
 use Rattle.rules.proofs.laws.Lists.{length-part}
-use Rattle.rules.proofs.laws.Images.{length-pairsOf, unusedAfter, count-stands}
+use Rattle.rules.proofs.laws.Images.{length-pairsOf, unusedAfter, count-stands, encode-bodies}
 use Rattle.rules.proofs.laws.Steps.{drain-device}
 use Rattle.rules.proofs.laws.WellFormed.{step-well}
 use Rattle.inplace.specs.Held.{Holds, withRing}
@@ -122,8 +122,8 @@ module _ {i : List ℕ} {d : Device} (h : Holds i d) where
   length-head = length-append ahead (length es ∷ bytesOf 4 (d .ring .drops)) ∙ omega (arith, length-ahead)
 
   apart : (es : List Event) → encode (withRing d (record { waiting = es; drops = d .ring .drops })) ≡ ahead ++ (length es ∷ (bytesOf 4 (d .ring .drops) ++ (pairsOf es ++ unusedAfter (length es))))
-  unfolding encode registersBody ringBody
-  apart es = simp append-assoc
+  unfolding registersBody ringBody
+  apart es = encode-bodies (withRing d (record { waiting = es; drops = d .ring .drops })) ∙ simp append-assoc
 
   from-pairs : drop 227 i ≡ pairs
   from-pairs = ap (drop 227) (h .image ∙ apart es ∙ sym (append-assoc ahead (length es ∷ bytesOf 4 (d .ring .drops)) pairs)) ∙ drop-at (ahead ++ (length es ∷ bytesOf 4 (d .ring .drops))) pairs 227 length-head
@@ -164,10 +164,10 @@ module _ {i : List ℕ} {d : Device} (h : Holds i d) where
       let count : m ≡ length es = c ∙ ap countOf (h .image) ∙ count-stands d (h .well) in
       omega (arith, length-take k es)
 
-pub drains : (i entry ys ps : List ℕ) (m n : ℕ) → m ≡ getD i 222 0 → n ≡ min m (length entry / 2) → ys ≡ part 227 (227 + 2 * n - 227) i
+drains-here : (i entry ys ps : List ℕ) (m n : ℕ) → m ≡ getD i 222 0 → n ≡ min m (length entry / 2) → ys ≡ part 227 (227 + 2 * n - 227) i
     → ps ≡ part (2 * n) (2 * m - 2 * n) (part 227 32 i) ++ (replicate (2 * n) 0 ++ drop (2 * m) (part 227 32 i)) → Drains i (set (putMid 227 32 i ps) 222 (m - n)) entry (putMid 0 (2 * n - 0) entry ys) n
 unfolding drawn
-drains i entry ys ps m n c e g f =
+drains-here i entry ys ps m n c e g f =
     let k = length entry / 2 in
     let width : 227 + 2 * n - 227 ≡ 2 * n = omega arith in
     let whole : 2 * n - 0 ≡ 2 * n = omega arith in
@@ -178,3 +178,14 @@ drains i entry ys ps m n c e g f =
       };
       pairs = λ d h. λ t. (g ∙ ap (λ j. part 227 j i) width ∙ drained-pairs h m n k c e) t ++ drop (whole t) entry;
     }
+
+-- the same with the places of the count and of the pairs as they were asked for
+abbrev DrainsAt : (i entry ys ps : List ℕ) (m n count at : ℕ) → Type 0
+DrainsAt i entry ys ps m n count at =
+    m ≡ getD i count 0 → n ≡ min m (length entry / 2) → ys ≡ part at (at + 2 * n - at) i
+    → ps ≡ part (2 * n) (2 * m - 2 * n) (part at (at + 32 - at) i) ++ (replicate (2 * n) 0 ++ drop (2 * m) (part at (at + 32 - at) i))
+    → Drains i (set (putMid at (at + 32 - at) i ps) count (m - n)) entry (putMid 0 (2 * n - 0) entry ys) n
+
+pub drains : (i entry ys ps : List ℕ) (m n : ℕ) {count at : ℕ} → count ≡ countAt → at ≡ pairsAt → DrainsAt i entry ys ps m n count at
+drains i entry ys ps m n {count} e f =
+    subst (DrainsAt i entry ys ps m n count) (sym f) (subst (λ c. DrainsAt i entry ys ps m n c pairsAt) (sym e) (drains-here i entry ys ps m n))
