@@ -23,11 +23,12 @@ use Rattle.rules.specs.Exported.{GivenBytes, current, inImage, Faithful,
 use Rattle.rules.proofs.laws.Counts.{tally-nil}
 use Rattle.rules.proofs.laws.Draining.{all-accounted}
 use Rattle.rules.proofs.laws.Chains.{faithful-after-reset, faithful-at-load, handed}
-use Rattle.rules.proofs.laws.Latches.{Quiet, quiet-until-raised, poll-finds-none, call-unlatches}
+use Rattle.rules.proofs.laws.Latches.{quiet-until-raised, poll-finds-none, call-unlatches}
 use Rattle.rules.proofs.laws.WellFormed.{history-well}
 use Rattle.rules.proofs.laws.Readings.{input-is, asked-is, read-as}
 use Rattle.rules.proofs.demands.Account.{none-served, asserts-match-service-from}
 use Rattle.rules.proofs.demands.Service.{in-service-from-the-poll-on, in-service-once-raised}
+use Rattle.rules.proofs.demands.EasyToGetWrong.{no-assert-until-raised}
 use Rattle.rules.proofs.demands.Order.{drained-in-turn, drops-counted}
 use Rattle.rules.proofs.demands.FromCalls.{a-load-begins, image-holds-device, faithful-through, image-holds-history, history-since-load}
 
@@ -155,8 +156,8 @@ module _ (h : Underway) (f : Faithful h) where
       → k < length (drainedBy (x ∷ later)) → (e : Event) → getD (drainedBy (x ∷ later)) k e ≡ asEvent m
   unfolding doneCalls
   order-of-calls x later c n o earlier m rest is off k found small many e =
-      let read : drainedBy (x ∷ later) ≡ history (inImage h) (c ∷ doneCalls later) .drained =
-      drained-is-read h f (x ∷ later) n ∙ (λ i. history (sym (image-holds-device h f) i) (calls-split [] x later c o i) .drained) in
+      let calls-are = (λ j. history (sym (image-holds-device h f) j) (calls-split [] x later c o j) .drained) in
+      let read = drained-is-read h f (x ∷ later) n ∙ calls-are in
       rw read (drained-in-turn (inImage h) c earlier m rest is off k found small (doneCalls later) (rw read at many) e)
 
   -- The drop count in the image left last is that in the image left at first and the events dropped since, up to the stop.
@@ -173,24 +174,21 @@ module _ (h : Underway) (f : Faithful h) where
       (s : Clears i (inImage h) c) (p : Along (Unraised i) (inImage (carriedOn h x)) (doneCalls later)) where
     met : inImage (carriedOn h x) ≡ step (inImage h) c .after
     unfolding history carriedThrough NoLoads doneCalls
-    met =
-        image-holds-history h f (x ∷ []) (n .0, tt) ∙ (λ j. history (sym (image-holds-device h f) j) (calls-split [] x [] c e j) .after)
+    met = image-holds-history h f (x ∷ []) (n .0, tt) ∙ (λ j. history (sym (image-holds-device h f) j) (calls-split [] x [] c e j) .after)
 
-    quiet : Quiet i b (history (inImage (carriedOn h x)) (doneCalls later) .made) (inImage (carriedThrough h (x ∷ later)) .core .lines)
-    unfolding carriedThrough NoLoads
-    quiet =
-        let on-from = faithful-through h f (x ∷ []) (n .0, tt) in
-        let left = image-holds-history (carriedOn h x) on-from later (n .1) in
-        rw (left, ← image-holds-device (carriedOn h x) on-from)
-        (quiet-until-raised i b (inImage (carriedOn h x)) (doneCalls later) p (rw met (call-unlatches i b (inImage h) c s)))
-
-    -- Then the calls after it make no assert of i, whatever its line, the masks and the polls do.
-    pub cleared-makes-no-assert : assertsOf i (history (inImage (carriedOn h x)) (doneCalls later) .made) ≡ 0
-    cleared-makes-no-assert = quiet .silent
+    -- Then from x on they make no assert of i, whatever its line, the masks and the polls do.
+    pub cleared-makes-no-assert : assertsOf i (history (inImage h) (doneCalls (x ∷ later)) .made) ≡ 0
+    unfolding doneCalls
+    cleared-makes-no-assert =
+        rw (calls-split [] x later c e) (no-assert-until-raised i b (inImage h) c (doneCalls later) s (rw met at p))
 
     -- In the image left last it is not latched,
     pub cleared-stays-unlatched : on (inImage (carriedThrough h (x ∷ later)) .core .lines .irr) i ≡ false
-    cleared-stays-unlatched = quiet .unlatched
+    unfolding carriedThrough NoLoads
+    cleared-stays-unlatched =
+        let from = faithful-through h f (x ∷ []) (n .0, tt) in
+        rw (image-holds-history (carriedOn h x) from later (n .1), ← image-holds-device (carriedOn h x) from)
+        (quiet-until-raised i b (inImage (carriedOn h x)) (doneCalls later) p (rw met (call-unlatches i b (inImage h) c s)) .unlatched)
 
     -- and a poll of it there, if it is done, answers that it returns nothing.
     pub cleared-polled-in-vain : (y : Exported) → y .asked ≡ poll i → isDone y ≡ true → isLoad (carriedThrough h (x ∷ later) .left) y ≡ false

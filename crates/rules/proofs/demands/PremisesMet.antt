@@ -185,14 +185,14 @@ clearThree = write dword 0x080 0x8
 abbrev afterClear : List Call
 afterClear = poll 3 ∷ write dword 0x020 0x8 ∷ write dword 0x020 0 ∷ []
 
-three-quiet : assertsOf 3 (history (step (fromReset begun .after) clearThree .after) afterClear .made) ≡ 0
+three-quiet : assertsOf 3 (history (fromReset begun .after) (clearThree ∷ afterClear) .made) ≡ 0
 unfolding computing someAct
 three-quiet =
     no-assert-until-raised 3 (lit< tt) (fromReset begun .after) clearThree afterClear refl
     (all-unraised 3 (step (fromReset begun .after) clearThree .after) afterClear refl)
 
 -- and a new raise asserts it
-three-raised : assertsOf 3 (history (step (fromReset begun .after) clearThree .after) (afterClear ++ (level 3 true ∷ [])) .made) ≡ 1
+three-raised : assertsOf 3 (history (fromReset begun .after) (clearThree ∷ (afterClear ++ (level 3 true ∷ []))) .made) ≡ 1
 unfolding computing tally
 three-raised = refl
 
