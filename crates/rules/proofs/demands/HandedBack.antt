@@ -1,6 +1,6 @@
 -- Demand 3 of what exported calls hand back. What a host reads in answer areas and event buffers is what the history returns and drains, in order
 -- (Readings); so the account holds of the events that it has read, those that still wait in the image and those dropped, and so do service and order.
-use mathlib.Core.Path.{_≡_, refl, sym, ap, subst, _∙_}
+use mathlib.Core.Path.{_≡_, refl, sym, ap, ap₂, subst, _∙_}
 use mathlib.Core.Bool.{Bool, true, false, not, _&&_}
 use mathlib.Core.List.{List, [], _∷_, _++_, append-assoc}
 use Prim.Native.Nat.{ℕ, _+_, _<_, min}
@@ -156,7 +156,7 @@ module _ (h : Underway) (f : Faithful h) where
       → k < length (drainedBy (x ∷ later)) → (e : Event) → getD (drainedBy (x ∷ later)) k e ≡ asEvent m
   unfolding doneCalls
   order-of-calls x later c n o earlier m rest is off k found small many e =
-      let calls-are = (λ j. history (sym (image-holds-device h f) j) (calls-split [] x later c o j) .drained) in
+      let calls-are = ap₂ (λ d cs. history d cs .drained) (sym (image-holds-device h f)) (calls-split [] x later c o) in
       let read = drained-is-read h f (x ∷ later) n ∙ calls-are in
       rw read (drained-in-turn (inImage h) c earlier m rest is off k found small (doneCalls later) (rw read at many) e)
 
