@@ -130,7 +130,7 @@ clears n (setVector m v) = false
 abbrev pub Clears : ℕ → Device → Call → Type 0
 Clears n d c = someAct (clears n) (actsOf (d .core) c) ≡ true
 
--- a call is no raise of n
+-- a call is a raise of n, and a call that is none
 abbrev pub isRaise : ℕ → Call → Bool
 isRaise n (call.level m true) = only m n
 isRaise n (call.level m false) = false
