@@ -6,17 +6,12 @@ use Prim.Native.Nat.{ℕ, _<_, _≤_}
 use lib.Dec.{eqb}
 use lib.ListN.{length, take}
 use Rattle.rules.specs.Device.{reset}
-use Rattle.rules.specs.Session as session
 use Rattle.rules.specs.Session.{newline, linesOf, answers}
 use Rattle.state.specs.View.{view, Well, Is}
 use Rattle.reply.specs.Says.{Says}
 use Rattle.session.specs.declared.Session.{Session}
 use Rattle.session.specs.declared.Step.{Step}
 use Rattle.session.specs.declared.Fed.{Fed}
-
--- a line's answer with its ending
-abbrev pub ended : session.Played → session.Played
-ended p = record { after = p .after; answer = p .answer ++ (newline ∷ []) }
 
 -- a line that goes on: no byte of it is an ending
 abbrev pub Unended : List ℕ → Type 0

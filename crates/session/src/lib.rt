@@ -1,15 +1,11 @@
 // The input, in chunks of any size: its lines are put together and played, and each answer is written with its ending.
-use play::Played;
 use state::PchPicState;
-ghost use mathlib.Core.Path.{_≡_};
-ghost use mathlib.Core.List.{[]};
 ghost use Prim.Native.Nat.{_≤_};
 ghost use lib.ListN.{length, take};
-ghost use Rattle.rules.specs.Session.{played, linesOf, answers};
-ghost use Rattle.state.specs.View.{view, Well};
+ghost use Rattle.rules.specs.Session.{linesOf, answers};
+ghost use Rattle.state.specs.View.{view};
 ghost use Rattle.reply.specs.Says.{Says};
-ghost use Rattle.play.specs.Plays.{Plays};
-ghost use Rattle.session.specs.Feeds.{ended, Starts, Ready, FeedsByte, FeedsChunk};
+ghost use Rattle.session.specs.Feeds.{Starts, Ready, FeedsByte, FeedsChunk};
 
 // Between two bytes of the input: the state, and how many bytes of the line so far stand at the front of the line buffer.
 // That buffer has 32 bytes or more. The longest line that asks for something has 25, so of a longer one it is enough to
@@ -26,31 +22,6 @@ pub fn start() -> Session
     Session { state, kept: 0 }
 }
 
-// A line, with the ending behind its answer.
-fn play_line(state: PchPicState, line: &[u8], out: &mut [u8]) -> Played
-    requires { ⌜ Well state × (66 ≤ length (now out)) ⌝ }
-    ensures { λ r. ⌜ Plays r (now (out .entry)) (now (out .exit)) (ended (played (view state) (now (line .entry)))) × (r .len ≤ 66) ⌝ }
-{
-    let played = play::play(state, line, &mut out[..65]);
-    let next = played.state;
-    let len = played.len;
-    out[len] = b'\n';
-    Played {
-        state: next,
-        len: len + 1,
-    }
-}
-
-// The end's line, with its ending.
-fn end(state: PchPicState, out: &mut [u8]) -> usize
-    requires { ⌜ 15 ≤ length (now out) ⌝ }
-    ensures { λ r. ⌜ Says r (now (out .entry)) (now (out .exit)) (answers (view state) []) × (r ≡ 15) ⌝ }
-{
-    let len = play::finish(state, out);
-    out[len] = b'\n';
-    len + 1
-}
-
 // What a byte of the input leaves, and how many bytes it had written.
 struct Step {
     session: Session,
@@ -65,7 +36,7 @@ fn feed_byte(session: Session, line: &mut [u8], byte: u8, out: &mut [u8]) -> Ste
     let state = session.state;
     let kept = session.kept;
     if byte == b'\n' {
-        let played = play_line(state, &line[..kept], out);
+        let played = ended::play_line(state, &line[..kept], out);
         let next = played.state;
         let fresh = Session {
             state: next,
@@ -127,11 +98,11 @@ pub fn close(session: Session, line: &[u8], out: &mut [u8]) -> usize
     let state = session.state;
     let kept = session.kept;
     if kept == 0 {
-        return end(state, out);
+        return ended::end(state, out);
     }
-    let played = play_line(state, &line[..kept], out);
+    let played = ended::play_line(state, &line[..kept], out);
     let next = played.state;
     let len = played.len;
-    let more = end(next, &mut out[len..]);
+    let more = ended::end(next, &mut out[len..]);
     len + more
 }
