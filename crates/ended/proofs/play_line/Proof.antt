@@ -10,8 +10,8 @@ use Rattle.rules.specs.Session.{newline, played}
 use Rattle.state.specs.View.{view}
 use Rattle.reply.specs.Says.{Says}
 use Rattle.reply.proofs.Writing.{put-byte, filled, fits, size, in-front, says}
-use Rattle.session.proofs.play_line.Statement.{statement}
-use Rattle.session.proofs.play_line.Tie as tie
+use Rattle.ended.proofs.play_line.Statement.{statement}
+use Rattle.ended.proofs.play_line.Tie as tie
 
 abbrev buffer : tie.After-play → List ℕ
 buffer c = c .before .before .before .before .args .out .now

@@ -3,8 +3,8 @@ use native.Mathlib.Omega.{arith}
 use borrow.Author.Needs.{needs}
 use Rattle.rules.specs.Session.{newline, answers}
 use Rattle.reply.proofs.Writing.{put-byte, filled, says}
-use Rattle.session.proofs.end.Statement.{statement}
-use Rattle.session.proofs.end.Tie as tie
+use Rattle.ended.proofs.end.Statement.{statement}
+use Rattle.ended.proofs.end.Tie as tie
 
 returns : tie.Need-returns
 unfolding answers
