@@ -1,11 +1,24 @@
 /* A LoongArch PCH-PIC interrupt controller as a library: six calls over bytes. This header is all that a host needs to read.
  *
- * Link with libpch_pic.a ('rt staticlib pch_pic' writes it to target/staticlib) and with no other library. 64-bit hosts only.
+ * Link with libpch_pic.a ('rt staticlib pch_pic' writes it to target/staticlib) and with no other library. The archive is for x86-64 Linux in user
+ * space, and for nothing else: it uses the SSE registers and the red zone below the stack pointer, which a kernel must not, and it has no
+ * .eh_frame, so nothing can be unwound through its frames.
  *
  * THE IMAGE. The device is an image of 259 bytes, which the host owns and lends to each call. Nothing is allocated, and nothing is kept from
  * one call to the next. So to save a device is to copy its image, and to load it is to lend the copy. pch_pic_reset makes an image of any 259
- * bytes. The other calls test theirs and refuse one that is damaged (4, 5, 6). To test an image and change nothing, read ID from it: 0 says that
- * it is accepted. What a done call leaves is always accepted.
+ * bytes. The other calls test theirs and refuse one that breaks a rule of the form (4, 5, 6). To test an image and change nothing, read ID from
+ * it: 0 says that it is accepted. What a done call leaves is always accepted. The test finds no other damage: most images with one byte changed
+ * break no rule, and are the images of another device. So keep a checksum beside a saved image, as hosts/c/pic_file.c does.
+ *
+ * THE CONTENTS. An image begins with a list: byte 0 is the form, byte 1 the number of bodies, and then come five bytes for each body: its kind,
+ * its offset in the image and its length, two bytes each, little end first. Offsets and lengths differ from form to form, so a host that looks into
+ * an image finds each body by its kind in this list:
+ *
+ *     kind 1    registers, eight bytes each, little end first; the last five are IRR, ISR, POL, AUTO0 and AUTO1
+ *     kind 2    the route bytes, that of input n at n
+ *     kind 3    the vector bytes, that of input n at n
+ *     kind 4    the events: how many wait (one byte, 0 to 16), how many were dropped since reset (four bytes, little end first; it stops at
+ *               4294967295), and those that wait
  *
  * THE ANSWER. Each call hands back a number: 0 where it was done, else why it was refused. The number and the value, where there is one, are
  * also written to the answer area. It has at least 16 bytes; the first 16 are written, and those past them stay:
@@ -20,24 +33,47 @@
  *
  * EVENTS. An event is a vector to assert or to deassert at the interrupt controller above this one. Where the host moves a line (pch_pic_level,
  * pch_pic_poll) the event is returned at once, as the value. Where the guest writes MASK or CLEAR there can be many: they wait in the image, 16
- * at most, until pch_pic_drain moves them out; one that finds 16 waiting is dropped and counted. Two things to know: an unmask announces only the
- * lowest input that waits, and a CLEAR takes the latch of a line though it is still high. So after every write a host drains, and then raises
- * each line again that is still high.
+ * at most, until pch_pic_drain moves them out; one that finds 16 waiting is dropped and counted.
+ *
+ * WHAT A HOST MUST DO. hosts/c/pic.c and crate pch-pic in hosts/rust do all of this (pic_settle, pic_line, pic_resume):
+ *     - After each write of the guest, drain, and pass the events on in their order. Then raise each line again that is still high: an unmask
+ *       announces only the lowest input that waits, and a CLEAR takes the latch of a line though it is high.
+ *     - Hold a vector on while any input in service carries it. Inputs may share a vector: then it is asserted once for each of them, and is off
+ *       only after as many deasserts.
+ *     - Do not trust that each deassert had an assert. Where the guest changes the vector byte of an input in service, the deassert names the
+ *       new vector, and none ever comes for the old one. Where the guest writes ISR, inputs enter or leave service and no event tells it. A count
+ *       that goes up and down with the events goes wrong then, below 0 even.
+ *     - So count afresh: the vectors that are on are those of the inputs in the stored ISR, and no others. Take ISR out of the image's body of kind
+ *       1: a read of register 0x3a0 leaves out masked inputs, and those can be in service too, after a write of ISR or a load. This must be done
+ *       when the drop count moved, since a dropped event is never told, and after a write to ISR or to a vector byte. It is right at any
+ *       time when no event waits, so the simplest host does it after each call.
+ *     - After a load, rebuild what is not in the image. Lower each input that is latched (IRR) while its line is low now, drain, count afresh
+ *       against what the controller above has on, and raise each line that is high. The same goes for a reset while the guest runs.
+ *     - Pass the events of one call on before the next call is made on that image: who holds the image's lock keeps it until then.
  *
  * THE HOST'S DUTIES. No call can test these:
  *     - each pointer is good for as many bytes as the length beside it says; a null pointer with length 0 is an empty buffer;
  *     - the image, the answer area and the event buffer of one call do not overlap;
- *     - no two calls run on one image at the same time; calls on different images may.
+ *     - while a call other than a read runs on an image, no other call runs on it. Reads of one image may run side by side, each with its own
+ *       answer area: pch_pic_read only loads from the image. Calls on different images may always run side by side.
  */
 #ifndef PCH_PIC_H
 #define PCH_PIC_H
 
+#if !defined(__x86_64__) || defined(__ILP32__) || !defined(__linux__)
+#error "pch_pic.h: libpch_pic.a is for x86-64 Linux only; this is another target"
+#elif !defined(__SSE2__) || defined(__KERNEL__)
+#error "pch_pic.h: libpch_pic.a is for user space only; it uses SSE registers and the red zone"
+#endif
+
 #include <stddef.h>
 #include <stdint.h>
 
-#if SIZE_MAX != UINT64_MAX
-#error "pch_pic.h: 64-bit hosts only"
-#endif
+/* The version of the header and of what it says about the library. */
+#define PCH_PIC_VERSION_MAJOR 0
+#define PCH_PIC_VERSION_MINOR 2
+#define PCH_PIC_VERSION_PATCH 0
+#define PCH_PIC_VERSION "0.2.0"
 
 #ifdef __cplusplus
 extern "C" {
@@ -59,11 +95,23 @@ enum {
     PCH_PIC_ANSWER_VALUE = 8    /* the value, 8 bytes */
 };
 
-/* Places in an image that a host may want to read. The others belong to the library. */
+/* The contents that an image begins with, and what a host may want to read in its bodies. All other places belong to the library. */
 enum {
-    PCH_PIC_IMAGE_FORM = 0,      /* 1: the form of the image */
-    PCH_PIC_IMAGE_WAITING = 222, /* how many events wait, 0 to 16 */
-    PCH_PIC_IMAGE_DROPS = 223    /* how many were dropped since reset: 4 bytes, little end first; it stops at 4294967295 */
+    PCH_PIC_IMAGE_FORM = 0,           /* the form */
+    PCH_PIC_IMAGE_BODIES = 1,         /* the number of bodies */
+    PCH_PIC_IMAGE_ENTRIES = 2,        /* the first body's entry; the others follow */
+    PCH_PIC_ENTRY_LEN = 5,            /* bytes of an entry */
+    PCH_PIC_ENTRY_KIND = 0,           /* in an entry: the body's kind */
+    PCH_PIC_ENTRY_OFFSET = 1,         /* in an entry: where the body begins, 2 bytes */
+    PCH_PIC_ENTRY_LENGTH = 3,         /* in an entry: how long it is, 2 bytes */
+    PCH_PIC_KIND_REGISTERS = 1,       /* the body that ends with IRR, ISR, POL, AUTO0 and AUTO1 */
+    PCH_PIC_KIND_ROUTES = 2,          /* the body of the route bytes */
+    PCH_PIC_KIND_VECTORS = 3,         /* the body of the vector bytes */
+    PCH_PIC_KIND_EVENTS = 4,          /* the body of the waiting events */
+    PCH_PIC_REGISTERS_IRR_BACK = 40,  /* IRR is the 8 bytes from here on, counted back from the body's end */
+    PCH_PIC_REGISTERS_ISR_BACK = 32,  /* ISR likewise */
+    PCH_PIC_EVENTS_WAITING = 0,       /* in the body of the events: how many wait */
+    PCH_PIC_EVENTS_DROPS = 1          /* in the body of the events: how many were dropped, 4 bytes */
 };
 
 /* The numbers handed back. A call tests for them in the order 7, 4, 5, 6, then 3, or 2 before 1, and hands back the first that holds. */
@@ -74,9 +122,25 @@ enum pch_pic_number {
     PCH_PIC_INPUT = 3,    /* the input is 64 or more */
     PCH_PIC_LENGTH = 4,   /* the image is not 259 bytes long */
     PCH_PIC_CONTENTS = 5, /* the image's first 22 bytes are not those of form 1 */
-    PCH_PIC_BODY = 6,     /* the rest of the image breaks a rule: it is damaged */
+    PCH_PIC_BODY = 6,     /* the rest of the image breaks a rule of the form */
     PCH_PIC_ROOM = 7      /* the answer area is under 16 bytes, or the place of a drain is past the end of its buffer */
 };
+
+/* A number in words. */
+static inline const char *pch_pic_why(int number)
+{
+    switch (number) {
+    case PCH_PIC_DONE: return "done";
+    case PCH_PIC_OUTSIDE: return "the address is outside the window";
+    case PCH_PIC_WIDTH: return "the width is not 1, 2, 4 or 8";
+    case PCH_PIC_INPUT: return "the input is 64 or more";
+    case PCH_PIC_LENGTH: return "the image is not 259 bytes long";
+    case PCH_PIC_CONTENTS: return "the image does not begin as form 1 does";
+    case PCH_PIC_BODY: return "the image breaks a rule of the form";
+    case PCH_PIC_ROOM: return "a buffer is too short";
+    default: return "unknown number";
+    }
+}
 
 /* Register offsets, each of the low half: inputs 0 to 31. The high half, inputs 32 to 63, is PCH_PIC_REG_HIGH above. */
 enum {

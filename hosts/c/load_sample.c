@@ -1,7 +1,7 @@
-/* A guest's day with a PCH-PIC, told in plain words: start-up as Linux's driver does it, a load sample's line up and down, events drained, the
- * device saved to a file and loaded again, and what comes after sixteen events.
- *     load_sample FILE          plays it; the image goes to FILE
- *     load_sample --show FILE   tells what a saved image holds */
+/* A guest's day with a PCH-PIC, told in plain words: start-up as Linux's driver does it, a load sample's line up and down, the device saved to a
+ * file and loaded into a fresh host, what comes after sixteen events, and a guest that is unkind.
+ *     load_sample FILE          plays it; the device goes to FILE
+ *     load_sample --show FILE   tells what a saved device holds */
 #include "pic.h"
 
 #include <inttypes.h>
@@ -9,14 +9,12 @@
 #include <stdlib.h>
 #include <string.h>
 
-enum { BASE = 0x10000000, SAMPLE = 21, FIRST_VECTOR = 0x40 };
+enum { BASE = 0x10000000, SAMPLE = 21, FIRST_VECTOR = 0x40, OTHER_VECTOR = 0x77 };
 
-/* The host's side: the device, which lines its other devices hold high, and how many inputs hold each vector on at the controller above. */
+/* The host's side: the device and its wires. */
 struct host {
     struct pic pic;
-    bool high[PCH_PIC_INPUTS];
-    unsigned on[256];
-    uint32_t drops;
+    struct pic_wires wires;
 };
 
 /* The calls of this program are right, so a refusal is a fault of the program. */
@@ -38,23 +36,23 @@ static void stored(const char *what, const char *path, int number)
 }
 
 /* A real host asserts or deasserts the vector at its CPUs here. */
-static void route(struct host *host, struct pic_event event)
+static void route(void *above, struct pic_event event)
 {
-    if (event.change == PIC_ASSERT) {
-        printf("  assert vector 0x%02x\n", event.vector);
-        host->on[event.vector]++;
-    } else if (event.change == PIC_DEASSERT) {
-        printf("  deassert vector 0x%02x\n", event.vector);
-        host->on[event.vector]--;
-    }
+    (void)above;
+    printf("  %s vector 0x%02x\n", event.change == PIC_ASSERT ? "assert" : "deassert", event.vector);
 }
 
-static void line(struct host *host, unsigned input, bool high)
+static struct host new_host(void)
 {
-    struct pic_event event;
-    host->high[input] = high;
-    must(pic_level(&host->pic, input, high, &event));
-    route(host, event);
+    struct host host = {0};
+    must(pic_init(&host.pic, BASE));
+    host.wires.route = route;
+    return host;
+}
+
+static void line(struct host *host, uint64_t input, bool high)
+{
+    must(pic_line(&host->pic, &host->wires, input, high));
 }
 
 static uint64_t guest_reads(const struct host *host, uint64_t offset, uint64_t width)
@@ -64,48 +62,15 @@ static uint64_t guest_reads(const struct host *host, uint64_t offset, uint64_t w
     return value;
 }
 
-/* After a drop the events no longer tell which vectors are on. ISR and the vector bytes do. */
-static void recount(struct host *host)
-{
-    unsigned held[256] = {0};
-    uint64_t service = guest_reads(host, PCH_PIC_REG_ISR, 8);
-    for (unsigned input = 0; input < PCH_PIC_INPUTS; input++) {
-        held[guest_reads(host, PCH_PIC_REG_VECTORS + input, 1)] += service >> input & 1;
-    }
-    for (unsigned vector = 0; vector < 256; vector++) {
-        while (host->on[vector] != held[vector]) {
-            bool missing = host->on[vector] < held[vector];
-            route(host, (struct pic_event){missing ? PIC_ASSERT : PIC_DEASSERT, (uint8_t)vector});
-        }
-    }
-}
-
-/* What a host does after each write of its guest. First the events that wait, since they are older. Then lines that are still high are raised
- * again: an unmask announces one input only, and a CLEAR may have taken a latch. */
-static void settle(struct host *host)
-{
-    struct pic_event events[PCH_PIC_EVENTS];
-    size_t count;
-    must(pic_drain(&host->pic, events, &count));
-    for (size_t i = 0; i < count; i++) {
-        route(host, events[i]);
-    }
-    for (unsigned input = 0; input < PCH_PIC_INPUTS; input++) {
-        if (host->high[input]) {
-            line(host, input, true);
-        }
-    }
-    if (host->drops != pic_drops(&host->pic)) {
-        host->drops = pic_drops(&host->pic);
-        printf("Dropped so far: %" PRIu32 ". The host recounts from ISR which vectors are on.\n", host->drops);
-        recount(host);
-    }
-}
-
+/* After each write of its guest the host settles. A drop is no harm then, but worth a word. */
 static void guest_writes(struct host *host, uint64_t offset, uint64_t width, uint64_t value)
 {
+    uint32_t before = pic_drops(&host->pic);
     must(pic_write(&host->pic, BASE + offset, width, value));
-    settle(host);
+    must(pic_settle(&host->pic, &host->wires));
+    if (pic_drops(&host->pic) != before) {
+        printf("Dropped so far: %" PRIu32 ". What no event told was counted afresh from ISR.\n", pic_drops(&host->pic));
+    }
 }
 
 /* The order of Linux's driver: vectors and routes byte by byte, then everything masked and cleared, half by half. */
@@ -155,10 +120,10 @@ static void save_and_load(struct host *host, const char *path)
     guest_writes(host, PCH_PIC_REG_CLEAR, 4, UINT64_C(1) << SAMPLE);
     must(pic_write(&host->pic, BASE + PCH_PIC_REG_MASK, 4, mask_without(host, SAMPLE)));
     stored("save", path, pic_save(&host->pic, path));
-    memset(host->pic.image, 0, sizeof host->pic.image);
+    printf("A fresh host loads it; line %d is still high there.\n", SAMPLE);
+    *host = new_host();
     stored("load", path, pic_load(&host->pic, path));
-    printf("The device is loaded, and its events are drained.\n");
-    settle(host);
+    must(pic_resume(&host->pic, &host->wires, UINT64_C(1) << SAMPLE));
     printf("The line goes down.\n");
     line(host, SAMPLE, false);
 }
@@ -174,19 +139,40 @@ static void after_sixteen(struct host *host)
     guest_writes(host, PCH_PIC_REG_MASK, 4, 0xfffe0000);
     printf("The guest masks them with one write: seventeen events, and sixteen can wait.\n");
     guest_writes(host, PCH_PIC_REG_MASK, 4, 0xffffffff);
+    for (unsigned input = 0; input <= 16; input++) {
+        line(host, input, false);
+    }
+}
+
+/* Here events do not tell the whole story: a deassert comes for a vector that was never asserted, or none comes at all. */
+static void unkind(struct host *host)
+{
+    printf("The guest unmasks everything, and line 0 goes up.\n");
+    guest_writes(host, PCH_PIC_REG_MASK, 8, 0);
+    line(host, 0, true);
+    printf("The guest gives input 0 another vector while it is in service.\n");
+    guest_writes(host, PCH_PIC_REG_VECTORS, 1, OTHER_VECTOR);
+    printf("The guest takes input 0 out of service by a write to ISR; its line is still high.\n");
+    guest_writes(host, PCH_PIC_REG_ISR, 8, 0);
+    printf("Input 1 gets the same vector, its line goes up, and line 0 goes down.\n");
+    guest_writes(host, PCH_PIC_REG_VECTORS + 1, 1, OTHER_VECTOR);
+    line(host, 1, true);
+    line(host, 0, false);
+    printf("Line 1 goes down.\n");
+    line(host, 1, false);
 }
 
 static int play(const char *path)
 {
-    struct host host = {0};
+    struct host host = new_host();
     int left = 0;
-    must(pic_init(&host.pic, BASE));
     start_up(&host);
     one_sample(&host);
     save_and_load(&host, path);
     after_sixteen(&host);
-    for (unsigned vector = 0; vector < 256; vector++) {
-        left += host.on[vector] != 0;
+    unkind(&host);
+    for (unsigned vector = 0; vector < PIC_VECTORS; vector++) {
+        left += host.wires.on[vector];
     }
     printf("Vectors left on: %d.\n", left);
     return left != 0;
@@ -194,12 +180,11 @@ static int play(const char *path)
 
 static void show(const char *path)
 {
-    struct host host = {0};
-    must(pic_init(&host.pic, BASE));
+    struct host host = new_host();
     stored("load", path, pic_load(&host.pic, path));
-    printf("Latched 0x%016" PRIx64 ", in service 0x%016" PRIx64 ", masked 0x%016" PRIx64 ".\n", guest_reads(&host, PCH_PIC_REG_IRR, 8),
-           guest_reads(&host, PCH_PIC_REG_ISR, 8), guest_reads(&host, PCH_PIC_REG_MASK, 8));
-    printf("Waiting events: %d. Dropped: %" PRIu32 ".\n", host.pic.image[PCH_PIC_IMAGE_WAITING], pic_drops(&host.pic));
+    printf("Latched 0x%016" PRIx64 ", in service 0x%016" PRIx64 ", masked 0x%016" PRIx64 ".\n", pic_latched(&host.pic), pic_service(&host.pic),
+           guest_reads(&host, PCH_PIC_REG_MASK, 8));
+    printf("Waiting events: %u. Dropped: %" PRIu32 ".\n", pic_waiting(&host.pic), pic_drops(&host.pic));
 }
 
 int main(int argc, char **argv)

@@ -1,17 +1,22 @@
-/* The calls of pch_pic.h on a struct pic. The image stands in the struct and the answer area on the stack, so they never overlap. */
+/* The calls of pch_pic.h on a struct pic, and its wires. The image stands in the struct and the answer area on the stack, so they never overlap. */
 #include "pic.h"
 
 #include <errno.h>
-#include <stdio.h>
 #include <string.h>
+
+static uint64_t number_at(const uint8_t *bytes, size_t len)
+{
+    uint64_t value = 0;
+    while (len > 0) {
+        len--;
+        value = value << 8 | bytes[len];
+    }
+    return value;
+}
 
 static uint64_t value_of(const uint8_t answer[PCH_PIC_ANSWER_LEN])
 {
-    uint64_t value = 0;
-    for (int i = 7; i >= 0; i--) {
-        value = value << 8 | answer[PCH_PIC_ANSWER_VALUE + i];
-    }
-    return value;
+    return number_at(answer + PCH_PIC_ANSWER_VALUE, 8);
 }
 
 /* The event that a done call returned. */
@@ -27,9 +32,14 @@ static struct pic_event event_of(int number, const uint8_t answer[PCH_PIC_ANSWER
 
 int pic_init(struct pic *pic, uint64_t base)
 {
-    uint8_t answer[PCH_PIC_ANSWER_LEN];
     pic->base = base;
     pic->size = PCH_PIC_WINDOW_LEN;
+    return pic_reset(pic);
+}
+
+int pic_reset(struct pic *pic)
+{
+    uint8_t answer[PCH_PIC_ANSWER_LEN];
     return pch_pic_reset(pic->image, sizeof pic->image, answer, sizeof answer);
 }
 
@@ -55,82 +65,183 @@ int pic_level(struct pic *pic, uint64_t input, bool high, struct pic_event *even
     return number;
 }
 
+int pic_poll(struct pic *pic, uint64_t input, struct pic_event *event)
+{
+    uint8_t answer[PCH_PIC_ANSWER_LEN];
+    int number = pch_pic_poll(pic->image, sizeof pic->image, input, answer, sizeof answer);
+    *event = event_of(number, answer, PIC_ASSERT);
+    return number;
+}
+
 int pic_drain(struct pic *pic, struct pic_event events[PCH_PIC_EVENTS], size_t *count)
 {
     uint8_t answer[PCH_PIC_ANSWER_LEN], pairs[PCH_PIC_EVENTS * PCH_PIC_EVENT_LEN];
     int number = pch_pic_drain(pic->image, sizeof pic->image, pairs, sizeof pairs, 0, answer, sizeof answer);
     *count = number == PCH_PIC_DONE ? (size_t)value_of(answer) : 0;
     for (size_t i = 0; i < *count; i++) {
-        events[i].vector = pairs[2 * i];
-        events[i].change = pairs[2 * i + 1] == 1 ? PIC_ASSERT : PIC_DEASSERT;
+        const uint8_t *pair = pairs + PCH_PIC_EVENT_LEN * i;
+        events[i].vector = pair[0];
+        events[i].change = pair[1] == 1 ? PIC_ASSERT : PIC_DEASSERT;
     }
     return number;
+}
+
+/* The len bytes at place of the body of that kind, as a number; counted back from the body's end if place is below 0. The body is found by the
+ * contents, since it stands elsewhere in other forms. 0 where the image has no such bytes. */
+static uint64_t in_body(const struct pic *pic, unsigned kind, long place, size_t len)
+{
+    const uint8_t *image = pic->image;
+    for (size_t body = 0; body < image[PCH_PIC_IMAGE_BODIES]; body++) {
+        size_t at = PCH_PIC_IMAGE_ENTRIES + PCH_PIC_ENTRY_LEN * body;
+        if (at + PCH_PIC_ENTRY_LEN > sizeof pic->image) {
+            break;
+        }
+        if (image[at + PCH_PIC_ENTRY_KIND] == kind) {
+            size_t offset = (size_t)number_at(image + at + PCH_PIC_ENTRY_OFFSET, 2);
+            size_t length = (size_t)number_at(image + at + PCH_PIC_ENTRY_LENGTH, 2);
+            size_t from = place < 0 ? length - (size_t)-place : (size_t)place;
+            bool inside = offset + length <= sizeof pic->image && from <= length && len <= length - from;
+            return inside ? number_at(image + offset + from, len) : 0;
+        }
+    }
+    return 0;
+}
+
+uint64_t pic_latched(const struct pic *pic)
+{
+    return in_body(pic, PCH_PIC_KIND_REGISTERS, -PCH_PIC_REGISTERS_IRR_BACK, 8);
+}
+
+uint64_t pic_service(const struct pic *pic)
+{
+    return in_body(pic, PCH_PIC_KIND_REGISTERS, -PCH_PIC_REGISTERS_ISR_BACK, 8);
+}
+
+uint8_t pic_vector(const struct pic *pic, unsigned input)
+{
+    return (uint8_t)in_body(pic, PCH_PIC_KIND_VECTORS, (long)input, 1);
+}
+
+unsigned pic_waiting(const struct pic *pic)
+{
+    return (unsigned)in_body(pic, PCH_PIC_KIND_EVENTS, PCH_PIC_EVENTS_WAITING, 1);
 }
 
 uint32_t pic_drops(const struct pic *pic)
 {
-    const uint8_t *drops = pic->image + PCH_PIC_IMAGE_DROPS;
-    return drops[0] | (uint32_t)drops[1] << 8 | (uint32_t)drops[2] << 16 | (uint32_t)drops[3] << 24;
+    return (uint32_t)in_body(pic, PCH_PIC_KIND_EVENTS, PCH_PIC_EVENTS_DROPS, 4);
 }
 
-/* The bytes go to a file beside the old one, which takes its name only when it is whole. */
-int pic_save(const struct pic *pic, const char *path)
+void pic_count(const struct pic *pic, uint8_t held[PIC_VECTORS])
 {
-    char beside[4096];
-    if (snprintf(beside, sizeof beside, "%s.new", path) >= (int)sizeof beside) {
-        errno = ENAMETOOLONG;
-        return PIC_FILE;
+    uint64_t service = pic_service(pic);
+    memset(held, 0, PIC_VECTORS);
+    for (unsigned input = 0; input < PCH_PIC_INPUTS; input++) {
+        if (service >> input & 1) {
+            held[pic_vector(pic, input)]++;
+        }
     }
-    FILE *file = fopen(beside, "wb");
-    if (!file) {
-        return PIC_FILE;
+}
+
+static void tell(struct pic_wires *wires, uint8_t vector, bool on)
+{
+    struct pic_event event = {on ? PIC_ASSERT : PIC_DEASSERT, vector};
+    wires->on[vector] = on;
+    if (wires->route) {
+        wires->route(wires->above, event);
     }
-    bool written = fwrite(pic->image, 1, sizeof pic->image, file) == sizeof pic->image;
-    written = fclose(file) == 0 && written;
-    if (!written || rename(beside, path) != 0) {
-        int why = errno;
-        remove(beside);
-        errno = why;
-        return PIC_FILE;
+}
+
+/* An event is passed on where the device, as it stands now, agrees with it. A deassert is not where another input still carries the vector; an
+ * assert is not where the input has left service since. */
+static void pass_on(struct pic_wires *wires, const uint8_t held[PIC_VECTORS], struct pic_event event)
+{
+    bool on = held[event.vector] != 0;
+    if ((event.change == PIC_ASSERT && on) || (event.change == PIC_DEASSERT && !on && wires->on[event.vector])) {
+        tell(wires, event.vector, on);
+    }
+}
+
+/* Passes on what waits, and then what no event told: a drop, a vector changed in service, a write of ISR, a load. */
+static int catch_up(struct pic *pic, struct pic_wires *wires)
+{
+    struct pic_event events[PCH_PIC_EVENTS];
+    uint8_t held[PIC_VECTORS];
+    size_t count;
+    int number = pic_drain(pic, events, &count);
+    if (number != PCH_PIC_DONE) {
+        return number;
+    }
+    pic_count(pic, held);
+    for (size_t i = 0; i < count; i++) {
+        pass_on(wires, held, events[i]);
+    }
+    for (unsigned vector = 0; vector < PIC_VECTORS; vector++) {
+        if (wires->on[vector] != (held[vector] != 0)) {
+            tell(wires, (uint8_t)vector, held[vector] != 0);
+        }
     }
     return PCH_PIC_DONE;
 }
 
-/* A byte more than an image is asked for, so that a longer file is seen. A read of ID tests the image and changes nothing. */
-int pic_load(struct pic *pic, const char *path)
+static int move(struct pic *pic, struct pic_wires *wires, uint64_t input, bool high)
 {
-    uint8_t bytes[PCH_PIC_IMAGE_LEN + 1], answer[PCH_PIC_ANSWER_LEN];
-    FILE *file = fopen(path, "rb");
-    if (!file) {
-        return PIC_FILE;
-    }
-    size_t len = fread(bytes, 1, sizeof bytes, file);
-    bool failed = ferror(file) != 0;
-    int why = errno;
-    fclose(file);
-    if (failed) {
-        errno = why;
-        return PIC_FILE;
-    }
-    int number = pch_pic_read(bytes, len, 0, PCH_PIC_WINDOW_LEN, PCH_PIC_REG_ID, 4, answer, sizeof answer);
-    if (number == PCH_PIC_DONE) {
-        memcpy(pic->image, bytes, sizeof pic->image);
+    struct pic_event event;
+    uint8_t held[PIC_VECTORS];
+    int number = pic_level(pic, input, high, &event);
+    if (event.change != PIC_NOTHING) {
+        pic_count(pic, held);
+        pass_on(wires, held, event);
     }
     return number;
+}
+
+/* Waiting events are older than those of the lines, so they go first; and a line that a CLEAR took goes off above before it goes on again. */
+int pic_settle(struct pic *pic, struct pic_wires *wires)
+{
+    int number = catch_up(pic, wires);
+    for (unsigned input = 0; input < PCH_PIC_INPUTS && number == PCH_PIC_DONE; input++) {
+        if (wires->high >> input & 1) {
+            number = move(pic, wires, input, true);
+        }
+    }
+    return number;
+}
+
+int pic_line(struct pic *pic, struct pic_wires *wires, uint64_t input, bool high)
+{
+    if (input >= PCH_PIC_INPUTS) {
+        return PCH_PIC_INPUT;
+    }
+    uint64_t bit = UINT64_C(1) << input;
+    wires->high = high ? wires->high | bit : wires->high & ~bit;
+    int number = catch_up(pic, wires);
+    return number == PCH_PIC_DONE ? move(pic, wires, input, high) : number;
+}
+
+/* A line that was high when the device was saved may have gone low since: then its input is still latched, and nothing else would lower it. What
+ * a lowering returns is left to the count. */
+int pic_resume(struct pic *pic, struct pic_wires *wires, uint64_t high)
+{
+    uint64_t fallen = pic_latched(pic) & ~high;
+    struct pic_event event;
+    int number = PCH_PIC_DONE;
+    for (unsigned input = 0; input < PCH_PIC_INPUTS && number == PCH_PIC_DONE; input++) {
+        if (fallen >> input & 1) {
+            number = pic_level(pic, input, false, &event);
+        }
+    }
+    wires->high = high;
+    return number == PCH_PIC_DONE ? pic_settle(pic, wires) : number;
 }
 
 const char *pic_why(int number)
 {
     switch (number) {
-    case PCH_PIC_DONE: return "done";
-    case PCH_PIC_OUTSIDE: return "the address is outside the window";
-    case PCH_PIC_WIDTH: return "the width is not 1, 2, 4 or 8";
-    case PCH_PIC_INPUT: return "the input is 64 or more";
-    case PCH_PIC_LENGTH: return "the image is not 259 bytes long";
-    case PCH_PIC_CONTENTS: return "the image does not begin as form 1 does";
-    case PCH_PIC_BODY: return "the image is damaged: its bodies break a rule";
-    case PCH_PIC_ROOM: return "a buffer is too short";
     case PIC_FILE: return strerror(errno);
-    default: return "unknown number";
+    case PIC_FOREIGN: return "the file is no saved PCH-PIC";
+    case PIC_TORN: return "the file is damaged: it is shorter or longer than it says";
+    case PIC_DAMAGED: return "the file is damaged: its checksum is not that of its bytes";
+    default: return pch_pic_why(number);
     }
 }

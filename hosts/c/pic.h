@@ -1,5 +1,5 @@
-/* A PCH-PIC as a C host holds it: its image, its window, and pch_pic.h's calls on them. Copy it and change it.
- * Each function hands back 0, a refusal's number of pch_pic.h, or PIC_FILE; pic_why says in words what it means. */
+/* A PCH-PIC as a C host holds it: its image, its window, the calls of pch_pic.h on them, and its wires. Copy it and change it.
+ * Each function that can fail hands back 0, a refusal's number of pch_pic.h, or a number from PIC_FILE on; pic_why says in words what it means. */
 #ifndef PIC_H
 #define PIC_H
 
@@ -7,8 +7,20 @@
 
 #include <stdbool.h>
 
-/* A file cannot be read or written; errno says why. */
-enum { PIC_FILE = 100 };
+#ifdef __cplusplus
+extern "C" {
+#endif
+
+/* What can be wrong with a file. */
+enum {
+    PIC_FILE = 100,    /* it cannot be read or written; errno says why */
+    PIC_FOREIGN = 101, /* it is no saved PCH-PIC */
+    PIC_TORN = 102,    /* it is shorter or longer than it says */
+    PIC_DAMAGED = 103  /* its checksum is not that of its bytes */
+};
+
+/* The vectors of the controller above. */
+enum { PIC_VECTORS = 256 };
 
 struct pic {
     uint8_t image[PCH_PIC_IMAGE_LEN];
@@ -23,26 +35,57 @@ struct pic_event {
     uint8_t vector;
 };
 
-/* The device after reset, with its registers at base. */
-int pic_init(struct pic *pic, uint64_t base);
+/* The wires of a device. All zero is a start: every line low, every vector off, nobody told.
+ * route is called for each vector that is to be asserted or deasserted above. It must not call back into the same device. An assert may come
+ * for a vector that is on: another input that carries it wants service. A deassert comes only when no input carries it any more. */
+struct pic_wires {
+    uint64_t high;        /* in: bit n is set while a device of the host holds line n up */
+    bool on[PIC_VECTORS]; /* out: what the controller above was told last */
+    void (*route)(void *above, struct pic_event event);
+    void *above;
+};
 
-/* The guest's accesses. After a write: drain, and raise each line again that is still high. */
+/* The six calls of pch_pic.h.
+ * pic_init sets the window too: the registers stand at base. A line that is high already may be raised again: it is latched and asked for, and
+ * asserted at most once. pic_drain takes all waiting events, oldest first, and says how many. */
+int pic_init(struct pic *pic, uint64_t base);
+int pic_reset(struct pic *pic);
 int pic_read(const struct pic *pic, uint64_t address, uint64_t width, uint64_t *value);
 int pic_write(struct pic *pic, uint64_t address, uint64_t width, uint64_t value);
-
-/* A line goes up or down. One that is high already may be raised again: it is latched and asked for, and asserted at most once. */
 int pic_level(struct pic *pic, uint64_t input, bool high, struct pic_event *event);
-
-/* Takes all waiting events, oldest first, and says how many. */
+int pic_poll(struct pic *pic, uint64_t input, struct pic_event *event);
 int pic_drain(struct pic *pic, struct pic_event events[PCH_PIC_EVENTS], size_t *count);
 
-/* How many events were dropped since reset. */
+/* What the image holds: the inputs that are latched and those in service, masked ones too (bit n for input n), an input's vector, how many events
+ * wait, and how many were dropped since reset. All are 0 where the image is none. */
+uint64_t pic_latched(const struct pic *pic);
+uint64_t pic_service(const struct pic *pic);
+uint8_t pic_vector(const struct pic *pic, unsigned input);
+unsigned pic_waiting(const struct pic *pic);
 uint32_t pic_drops(const struct pic *pic);
 
-/* The image to a file, which is replaced whole or not at all; and back. A load that is refused leaves pic as it was. */
+/* Counts, for each vector, the inputs in service that carry it. A vector is on while its count is not 0. */
+void pic_count(const struct pic *pic, uint8_t held[PIC_VECTORS]);
+
+/* Brings the wires in line with the device, whatever the guest did: drains and passes on, counts afresh which vectors are on and passes on what no
+ * event told, and raises each line again that is still high. Call it after each write and each reset. */
+int pic_settle(struct pic *pic, struct pic_wires *wires);
+
+/* A device of the host moves a line, and what comes of it is passed on. */
+int pic_line(struct pic *pic, struct pic_wires *wires, uint64_t input, bool high);
+
+/* After a load: the lines are as high says, and the rest follows. wires->on says what the controller above has on: nothing where it is new. */
+int pic_resume(struct pic *pic, struct pic_wires *wires, uint64_t high);
+
+/* The device to a file and back (pic_file.c). The file has a magic, a length and a checksum, and is replaced whole or not at all. A load that
+ * fails leaves pic as it was; after one that is done, pic_resume. */
 int pic_save(const struct pic *pic, const char *path);
 int pic_load(struct pic *pic, const char *path);
 
 const char *pic_why(int number);
+
+#ifdef __cplusplus
+}
+#endif
 
 #endif

@@ -1,10 +1,16 @@
-//! Links libpch_pic.a, from PCH_PIC_LIB_DIR or from the repository's target/staticlib, and says what to run where it is missing.
+//! Links libpch_pic.a, from PCH_PIC_LIB_DIR or from the repository's target/staticlib. It says what to run where the library is missing, and
+//! refuses a target that the library is not for.
 
 use std::env;
 use std::path::{Path, PathBuf};
 use std::process::exit;
 
 const LIBRARY: &str = "libpch_pic.a";
+
+/// What cargo says of the target, not of the machine that builds.
+fn target(part: &str) -> String {
+    env::var(format!("CARGO_CFG_TARGET_{part}")).unwrap_or_default()
+}
 
 /// Where the library is looked for.
 fn library_dir() -> PathBuf {
@@ -18,8 +24,13 @@ fn library_dir() -> PathBuf {
 }
 
 fn main() {
-    let dir = library_dir();
     println!("cargo:rerun-if-env-changed=PCH_PIC_LIB_DIR");
+    if [target("ARCH"), target("OS"), target("POINTER_WIDTH")] != ["x86_64", "linux", "64"] {
+        let name = env::var("TARGET").unwrap_or_default();
+        eprintln!("{LIBRARY} is for x86-64 Linux in user space; the target {name} is not served");
+        exit(1);
+    }
+    let dir = library_dir();
     println!("cargo:rerun-if-changed={}", dir.join(LIBRARY).display());
     // The linker is run elsewhere, so the path must be whole.
     match dir.canonicalize() {

@@ -3,3 +3,4 @@ pub mod Turns
 pub mod Queue
 pub mod Service
 pub mod MaskWrite
+pub mod Draining

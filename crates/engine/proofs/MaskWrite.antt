@@ -102,8 +102,7 @@ module _ (vs : List ℕ) (l : Lines) (r : Ring) (new up : ℕ) (ups : (i : ℕ) 
     abbrev retracted : Lines
     retracted = record { «int_mask» = out .«int_mask»; «last_intirr» = out .«last_intirr»; intirr = out .intirr; intisr = bitAnd (out .intisr) ((2 ^ 64 - 1) - bitAnd (out .intisr) down) }
 
-    pub left-some : (s : Ring) → IsRing s (queued vs (ringView q) (bitAnd (out .intisr) down) false)
-        → Moves (record { lines = retracted; queue = s .queue }) (s .«output_vectors») (s .«output_asserted») (ringView r) (masked vs (linesView l) new)
+    pub left-some : (s : Ring) → IsRing s (queued vs (ringView q) (bitAnd (out .intisr) down) false) → Moves (record { lines = retracted; ring = s }) (ringView r) (masked vs (linesView l) new)
     left-some s pushed = record {
       wellLines = entered .wellLines;
       wellRing = pushed .well;
@@ -112,7 +111,7 @@ module _ (vs : List ℕ) (l : Lines) (r : Ring) (new up : ℕ) (ups : (i : ℕ) 
           (ap (λ (ns : List ℕ). offers (map (event vs true false) ns)) (served-is down (linesView out)) ∙ ap (λ (t : Turn). offers (t .made)) leaves);
     }
 
-    pub left-none : down ≡ 0 → Moves (record { lines = out; queue = q .queue }) (q .«output_vectors») (q .«output_asserted») (ringView r) (masked vs (linesView l) new)
+    pub left-none : down ≡ 0 → Moves (record { lines = out; ring = q }) (ringView r) (masked vs (linesView l) new)
     unfolding offers ringRun
     left-none e =
         let stays = leave-none vs true (newlyMasked (l .«int_mask») new) (linesView out) isr-lt (λ i h. ap (λ (b : Bool). on (out .intisr) i && b) (sym (downs i h) ∙ ap (λ (x : ℕ). on x i) e ∙ on-none i) ∙ and-false (on (out .intisr) i)) in

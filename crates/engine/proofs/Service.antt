@@ -25,7 +25,7 @@ bit n = 1 * 2 ^ n % 2 ^ 64
 abbrev withService : Lines → ℕ → Lines
 withService l x = record { «int_mask» = l .«int_mask»; «last_intirr» = l .«last_intirr»; intirr = l .intirr; intisr = x }
 
-module _ (vs : List ℕ) (l : Lines) (m : ℕ) (well : WellLines l) (hm : m < 2 ^ 64) where
+module _ (l : Lines) (m : ℕ) (hm : m < 2 ^ 64) where
   abbrev pub pending : ℕ
   pending = bitAnd (bitAnd (bitAnd m (l .intirr)) ((2 ^ 64 - 1) - l .«int_mask»)) ((2 ^ 64 - 1) - l .intisr)
 
@@ -44,7 +44,7 @@ module _ (vs : List ℕ) (l : Lines) (m : ℕ) (well : WellLines l) (hm : m < 2 
   pub inactive-below : (inactive ≡ 0 → ⊥) → trailingZeros 64 inactive < 64
   inactive-below n = first-below inactive inactive-lt n
 
-  module _ (hmask : l .«int_mask» < 2 ^ 64) (hisr : l .intisr < 2 ^ 64) where
+  module _ (vs : List ℕ) (well : WellLines l) (hmask : l .«int_mask» < 2 ^ 64) (hisr : l .intisr < 2 ^ 64) where
     -- the lowest that waits goes into service
     pub pending-some : (pending ≡ 0 → ⊥)
         → Answers (record { lines = withService l (bitOr (l .intisr) (bit (trailingZeros 64 pending))); answer = Vector (getD vs (trailingZeros 64 pending) 0) }) (updated vs (linesView l) m true)
@@ -58,7 +58,7 @@ module _ (vs : List ℕ) (l : Lines) (m : ℕ) (well : WellLines l) (hm : m < 2 
         subst (Answers _) (sym (ap (serve vs false (linesView l)) (sym (waiting-is m (linesView l) hmask hisr) ∙ no-input pending e)))
         (record { well = well; after = refl; gives = refl })
 
-  module _ (hirr : l .intirr < 2 ^ 64) (hisr : l .intisr < 2 ^ 64) where
+  module _ (vs : List ℕ) (well : WellLines l) (hirr : l .intirr < 2 ^ 64) (hisr : l .intisr < 2 ^ 64) where
     -- the lowest that is in service and not latched leaves it
     pub inactive-some : (inactive ≡ 0 → ⊥)
         → Answers (record { lines = withService l (bitAnd (l .intisr) ((2 ^ 64 - 1) - bit (trailingZeros 64 inactive))); answer = Vector (getD vs (trailingZeros 64 inactive) 0) }) (updated vs (linesView l) m false)

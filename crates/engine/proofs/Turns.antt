@@ -6,11 +6,11 @@ use Prim.Native.Nat.{ℕ, _*_, _%_, _^_, _<_}
 use lib.Dec.{eqb}
 use borrow.Author.Tests.{eq-eqb, eqb-true}
 use Rattle.rules.specs.Inputs.{on, inputs, only, put, without}
-use Rattle.rules.specs.Lines.{Lines, Turn, stay, withIsr, withIrr, event, serve, enter, leave, andThen, pendingIn, servedIn, raised, lowered, polled}
+use Rattle.rules.specs.Lines.{Lines, Turn, stay, withIsr, withIrr, event, serve, enter, leave, andThen, pendingIn, servedIn, unlatchedIn, raised, lowered, polled}
 use Rattle.rules.specs.Ring.{Ring, RingAct, Drawn, offer, ringRun}
 use Rattle.rules.specs.Device.{none, some, offers, returned}
 use Rattle.rules.proofs.laws.Bits.{test, is-number, put-lt, on-bit, on-without}
-use Rattle.rules.proofs.laws.Inputs.{inputs-ext, no-inputs, only-served, only-unlatched, enter-ext, unlatchedIn}
+use Rattle.rules.proofs.laws.Inputs.{inputs-ext, no-inputs, only-served, only-unlatched, enter-ext}
 use Rattle.rules.proofs.laws.Acts.{offers-append}
 use Rattle.rules.proofs.laws.Rings.{run-append}
 use Rattle.engine.specs.Moves.{retire, updated}

@@ -2,16 +2,17 @@
 use mathlib.Core.Path.{_≡_}
 use mathlib.Core.Bool.{Bool, true, false}
 use mathlib.Core.List.{List, [], _∷_, _++_, map}
-use Prim.Native.Nat.{ℕ, _*_, _/_}
-use lib.ListN.{length, drop}
+use Prim.Native.Nat.{ℕ, _+_, _*_, _/_}
+use lib.ListN.{length, drop, set}
 use Rattle.rules.specs.Inputs.{on, inputs, only, without}
 use Rattle.rules.specs.Lines as lines
-use Rattle.rules.specs.Lines.{Turn, stay, withIsr, event, enter}
-use Rattle.rules.proofs.laws.Inputs.{unlatchedIn}
+use Rattle.rules.specs.Lines.{Turn, stay, withIsr, event, enter, unlatchedIn}
 use Rattle.rules.specs.Ring as ring
-use Rattle.rules.specs.Ring.{ringRun, drawn, pairsOf}
+use Rattle.rules.specs.Ring.{ringRun, drawn, flag, pairsOf}
 use Rattle.rules.specs.Device.{Value, none, some, offers, returned}
-use Rattle.state.specs.View.{WellLines, WellRing, linesView, ringOf, ringView}
+use Rattle.state.specs.declared.Taken.{Taken}
+use Rattle.state.specs.declared.Taken.the-variants.{Nothing, One}
+use Rattle.state.specs.View.{WellLines, WellRing, linesView, ringView}
 use Rattle.engine.specs.declared.Answer.{Answer}
 use Rattle.engine.specs.declared.Answer.the-variants.{None, Vector}
 use Rattle.engine.specs.declared.Routed.{Routed}
@@ -42,16 +43,21 @@ pub record Answers (r : Routed) (t : Turn) : Type 0 where
   pub after : linesView (r .lines) ≡ t .after
   pub gives : answerValue (r .answer) ≡ returned (t .made)
 
--- a move that offers its events to a ring whose slots are lent
-pub record Moves (m : Moved) (events : List ℕ) (flags : List Bool) (before : ring.Ring) (t : Turn) : Type 0 where
+-- a move that offers its events
+pub record Moves (m : Moved) (before : ring.Ring) (t : Turn) : Type 0 where
   pub wellLines : WellLines (m .lines)
-  pub wellRing : WellRing (ringOf (m .queue) events flags)
+  pub wellRing : WellRing (m .ring)
   pub lines : linesView (m .lines) ≡ t .after
-  pub ring : ringView (ringOf (m .queue) events flags) ≡ ringRun before (offers (t .made)) .after
+  pub ring : ringView (m .ring) ≡ ringRun before (offers (t .made)) .after
+
+-- an event as a pair at its place; nothing where there is none
+abbrev pub pairPut : List ℕ → ℕ → Taken → List ℕ
+pairPut l i Nothing = l
+pairPut l i (One e) = set (set l (2 * i) (e .vector)) (2 * i + 1) (flag (e .asserted))
 
 -- a drain into a buffer: what the ring draws for the room that there is, as pairs in front, and every other byte as it was
-pub record Drains (r : Drained) (events : List ℕ) (flags : List Bool) (before : ring.Ring) (entry exit : List ℕ) : Type 0 where
-  pub wellRing : WellRing (ringOf (r .queue) events flags)
-  pub ring : ringView (ringOf (r .queue) events flags) ≡ drawn before (length entry / 2) .after
+pub record Drains (r : Drained) (before : ring.Ring) (entry exit : List ℕ) : Type 0 where
+  pub wellRing : WellRing (r .ring)
+  pub ring : ringView (r .ring) ≡ drawn before (length entry / 2) .after
   pub count : r .count ≡ length (drawn before (length entry / 2) .drained)
   pub pairs : exit ≡ pairsOf (drawn before (length entry / 2) .drained) ++ drop (2 * r .count) entry

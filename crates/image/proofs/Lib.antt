@@ -1,5 +1,4 @@
 -- The laws that the proofs of this crate cite.
-pub mod Pairs
-pub mod Events
 pub mod Saved
-pub mod Words
+pub mod Pairs
+pub mod Forms

@@ -7,20 +7,69 @@ use native.Mathlib.Nat.{zero-add, mod-eq-of-lt, zero-div}
 use native.Mathlib.Numerals.{add-one}
 use native.Mathlib.Omega.{arith}
 use lib.Bits.{bitAnd, bitOr, and-block, and-high, and-zero-r, and-le-l, and-le-r, or-add-and, or-lt}
-use lib.Dec.{eqb, leb, lit<}
-use lib.ListN.{length, take, drop, length-drop, drop-of-length-le}
+use lib.Dec.{eqb, leb, lit<, lit≤}
+use lib.ListN.{length, take, drop, getD, length-drop, drop-of-length-le}
 use lib.Pow.{shr-shr}
 use lib.Seq.{drop-drop, drop-append-le, getD-drop}
 use borrow.Author.Tests.{eq-eqb, ne-eqb, eqb-true, le-leb, leb-true}
 use Rattle.rules.specs.Numbers.{numberOf, part, Bytes}
 use Rattle.rules.specs.Ring.{capacity}
-use Rattle.rules.specs.Image.{pairsLength, registerAt, flagsGood, allZero}
+use Rattle.rules.specs.Image.{registerAt}
 use Rattle.rules.specs.Inputs.{on}
 use Rattle.rules.proofs.laws.Lists.{length-part, part-then}
 use Rattle.rules.proofs.laws.Bytes.{bytes-drop, bytes-part}
 use Rattle.rules.proofs.laws.Bits.{test, on-and, on-or, on-ext}
-use Rattle.rules.proofs.laws.Images.{pairsGood, flags-flagsGood, allZero-zeros, zeros-allZero}
-use Rattle.image.specs.Shown.{bitsOf}
+use Rattle.rules.proofs.laws.Tests.{Flags, Unused}
+use Rattle.image.specs.Shown.{flagsGood, allZero, pairsGood, bitsOf}
+
+-- ---- what the tests say
+
+-- the flags of the first n pairs, each with the place of its pair
+abbrev PairFlags : ℕ → List ℕ → Type 0
+PairFlags n l = (i : ℕ) → i < n → getD l (2 * i + 1) 0 ≤ 1
+
+two-on : (i : ℕ) → 2 * suc i + 1 ≡ suc (suc (2 * i + 1))
+two-on i = omega arith
+
+flagsGood-flags : (n : ℕ) (l : List ℕ) → flagsGood n l ≡ true → PairFlags n l
+flagsGood-flags zero l e i h = absurd (omega arith)
+flagsGood-flags (suc n) [] e i h = lit≤ tt
+flagsGood-flags (suc n) (v ∷ []) e i h = rw add-one (lit≤ tt)
+flagsGood-flags (suc n) (v ∷ f ∷ l) e zero h = leb-true f 1 (and-eq-true-iff (leb f 1) (flagsGood n l) .0 e .0)
+flagsGood-flags (suc n) (v ∷ f ∷ l) e (suc i) h = rw two-on (flagsGood-flags n l (and-eq-true-iff (leb f 1) (flagsGood n l) .0 e .1) i (omega arith))
+
+flags-flagsGood : (n : ℕ) (l : List ℕ) → PairFlags n l → flagsGood n l ≡ true
+flags-flagsGood zero l g = refl
+flags-flagsGood (suc n) [] g = refl
+flags-flagsGood (suc n) (v ∷ []) g = refl
+flags-flagsGood (suc n) (v ∷ f ∷ l) g = rw (le-leb f 1 (g 0 (omega arith)), flags-flagsGood n l (λ i k. rw two-on at (g (suc i) (omega arith))))
+
+allZero-zeros : (l : List ℕ) → allZero l ≡ true → (i : ℕ) → getD l i 0 ≡ 0
+allZero-zeros [] e i = refl
+allZero-zeros (x ∷ l) e zero = eqb-true x 0 (and-eq-true-iff (eqb x 0) (allZero l) .0 e .0)
+allZero-zeros (x ∷ l) e (suc i) = allZero-zeros l (and-eq-true-iff (eqb x 0) (allZero l) .0 e .1) i
+
+zeros-allZero : (l : List ℕ) → ((i : ℕ) → getD l i 0 ≡ 0) → allZero l ≡ true
+zeros-allZero [] z = refl
+zeros-allZero (x ∷ l) z = rw (eq-eqb x 0 (z 0), zeros-allZero l (λ i. z (suc i)))
+
+-- the two rules on pairs, as the rules have them
+module _ (n : ℕ) (l : List ℕ) where
+  pub pairsGood-flags : pairsGood n l ≡ true → Flags n l
+  pairsGood-flags e i h o =
+      let s : 2 * (i / 2) + 1 ≡ i = omega arith in
+      let good = and-eq-true-iff (flagsGood n l) (allZero (drop (2 * n) l)) .0 e .0 in
+      rw s at (flagsGood-flags n l good (i / 2) (omega arith))
+
+  pub pairsGood-unused : pairsGood n l ≡ true → Unused n l
+  pairsGood-unused e i h =
+      let s : 2 * n + (i - 2 * n) ≡ i = omega arith in
+      let good = and-eq-true-iff (flagsGood n l) (allZero (drop (2 * n) l)) .0 e .1 in
+      rw s at (sym (getD-drop (2 * n) l (i - 2 * n) 0) ∙ allZero-zeros (drop (2 * n) l) good (i - 2 * n))
+
+  pub good-pairs : Flags n l → Unused n l → pairsGood n l ≡ true
+  good-pairs g z =
+      rw (flags-flagsGood n l (λ i h. g (2 * i + 1) (omega arith) (omega arith)), zeros-allZero (drop (2 * n) l) (λ i. getD-drop (2 * n) l i 0 ∙ z (2 * n + i) (omega arith)))
 
 -- ---- tests of numbers for zero
 
@@ -183,7 +232,7 @@ module _ (l : List ℕ) (b : Bytes l) where
       ∙ sym (rw t at (flags-add (4 * k) 4 l (omega arith))) ∙ ap (λ n. flagsGood n l) s
 
   -- what the gathered bits x tell of n waiting pairs and the unused ones
-  module _ (n : ℕ) (h : length l ≡ pairsLength) (k : n ≤ capacity) {x : ℕ} (e : x ≡ bitsOf 4 l) where
+  module _ (n : ℕ) (h : length l ≡ 2 * capacity) (k : n ≤ capacity) {x : ℕ} (e : x ≡ bitsOf 4 l) where
     -- with no bit at all every pair is zero
     pub pairs-empty : x ≡ 0 → true ≡ pairsGood n l
     pairs-empty z =

@@ -1,14 +1,18 @@
 // Whether an image may be loaded. Bytes are compared as numbers, eight at a time. Of the ring's pairs the bits are gathered that any has:
 // they settle the commonest ring, and all flags at once.
 use crate::bytes::word_at;
-use crate::contents;
+use crate::form::Form;
+use crate::form::Known;
+use crate::form::contents_of;
+use crate::form::form_of;
+use crate::form::places_of;
 ghost use mathlib.Core.Path.{_≡_};
 ghost use Prim.Native.Nat.{_*_, _≤_};
 ghost use lib.ListN.{length, drop};
 ghost use Rattle.rules.specs.Ring.{capacity};
-ghost use Rattle.rules.specs.Image.{imageLength, pairsLength, allZero, imageTest};
-ghost use Rattle.rules.proofs.laws.Images.{bodyRules, pairsGood};
-ghost use Rattle.image.specs.Shown.{checkedView, bitsOf};
+ghost use Rattle.rules.specs.Form.{formLength};
+ghost use Rattle.rules.specs.Image.{imageTest};
+ghost use Rattle.image.specs.Shown.{formView, checkedView, bitsOf, allZero, pairsGood, headGood, bodiesGood};
 
 // What testing an image finds.
 pub enum Checked {
@@ -20,7 +24,7 @@ pub enum Checked {
 
 // The bits that any of the four words of the pairs has.
 fn all_bits(pairs: &[u8]) -> u64
-    requires { ⌜ length (now pairs) ≡ pairsLength ⌝ }
+    requires { ⌜ length (now pairs) ≡ 2 * capacity ⌝ }
     ensures { λ r. ⌜ r ≡ bitsOf 4 (now (pairs .entry)) ⌝ }
 {
     let mut found = 0u64;
@@ -34,7 +38,7 @@ fn all_bits(pairs: &[u8]) -> u64
 
 // Unused pairs are zero. In the word where they begin, the pairs that wait are shifted out.
 fn unused_zero(count: usize, pairs: &[u8]) -> bool
-    requires { ⌜ (length (now pairs) ≡ pairsLength) × (count ≤ capacity) ⌝ }
+    requires { ⌜ (length (now pairs) ≡ 2 * capacity) × (count ≤ capacity) ⌝ }
     ensures { λ r. ⌜ r ≡ allZero (drop (2 * count) (now (pairs .entry))) ⌝ }
 {
     if count == 16 {
@@ -52,7 +56,7 @@ fn unused_zero(count: usize, pairs: &[u8]) -> bool
 
 // Flags of waiting pairs are 0 or 1, and unused pairs are zero.
 fn pairs_good(count: usize, pairs: &[u8]) -> bool
-    requires { ⌜ (length (now pairs) ≡ pairsLength) × (count ≤ capacity) ⌝ }
+    requires { ⌜ (length (now pairs) ≡ 2 * capacity) × (count ≤ capacity) ⌝ }
     ensures { λ r. ⌜ r ≡ pairsGood count (now (pairs .entry)) ⌝ }
 {
     let found = all_bits(pairs);
@@ -67,31 +71,49 @@ fn pairs_good(count: usize, pairs: &[u8]) -> bool
     unused_zero(count, pairs)
 }
 
-// The four rules of the bodies.
-fn body_good(image: &[u8]) -> bool
-    requires { ⌜ length (now image) ≡ imageLength ⌝ }
-    ensures { λ r. ⌜ r ≡ bodyRules (now (image .entry)) ⌝ }
+fn contents_good(image: &[u8], form: Form) -> bool
+    requires { ⌜ length (now image) ≡ formLength (formView form) ⌝ }
+    ensures { λ r. ⌜ r ≡ headGood (formView form) (now (image .entry)) ⌝ }
 {
-    if word_at(image, contents::LAST_IRR) != word_at(image, contents::IRR) {
+    let c = contents_of(form);
+    if word_at(image, 0) != c.first {
         return false;
     }
-    let count = image[222] as usize;
+    if word_at(image, 8) != c.second {
+        return false;
+    }
+    word_at(image, c.last_at) == c.last
+}
+
+// The rules of the bodies. A form without a copy of IRR has IRR's own place there.
+fn body_good(image: &[u8], form: Form) -> bool
+    requires { ⌜ length (now image) ≡ formLength (formView form) ⌝ }
+    ensures { λ r. ⌜ r ≡ bodiesGood (formView form) (now (image .entry)) ⌝ }
+{
+    let p = places_of(form);
+    if word_at(image, p.last_intirr) != word_at(image, p.intirr) {
+        return false;
+    }
+    let place = p.count;
+    let count = image[place] as usize;
     if count > 16 {
         return false;
     }
-    pairs_good(count, &image[227..259])
+    let at = p.pairs;
+    let end = at + 32;
+    pairs_good(count, &image[at..end])
 }
 
 pub fn check(image: &[u8]) -> Checked
     ensures { λ r. ⌜ checkedView r ≡ imageTest (now (image .entry)) ⌝ }
 {
-    if image.len() != 259 {
+    let Known::As(form) = form_of(image.len()) else {
         return Checked::WrongLength;
-    }
-    if !contents::contents_good(image) {
+    };
+    if !contents_good(image, form) {
         return Checked::WrongContents;
     }
-    if !body_good(image) {
+    if !body_good(image, form) {
         return Checked::WrongBody;
     }
     Checked::Accepted

@@ -1,7 +1,5 @@
-// The boundary's bytes: the saved image checked, loaded and saved, and the answer area.
+// The boundary's bytes: the form of the saved image, and whether an image may be loaded.
 pub mod answer;
 pub mod bytes;
 pub mod check;
-mod contents;
-pub mod load;
-pub mod save;
+pub mod form;

@@ -7,6 +7,8 @@ pub mod Account
 pub mod Service
 pub mod Order
 pub mod OneOutcome
+pub mod Refused
 pub mod FromCalls
 pub mod HandedBack
 pub mod PremisesMet
+pub mod ExportedMet

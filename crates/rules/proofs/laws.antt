@@ -6,11 +6,18 @@ pub mod Halves
 pub mod Lists
 pub mod Bytes
 pub mod Parts
+pub mod Places
+pub mod Layout
+pub mod Twos
+pub mod Tests
+pub mod Saved
 pub mod Images
+pub mod InPlace
 pub mod Rings
 pub mod Acts
 pub mod Steps
 pub mod Outcomes
+pub mod Refusals
 pub mod Maps
 pub mod Widths
 pub mod Writes
@@ -18,6 +25,7 @@ pub mod Entries
 pub mod Reach
 pub mod Folds
 pub mod Counts
+pub mod Latches
 pub mod Draining
 pub mod WellFormed
 pub mod Chains

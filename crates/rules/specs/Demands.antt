@@ -1,21 +1,17 @@
 -- What demand 3 counts, and what it asks of a history beside History's `Admitted`. Each stands here once, for the theorems of proofs/demands.
-use mathlib.Core.Bool.{Bool, true, false, cond, not, _&&_}
+use mathlib.Core.Bool.{Bool, true, false, cond, not, _&&_, _||_}
 use mathlib.Core.List.{List, [], _∷_, _++_}
 use mathlib.Core.Path.{_≡_}
 use Prim.Native.Nat.{ℕ, _+_}
 use lib.Dec.{eqb, ltb}
-use lib.ListN.{length, drop, getD}
-use Rattle.rules.specs.Numbers.{numberOf, part, Bytes}
+use lib.ListN.{length, getD}
 use Rattle.rules.specs.Inputs.{on, inputs, only, asHalf}
 use Rattle.rules.specs.Lines.{Lines, Made, servedIn}
 use Rattle.rules.specs.Core.{Core, Act, move, poll, raise, lower, clear, setMask, setIsr, store, setVector}
 use Rattle.rules.specs.Ring.{Event, Ring, RingAct, offer, draw, ringStep, ringRun}
-use Rattle.rules.specs.Device.{Device, WellFormed, Call, actsOf, offers, draws, step, value}
+use Rattle.rules.specs.Device.{Device, Call, actsOf, offers, draws, step}
 use Rattle.rules.specs.Device as call
-use Rattle.rules.specs.Image.{encode, eventsOf}
-use Rattle.rules.specs.Calls as request
-use Rattle.rules.specs.Calls.{Request, askedBy, answered, bufferOf, placeOf, written, Outcome, outcome}
-use Rattle.rules.specs.History.{Exported, leftBy, isDone, isReset, isLoad, callOf, Underway, carriedOn, history, writesIsr}
+use Rattle.rules.specs.History.{writesIsr}
 
 -- ---- the account
 
@@ -53,6 +49,13 @@ deasserts v = deassertsWith (hasVector v)
 abbrev pub carrying : ℕ → Core → ℕ
 carrying v c = servedWith (carries v (c .vectors)) (c .lines)
 
+-- how many asserts of the vector v there are among these events, and how many deasserts
+abbrev pub assertsAmong : ℕ → List Event → ℕ
+assertsAmong v es = tally (λ e. e .asserted && eqb (e .vector) v) es
+
+abbrev pub deassertsAmong : ℕ → List Event → ℕ
+deassertsAmong v es = tally (λ e. not (e .asserted) && eqb (e .vector) v) es
+
 -- ---- service
 
 -- each act of a list has T
@@ -60,12 +63,17 @@ pub data Each (T : Act → Type 0) : List Act → Type 0 where
   done : Each T []
   also : {a : Act} {xs : List Act} → T a → Each T xs → Each T (a ∷ xs)
 
+-- some act of a list has t
+unfoldable pub someAct : (Act → Bool) → List Act → Bool
+someAct t [] = false
+someAct t (a ∷ xs) = t a || someAct t xs
+
 -- the input n is in service: its stored ISR bit is on, masked or not
 abbrev pub inService : ℕ → Lines → Bool
 inService n l = on (l .isr) n
 
 -- the input n is latched and unmasked (00, demand 3)
-pub record Ready (n : ℕ) (l : Lines) : Type 0 where
+pub record Eligible (n : ℕ) (l : Lines) : Type 0 where
   pub latched : on (l .irr) n ≡ true
   pub unmasked : on (l .mask) n ≡ false
 
@@ -80,19 +88,63 @@ disturbs n (setIsr h v) = false
 disturbs n (store s) = false
 disturbs n (setVector m v) = false
 
--- a call by which n is not lowered, cleared or masked, and which is no write that reaches the ISR registers (00, demand 3)
+-- a call by which n is not lowered, cleared or masked (00, demand 3)
+abbrev pub Spared : ℕ → Device → Call → Type 0
+Spared n d c = Each (λ a. disturbs n a ≡ false) (actsOf (d .core) c)
+
+-- and which is no write that reaches the ISR registers
 pub record Undisturbed (n : ℕ) (d : Device) (c : Call) : Type 0 where
   pub noIsrWrite : writesIsr c ≡ false
-  pub notDisturbed : Each (λ a. disturbs n a ≡ false) (actsOf (d .core) c)
+  pub notDisturbed : Spared n d c
+
+-- an act writes ISR (01, Window and register map)
+abbrev pub setsIsr : Act → Bool
+setsIsr (move m) = false
+setsIsr (setIsr h v) = true
+setsIsr (store s) = false
+setsIsr (setVector n v) = false
 
 -- a call is a poll or a raise of n (00, demand 3)
-abbrev pub asks : ℕ → Call → Bool
-asks n (call.level m true) = only n m
-asks n (call.level m false) = false
-asks n (call.poll m) = only n m
-asks n (call.read w o) = false
-asks n (call.write w o v) = false
-asks n (call.drain k) = false
+abbrev pub pollsOrRaises : ℕ → Call → Bool
+pollsOrRaises n (call.level m true) = only n m
+pollsOrRaises n (call.level m false) = false
+pollsOrRaises n (call.poll m) = only n m
+pollsOrRaises n (call.read w o) = false
+pollsOrRaises n (call.write w o v) = false
+pollsOrRaises n (call.drain k) = false
+
+-- ---- a cleared input
+
+-- an act clears n: CLEAR is written with its bit (01, Inputs: CLEAR with bits B)
+abbrev pub clears : ℕ → Act → Bool
+clears n (move (poll m)) = false
+clears n (move (raise m)) = false
+clears n (move (lower m)) = false
+clears n (move (clear b)) = on b n
+clears n (move (setMask h v)) = false
+clears n (setIsr h v) = false
+clears n (store s) = false
+clears n (setVector m v) = false
+
+-- a call of d clears n: one of its acts does
+abbrev pub Clears : ℕ → Device → Call → Type 0
+Clears n d c = someAct (clears n) (actsOf (d .core) c) ≡ true
+
+-- a call is no raise of n
+abbrev pub isRaise : ℕ → Call → Bool
+isRaise n (call.level m true) = only m n
+isRaise n (call.level m false) = false
+isRaise n (call.poll m) = false
+isRaise n (call.read w o) = false
+isRaise n (call.write w o v) = false
+isRaise n (call.drain k) = false
+
+abbrev pub Unraised : ℕ → Device → Call → Type 0
+Unraised n d c = isRaise n c ≡ false
+
+-- how many asserts of the input n there are among events
+abbrev pub assertsOf : ℕ → List Made → ℕ
+assertsOf n = assertsWith (λ m. only n (m .input))
 
 -- ---- order
 
@@ -130,113 +182,3 @@ dropped r (a ∷ xs) = droppedBy r a ++ dropped (ringStep r a .after) xs
 unfoldable pub returnedIn : List Made → List Event
 returnedIn [] = []
 returnedIn (m ∷ ms) = cond (m .offered) (returnedIn ms) (asEvent m ∷ returnedIn ms)
-
--- ---- exported calls
-
--- exported calls, one after another: the history under way after them (01, Saved image)
-unfoldable pub carriedThrough : Underway → List Exported → Underway
-carriedThrough h [] = h
-carriedThrough h (x ∷ xs) = carriedThrough (carriedOn h x) xs
-
--- none of them is a load: each done one is no reset, and is given the image that the last done one left (01, Saved image)
-unfoldable pub NoLoads : Underway → List Exported → Type 0
-NoLoads h [] = Unit {0}
-NoLoads h (x ∷ xs) = (isLoad (h .left) x ≡ false) × NoLoads (carriedOn h x) xs
-
--- each is given the image that the one before it left, done or refused, and none is a reset (01, Saved image: handing that same image on is no load)
-unfoldable pub HandedOn : List ℕ → List Exported → Type 0
-HandedOn left [] = Unit {0}
-HandedOn left (x ∷ xs) = (x .given ≡ left) × (isReset (askedBy (x .asked)) ≡ false) × HandedOn (leftBy x .image) xs
-
--- the call of the device that an exported call is, if it is one; a refused call counts as no call (01, Saved image)
-abbrev pub doneCall : Exported → List Call
-doneCall x = cond (isDone x) (callOf (askedBy (x .asked))) []
-
-unfoldable pub doneCalls : List Exported → List Call
-doneCalls [] = []
-doneCalls (x ∷ xs) = doneCall x ++ doneCalls xs
-
--- an exported call is one call of the device d: it is done, its image is that of d after the call, its answer area has the call's value, and its event
--- buffer the pairs that the call drained (01, The boundary; 01, The ring)
-pub record IsStep (d : Device) (x : Exported) : Type 0 where
-  pub call : Call
-  pub is : doneCall x ≡ call ∷ []
-  pub number : leftBy x .number ≡ 0
-  pub image : leftBy x .image ≡ encode (step d call .after)
-  pub answer : leftBy x .answer ≡ answered 0 (value d call) (x .answer)
-  pub events : leftBy x .events ≡ written (bufferOf (x .asked)) (placeOf (x .asked)) (step d call .drained)
-
--- the images that they are given are bytes
-abbrev pub GivenBytes : List Exported → Type 0
-GivenBytes [] = Unit {0}
-GivenBytes (x ∷ xs) = Bytes (x .given) × GivenBytes xs
-
--- the device to which a history under way has come
-abbrev pub current : Underway → Device
-current h = history (h .began) (h .calls) .after
-
--- a history under way is that of the image left last: it began with a device that an image can hold, and that image holds the device to which it has come
-pub record Faithful (h : Underway) : Type 0 where
-  pub began : WellFormed (h .began)
-  pub left : h .left ≡ encode (current h)
-
--- the history that a done reset begins
-abbrev pub afterReset : Underway
-afterReset = record { began = call.reset; calls = []; left = encode call.reset }
-
--- ---- what a host reads
-
--- in an answer area: whether a value is present, and the value (01, The boundary)
-abbrev pub presentIn : List ℕ → Bool
-presentIn a = eqb (getD a 1 0) 1
-
-abbrev pub valueIn : List ℕ → ℕ
-valueIn a = numberOf (part 8 8 a)
-
--- the event whose vector an answer area holds, if it holds one: an assert (true) or a deassert
-abbrev pub eventIn : Bool → List ℕ → List Event
-eventIn b a = cond (presentIn a) (record { vector = valueIn a; asserted = b } ∷ []) []
-
--- the event that a request returned: level 0 a deassert, any other level and a poll an assert (01, Inputs; 01, The boundary)
-abbrev pub returnedTo : Request → List ℕ → List Event
-returnedTo request.reset a = []
-returnedTo (request.read base size address width) a = []
-returnedTo (request.write base size address width v) a = []
-returnedTo (request.level n v) a = eventIn (not (eqb v 0)) a
-returnedTo (request.poll n) a = eventIn true a
-returnedTo (request.drain buffer place) a = []
-
--- the events that a request drained: as many pairs from its place on as its answer says (01, The ring)
-abbrev pub drainedTo : Request → (answer events : List ℕ) → List Event
-drainedTo request.reset a e = []
-drainedTo (request.read base size address width) a e = []
-drainedTo (request.write base size address width v) a e = []
-drainedTo (request.level n v) a e = []
-drainedTo (request.poll n) a e = []
-drainedTo (request.drain buffer place) a e = eventsOf (valueIn a) (drop place e)
-
--- all that exported calls handed back, in order: in answer areas, and in event buffers; a refused call nothing
-unfoldable pub returnedBy : List Exported → List Event
-returnedBy [] = []
-returnedBy (x ∷ xs) = cond (isDone x) (returnedTo (x .asked) (leftBy x .answer)) [] ++ returnedBy xs
-
-unfoldable pub drainedBy : List Exported → List Event
-drainedBy [] = []
-drainedBy (x ∷ xs) = cond (isDone x) (drainedTo (x .asked) (leftBy x .answer) (leftBy x .events)) [] ++ drainedBy xs
-
--- how many asserts of the vector v there are among these events, and how many deasserts
-abbrev pub assertsAmong : ℕ → List Event → ℕ
-assertsAmong v es = tally (λ e. e .asserted && eqb (e .vector) v) es
-
-abbrev pub deassertsAmong : ℕ → List Event → ℕ
-deassertsAmong v es = tally (λ e. not (e .asserted) && eqb (e .vector) v) es
-
--- ---- promises
-
--- a call's promise: what it leaves of the image i and the answer area a, where q is asked, is `outcome` in its number and in every byte of image, answer
--- area and event buffer (01, How tight the promises are)
-pub record Promised (q : Request) (i a : List ℕ) (x : Outcome) : Type 0 where
-  pub number : x .number ≡ outcome q i a .number
-  pub image : x .image ≡ outcome q i a .image
-  pub answer : x .answer ≡ outcome q i a .answer
-  pub events : x .events ≡ outcome q i a .events

@@ -1,5 +1,5 @@
--- Histories of calls, what counts as a load, and the premises of demand 3.
-use mathlib.Core.Bool.{Bool, true, false, cond, not, _&&_, _||_}
+-- Histories of calls, and the premises of demand 3.
+use mathlib.Core.Bool.{Bool, true, false, not, _&&_, _||_}
 use mathlib.Core.List.{List, [], _∷_, _++_}
 use mathlib.Core.Path.{_≡_}
 use Prim.Native.Nat.{ℕ, _+_, _-_, _%_, _<_}
@@ -11,8 +11,6 @@ use Rattle.rules.specs.Map.{inByteArea}
 use Rattle.rules.specs.Access.{Width, byte, word, dword, qword}
 use Rattle.rules.specs.Device.{Device, Call, level, poll, read, write, drain, Step, step}
 use Rattle.rules.specs.Device as device
-use Rattle.rules.specs.Image.{same, decode}
-use Rattle.rules.specs.Calls.{Request, pass, refuse, Asked, afresh, calls, askedBy, Outcome, outcome}
 
 -- calls, one after another: the device after them, all events made and all drained, in order
 unfoldable pub history : Device → List Call → Step
@@ -25,54 +23,6 @@ history d (c ∷ cs) =
 -- a history from reset (00, demand 3)
 abbrev pub fromReset : List Call → Step
 fromReset cs = history device.reset cs
-
--- ---- exported calls
-
--- an exported call as a host makes it: the image given, what is asked, the answer area
-pub record Exported : Type 0 where
-  pub given : List ℕ
-  pub asked : Request
-  pub answer : List ℕ
-
--- what it leaves; it is done where its number is 0, and a refused call counts as no call (01, Saved image)
-abbrev pub leftBy : Exported → Outcome
-leftBy x = outcome (x .asked) (x .given) (x .answer)
-
-abbrev pub isDone : Exported → Bool
-isDone x = eqb (leftBy x .number) 0
-
--- a request to start afresh
-abbrev pub isReset : Asked → Bool
-isReset afresh = true
-isReset (calls t) = false
-
--- after the first call: a done call given another image than the last done call left, or a done reset (01, Saved image)
-abbrev pub isLoad : List ℕ → Exported → Bool
-isLoad left x = isDone x && (isReset (askedBy (x .asked)) || not (same left (x .given)))
-
--- the call of the device that a done request is; of a reset, none
-abbrev pub callOf : Asked → List Call
-callOf afresh = []
-callOf (calls (pass c)) = c ∷ []
-callOf (calls (refuse r)) = []
-
--- a history under way: the device that it began from, its calls since, and the image that the last done call left
-pub record Underway : Type 0 where
-  pub began : Device
-  pub calls : List Call
-  pub left : List ℕ
-
--- one exported call more: refused, nothing; a load begins a new history from what it was given (01, Saved image)
-unfoldable pub carriedOn : Underway → Exported → Underway
-carriedOn h x =
-    let new = isLoad (h .left) x in
-    cond (isDone x)
-    (record {
-      began = cond new (cond (isReset (askedBy (x .asked))) device.reset (decode (x .given))) (h .began);
-      calls = cond new [] (h .calls) ++ callOf (askedBy (x .asked));
-      left = leftBy x .image;
-    })
-    h
 
 -- ---- demand 3's premises
 

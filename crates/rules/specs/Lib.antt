@@ -18,9 +18,11 @@ pub mod Map
 pub mod Access
 pub mod Device
 pub mod Window
+pub mod Form
 pub mod Image
 pub mod Calls
 pub mod History
 pub mod Demands
+pub mod Exported
 pub mod Session
 pub mod Dozen

@@ -31,9 +31,9 @@ ifSome none f = none
 ifSome (some x) f = f x
 
 -- x and then the digits l, as a number, if they are digits
-unfoldable pub spelled : ℕ → List ℕ → Value
-spelled x [] = some x
-spelled x (b ∷ l) = ifSome (digitOf b) (λ d. spelled (16 * x + d) l)
+unfoldable pub digitsSpell : ℕ → List ℕ → Value
+digitsSpell x [] = some x
+digitsSpell x (b ∷ l) = ifSome (digitOf b) (λ d. digitsSpell (16 * x + d) l)
 
 -- ---- lines
 
@@ -102,7 +102,7 @@ unfoldable pub fields : List ℕ → List ℕ → Fields
 fields [] [] = right []
 fields [] (b ∷ l) = wrong
 fields (n ∷ ns) [] = wrong
-fields (n ∷ ns) (b ∷ l) = cond (eqb b space && leb n (length l)) (joined (spelled 0 (take n l)) (fields ns (drop n l))) wrong
+fields (n ∷ ns) (b ∷ l) = cond (eqb b space && leb n (length l)) (joined (digitsSpell 0 (take n l)) (fields ns (drop n l))) wrong
 
 -- a line asks for a call, which may be refused, or is of no form in 01
 pub data Line : Type 0 where

@@ -13,11 +13,11 @@ use Rattle.rules.specs.Device.{Device}
 use Rattle.rules.specs.Session as session
 use Rattle.rules.specs.Session.{newline, played, linesOf, answers}
 use Rattle.state.specs.View.{view}
-use Rattle.session.specs.Plays.{Plays}
+use Rattle.play.specs.Plays.{Plays}
 use Rattle.session.specs.Feeds.{ended, Unended, Starts, Ready, toSay, Feeds}
-use Rattle.session.specs.declared.Played.{Played}
-use Rattle.session.specs.declared.lines.Session.{Session}
-use Rattle.session.proofs.Writing.{filled, put-part, size, says}
+use Rattle.play.specs.declared.Played.{Played}
+use Rattle.session.specs.declared.Session.{Session}
+use Rattle.reply.proofs.Writing.{filled, put-part, size, says}
 use Rattle.session.proofs.Splitting.{unended-more, lines-ended, lines-last, byte-lost}
 
 -- the start is ready for an input

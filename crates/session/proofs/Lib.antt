@@ -1,7 +1,4 @@
--- The laws that the proofs of this crate cite.
-pub mod Digits
-pub mod Fields
-pub mod Writing
-pub mod Playing
+-- The laws that the proofs of this crate cite, and of the crates above it.
 pub mod Splitting
 pub mod Feeding
+pub mod WholeSession

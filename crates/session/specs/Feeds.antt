@@ -9,8 +9,8 @@ use Rattle.rules.specs.Device.{reset}
 use Rattle.rules.specs.Session as session
 use Rattle.rules.specs.Session.{newline, linesOf, answers}
 use Rattle.state.specs.View.{view, Well, Is}
-use Rattle.session.specs.Plays.{Says}
-use Rattle.session.specs.declared.lines.Session.{Session}
+use Rattle.reply.specs.Says.{Says}
+use Rattle.session.specs.declared.Session.{Session}
 
 -- a line's answer with its ending
 abbrev pub ended : session.Played → session.Played

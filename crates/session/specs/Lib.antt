@@ -1,4 +1,2 @@
--- What the session's functions promise: what a line asks for, a line played, and the input in chunks.
-pub mod Requests
-pub mod Plays
+-- What the input in chunks leaves.
 pub mod Feeds

@@ -1,158 +1,142 @@
-// The session program's work, on slices: a line of bytes is read, its call is made or refused, and the answer is written.
-mod answer;
-mod hex;
-pub mod lines;
-mod request;
-
-use engine::Routed;
-use request::Request;
+// The input, in chunks of any size: its lines are put together and played, and each answer is written with its ending.
+use play::Played;
 use state::PchPicState;
-use state::Ring;
-use window::Known;
-use window::Located;
-ghost use Prim.Native.Nat.{_<_, _≤_};
-ghost use lib.ListN.{length};
-ghost use Rattle.rules.specs.Session.{playedLine, played, ending};
-ghost use Rattle.state.specs.View.{view, Well, WellLines};
-ghost use Rattle.session.specs.Requests.{requestView};
-ghost use Rattle.session.specs.Plays.{Says, Plays, refusedWith, routedWith};
-ghost use Rattle.session.specs.declared.request.Request.the-variants.{Level, Poll, Read, Write, Drain};
+ghost use mathlib.Core.Path.{_≡_};
+ghost use mathlib.Core.List.{[], _∷_};
+ghost use Prim.Native.Nat.{_≤_};
+ghost use lib.ListN.{length, take};
+ghost use Rattle.rules.specs.Device.{reset};
+ghost use Rattle.rules.specs.Session.{played, linesOf, answers};
+ghost use Rattle.state.specs.View.{view, Well};
+ghost use Rattle.reply.specs.Says.{Says};
+ghost use Rattle.play.specs.Plays.{Plays};
+ghost use Rattle.session.specs.Feeds.{ended, Starts, Ready, Feeds, Takes};
 
-// The session's window.
-const BASE: u64 = 0;
-
-const SIZE: u64 = 0x400;
-
-// What a line leaves: the state, and how many bytes of the buffer its answer takes.
-pub struct Played {
+// Between two bytes of the input: the state, and how many bytes of the line so far stand at the front of the line buffer.
+// That buffer has 32 bytes or more. The longest line that asks for something has 25, so of a longer one it is enough to
+// keep the front: it is answered with a question mark, whatever its other bytes are.
+pub struct Session {
     pub state: PchPicState,
+    pub kept: usize,
+}
+
+pub fn start() -> Session
+    ensures { λ r. ⌜ Starts r ⌝ }
+{
+    let state = PchPicState::reset();
+    Session { state, kept: 0 }
+}
+
+// A line, with the ending behind its answer.
+fn play_line(state: PchPicState, line: &[u8], out: &mut [u8]) -> Played
+    requires { ⌜ Well state × (66 ≤ length (now out)) ⌝ }
+    ensures { λ r. ⌜ Plays r (now (out .entry)) (now (out .exit)) (ended (played (view state) (now (line .entry)))) ⌝ }
+    ensures { λ r. ⌜ r .len ≤ 66 ⌝ }
+{
+    let played = play::play(state, line, &mut out[..65]);
+    let next = played.state;
+    let len = played.len;
+    out[len] = b'\n';
+    Played {
+        state: next,
+        len: len + 1,
+    }
+}
+
+// The end's line, with its ending.
+fn end(state: PchPicState, out: &mut [u8]) -> usize
+    requires { ⌜ 15 ≤ length (now out) ⌝ }
+    ensures { λ r. ⌜ Says r (now (out .entry)) (now (out .exit)) (answers (view state) []) ⌝ }
+    ensures { λ r. ⌜ r ≡ 15 ⌝ }
+{
+    let len = play::finish(state, out);
+    out[len] = b'\n';
+    len + 1
+}
+
+// What a byte of the input leaves, and how many bytes it had written.
+struct Step {
+    session: Session,
+    len: usize,
+}
+
+// An ending plays the line so far; any other byte goes behind it, where there is room.
+fn feed_byte(session: Session, line: &mut [u8], byte: u8, out: &mut [u8]) -> Step
+    requires { ⌜ Ready session (now line) × (66 ≤ length (now out)) ⌝ }
+    ensures { λ r. ⌜ Feeds session (now (line .entry)) (byte ∷ []) (now (out .entry)) (r .session) (now (line .exit)) (r .len) (now (out .exit)) ⌝ }
+    ensures { λ r. ⌜ r .len ≤ 66 ⌝ }
+{
+    let state = session.state;
+    let kept = session.kept;
+    if byte == b'\n' {
+        let played = play_line(state, &line[..kept], out);
+        let next = played.state;
+        let fresh = Session {
+            state: next,
+            kept: 0,
+        };
+        return Step {
+            session: fresh,
+            len: played.len,
+        };
+    }
+    if line.len() <= kept {
+        return Step { session, len: 0 };
+    }
+    line[kept] = byte;
+    let longer = Session {
+        state,
+        kept: kept + 1,
+    };
+    Step {
+        session: longer,
+        len: 0,
+    }
+}
+
+// What a chunk leaves: how many of its bytes were taken, and how many bytes of answers were written.
+pub struct Fed {
+    pub session: Session,
+    pub taken: usize,
     pub len: usize,
 }
 
-// A refusal changes no state.
-fn refused(state: PchPicState, number: u8, out: &mut [u8]) -> Played
-    requires { ⌜ Well state × (number < 10) × (2 ≤ length (now out)) ⌝ }
-    ensures { λ r. ⌜ Plays r (now (out .entry)) (now (out .exit)) (refusedWith (view state) number) ⌝ }
+// As much of a chunk as the buffer has room for the answers of, at least one byte.
+pub fn feed(session: Session, line: &mut [u8], chunk: &[u8], out: &mut [u8]) -> Fed
+    requires { ⌜ Ready session (now line) × (66 ≤ length (now out)) ⌝ }
+    ensures { λ r. ⌜ Feeds session (now (line .entry)) (take (r .taken) (now (chunk .entry))) (now (out .entry)) (r .session) (now (line .exit)) (r .len) (now (out .exit)) ⌝ }
+    ensures { λ r. ⌜ Takes (r .taken) (now (chunk .entry)) (r .len) (now (out .entry)) ⌝ }
 {
-    let len = answer::put_refusal(out, number);
-    Played { state, len }
-}
-
-// What a call on an input moved and returned.
-fn routed(state: PchPicState, moved: Routed, out: &mut [u8]) -> Played
-    requires { ⌜ Well state × WellLines (moved .lines) × (4 ≤ length (now out)) ⌝ }
-    ensures { λ r. ⌜ Plays r (now (out .entry)) (now (out .exit)) (routedWith (view state) moved) ⌝ }
-{
-    let mut next = state;
-    let lines = moved.lines;
-    let vector = moved.answer;
-    next.lines = lines;
-    let len = answer::put_vector(out, vector);
-    Played { state: next, len }
-}
-
-fn play_level(state: PchPicState, input: u64, raise: bool, out: &mut [u8]) -> Played
-    requires { ⌜ Well state × (65 ≤ length (now out)) ⌝ }
-    ensures { λ r. ⌜ Plays r (now (out .entry)) (now (out .exit)) (playedLine (view state) (requestView (Level input raise))) ⌝ }
-{
-    if 64 <= input {
-        return refused(state, 3, out);
+    let room = out.len() - 66;
+    let mut next = session;
+    let mut taken = 0;
+    let mut len = 0;
+    while taken < chunk.len() && len <= room {
+        let step = feed_byte(next, line, chunk[taken], &mut out[len..]);
+        next = step.session;
+        len += step.len;
+        taken += 1;
     }
-    let tables = state.tables;
-    let moved = engine::set_irq_level(state.lines, &tables.htmsi_vector, input as usize, raise);
-    routed(state, moved, out)
-}
-
-fn play_poll(state: PchPicState, input: u64, out: &mut [u8]) -> Played
-    requires { ⌜ Well state × (65 ≤ length (now out)) ⌝ }
-    ensures { λ r. ⌜ Plays r (now (out .entry)) (now (out .exit)) (playedLine (view state) (requestView (Poll input))) ⌝ }
-{
-    if 64 <= input {
-        return refused(state, 3, out);
-    }
-    let tables = state.tables;
-    let moved = engine::pending_vector(state.lines, &tables.htmsi_vector, input as usize);
-    routed(state, moved, out)
-}
-
-fn play_read(state: PchPicState, width: u64, address: u64, out: &mut [u8]) -> Played
-    requires { ⌜ Well state × (65 ≤ length (now out)) ⌝ }
-    ensures { λ r. ⌜ Plays r (now (out .entry)) (now (out .exit)) (playedLine (view state) (requestView (Read width address))) ⌝ }
-{
-    let Known::As(bytes) = window::width_of(width) else {
-        return refused(state, 2, out);
-    };
-    let Located::At(offset) = window::locate(BASE, SIZE, address) else {
-        return refused(state, 1, out);
-    };
-    let value = registers::read_register(state, bytes, offset);
-    let len = answer::put_value(out, value);
-    Played { state, len }
-}
-
-fn play_write(state: PchPicState, width: u64, address: u64, value: u64, out: &mut [u8]) -> Played
-    requires { ⌜ Well state × (65 ≤ length (now out)) ⌝ }
-    ensures { λ r. ⌜ Plays r (now (out .entry)) (now (out .exit)) (playedLine (view state) (requestView (Write width address value))) ⌝ }
-{
-    let Known::As(bytes) = window::width_of(width) else {
-        return refused(state, 2, out);
-    };
-    let Located::At(offset) = window::locate(BASE, SIZE, address) else {
-        return refused(state, 1, out);
-    };
-    let next = registers::write_register(state, bytes, offset, value);
-    let len = answer::put_ok(out);
-    Played { state: next, len }
-}
-
-fn play_drain(state: PchPicState, out: &mut [u8]) -> Played
-    requires { ⌜ Well state × (65 ≤ length (now out)) ⌝ }
-    ensures { λ r. ⌜ Plays r (now (out .entry)) (now (out .exit)) (playedLine (view state) (requestView Drain)) ⌝ }
-{
-    let mut next = state;
-    let ring = next.ring;
-    let output_vectors = ring.output_vectors;
-    let output_asserted = ring.output_asserted;
-    let mut pairs = [0u8; 32];
-    let drained = engine::drain_output_events(
-        ring.queue,
-        &output_vectors,
-        &output_asserted,
-        &mut pairs,
-    );
-    let queue = drained.queue;
-    let left = Ring {
-        output_vectors,
-        output_asserted,
-        queue,
-    };
-    next.ring = left;
-    let len = answer::put_drained(out, &pairs, drained.count);
-    Played { state: next, len }
-}
-
-// One line, without its ending. The answer stands at the front of out, without an ending; every other byte stays.
-pub fn play(state: PchPicState, line: &[u8], out: &mut [u8]) -> Played
-    requires { ⌜ Well state × (65 ≤ length (now out)) ⌝ }
-    ensures { λ r. ⌜ Plays r (now (out .entry)) (now (out .exit)) (played (view state) (now (line .entry))) ⌝ }
-{
-    match request::parse(line) {
-        Request::Level(input, raise) => play_level(state, input, raise, out),
-        Request::Poll(input) => play_poll(state, input, out),
-        Request::Read(width, address) => play_read(state, width, address, out),
-        Request::Write(width, address, value) => play_write(state, width, address, value, out),
-        Request::Drain => play_drain(state, out),
-        Request::Unknown => {
-            let len = answer::put_unknown(out);
-            Played { state, len }
-        }
+    Fed {
+        session: next,
+        taken,
+        len,
     }
 }
 
-// The end's line, in the same way.
-pub fn finish(state: PchPicState, out: &mut [u8]) -> usize
-    requires { ⌜ 14 ≤ length (now out) ⌝ }
-    ensures { λ r. ⌜ Says r (now (out .entry)) (now (out .exit)) (ending (view state)) ⌝ }
+// The input ends: a line so far is played too, and then comes the end's line.
+pub fn close(session: Session, line: &[u8], out: &mut [u8]) -> usize
+    requires { ⌜ Ready session (now line) × (81 ≤ length (now out)) ⌝ }
+    ensures { λ r. ⌜ Says r (now (out .entry)) (now (out .exit)) (answers (view (session .state)) (linesOf (take (session .kept) (now (line .entry))))) ⌝ }
 {
-    answer::put_drops(out, state.ring.queue.output_drops)
+    let state = session.state;
+    let kept = session.kept;
+    if kept == 0 {
+        return end(state, out);
+    }
+    let played = play_line(state, &line[..kept], out);
+    let next = played.state;
+    let len = played.len;
+    let more = end(next, &mut out[len..]);
+    len + more
 }

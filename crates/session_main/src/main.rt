@@ -3,8 +3,7 @@
 // end with, so `./run` ends with 1 where something was told there.
 use libc::STDIN_FILENO;
 use libc::STDOUT_FILENO;
-use session::lines;
-use session::lines::Session;
+use session::Session;
 ghost use Prim.Native.Nat.{_≤_};
 ghost use lib.ListN.{length};
 ghost use Rattle.session.specs.Feeds.{Ready};
@@ -34,7 +33,7 @@ fn play_chunk(session: Session, line: &mut [u8], chunk: &[u8]) -> Turn
     let mut more = true;
     let mut at = 0;
     while more && at < chunk.len() {
-        let fed = lines::feed(next, line, &chunk[at..], &mut out);
+        let fed = session::feed(next, line, &chunk[at..], &mut out);
         let len = fed.len;
         more = put(&out[..len]);
         next = fed.session;
@@ -71,7 +70,7 @@ fn play_all(line: &mut [u8]) -> Session
     requires { ⌜ 32 ≤ length (now line) ⌝ }
     ensures { λ r. ⌜ Ready r (now (line .exit)) ⌝ }
 {
-    let mut session = lines::start();
+    let mut session = session::start();
     let mut more = true;
     let mut turns = u64::MAX;
     while more && 0 < turns {
@@ -87,6 +86,6 @@ fn main() {
     let mut line = [0u8; 32];
     let session = play_all(&mut line);
     let mut out = [0u8; 128];
-    let len = lines::close(session, &line, &mut out);
+    let len = session::close(session, &line, &mut out);
     put(&out[..len]);
 }

@@ -2,7 +2,7 @@
 use Prim.Native.Nat.{ℕ}
 use Rattle.rules.specs.Access.{Width}
 use Rattle.rules.specs.Calls.{Tested, pass, refuse, noWidth, outside}
-use Rattle.registers.specs.Views.{widthView}
+use Rattle.map.specs.Views.{widthView}
 use Rattle.window.specs.declared.Known.{Known}
 use Rattle.window.specs.declared.Known.the-variants.{As, Unknown}
 use Rattle.window.specs.declared.Located.{Located}

@@ -1,5 +1,5 @@
 // Which accesses are the device's: the width, and the address within the window.
-use registers::Width;
+use map::Width;
 ghost use mathlib.Core.Path.{_≡_};
 ghost use mathlib.Core.Bool.{false};
 ghost use Prim.Native.Nat.{_+_, _-_, _^_, min};

@@ -1,98 +1,53 @@
-//! A guest's day with a PCH-PIC, told in plain words: start-up as Linux's driver does it, a load sample's line up and down, events
-//! drained, the device saved to a file and loaded again, and what comes after sixteen events.
+//! A guest's day with a PCH-PIC, told in plain words: start-up as Linux's driver does it, a load sample's line up and down, the device saved
+//! to a file and loaded into a fresh host, what comes after sixteen events, and a guest that is unkind.
 //!
-//! `load_sample FILE` plays it, and the image goes to FILE; `load_sample --show FILE` tells what a saved image holds. It prints the same
-//! as `hosts/c/load_sample.c`.
+//! `load_sample FILE` plays it, and the device goes to FILE; `load_sample --show FILE` tells what a saved device holds. It prints the same as
+//! `hosts/c/load_sample.c`.
 
-use pch_pic::{reg, Error, Event, PchPic, Width, Window, EVENTS, IMAGE_LEN, INPUTS};
-use std::fs::{self, File};
-use std::io::{self, Read, Write};
+use pch_pic::{file, reg, Error, Event, PchPic, Width, Window, Wires};
 use std::process::ExitCode;
 
 const WINDOW: Window = Window::at(0x1000_0000);
 const SAMPLE: u64 = 21;
 const SAMPLE_BIT: u64 = 1 << SAMPLE;
 const FIRST_VECTOR: u64 = 0x40;
+const OTHER_VECTOR: u64 = 0x77;
 
 type Failure = Box<dyn std::error::Error>;
 
-/// The host's side: the device, which lines its other devices hold high, and how many inputs hold each vector on at the controller above.
+/// The host's side: the device and its wires.
 struct Host {
     pic: PchPic,
-    high: [bool; INPUTS],
-    on: [u32; 256],
-    drops: u32,
+    wires: Wires,
+}
+
+/// A real host asserts or deasserts the vector at its CPUs here.
+fn route(event: Event) {
+    println!("  {event}");
 }
 
 impl Host {
     fn new(pic: PchPic) -> Self {
-        Host { pic, high: [false; INPUTS], on: [0; 256], drops: 0 }
-    }
-
-    /// A real host asserts or deasserts the vector at its CPUs here.
-    fn route(&mut self, event: Event) {
-        println!("  {event}");
-        let on = &mut self.on[usize::from(event.vector)];
-        *on = if event.asserted { *on + 1 } else { *on - 1 };
+        Host { pic, wires: Wires::new() }
     }
 
     fn line(&mut self, input: u64, high: bool) -> Result<(), Error> {
-        self.high[input as usize] = high;
-        if let Some(event) = self.pic.set_level(input, high)? {
-            self.route(event);
-        }
-        Ok(())
+        self.wires.line(&mut self.pic, input, high, route)
     }
 
     fn guest_reads(&self, offset: u64, width: Width) -> Result<u64, Error> {
         self.pic.read(WINDOW, WINDOW.base + offset, width)
     }
 
+    /// After each write of its guest the host settles. A drop is no harm then, but worth a word.
     fn guest_writes(&mut self, offset: u64, width: Width, value: u64) -> Result<(), Error> {
+        let before = self.pic.drops();
         self.pic.write(WINDOW, WINDOW.base + offset, width, value)?;
-        self.settle()
-    }
-
-    /// What a host does after each write of its guest. First the events that wait, since they are older. Then lines that are still high
-    /// are raised again: an unmask announces one input only, and a CLEAR may have taken a latch.
-    fn settle(&mut self) -> Result<(), Error> {
-        let mut events = [Event::default(); EVENTS];
-        let count = self.pic.drain(&mut events);
-        for event in &events[..count] {
-            self.route(*event);
-        }
-        for input in 0..INPUTS {
-            if self.high[input] {
-                self.line(input as u64, true)?;
-            }
-        }
-        if self.drops != self.pic.drops() {
-            self.drops = self.pic.drops();
-            println!("Dropped so far: {}. The host recounts from ISR which vectors are on.", self.drops);
-            self.recount()?;
+        self.wires.settle(&mut self.pic, route);
+        if self.pic.drops() != before {
+            println!("Dropped so far: {}. What no event told was counted afresh from ISR.", self.pic.drops());
         }
         Ok(())
-    }
-
-    /// After a drop the events no longer tell which vectors are on. ISR and the vector bytes do.
-    fn recount(&mut self) -> Result<(), Error> {
-        let mut held = [0; 256];
-        let service = self.guest_reads(reg::ISR, Width::Qword)?;
-        for input in 0..INPUTS as u64 {
-            let vector = self.guest_reads(reg::VECTORS + input, Width::Byte)?;
-            held[vector as usize] += (service >> input & 1) as u32;
-        }
-        for (vector, held) in (0..=255).zip(held) {
-            while self.on[usize::from(vector)] != held {
-                let asserted = self.on[usize::from(vector)] < held;
-                self.route(Event { vector, asserted });
-            }
-        }
-        Ok(())
-    }
-
-    fn vectors_on(&self) -> usize {
-        self.on.iter().filter(|inputs| **inputs != 0).count()
     }
 }
 
@@ -132,29 +87,8 @@ fn one_sample(host: &mut Host) -> Result<(), Error> {
     host.line(SAMPLE, false)
 }
 
-/// The bytes go to a file beside the old one, which takes its name only when it is whole.
-fn save(pic: &PchPic, path: &str) -> io::Result<()> {
-    let beside = format!("{path}.new");
-    let written = File::create(&beside).and_then(|mut file| file.write_all(&pic.save())).and_then(|()| fs::rename(&beside, path));
-    if written.is_err() {
-        let _ = fs::remove_file(&beside);
-    }
-    written
-}
-
-/// A byte more than an image is asked for, so that a longer file is seen.
-fn load(path: &str) -> Result<PchPic, Failure> {
-    let mut bytes = Vec::new();
-    File::open(path)?.take(IMAGE_LEN as u64 + 1).read_to_end(&mut bytes)?;
-    Ok(PchPic::load(&bytes)?)
-}
-
-fn saved(pic: &PchPic, path: &str) -> Result<(), Failure> {
-    save(pic, path).map_err(|why| format!("cannot save {path}: {why}").into())
-}
-
 fn loaded(path: &str) -> Result<PchPic, Failure> {
-    load(path).map_err(|why| format!("cannot load {path}: {why}").into())
+    file::load(path).map_err(|why| format!("cannot load {path}: {why}").into())
 }
 
 /// A sample comes while its input is masked. The unmask announces it, and that event waits in the image while it is saved.
@@ -166,10 +100,10 @@ fn save_and_load(host: &mut Host, path: &str) -> Result<(), Failure> {
     host.guest_writes(reg::CLEAR, Width::Dword, SAMPLE_BIT)?;
     let mask = mask_without_sample(host)?;
     host.pic.write(WINDOW, WINDOW.base + reg::MASK, Width::Dword, mask)?;
-    saved(&host.pic, path)?;
-    host.pic = loaded(path)?;
-    println!("The device is loaded, and its events are drained.");
-    host.settle()?;
+    file::save(&host.pic, path).map_err(|why| format!("cannot save {path}: {why}"))?;
+    println!("A fresh host loads it; line {SAMPLE} is still high there.");
+    *host = Host::new(loaded(path)?);
+    host.wires.resume(&mut host.pic, SAMPLE_BIT, route);
     println!("The line goes down.");
     Ok(host.line(SAMPLE, false)?)
 }
@@ -183,7 +117,28 @@ fn after_sixteen(host: &mut Host) -> Result<(), Error> {
     println!("The guest unmasks them with one write: the device announces the lowest, the host asks for the others.");
     host.guest_writes(reg::MASK, Width::Dword, 0xfffe_0000)?;
     println!("The guest masks them with one write: seventeen events, and sixteen can wait.");
-    host.guest_writes(reg::MASK, Width::Dword, 0xffff_ffff)
+    host.guest_writes(reg::MASK, Width::Dword, 0xffff_ffff)?;
+    for input in 0..=16 {
+        host.line(input, false)?;
+    }
+    Ok(())
+}
+
+/// Here events do not tell the whole story: a deassert comes for a vector that was never asserted, or none comes at all.
+fn unkind(host: &mut Host) -> Result<(), Error> {
+    println!("The guest unmasks everything, and line 0 goes up.");
+    host.guest_writes(reg::MASK, Width::Qword, 0)?;
+    host.line(0, true)?;
+    println!("The guest gives input 0 another vector while it is in service.");
+    host.guest_writes(reg::VECTORS, Width::Byte, OTHER_VECTOR)?;
+    println!("The guest takes input 0 out of service by a write to ISR; its line is still high.");
+    host.guest_writes(reg::ISR, Width::Qword, 0)?;
+    println!("Input 1 gets the same vector, its line goes up, and line 0 goes down.");
+    host.guest_writes(reg::VECTORS + 1, Width::Byte, OTHER_VECTOR)?;
+    host.line(1, true)?;
+    host.line(0, false)?;
+    println!("Line 1 goes down.");
+    host.line(1, false)
 }
 
 fn play(path: &str) -> Result<ExitCode, Failure> {
@@ -192,14 +147,16 @@ fn play(path: &str) -> Result<ExitCode, Failure> {
     one_sample(&mut host)?;
     save_and_load(&mut host, path)?;
     after_sixteen(&mut host)?;
-    println!("Vectors left on: {}.", host.vectors_on());
-    Ok(if host.vectors_on() == 0 { ExitCode::SUCCESS } else { ExitCode::FAILURE })
+    unkind(&mut host)?;
+    let left = host.wires.vectors_on().count();
+    println!("Vectors left on: {left}.");
+    Ok(if left == 0 { ExitCode::SUCCESS } else { ExitCode::FAILURE })
 }
 
 fn show(path: &str) -> Result<ExitCode, Failure> {
     let host = Host::new(loaded(path)?);
-    let register = |offset| host.guest_reads(offset, Width::Qword);
-    println!("Latched {:#018x}, in service {:#018x}, masked {:#018x}.", register(reg::IRR)?, register(reg::ISR)?, register(reg::MASK)?);
+    let masked = host.guest_reads(reg::MASK, Width::Qword)?;
+    println!("Latched {:#018x}, in service {:#018x}, masked {masked:#018x}.", host.pic.latched(), host.pic.in_service());
     println!("Waiting events: {}. Dropped: {}.", host.pic.waiting(), host.pic.drops());
     Ok(ExitCode::SUCCESS)
 }

@@ -1,11 +1,12 @@
 //! Where and how wide a guest accesses the device.
 
 use crate::{reg, Error};
+use core::fmt;
 
 /// The guest-physical addresses of a device: `size` bytes from `base` on.
 ///
 /// The window ends before address 2^64 - 1, and only the first byte of an access has to lie inside.
-#[derive(Clone, Copy, Debug, PartialEq, Eq)]
+#[derive(Clone, Copy, Debug, PartialEq, Eq, Hash)]
 pub struct Window {
     /// The first address.
     pub base: u64,
@@ -26,7 +27,7 @@ impl Window {
 }
 
 /// How many bytes an access has.
-#[derive(Clone, Copy, Debug, PartialEq, Eq)]
+#[derive(Clone, Copy, Debug, PartialEq, Eq, Hash)]
 pub enum Width {
     /// One byte.
     Byte,
@@ -47,6 +48,27 @@ impl Width {
             Width::Dword => 4,
             Width::Qword => 8,
         }
+    }
+}
+
+/// ```
+/// assert_eq!(pch_pic::Width::Dword.to_string(), "Dword");
+/// ```
+impl fmt::Display for Width {
+    fn fmt(&self, f: &mut fmt::Formatter<'_>) -> fmt::Result {
+        f.pad(match self {
+            Width::Byte => "Byte",
+            Width::Word => "Word",
+            Width::Dword => "Dword",
+            Width::Qword => "Qword",
+        })
+    }
+}
+
+impl From<Width> for usize {
+    /// The same as [`Width::bytes`].
+    fn from(width: Width) -> Self {
+        width.bytes()
     }
 }
 

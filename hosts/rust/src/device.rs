@@ -1,29 +1,21 @@
 //! The device: an image of its own, and the calls on it.
 
-use crate::{ffi, reg, Error, Event, Events, Width, Window, EVENTS, EVENT_LEN, IMAGE_LEN};
-use core::cell::Cell;
-use core::marker::PhantomData;
-
-/// Where the image has the number of waiting events.
-const WAITING: usize = 222;
-/// Where it has the number of dropped ones, four bytes.
-const DROPS: usize = 223;
+use crate::{contents, ffi, reg, Error, Event, Events, Returned, Width, Window, EVENTS, EVENT_LEN, IMAGE_LEN, INPUTS, VECTORS};
+use core::fmt;
 
 /// A LoongArch PCH-PIC.
 ///
-/// It owns its image, so a clone is a snapshot, and equal devices answer every later call alike. It is `Send`. The library's promises
-/// are about one call at a time, reads too, so it is not `Sync`: a `Mutex` makes it shared.
+/// It owns its image, so a clone is a snapshot, and equal devices answer every later call alike. It is `Send` and `Sync`: reads of one
+/// device may run side by side, since they only load from its image; all else takes `&mut`.
 ///
-/// ```compile_fail,E0277
-/// fn shared<T: Sync>(_: T) {}
-/// shared(pch_pic::PchPic::new());
 /// ```
-#[derive(Clone, Debug, PartialEq, Eq)]
+/// fn shared<T: Send + Sync>(_: &T) {}
+/// shared(&pch_pic::PchPic::new());
+/// ```
+#[derive(Clone, PartialEq, Eq, Hash)]
 pub struct PchPic {
     /// An accepted image: made by reset or tested by load, and every call keeps it so.
     image: [u8; IMAGE_LEN],
-    /// Not `Sync`.
-    one_call_at_a_time: PhantomData<Cell<()>>,
 }
 
 impl Default for PchPic {
@@ -32,17 +24,34 @@ impl Default for PchPic {
     }
 }
 
+impl fmt::Debug for PchPic {
+    fn fmt(&self, f: &mut fmt::Formatter<'_>) -> fmt::Result {
+        let register = |offset| self.read(Window::at(0), offset, Width::Qword).unwrap_or(0);
+        f.debug_struct("PchPic")
+            .field("mask", &format_args!("{:#018x}", register(reg::MASK)))
+            .field("latched", &format_args!("{:#018x}", self.latched()))
+            .field("in_service", &format_args!("{:#018x}", self.in_service()))
+            .field("htmsi_en", &format_args!("{:#018x}", register(reg::HTMSI_EN)))
+            .field("edge", &format_args!("{:#018x}", register(reg::EDGE)))
+            .field("pol", &format_args!("{:#018x}", register(reg::POL)))
+            .field("auto0", &format_args!("{:#018x}", register(reg::AUTO0)))
+            .field("auto1", &format_args!("{:#018x}", register(reg::AUTO1)))
+            .field("routes", &format_args!("{:02x?}", contents::body(&self.image, contents::ROUTES)))
+            .field("vectors", &format_args!("{:02x?}", contents::body(&self.image, contents::VECTORS)))
+            .field("waiting", &self.waiting())
+            .field("drops", &self.drops())
+            .finish()
+    }
+}
+
 impl PchPic {
     /// The device after reset: every input masked, vector n for input n, nothing latched, nothing waiting.
+    ///
+    /// It is not `const`: the bytes come from the proved reset, which runs. A `static` takes a `LazyLock`.
     pub fn new() -> Self {
         let mut image = [0; IMAGE_LEN];
         ffi::reset(&mut image).expect("a reset takes any 259 bytes");
-        PchPic::of(image)
-    }
-
-    /// The device of an accepted image.
-    const fn of(image: [u8; IMAGE_LEN]) -> Self {
-        PchPic { image, one_call_at_a_time: PhantomData }
+        PchPic { image }
     }
 
     /// Back to the state after reset.
@@ -76,7 +85,7 @@ impl PchPic {
     /// let (mut pic, window) = (PchPic::new(), Window::at(0));
     /// assert_eq!(pic.set_level(5, true)?, None); // masked: only latched
     /// pic.write(window, reg::MASK, Width::Dword, 0)?;
-    /// assert_eq!(pic.events().collect::<Vec<_>>(), [Event { vector: 5, asserted: true }]);
+    /// assert_eq!(pic.drain_events().collect::<Vec<_>>(), [Event { vector: 5, asserted: true }]);
     /// # Ok::<(), pch_pic::Error>(())
     /// ```
     ///
@@ -128,9 +137,9 @@ impl PchPic {
     /// # Errors
     ///
     /// [`Error::Input`] where the input is 64 or more.
-    pub fn set_level(&mut self, input: u64, level: bool) -> Result<Option<Event>, Error> {
+    pub fn set_level(&mut self, input: u64, level: bool) -> Result<Returned, Error> {
         let value = ffi::level(&mut self.image, input, level)?;
-        Ok(value.map(|vector| Event { vector: vector as u8, asserted: level }))
+        Ok(Returned(value.map(|vector| Event { vector: vector as u8, asserted: level })))
     }
 
     /// Asks for an input that was raised before: if it is latched, unmasked and not in service, it goes into service and is asserted.
@@ -139,10 +148,9 @@ impl PchPic {
     /// use pch_pic::{reg, PchPic, Width, Window};
     ///
     /// let (mut pic, window) = (PchPic::new(), Window::at(0));
-    /// pic.set_level(3, true)?;
-    /// pic.set_level(9, true)?;
+    /// let _ = (pic.set_level(3, true)?, pic.set_level(9, true)?); // masked: only latched
     /// pic.write(window, reg::MASK, Width::Dword, 0)?; // announces 3 alone
-    /// assert_eq!(pic.poll(9)?.map(|event| event.vector), Some(9));
+    /// assert_eq!(pic.poll(9)?.event().map(|event| event.vector), Some(9));
     /// assert_eq!(pic.poll(9)?, None); // in service already
     /// # Ok::<(), pch_pic::Error>(())
     /// ```
@@ -150,9 +158,9 @@ impl PchPic {
     /// # Errors
     ///
     /// [`Error::Input`] where the input is 64 or more.
-    pub fn poll(&mut self, input: u64) -> Result<Option<Event>, Error> {
+    pub fn poll(&mut self, input: u64) -> Result<Returned, Error> {
         let value = ffi::poll(&mut self.image, input)?;
-        Ok(value.map(|vector| Event { vector: vector as u8, asserted: true }))
+        Ok(Returned(value.map(|vector| Event { vector: vector as u8, asserted: true })))
     }
 
     /// Moves waiting events to the front of `events`, oldest first, as many as wait or as fit, and says how many. The rest wait on.
@@ -163,6 +171,7 @@ impl PchPic {
     /// let mut events = [Event::default(); EVENTS]; // room for all
     /// assert_eq!(PchPic::new().drain(&mut events), 0);
     /// ```
+    #[must_use = "the events are out of the device, and the count says how many there are"]
     pub fn drain(&mut self, events: &mut [Event]) -> usize {
         let mut pairs = [0; EVENTS * EVENT_LEN];
         let room = events.len().min(EVENTS) * EVENT_LEN;
@@ -185,23 +194,59 @@ impl PchPic {
     }
 
     /// The waiting events, oldest first. Each is taken out as the iterator gives it; those that are not asked for wait on.
-    pub fn events(&mut self) -> Events<'_> {
+    pub fn drain_events(&mut self) -> Events<'_> {
         Events { pic: self }
     }
 
     /// How many events wait, 0 to [`EVENTS`].
     pub fn waiting(&self) -> usize {
-        usize::from(self.image[WAITING])
+        contents::body(&self.image, contents::EVENTS).get(contents::WAITING).copied().map_or(0, usize::from)
     }
 
     /// How many events were dropped since reset because [`EVENTS`] waited. It stops at `u32::MAX`.
     pub fn drops(&self) -> u32 {
-        let mut bytes = [0; 4];
-        bytes.copy_from_slice(&self.image[DROPS..DROPS + 4]);
-        u32::from_le_bytes(bytes)
+        let bytes = contents::body(&self.image, contents::EVENTS).get(contents::DROPS..contents::DROPS + 4);
+        bytes.map_or(0, contents::number) as u32
     }
 
-    /// The image: the whole device as bytes, to be kept or sent elsewhere.
+    /// The inputs that are latched: bit n for input n.
+    pub fn latched(&self) -> u64 {
+        contents::register(&self.image, contents::IRR_BACK)
+    }
+
+    /// The inputs in service, masked ones too, which a read of [`reg::ISR`] leaves out: bit n for input n.
+    pub fn in_service(&self) -> u64 {
+        contents::register(&self.image, contents::ISR_BACK)
+    }
+
+    /// The vector of an input; none where it is 64 or more.
+    pub fn vector(&self, input: usize) -> Option<u8> {
+        contents::body(&self.image, contents::VECTORS).get(input).copied()
+    }
+
+    /// For each vector, how many inputs in service carry it. A vector is on while its count is not 0.
+    ///
+    /// ```
+    /// use pch_pic::{reg, PchPic, Width, Window};
+    ///
+    /// let mut pic = PchPic::new();
+    /// pic.write(Window::at(0), reg::VECTORS + 9, Width::Byte, 3)?;
+    /// pic.write(Window::at(0), reg::ISR, Width::Dword, 1 << 3 | 1 << 9)?;
+    /// assert_eq!(pic.held()[3], 2);
+    /// # Ok::<(), pch_pic::Error>(())
+    /// ```
+    pub fn held(&self) -> [u8; VECTORS] {
+        let mut held = [0; VECTORS];
+        let service = self.in_service();
+        let vectors = contents::body(&self.image, contents::VECTORS).iter().take(INPUTS).enumerate();
+        for (_, vector) in vectors.filter(|(input, _)| service >> input & 1 == 1) {
+            held[usize::from(*vector)] += 1;
+        }
+        held
+    }
+
+    /// The image: the whole device as bytes, to be kept or sent elsewhere. Most images with one byte changed are those of another device and
+    /// are loaded, so a checksum is kept beside it, as [`file`](crate::file) does.
     pub fn save(&self) -> [u8; IMAGE_LEN] {
         self.image
     }
@@ -209,25 +254,25 @@ impl PchPic {
     /// The device of a saved image. It answers every later call as the saved one would.
     ///
     /// ```
-    /// use pch_pic::{Error, PchPic};
+    /// use pch_pic::{reg, Error, PchPic, Width, Window};
     ///
     /// let mut pic = PchPic::new();
-    /// pic.set_level(7, true)?;
+    /// pic.write(Window::at(0), reg::VECTORS + 7, Width::Byte, 0x77)?;
     /// let mut image = pic.save();
     /// assert_eq!(PchPic::load(&image)?, pic);
-    /// image[222] = 17; // seventeen events cannot wait
-    /// assert_eq!(PchPic::load(&image), Err(Error::Body));
+    /// image[0] = 9; // no such form
+    /// assert_eq!(PchPic::load(&image), Err(Error::Contents));
     /// # Ok::<(), Error>(())
     /// ```
     ///
     /// # Errors
     ///
-    /// [`Error::Length`], [`Error::Contents`] or [`Error::Body`] where the bytes are no image or a damaged one.
+    /// [`Error::Length`], [`Error::Contents`] or [`Error::Body`] where the bytes break a rule of the form.
     pub fn load(image: &[u8]) -> Result<Self, Error> {
         let image: [u8; IMAGE_LEN] = image.try_into().map_err(|_| Error::Length)?;
         // A read tests the image and changes nothing.
         ffi::read(&image, Window::at(0), reg::ID, Width::Dword.bytes())?;
-        Ok(PchPic::of(image))
+        Ok(PchPic { image })
     }
 }
 
@@ -237,5 +282,28 @@ impl TryFrom<&[u8]> for PchPic {
     /// The same as [`PchPic::load`].
     fn try_from(image: &[u8]) -> Result<Self, Error> {
         PchPic::load(image)
+    }
+}
+
+impl TryFrom<[u8; IMAGE_LEN]> for PchPic {
+    type Error = Error;
+
+    /// The same as [`PchPic::load`].
+    fn try_from(image: [u8; IMAGE_LEN]) -> Result<Self, Error> {
+        PchPic::load(&image)
+    }
+}
+
+impl From<PchPic> for [u8; IMAGE_LEN] {
+    /// The same as [`PchPic::save`].
+    fn from(pic: PchPic) -> Self {
+        pic.image
+    }
+}
+
+impl AsRef<[u8]> for PchPic {
+    /// The image.
+    fn as_ref(&self) -> &[u8] {
+        &self.image
     }
 }

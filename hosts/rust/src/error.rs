@@ -13,7 +13,7 @@ use core::fmt;
 /// assert_eq!(Error::Length.number(), 4);
 /// assert_eq!(Error::Length.to_string(), "the image is not 259 bytes long");
 /// ```
-#[derive(Clone, Copy, Debug, PartialEq, Eq)]
+#[derive(Clone, Copy, Debug, PartialEq, Eq, Hash)]
 #[non_exhaustive]
 pub enum Error {
     /// 1: this address is outside the window.
@@ -26,7 +26,7 @@ pub enum Error {
     Length,
     /// 5: the image's first 22 bytes are not those of form 1.
     Contents,
-    /// 6: the rest of the image breaks a rule.
+    /// 6: the rest of the image breaks a rule of the form.
     Body,
     /// 7: the place of a drain is past the end of its buffer.
     Room,
@@ -77,14 +77,13 @@ impl fmt::Display for Error {
             Error::Input => f.write_str("the input is 64 or more"),
             Error::Length => f.write_str("the image is not 259 bytes long"),
             Error::Contents => f.write_str("the image does not begin as form 1 does"),
-            Error::Body => f.write_str("the image is damaged: its bodies break a rule"),
+            Error::Body => f.write_str("the image breaks a rule of the form"),
             Error::Room => f.write_str("a buffer is too short"),
         }
     }
 }
 
-#[cfg(feature = "std")]
-impl std::error::Error for Error {}
+impl core::error::Error for Error {}
 
 #[cfg(test)]
 mod tests {

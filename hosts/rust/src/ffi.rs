@@ -1,7 +1,8 @@
 //! The six calls of libpch_pic.a (include/pch_pic.h), over slices. All that is unsafe stands here.
 //!
-//! What the library asks of its host holds by the types: a slice's length is true, a mutable slice overlaps no other, and `PchPic`
-//! lends its image to one call at a time, since it is not `Sync`.
+//! What the library asks of its host holds by the types: a slice's length is true, and a mutable slice overlaps no other. So a call that
+//! changes an image is alone with it. Reads of one image may run side by side, and `PchPic` may be `Sync`: `pch_pic_read` gets the image
+//! as `const` and only loads from it, writes to nothing but its own answer area, and the library has no memory of its own.
 
 use crate::{Error, Window};
 

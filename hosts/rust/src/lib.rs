@@ -3,7 +3,8 @@
 //! [`PchPic`] is a device model that knows nothing of buses, locks and logs. The guest's accesses go to [`read`](PchPic::read) and
 //! [`write`](PchPic::write), the lines of other devices to [`set_level`](PchPic::set_level), and what comes out is [`Event`]s: vectors
 //! to assert or deassert at the interrupt controller above. The work is done by `libpch_pic.a`, which is written in Rattle and proved;
-//! this crate adds types. It allocates nothing, has no dependencies, and is `no_std` without its feature `std`.
+//! this crate adds types. It allocates nothing, has no dependencies, and is `no_std` without its feature `std`. The library is for x86-64
+//! Linux in user space, and so is the crate.
 //!
 //! ```
 //! use pch_pic::{reg, Event, PchPic, Width, Window};
@@ -18,37 +19,59 @@
 //! # Ok::<(), pch_pic::Error>(())
 //! ```
 //!
-//! # After every write of the guest
+//! # What a host must do
 //!
-//! A write can make many events. They wait in the device, [`EVENTS`] at most, until they are drained; one more is dropped and
-//! [counted](PchPic::drops). An unmask announces only the lowest input that waits, and a write to CLEAR takes the latch of a line though it
-//! is still high. So after every write a host drains, and then raises each line again that is still high: `examples/load_sample.rs`
-//! has a function `settle` that does so.
+//! Events alone do not tell which vectors are on. They wait in the device, [`EVENTS`] at most, and one more is dropped and
+//! [counted](PchPic::drops). Inputs may share a vector. An unmask announces only the lowest input that waits, and a write to CLEAR takes the
+//! latch of a line though it is still high. A guest that changes a vector in service gets a deassert of a vector that was never asserted,
+//! and a write to ISR makes no event at all. [`Wires`] does what is to be done about all of it: [`Wires::settle`] after every write of the
+//! guest, [`Wires::line`] for every line that moves, and [`Wires::resume`] after a load.
+//!
+//! ```
+//! use pch_pic::{reg, PchPic, Width, Window, Wires};
+//!
+//! let (mut pic, mut wires, window) = (PchPic::new(), Wires::new(), Window::at(0));
+//! let mut told = Vec::new();
+//! pic.write(window, reg::MASK, Width::Dword, 0)?;
+//! wires.settle(&mut pic, |event| told.push(event.to_string()));
+//! wires.line(&mut pic, 0, true, |event| told.push(event.to_string()))?;
+//! // The guest changes the vector while its input is in service.
+//! pic.write(window, reg::VECTORS, Width::Byte, 0x77)?;
+//! wires.settle(&mut pic, |event| told.push(event.to_string()));
+//! assert_eq!(told, ["assert vector 0x00", "deassert vector 0x00", "assert vector 0x77"]);
+//! # Ok::<(), pch_pic::Error>(())
+//! ```
 
-#![cfg_attr(not(feature = "std"), no_std)]
-#![deny(missing_docs)]
-#![deny(unsafe_op_in_unsafe_fn)]
+#![cfg_attr(not(any(feature = "std", test)), no_std)]
 
 #[cfg(not(target_pointer_width = "64"))]
 compile_error!("pch-pic serves 64-bit hosts only");
 
 mod access;
+mod contents;
 mod device;
 mod error;
 mod event;
 mod ffi;
+#[cfg(feature = "std")]
+pub mod file;
 pub mod reg;
+mod wires;
 
 pub use access::{Width, Window};
 pub use device::PchPic;
 pub use error::Error;
-pub use event::{Event, Events};
+pub use event::{Event, Events, Returned};
+pub use wires::Wires;
 
 /// The bytes of a saved image.
 pub const IMAGE_LEN: usize = 259;
 
 /// The input lines, 0 to 63.
 pub const INPUTS: usize = 64;
+
+/// The vectors of the controller above.
+pub const VECTORS: usize = 256;
 
 /// How many events wait at most.
 pub const EVENTS: usize = 16;

@@ -1,6 +1,7 @@
 //! The device through its safe type: what it answers, what it refuses, and what it keeps.
 
-use pch_pic::{reg, Error, Event, PchPic, Width, Window, EVENTS, IMAGE_LEN, INPUTS};
+use pch_pic::{reg, Error, Event, PchPic, Returned, Width, Window, EVENTS, IMAGE_LEN, INPUTS};
+use std::collections::HashSet;
 use std::sync::{Arc, Mutex};
 use std::thread;
 
@@ -14,6 +15,11 @@ fn deassert_event(vector: u8) -> Event {
     Event { vector, asserted: false }
 }
 
+/// What a level or poll call returned, or why it was refused.
+fn event(returned: Result<Returned, Error>) -> Result<Option<Event>, Error> {
+    returned.map(Returned::event)
+}
+
 /// After reset everything is masked; this unmasks the low half.
 fn unmasked() -> PchPic {
     let mut pic = PchPic::new();
@@ -25,7 +31,7 @@ fn unmasked() -> PchPic {
 fn overflown() -> PchPic {
     let mut pic = unmasked();
     for input in 0..=16 {
-        assert_eq!(pic.set_level(input, true), Ok(Some(assert_event(input as u8))));
+        assert_eq!(event(pic.set_level(input, true)), Ok(Some(assert_event(input as u8))));
     }
     pic.write(WINDOW, reg::MASK, Width::Dword, 0xffff_ffff).unwrap();
     pic
@@ -64,11 +70,11 @@ fn every_register_stands_at_its_offset() {
     for register in [reg::MASK, reg::HTMSI_EN, reg::EDGE, reg::AUTO0, reg::AUTO1, reg::POL] {
         assert_eq!(pic.read(WINDOW, register, Width::Qword), Ok(0x1111_0000_0000_0000 | register));
     }
-    assert_eq!(pic.set_level(40, true), Ok(Some(assert_event(40))));
+    assert_eq!(event(pic.set_level(40, true)), Ok(Some(assert_event(40))));
     assert_eq!(pic.read(WINDOW, reg::IRR, Width::Qword), Ok(1 << 40));
     pic.write(WINDOW, reg::CLEAR, Width::Qword, 1 << 40).unwrap();
     assert_eq!(pic.read(WINDOW, reg::IRR, Width::Qword), Ok(0));
-    assert_eq!(pic.events().collect::<Vec<_>>(), [deassert_event(40)]);
+    assert_eq!(pic.drain_events().collect::<Vec<_>>(), [deassert_event(40)]);
 }
 
 #[test]
@@ -133,11 +139,11 @@ fn a_drain_moves_what_fits() {
     assert_eq!(pic.drain_bytes(&mut bytes, 1), Ok(2));
     assert_eq!(bytes, [0xa5, 2, 0, 3, 0, 0xa5]);
     assert_eq!(pic.drain_bytes(&mut bytes, 6), Ok(0));
-    assert_eq!(pic.events().len(), 12);
-    assert_eq!(pic.events().next(), Some(deassert_event(4)));
+    assert_eq!(pic.drain_events().len(), 12);
+    assert_eq!(pic.drain_events().next(), Some(deassert_event(4)));
     assert_eq!(pic.waiting(), 11);
-    assert_eq!(pic.events().last(), Some(deassert_event(15)));
-    assert_eq!(pic.events().next(), None);
+    assert_eq!(pic.drain_events().last(), Some(deassert_event(15)));
+    assert_eq!(pic.drain_events().next(), None);
 }
 
 #[test]
@@ -148,11 +154,17 @@ fn a_loaded_device_goes_on_where_it_was() {
     let mut loaded = PchPic::load(&pic.save()).unwrap();
     assert_eq!(loaded, pic);
     for device in [&mut pic, &mut loaded] {
-        assert_eq!(device.set_level(20, true), Ok(Some(assert_event(0xee))));
+        assert_eq!(event(device.set_level(20, true)), Ok(Some(assert_event(0xee))));
         assert_eq!(device.drops(), 2);
-        assert_eq!(device.events().count(), EVENTS);
+        assert_eq!(device.drain_events().count(), EVENTS);
     }
     assert_eq!(loaded, pic);
+}
+
+/// Where the body of that kind begins, as the contents say.
+fn offset_of(image: &[u8], kind: u8) -> usize {
+    let entry = image[2..].chunks(5).take(usize::from(image[1])).find(|entry| entry[0] == kind).unwrap();
+    usize::from(u16::from_le_bytes([entry[1], entry[2]]))
 }
 
 #[test]
@@ -166,14 +178,59 @@ fn what_is_no_image_is_refused() {
         other[place] ^= 0x80;
         assert_eq!(PchPic::load(&other), Err(Error::Contents));
     }
-    // The copy of IRR, the count, a waiting event's flag, an unused pair.
-    for damage in [&[(46, 1)][..], &[(222, 17)], &[(222, 1), (228, 2)], &[(258, 1)]] {
-        let mut damaged = image;
-        for (place, byte) in damage {
-            damaged[*place] = *byte;
+    // The copy of IRR, the count, a waiting event's flag, an unused pair: places in the bodies of the registers and of the events.
+    let (registers, events) = (offset_of(&image, 1), offset_of(&image, 4));
+    for breach in [&[(registers + 24, 1)][..], &[(events, 17)], &[(events, 1), (events + 6, 2)], &[(IMAGE_LEN - 1, 1)]] {
+        let mut broken = image;
+        for (place, byte) in breach {
+            broken[*place] = *byte;
         }
-        assert_eq!(PchPic::try_from(&damaged[..]), Err(Error::Body), "{damage:?}");
+        assert_eq!(PchPic::try_from(&broken[..]), Err(Error::Body), "{breach:?}");
+        assert_eq!(PchPic::try_from(broken), Err(Error::Body), "{breach:?}");
     }
+}
+
+#[test]
+fn reads_run_side_by_side() {
+    let pic = overflown();
+    thread::scope(|scope| {
+        for _ in 0..4 {
+            scope.spawn(|| {
+                for _ in 0..1000 {
+                    assert_eq!(pic.read(WINDOW, reg::IRR, Width::Qword), Ok(0x1ffff));
+                    assert_eq!(pic.read(WINDOW, reg::VECTORS + 8, Width::Byte), Ok(8));
+                }
+            });
+        }
+    });
+    assert_eq!(pic, overflown());
+}
+
+#[test]
+fn what_the_device_holds() {
+    let mut pic = overflown();
+    assert_eq!((pic.latched(), pic.in_service()), (0x1ffff, 0));
+    pic.write(WINDOW, reg::ISR, Width::Qword, 0x8000_0000_0000_0003).unwrap();
+    assert_eq!(pic.read(WINDOW, reg::ISR, Width::Qword), Ok(0));
+    assert_eq!(pic.in_service(), 0x8000_0000_0000_0003);
+    pic.write(WINDOW, reg::VECTORS + 63, Width::Byte, 1).unwrap();
+    assert_eq!((pic.vector(0), pic.vector(63), pic.vector(64)), (Some(0), Some(1), None));
+    let held = pic.held();
+    assert_eq!((held[0], held[1], held[63]), (1, 2, 0));
+    assert_eq!(held.iter().map(|count| usize::from(*count)).sum::<usize>(), 3);
+    let text = format!("{pic:?}");
+    for part in ["in_service: 0x8000000000000003", "latched: 0x000000000001ffff", "waiting: 16", "drops: 1"] {
+        assert!(text.contains(part), "{text}");
+    }
+}
+
+#[test]
+fn it_is_bytes_and_a_key() {
+    let pic = unmasked();
+    assert_eq!(pic.as_ref(), pic.save());
+    assert_eq!(<[u8; IMAGE_LEN]>::from(pic.clone()), pic.save());
+    assert_eq!(PchPic::try_from(pic.save()), Ok(pic.clone()));
+    assert_eq!(HashSet::from([pic.clone(), PchPic::new(), pic]).len(), 2);
 }
 
 #[test]
@@ -182,7 +239,9 @@ fn it_is_sent_and_shared() {
     let raised: Vec<_> = (0..4)
         .map(|part| {
             let pic = Arc::clone(&pic);
-            thread::spawn(move || (part * 8..part * 8 + 8).all(|input| pic.lock().unwrap().set_level(input, true).unwrap().is_some()))
+            thread::spawn(move || {
+                (part * 8..part * 8 + 8).all(|input| pic.lock().unwrap().set_level(input, true).unwrap().event().is_some())
+            })
         })
         .collect();
     assert!(raised.into_iter().all(|thread| thread.join().unwrap()));
@@ -193,10 +252,11 @@ fn it_is_sent_and_shared() {
 fn events_and_errors_in_words() {
     assert_eq!(assert_event(5).to_string(), "assert vector 0x05");
     assert_eq!(deassert_event(0xff).to_string(), "deassert vector 0xff");
+    assert_eq!(format!("{:>6}|{}", Width::Word, Width::Qword), "  Word|Qword");
+    assert_eq!(usize::from(Width::Qword), 8);
     assert_eq!(Error::Outside(0x400).to_string(), "the address 0x400 is outside the window");
 }
 
-#[cfg(feature = "std")]
 #[test]
 fn an_error_goes_up_as_any_other() {
     fn host() -> Result<u64, Box<dyn std::error::Error>> {

@@ -3,9 +3,11 @@
 use pch_pic::{reg, Error, EVENTS, EVENT_LEN, IMAGE_LEN, INPUTS};
 use std::collections::HashMap;
 
+const HEADER: &str = include_str!("../../../include/pch_pic.h");
+
 /// Each `PCH_PIC_NAME = NUMBER` of include/pch_pic.h, without its prefix.
 fn header() -> HashMap<String, u64> {
-    let text = include_str!("../../../include/pch_pic.h");
+    let text = HEADER;
     let pairs = text.lines().filter_map(|line| {
         let (name, rest) = line.trim().strip_prefix("PCH_PIC_")?.split_once(" = ")?;
         let number = rest.split([',', ' ']).next()?;
@@ -29,6 +31,10 @@ fn sizes() {
 #[test]
 fn refusals() {
     let header = header();
+    let text = |name| {
+        let (_, rest) = HEADER.split_once(&format!("case PCH_PIC_{name}: return \""))?;
+        rest.split_once('"').map(|(text, _)| text.to_string())
+    };
     for (name, error) in [
         ("OUTSIDE", Error::Outside(0)),
         ("WIDTH", Error::Width),
@@ -39,7 +45,19 @@ fn refusals() {
         ("ROOM", Error::Room),
     ] {
         assert_eq!(header[name], u64::from(error.number()), "{name}");
+        // The crate's text tells the address too.
+        let ours = error.to_string().replace(" 0x0", "");
+        assert_eq!(text(name), Some(ours), "{name}");
     }
+}
+
+#[test]
+fn version() {
+    let define = |name: &str| HEADER.lines().find_map(|line| line.strip_prefix(&format!("#define PCH_PIC_VERSION{name} ")));
+    let whole = env!("CARGO_PKG_VERSION");
+    assert_eq!(define(""), Some(format!("\"{whole}\"").as_str()));
+    let parts = ["_MAJOR", "_MINOR", "_PATCH"].map(|part| define(part).unwrap());
+    assert_eq!(parts.join("."), whole);
 }
 
 #[test]

@@ -10,7 +10,7 @@ use Rattle.rules.specs.Ring.{ringRun}
 use Rattle.rules.specs.Device.{offers}
 use Rattle.rules.proofs.laws.Bits.{without-is}
 use Rattle.rules.proofs.laws.Inputs.{served-is}
-use Rattle.state.specs.View.{WellLines, IsRing, linesView, ringOf, ringView}
+use Rattle.state.specs.View.{WellLines, IsRing, linesView, ringView}
 use Rattle.state.specs.declared.Lines.{Lines}
 use Rattle.state.specs.declared.Ring.{Ring}
 use Rattle.engine.specs.Moves.{Moves, queued}
@@ -23,7 +23,7 @@ off x m = bitAnd x ((2 ^ 64 - 1) - m)
 
 clear-moves : (vs : List ℕ) (l : Lines) (r s : Ring) (m : ℕ) → WellLines l → m < 2 ^ 64 → l .intirr < 2 ^ 64 → l .intisr < 2 ^ 64
     → IsRing s (queued vs (ringView r) (bitAnd (l .intisr) m) false)
-    → Moves (record { lines = record { «int_mask» = l .«int_mask»; «last_intirr» = off (l .«last_intirr») m; intirr = off (l .intirr) m; intisr = off (l .intisr) m }; queue = s .queue }) (s .«output_vectors») (s .«output_asserted») (ringView r)
+    → Moves (record { lines = record { «int_mask» = l .«int_mask»; «last_intirr» = off (l .«last_intirr») m; intirr = off (l .intirr) m; intisr = off (l .intisr) m }; ring = s }) (ringView r)
     (cleared vs (linesView l) m)
 unfolding cleared
 clear-moves vs l r s m well hm hirr hisr pushed =
@@ -37,24 +37,12 @@ clear-moves vs l r s m well hm hirr hisr pushed =
           ∙ ap (λ (ns : List ℕ). ringRun (ringView r) (offers (map (event vs true false) ns)) .after) (served-is m (withIrr (linesView l) (without (l .intirr) (on m))));
     }
 
-isr-fits : (s : tie.Start) → s .args .lines .intisr < 2 ^ 64
-isr-fits s = search needs
-
-queue-events-for-mask-requires : tie.Need-queue-events-for-mask-requires
-queue-events-for-mask-requires c κs = search needs
-
-same-length : tie.Need-same-length
-same-length c = search needs
-
-same-length-2 : tie.Need-same-length-2
-same-length-2 c = search needs
-
-returns : tie.Need-returns
-returns c =
-    let q = c .before .before .before .before in
-    let s = q .before .before .before .before .before .before .before .before .before .before in
-    let a = s .args in
-    clear-moves (a .vectors .now) (a .lines) (ringOf (a .queue) (a .events .now) (a .asserted .now)) _ (a .mask) (s .pre .0) (search needs) (search needs) (isr-fits s) (q .queue-events-for-mask .ensures)
-
 pub clear-irq-spec : {M : Type 1} → statement M
-clear-irq-spec = tie.close (tie.spec queue-events-for-mask-requires same-length same-length-2 returns)
+clear-irq-spec =
+    tie.close
+    (tie.spec
+    (λ c κs. search needs)
+    (λ c.
+    let s = c .before .before .before .before .before in
+    let a = s .args in
+    clear-moves (a .vectors .now) (a .lines) (a .ring) (c .queue-events-for-mask .result) (a .mask) (s .pre .0) (search needs) (search needs) (search needs) (c .queue-events-for-mask .ensures)))

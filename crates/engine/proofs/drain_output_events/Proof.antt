@@ -1,46 +1,47 @@
--- `drain_output_events` writes as many events as wait or as fit, and moves the head past them.
-use mathlib.Core.Path.{ap, _∙_}
-use mathlib.Core.List.{_++_}
-use Prim.Native.Nat.{_*_, _/_}
+-- `drain_output_events` pops as many events as wait or as fit, and writes each as a pair behind those before it.
+use mathlib.Core.Path.{_≡_, sym, ap, subst, _∙_}
+use Prim.Native.Nat.{ℕ, _-_, _/_, min}
 use native.Mathlib.Omega.{arith}
+use lib.ListN.{length}
+use Rattle.state.specs.View.{ringView}
+use Rattle.state.specs.declared.Ring.{Ring}
+use Rattle.state.proofs.Slots.{slots-length}
+use Rattle.engine.proofs.Draining.{Draining, drain-start, drain-step, drain-done}
 use borrow.Author.Needs.{needs}
-use lib.ListN.{length, drop, length-take}
-use Rattle.rules.specs.Ring.{Drawn, pairsOf}
-use Rattle.state.specs.View.{ringOf, ringView}
-use Rattle.state.proofs.Slots.{waiting-length, drain-some}
 use Rattle.engine.proofs.drain_output_events.Statement.{statement}
 use Rattle.engine.proofs.drain_output_events.Tie as tie
 
-fitting-requires : tie.Need-fitting-requires
-fitting-requires c κs = search needs
+waiting : (r : Ring) → length (ringView r .waiting) ≡ r .«output_len»
+waiting r = slots-length (r .«output_vectors») (r .«output_asserted») (r .«output_head») (r .«output_len»)
 
-put-events-requires : tie.Need-put-events-requires
-put-events-requires c κs = search needs
+abbrev Inv-loop : tie.InvT-loop
+Inv-loop buf₀ out₀ count i₀ buf out i = Draining (ringView out₀) count buf₀ buf out i
 
-add-out : tie.Need-add-out
-add-out c = search needs
-
-sub-out : tie.Need-sub-out
-sub-out c = search needs
-
-same-length : tie.Need-same-length
-same-length c = search needs
-
-returns : tie.Need-returns
-returns c =
-    let p = c .before .before .before .before in
-    let f = p .before .before in
-    let a = f .before .before .before .before .args in
-    let r = ringOf (a .queue) (a .events .now) (a .asserted .now) in
-    let n = f .fitting .result in
-    let drew = drain-some r n (length (a .buf .now) / 2) (f .fitting .ensures) in
-    record {
-      wellRing = search needs;
-      ring = λ i. drew i .after;
-      count = omega (arith, f .fitting .ensures, length-take n (ringView r .waiting), waiting-length r, ap (λ (t : Drawn). length (t .drained)) drew);
-      pairs = p .put-events .ensures ∙ (λ i. pairsOf (drew i .drained) ++ drop (2 * n) (a .buf .now));
-    }
+abbrev μ-loop : tie.MeasureT-loop
+μ-loop buf₀ out₀ count i₀ buf out i = count - i
 
 pub drain-output-events-spec : {M : Type 1} → statement M
 drain-output-events-spec =
-    tie.close (tie.spec fitting-requires put-events-requires add-out sub-out same-length returns)
+    tie.close
+    (tie.spec Inv-loop μ-loop
+    (λ c κs. search needs)
+    (λ c. drain-start _ _ _ (c .before .before .pre))
+    (λ c κs. c .before .loop .inv .well)
+    (λ c κs. let l = c .before .before .before .before in omega (arith, l .loop .inv .size, l .before .fitting .ensures))
+    (λ c. let l = c .before .before .before .before .before .before .before in omega (arith, l .loop .inv .size, l .before .fitting .ensures))
+    (λ c. omega arith)
+    (λ c.
+    let p = c .before .before .before .before .before in
+    let l = p .before .before in
+    let a = l .before .before .before .args in
+    let n = l .before .fitting .ensures in
+    drain-step (ringView (a .ring)) (l .before .fitting .result) (a .buf .now) (l .loop .buf) (l .loop .out) (l .loop .i) (l .loop .inv) (p .before .loop-test .taken) (omega (arith, n))
+    (omega (arith, n, waiting (a .ring))) (p .pop-output-event .result) _ (p .pop-output-event .ensures) (c .before .before .put-event .ensures))
+    (λ c. c .before .loop .inv .size)
+    (λ c.
+    let l = c .before in
+    let a = l .before .before .before .args in
+    let done : l .loop .i ≡ l .before .fitting .result = omega (arith, l .loop .inv .within) in
+    drain-done (ringView (a .ring)) (l .before .fitting .result) (a .buf .now) (l .loop .buf) (l .loop .out)
+    (subst (λ (k : ℕ). Draining (ringView (a .ring)) (l .before .fitting .result) (a .buf .now) (l .loop .buf) (l .loop .out) k) done (l .loop .inv))
+    (l .before .fitting .ensures ∙ ap (λ (k : ℕ). min k (length (a .buf .now) / 2)) (sym (waiting (a .ring))))))

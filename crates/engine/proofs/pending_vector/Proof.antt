@@ -7,16 +7,12 @@ use Rattle.engine.proofs.Turns.{poll-is}
 use Rattle.engine.proofs.pending_vector.Statement.{statement}
 use Rattle.engine.proofs.pending_vector.Tie as tie
 
-shl-update-irq : tie.Need-shl-update-irq
-shl-update-irq c = search needs
-
-update-irq-requires : tie.Need-update-irq-requires
-update-irq-requires c κs = search needs
-
-returns : tie.Need-returns
-returns c =
-    let a = c .before .before .args in
-    subst (Answers (c .update-irq .result)) (poll-is (a .vectors .now) (a .irq) (search needs) (linesView (a .lines))) (c .update-irq .ensures)
-
 pub pending-vector-spec : {M : Type 1} → statement M
-pending-vector-spec = tie.close (tie.spec shl-update-irq update-irq-requires returns)
+pending-vector-spec =
+    tie.close
+    (tie.spec
+    (λ c. search needs)
+    (λ c κs. search needs)
+    (λ c.
+    let a = c .before .args in
+    subst (Answers (c .update-irq .result)) (poll-is (a .vectors .now) (a .irq) (search needs) (linesView (a .lines))) (c .update-irq .ensures)))

@@ -5,11 +5,10 @@ use mathlib.Core.Bool.{Bool, true, false}
 use mathlib.Core.List.{List}
 use Prim.Native.Nat.{ℕ, _-_, _<_, _^_}
 use lib.Bits.{bitAnd, bitOr}
-use Rattle.rules.specs.Lines.{withIrr}
+use Rattle.rules.specs.Lines.{withIrr, levelled}
 use Rattle.rules.proofs.laws.Bits.{put-is, without-only-is}
 use Rattle.state.specs.View.{linesView}
 use Rattle.state.specs.declared.Lines.{Lines}
-use Rattle.rules.proofs.laws.Steps.{levelled}
 use Rattle.engine.specs.Moves.{Answers, updated}
 use Rattle.engine.specs.declared.Routed.{Routed}
 use Rattle.engine.proofs.Turns.{bit, raise-is, lower-is}
@@ -35,25 +34,18 @@ module _ (vs : List ℕ) (l out : Lines) (n x : ℕ) (r : Routed) (level : Bool)
       (subst (Answers r) (lower-is vs n h (linesView l) (linesView out) hisr (ap linesView f ∙ ap (withIrr (linesView l)) (without-only-is (l .intirr) n hirr h)))
       (rw e at answers))
 
-shl-mask : tie.Need-shl-mask
-shl-mask c = search needs
-
-update-irq-requires : tie.Need-update-irq-requires
-update-irq-requires c κs =
-    let s = c .before .before in (
-      ⊎-elim (λ w. rw (w .3) (ap (λ (x : ℕ). bitOr x (bit (s .args .irq))) (s .pre .0)))
-          (λ w. rw (w .3) (ap (λ (x : ℕ). bitAnd x ((2 ^ 64 - 1) - bit (s .args .irq))) (s .pre .0))) (c .if1 .came),
-      search needs,
-    )
-
-returns : tie.Need-returns
-returns c =
-    let s = c .before .before .before in
-    let a = s .args in
+pub set-irq-level-spec : {M : Type 1} → statement M
+set-irq-level-spec =
+    tie.close
+    (tie.spec
+    (λ c. search needs)
+    (λ c κs.
+    let s = c .before in
+    ⊎-elim (λ w. rw (w .3) (ap (λ (x : ℕ). bitOr x (bit (s .args .irq))) (s .pre .0)))
+    (λ w. rw (w .3) (ap (λ (x : ℕ). bitAnd x ((2 ^ 64 - 1) - bit (s .args .irq))) (s .pre .0))) (c .if1 .came))
+    (λ c.
+    let a = c .before .before .args in
     ⊎-elim
     (λ w. raise-answers (a .vectors .now) (a .lines) (c .before .if1 .out) (a .irq) _ (c .update-irq .result) (a .level) (search needs) (search needs) (search needs) (c .update-irq .ensures) (w .0 .taken) (w .3))
     (λ w. lower-answers (a .vectors .now) (a .lines) (c .before .if1 .out) (a .irq) _ (c .update-irq .result) (a .level) (search needs) (search needs) (search needs) (c .update-irq .ensures) (w .0 .left) (w .3))
-    (c .before .if1 .came)
-
-pub set-irq-level-spec : {M : Type 1} → statement M
-set-irq-level-spec = tie.close (tie.spec shl-mask update-irq-requires returns)
+    (c .before .if1 .came)))

@@ -13,12 +13,12 @@ use Rattle.rules.specs.Inputs.{on}
 use Rattle.rules.specs.Lines.{Made, servedIn}
 use Rattle.rules.specs.Core.{Core, Act, turn, turns}
 use Rattle.rules.specs.Device.{Device, Call, actsOf, acted, step, reset}
-use Rattle.rules.specs.History.{history, fromReset, Along, Admitted, ServedVectorsStay}
-use Rattle.rules.specs.Demands.{tally, servedWith, hasVector, carries, asserts, deasserts, carrying}
+use Rattle.rules.specs.History.{history, fromReset, Along, Admitted, writesIsr, ServedVectorsStay}
+use Rattle.rules.specs.Demands.{tally, servedWith, hasVector, carries, asserts, deasserts, carrying, someAct, setsIsr}
 use Rattle.rules.proofs.laws.Bits.{on-none}
 use Rattle.rules.proofs.laws.Inputs.{no-inputs}
 use Rattle.rules.proofs.laws.Counts.{size-ext, tally-append, balanced}
-use Rattle.rules.proofs.laws.Reach.{each-both, NotIsr, no-isr-act, LeavesVectors, lines-or-vectors}
+use Rattle.rules.proofs.laws.Reach.{each-both, NotIsr, no-isr-act, isr-acts, LeavesVectors, lines-or-vectors}
 use Rattle.rules.proofs.laws.Folds.{fold-acts, fold-calls, still, vectors-stay}
 
 module _ (v : ℕ) where
@@ -64,7 +64,8 @@ module _ (v : ℕ) where
       (each-both (no-isr-act (d .core) c (p .noIsrWrite)) e))
       (lines-or-vectors (d .core) c)
 
-  none-served : carrying v (reset .core) ≡ 0
+  -- at reset no input is in service
+  pub none-served : carrying v (reset .core) ≡ 0
   none-served = ap length (no-inputs _ (λ i b. rw (on-none i)))
 
 -- 01, Saved image: 'A load begins a new history: counts of demand 3 start there from the loaded ISR.' From any device, so from any loaded image:
@@ -81,3 +82,7 @@ asserts-match-service-from v =
 pub asserts-match-service : (v : ℕ) (cs : List Call) → Along Admitted reset cs
     → asserts v (fromReset cs .made) ≡ deasserts v (fromReset cs .made) + carrying v (fromReset cs .after .core)
 asserts-match-service v cs p = omega (arith, asserts-match-service-from v reset cs p, none-served v)
+
+-- 'No write reaching the ISR registers' is no more than it says: the premise refuses a call exactly where one of its acts writes ISR, at any device.
+pub isr-premise-exact : (d : Device) (c : Call) → writesIsr c ≡ someAct setsIsr (actsOf (d .core) c)
+isr-premise-exact d c = isr-acts (d .core) c

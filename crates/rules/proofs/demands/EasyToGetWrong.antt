@@ -6,23 +6,27 @@ use Prim.Native.Nat.{ℕ, zero, suc, _<_}
 use lib.ListN.{getD}
 use Rattle.rules.specs.Inputs.{on, inputs, without}
 use Rattle.rules.specs.Lines.{Lines, Made, event, isPending, withMask, serve, pendingIn, servedIn, newlyUnmasked, newlyMasked, cleared, masked}
+use Rattle.rules.specs.Device.{Device, Call, step}
+use Rattle.rules.specs.History.{history, Along}
+use Rattle.rules.specs.Demands.{Clears, Unraised, assertsOf}
 use Rattle.rules.proofs.laws.Bits.{on-without}
+use Rattle.rules.proofs.laws.Latches.{quiet-until-raised, call-unlatches}
 
-abbrev asserts : List Made → List Bool
-asserts ms = map (λ (m : Made). m .asserted) ms
+abbrev assertFlags : List Made → List Bool
+assertFlags ms = map (λ (m : Made). m .asserted) ms
 
-deasserts-only : (vs : List ℕ) (ns : List ℕ) (i : ℕ) → getD (asserts (map (event vs true false) ns)) i false ≡ false
+deasserts-only : (vs : List ℕ) (ns : List ℕ) (i : ℕ) → getD (assertFlags (map (event vs true false) ns)) i false ≡ false
 deasserts-only vs [] i = refl
 deasserts-only vs (n ∷ ns) zero = refl
 deasserts-only vs (n ∷ ns) (suc i) = deasserts-only vs ns i
 
 -- one event at most, and then deasserts
-first-only : (vs : List ℕ) (l : Lines) (ns ms : List ℕ) (i : ℕ) → getD (asserts (serve vs true l ns .made ++ map (event vs true false) ms)) (suc i) false ≡ false
+first-only : (vs : List ℕ) (l : Lines) (ns ms : List ℕ) (i : ℕ) → getD (assertFlags (serve vs true l ns .made ++ map (event vs true false) ms)) (suc i) false ≡ false
 first-only vs l [] ms i = deasserts-only vs ms (suc i)
 first-only vs l (n ∷ ns) ms i = deasserts-only vs ms i
 
 -- of the events of a MASK write none but the first is an assert: at most one input is announced, and before every deassert
-pub no-later-assert : (vs : List ℕ) (l : Lines) (new i : ℕ) → getD (asserts (masked vs l new .made)) (suc i) false ≡ false
+pub no-later-assert : (vs : List ℕ) (l : Lines) (new i : ℕ) → getD (assertFlags (masked vs l new .made)) (suc i) false ≡ false
 unfolding masked
 no-later-assert vs l new i =
     let begun = withMask l new in
@@ -35,3 +39,8 @@ unfolding cleared
 cleared-needs-raise vs l b n h e =
     ap (λ (x : Bool). x && not (on (l .mask) n) && not (on (without (l .isr) (on b)) n))
     (on-without (l .irr) (on b) n h ∙ ap (λ (x : Bool). on (l .irr) n && not x) e ∙ and-false (on (l .irr) n))
+
+-- and over any calls after a CLEAR with its bit: no assert of it is made, whatever is polled, unmasked or written, until a call raises it
+pub no-assert-until-raised : (n : ℕ) → n < 64 → (d : Device) (c : Call) (later : List Call) → Clears n d c → Along (Unraised n) (step d c .after) later
+    → assertsOf n (history (step d c .after) later .made) ≡ 0
+no-assert-until-raised n b d c later s p = quiet-until-raised n b (step d c .after) later p (call-unlatches n b d c s) .silent

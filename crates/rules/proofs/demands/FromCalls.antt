@@ -2,18 +2,19 @@
 -- A done call hands back what its step gives, and the image that it leaves holds the device after it; so what holds of histories holds of exported
 -- calls.
 use mathlib.Core.Path.{_≡_, refl, sym, ap, _∙_}
-use mathlib.Core.Bool.{true, false, cond, true≢false, and-false}
+use mathlib.Core.Bool.{true, false, cond, true≢false, and-false, and-eq-true-iff}
 use mathlib.Core.List.{List, [], _∷_, _++_, append-nil, append-assoc}
 use Rattle.rules.specs.Device.{Device, WellFormed, Call, Step, value, reset}
-use Rattle.rules.specs.Image.{encode, decode}
+use Rattle.rules.specs.Image.{encode, decode, imageTest, accepted}
 use Rattle.rules.specs.Calls.{afresh, askedBy, Outcome}
-use Rattle.rules.specs.History.{history, fromReset, Exported, leftBy, isDone, isReset, isLoad, callOf, Underway, carriedOn}
-use Rattle.rules.specs.Demands.{carriedThrough, NoLoads, HandedOn, doneCall, doneCalls, IsStep, GivenBytes, current, Faithful, afterReset}
+use Rattle.rules.specs.History.{history, fromReset}
+use Rattle.rules.specs.Exported.{Exported, leftBy, isDone, isReset, isLoad, callOf, Underway, carriedOn, carriedThrough, NoLoads}
+use Rattle.rules.specs.Exported.{HandedOn, doneCall, doneCalls, IsStep, GivenBytes, current, inImage, Faithful, afterReset, atLoad}
 use Rattle.rules.proofs.laws.Lists.{equal-same}
 use Rattle.rules.proofs.laws.Images.{decode-encode}
 use Rattle.rules.proofs.laws.Folds.{history-append}
 use Rattle.rules.proofs.laws.WellFormed.{history-well}
-use Rattle.rules.proofs.laws.Chains.{handed, faithful-on, carried-on, left-last, reset-leaves, reset-begins, faithful-after-reset}
+use Rattle.rules.proofs.laws.Chains.{handed, faithful-on, carried-on, left-last, reset-leaves, reset-begins, faithful-after-reset, done-accepted, own-image, load-begins}
 
 -- ---- one call
 
@@ -26,7 +27,7 @@ a-call-is-a-step d w x g n t =
     let r = handed h x (record { began = w; left = refl }) t no in
     record {
       call = r .call;
-      is = (λ i. cond (t i) (callOf (r .asks i)) []);
+      is = (λ i. cond (t i) (callOf (r .passes i)) []);
       number = ap (λ (o : Outcome). o .number) (r .left);
       image = ap (λ (o : Outcome). o .image) (r .left);
       answer = ap (λ (o : Outcome). o .answer) (r .left);
@@ -37,6 +38,17 @@ a-call-is-a-step d w x g n t =
 pub a-reset-begins : (h : Underway) (x : Exported) → askedBy (x .asked) ≡ afresh → isDone x ≡ true
     → (leftBy x .image ≡ encode reset) × (carriedOn h x ≡ afterReset)
 a-reset-begins h x e t = (reset-leaves x t e, reset-begins h x t e)
+
+-- A load, whatever was under way, is given an image that is accepted, and begins the history from it: its own call is the first.
+pub a-load-begins : (h : Underway) (x : Exported) → isLoad (h .left) x ≡ true → isReset (askedBy (x .asked)) ≡ false
+    → (imageTest (x .given) ≡ accepted) × (isLoad (x .given) x ≡ false) × (carriedOn h x ≡ carriedOn (atLoad (x .given)) x)
+a-load-begins h x l n =
+    let t = and-eq-true-iff (isDone x) _ .0 l .0 in
+    (done-accepted h x t n, own-image x t n, load-begins x t n h l)
+
+-- The image left last, loaded, is the device to which the history under way has come.
+pub image-holds-device : (h : Underway) → Faithful h → inImage h ≡ current h
+image-holds-device h f = ap decode (f .left) ∙ decode-encode (current h) (history-well (h .began) (h .calls) (f .began))
 
 -- ---- calls, one after another
 
@@ -76,9 +88,13 @@ calls-carry-on h f xs n =
     let left-is = c .faithful .left ∙ (λ j. encode (history (c .began j) (c .calls j) .after)) ∙ whole in
     (λ i. record { began = c .began i; calls = c .calls i; left = left-is i })
 
+-- after them the history is still that of the image left last
+pub faithful-through : (h : Underway) → Faithful h → (xs : List Exported) → NoLoads h xs → Faithful (carriedThrough h xs)
+faithful-through h f xs n = chain h xs f n .faithful
+
 -- and that image, loaded, is the device
 pub image-holds-history : (h : Underway) → Faithful h → (xs : List Exported) → NoLoads h xs
-    → decode (carriedThrough h xs .left) ≡ history (current h) (doneCalls xs) .after
+    → inImage (carriedThrough h xs) ≡ history (current h) (doneCalls xs) .after
 image-holds-history h f xs n =
     let well = history-well (current h) (doneCalls xs) (history-well (h .began) (h .calls) (f .began)) in
     ap (λ (u : Underway). decode (u .left)) (calls-carry-on h f xs n) ∙ decode-encode (history (current h) (doneCalls xs) .after) well

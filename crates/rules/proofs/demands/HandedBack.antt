@@ -1,28 +1,35 @@
 -- Demand 3 of what exported calls hand back. What a host reads in answer areas and event buffers is what the history returns and drains, in order
 -- (Readings); so the account holds of the events that it has read, those that still wait in the image and those dropped, and so do service and order.
-use mathlib.Core.Path.{_≡_, sym, ap, _∙_}
-use mathlib.Core.Bool.{Bool, true, not, _&&_}
+use mathlib.Core.Path.{_≡_, refl, sym, ap, subst, _∙_}
+use mathlib.Core.Bool.{Bool, true, false, not, _&&_}
 use mathlib.Core.List.{List, [], _∷_, _++_, append-assoc}
-use Prim.Native.Nat.{ℕ, _+_, _<_}
+use Prim.Native.Nat.{ℕ, _+_, _<_, min}
 use native.Mathlib.Omega.{arith}
 use lib.Dec.{eqb, lit≤}
 use lib.ListN.{length, getD}
+use Rattle.rules.specs.Numbers.{Bytes}
+use Rattle.rules.specs.Inputs.{on}
 use Rattle.rules.specs.Lines.{Made}
 use Rattle.rules.specs.Ring.{Event}
-use Rattle.rules.specs.Device.{Call, step, reset}
+use Rattle.rules.specs.Device.{Device, Call, level, none, step, value, reset}
+use Rattle.rules.specs.Device as device
 use Rattle.rules.specs.Image.{decode}
-use Rattle.rules.specs.History.{history, Along, Admitted, Exported, Underway}
-use Rattle.rules.specs.Demands.{carrying, inService, Ready, Undisturbed, asks, asEvent, foundBy, ringActs, dropped, returnedIn}
-use Rattle.rules.specs.Demands.{carriedThrough, NoLoads, doneCall, doneCalls, current, Faithful, afterReset}
-use Rattle.rules.specs.Demands.{returnedBy, drainedBy, assertsAmong, deassertsAmong}
+use Rattle.rules.specs.Calls.{poll, askedBy, answered, Outcome}
+use Rattle.rules.specs.History.{history, Along, Admitted}
+use Rattle.rules.specs.Demands.{carrying, inService, Eligible, Spared, Undisturbed, pollsOrRaises, Clears, Unraised, assertsOf, asEvent, foundBy, ringActs, dropped, returnedIn}
+use Rattle.rules.specs.Demands.{asserts, deasserts, assertsAmong, deassertsAmong}
+use Rattle.rules.specs.Exported.{Exported, leftBy, isDone, isReset, isLoad, Underway, carriedOn, carriedThrough, NoLoads, doneCall, doneCalls}
+use Rattle.rules.specs.Exported.{GivenBytes, current, inImage, Faithful, afterReset, atLoad, returnedBy, drainedBy, Balances}
 use Rattle.rules.proofs.laws.Counts.{tally-nil}
 use Rattle.rules.proofs.laws.Draining.{all-accounted}
-use Rattle.rules.proofs.laws.Chains.{faithful-after-reset}
-use Rattle.rules.proofs.laws.Readings.{read-as}
-use Rattle.rules.proofs.demands.Account.{asserts-match-service}
-use Rattle.rules.proofs.demands.Service.{in-service-from-then-on}
+use Rattle.rules.proofs.laws.Chains.{faithful-after-reset, faithful-at-load, handed}
+use Rattle.rules.proofs.laws.Latches.{Quiet, quiet-until-raised, poll-finds-none, call-unlatches}
+use Rattle.rules.proofs.laws.WellFormed.{history-well}
+use Rattle.rules.proofs.laws.Readings.{input-is, asked-is, read-as}
+use Rattle.rules.proofs.demands.Account.{none-served, asserts-match-service-from}
+use Rattle.rules.proofs.demands.Service.{in-service-from-the-poll-on, in-service-once-raised}
 use Rattle.rules.proofs.demands.Order.{drained-in-turn, drops-counted}
-use Rattle.rules.proofs.demands.FromCalls.{image-holds-history}
+use Rattle.rules.proofs.demands.FromCalls.{a-load-begins, image-holds-device, faithful-through, image-holds-history, history-since-load}
 
 -- ---- what is read
 
@@ -36,26 +43,64 @@ drained-is-read h f xs n = read-as h f xs n .drained
 
 -- ---- the account
 
+account : (v : ℕ) (d : Device) (h : Underway) → Faithful h → current h ≡ d → (xs : List Exported) → NoLoads h xs → Along Admitted d (doneCalls xs)
+    → (lost : List Event) → lost ≡ dropped (d .ring) (ringActs d (doneCalls xs)) → Balances v d xs lost (inImage (carriedThrough h xs))
+account v d h f e xs n p lost is =
+    let cs = doneCalls xs in
+    let r = read-as h f xs n in
+    let ups : Event → Bool = λ x. x .asserted && eqb (x .vector) v in
+    let downs : Event → Bool = λ x. not (x .asserted) && eqb (x .vector) v in
+    rw (image-holds-history h f xs n, r .returned, r .drained, e)
+    (omega (arith, asserts-match-service-from v d cs p, all-accounted ups d cs lost is, all-accounted downs d cs lost is))
+
+-- From any history under way, over exported calls of which none is a load: for each vector the account is balanced between the device in the image left at
+-- first and the one in the image left last. Beside the ISR of the first count the events that wait in it, since they may be read later.
+pub account-under-way : (v : ℕ) (h : Underway) → Faithful h → (xs : List Exported) → NoLoads h xs → Along Admitted (inImage h) (doneCalls xs)
+    → (lost : List Event) → lost ≡ dropped (inImage h .ring) (ringActs (inImage h) (doneCalls xs))
+    → Balances v (inImage h) xs lost (inImage (carriedThrough h xs))
+account-under-way v h f = account v (inImage h) h f (sym (image-holds-device h f))
+
+-- With loads and resets anywhere among the calls: since the last of them, asserts made and the inputs in service with v where it began come to deasserts made
+-- and the inputs in service with v in the image left last.
+pub account-since-load : (v : ℕ) (h : Underway) (xs : List Exported) → Faithful h → GivenBytes xs → let u = carriedThrough h xs in
+    Along Admitted (u .began) (u .calls)
+    → let made = history (u .began) (u .calls) .made in
+    asserts v made + carrying v (u .began .core) ≡ deasserts v made + carrying v (inImage u .core)
+account-since-load v h xs f b p =
+    let u = carriedThrough h xs in
+    rw (image-holds-device u (history-since-load h xs f b)) (asserts-match-service-from v (u .began) (u .calls) p)
+
+-- 'A load begins a new history: counts of demand 3 start there from the loaded ISR' (01, Saved image). The call x, in any history, is a load of bytes, and
+-- of the calls after it none is a load: the account is balanced between the loaded device, with the events that wait in it, and the one in the image left
+-- last.
+pub account-from-load : (v : ℕ) (h : Underway) (x : Exported) → isLoad (h .left) x ≡ true → isReset (askedBy (x .asked)) ≡ false → Bytes (x .given)
+    → (xs : List Exported) → NoLoads (carriedOn h x) xs → let d = decode (x .given) in Along Admitted d (doneCalls (x ∷ xs))
+    → (lost : List Event) → lost ≡ dropped (d .ring) (ringActs d (doneCalls (x ∷ xs))) → Balances v d (x ∷ xs) lost (inImage (carriedThrough h (x ∷ xs)))
+unfolding history carriedThrough NoLoads
+account-from-load v h x l s b xs n p lost is =
+    let d = decode (x .given) in
+    let r = a-load-begins h x l s in
+    let later = subst (λ u. NoLoads u xs) (r .2) n in
+    let whole = account v d (atLoad (x .given)) (faithful-at-load (x .given) b (r .0)) refl (x ∷ xs) (r .1, later) p lost is in
+    subst (λ u. Balances v d (x ∷ xs) lost (inImage (carriedThrough u xs))) (sym (r .2)) whole
+
 module _ (v : ℕ) (xs : List Exported) (n : NoLoads afterReset xs) (p : Along Admitted reset (doneCalls xs)) where
   -- From a reset on, for each vector: the asserts read in answer areas, those read in event buffers, those that wait in the image left last and those
   -- dropped come to as many deasserts, and the inputs that in that image are in service and carry it.
   pub account-of-calls : (lost : List Event) → lost ≡ dropped (reset .ring) (ringActs reset (doneCalls xs))
-      → let left = decode (carriedThrough afterReset xs .left) in
+      → let left = inImage (carriedThrough afterReset xs) in
       assertsAmong v (returnedBy xs) + assertsAmong v (drainedBy xs) + assertsAmong v (left .ring .waiting) + assertsAmong v lost
       ≡ deassertsAmong v (returnedBy xs) + deassertsAmong v (drainedBy xs) + deassertsAmong v (left .ring .waiting) + deassertsAmong v lost
       + carrying v (left .core)
   unfolding history
   account-of-calls lost is =
-      let cs = doneCalls xs in
-      let r = read-as afterReset faithful-after-reset xs n in
-      let ups : Event → Bool = λ e. e .asserted && eqb (e .vector) v in
-      let downs : Event → Bool = λ e. not (e .asserted) && eqb (e .vector) v in
-      rw (image-holds-history afterReset faithful-after-reset xs n, r .returned, r .drained)
-      (omega (arith, asserts-match-service v cs p, all-accounted ups reset cs lost is, all-accounted downs reset cs lost is, tally-nil ups, tally-nil downs))
+      let no-assert = tally-nil (λ (x : Event). x .asserted && eqb (x .vector) v) in
+      let no-deassert = tally-nil (λ (x : Event). not (x .asserted) && eqb (x .vector) v) in
+      omega (arith, account v reset afterReset faithful-after-reset refl xs n p lost is, none-served v, no-assert, no-deassert)
 
   -- While the drop count is 0 none was dropped: every event is in what was handed back or in the image.
   pub account-without-drops :
-      let left = decode (carriedThrough afterReset xs .left) in
+      let left = inImage (carriedThrough afterReset xs) in
       left .ring .drops ≡ 0
       → assertsAmong v (returnedBy xs) + assertsAmong v (drainedBy xs) + assertsAmong v (left .ring .waiting)
       ≡ deassertsAmong v (returnedBy xs) + deassertsAmong v (drainedBy xs) + deassertsAmong v (left .ring .waiting) + carrying v (left .core)
@@ -81,24 +126,80 @@ calls-split (y ∷ before) x later c e =
     ap (λ cs. doneCall y ++ cs) (calls-split before x later c e) ∙ sym (append-assoc (doneCall y) (doneCalls before) (c ∷ doneCalls later))
 
 module _ (h : Underway) (f : Faithful h) where
-  -- In the device to which a history under way has come, the input i is ready; among the exported calls from there on, none a load and all undisturbed, x
-  -- is done and is a poll or raise of it. Then it is in service in the image left last.
-  pub service-of-calls : (i : ℕ) → i < 64 → Ready i (current h .core .lines) → (before : List Exported) (x : Exported) (later : List Exported) (c : Call)
-      → NoLoads h (before ++ (x ∷ later)) → doneCall x ≡ c ∷ [] → asks i c ≡ true → Along (Undisturbed i) (current h) (doneCalls (before ++ (x ∷ later)))
-      → inService i (decode (carriedThrough h (before ++ (x ∷ later)) .left) .core .lines) ≡ true
-  service-of-calls i b r before x later c n e a p =
-      let is = calls-split before x later c e in
-      rw (image-holds-history h f (before ++ (x ∷ later)) n, is)
-      (in-service-from-then-on i b (current h) (doneCalls before) c (doneCalls later) r (rw is at p) a)
+  -- In the image left at first the input i is latched and unmasked; none of the exported calls from there on is a load, and none lowers, clears or masks
+  -- it. Of them x is done and is a poll or raise of i, and no write after x reaches ISR. Then i is in service in the image left last.
+  pub service-of-calls : (i : ℕ) → i < 64 → Eligible i (inImage h .core .lines) → (before : List Exported) (x : Exported) (later : List Exported) (c : Call)
+      → NoLoads h (before ++ (x ∷ later)) → Along (Spared i) (inImage h) (doneCalls before) → doneCall x ≡ c ∷ [] → pollsOrRaises i c ≡ true
+      → Along (Undisturbed i) (history (inImage h) (doneCalls before ++ (c ∷ [])) .after) (doneCalls later)
+      → inService i (inImage (carriedThrough h (before ++ (x ∷ later))) .core .lines) ≡ true
+  service-of-calls i b r before x later c n p e a q =
+      let met = image-holds-device h f in
+      rw (image-holds-history h f (before ++ (x ∷ later)) n, calls-split before x later c e, ← met)
+      (in-service-from-the-poll-on i b (inImage h) (doneCalls before) c (doneCalls later) r p a q)
+
+  -- The same where the raise is what latches it: in the image left at first i is unmasked, and x is done and raises it.
+  pub service-once-raised : (i : ℕ) → i < 64 → on (inImage h .core .lines .mask) i ≡ false → (x : Exported) (later : List Exported)
+      → NoLoads h (x ∷ later) → doneCall x ≡ level i true ∷ []
+      → Along (Undisturbed i) (step (inImage h) (level i true) .after) (doneCalls later)
+      → inService i (inImage (carriedThrough h (x ∷ later)) .core .lines) ≡ true
+  unfolding doneCalls
+  service-once-raised i b m x later n e p =
+      rw (image-holds-history h f (x ∷ later) n, calls-split [] x later (level i true) e, ← image-holds-device h f)
+      (in-service-once-raised i b (inImage h) (doneCalls later) m p)
 
   -- The done call x makes the event m and offers it, and m finds k waiting, fewer than 16. Then m is the (k+1)th event that a host reads in the event
   -- buffers of the drains from there on, once it reads so many.
   pub order-of-calls : (x : Exported) (later : List Exported) (c : Call) → NoLoads h (x ∷ later) → doneCall x ≡ c ∷ []
-      → (earlier : List Made) (m : Made) (rest : List Made) → step (current h) c .made ≡ earlier ++ (m ∷ rest) → m .offered ≡ true
-      → (k : ℕ) → length (foundBy (current h) earlier .waiting) ≡ k → k < 16
+      → (earlier : List Made) (m : Made) (rest : List Made) → step (inImage h) c .made ≡ earlier ++ (m ∷ rest) → m .offered ≡ true
+      → (k : ℕ) → length (foundBy (inImage h) earlier .waiting) ≡ k → k < 16
       → k < length (drainedBy (x ∷ later)) → (e : Event) → getD (drainedBy (x ∷ later)) k e ≡ asEvent m
   unfolding doneCalls
   order-of-calls x later c n o earlier m rest is off k found small many e =
-      let calls-are = ap (λ cs. history (current h) cs .drained) (calls-split [] x later c o) in
-      let read : drainedBy (x ∷ later) ≡ history (current h) (c ∷ doneCalls later) .drained = drained-is-read h f (x ∷ later) n ∙ calls-are in
-      rw read (drained-in-turn (current h) c earlier m rest is off k found small (doneCalls later) (rw read at many) e)
+      let read : drainedBy (x ∷ later) ≡ history (inImage h) (c ∷ doneCalls later) .drained =
+      drained-is-read h f (x ∷ later) n ∙ (λ i. history (sym (image-holds-device h f) i) (calls-split [] x later c o i) .drained) in
+      rw read (drained-in-turn (inImage h) c earlier m rest is off k found small (doneCalls later) (rw read at many) e)
+
+  -- The drop count in the image left last is that in the image left at first and the events dropped since, up to the stop.
+  pub drops-of-calls : (xs : List Exported) → NoLoads h xs
+      → inImage (carriedThrough h xs) .ring .drops ≡ min (inImage h .ring .drops + length (dropped (inImage h .ring) (ringActs (inImage h) (doneCalls xs)))) 4294967295
+  drops-of-calls xs n =
+      let well = history-well (h .began) (h .calls) (f .began) in
+      rw (image-holds-history h f xs n, image-holds-device h f) (drops-counted (current h) (doneCalls xs) (well .drops))
+
+  -- ---- a cleared input
+
+  -- The done call x clears the input i, and none of the calls after it is a load or a raise of i.
+  module _ (i : ℕ) (b : i < 64) (x : Exported) (later : List Exported) (c : Call) (n : NoLoads h (x ∷ later)) (e : doneCall x ≡ c ∷ [])
+      (s : Clears i (inImage h) c) (p : Along (Unraised i) (inImage (carriedOn h x)) (doneCalls later)) where
+    met : inImage (carriedOn h x) ≡ step (inImage h) c .after
+    unfolding history carriedThrough NoLoads doneCalls
+    met =
+        image-holds-history h f (x ∷ []) (n .0, tt) ∙ (λ j. history (sym (image-holds-device h f) j) (calls-split [] x [] c e j) .after)
+
+    quiet : Quiet i b (history (inImage (carriedOn h x)) (doneCalls later) .made) (inImage (carriedThrough h (x ∷ later)) .core .lines)
+    unfolding carriedThrough NoLoads
+    quiet =
+        let on-from = faithful-through h f (x ∷ []) (n .0, tt) in
+        let left = image-holds-history (carriedOn h x) on-from later (n .1) in
+        rw (left, ← image-holds-device (carriedOn h x) on-from)
+        (quiet-until-raised i b (inImage (carriedOn h x)) (doneCalls later) p (rw met (call-unlatches i b (inImage h) c s)))
+
+    -- Then the calls after it make no assert of i, whatever its line, the masks and the polls do.
+    pub cleared-makes-no-assert : assertsOf i (history (inImage (carriedOn h x)) (doneCalls later) .made) ≡ 0
+    cleared-makes-no-assert = quiet .silent
+
+    -- In the image left last it is not latched,
+    pub cleared-stays-unlatched : on (inImage (carriedThrough h (x ∷ later)) .core .lines .irr) i ≡ false
+    cleared-stays-unlatched = quiet .unlatched
+
+    -- and a poll of it there, if it is done, answers that it returns nothing.
+    pub cleared-polled-in-vain : (y : Exported) → y .asked ≡ poll i → isDone y ≡ true → isLoad (carriedThrough h (x ∷ later) .left) y ≡ false
+        → leftBy y .answer ≡ answered 0 none (y .answer)
+    cleared-polled-in-vain y a t l =
+        let u = carriedThrough h (x ∷ later) in
+        let still = faithful-through h f (x ∷ later) n in
+        let r = handed u y still t l in
+        let is = input-is i (device.poll i) (r .call) (asked-is (sym (ap askedBy a) ∙ r .passes)) .1 in
+        let off = ap (λ d. on (d .core .lines .irr) i) (sym (image-holds-device u still)) ∙ cleared-stays-unlatched in
+        ap (λ (o : Outcome). o .answer) (r .left)
+        ∙ ap (λ v. answered 0 v (y .answer)) (ap (value (current u)) is ∙ poll-finds-none i b (current u) off)

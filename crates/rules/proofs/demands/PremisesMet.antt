@@ -8,7 +8,7 @@ use Prim.Native.Nat.{ℕ, zero, suc, _+_, _<_, _≤_}
 use native.Mathlib.Nat.{eq-or-lt-of-le, le-of-suc-le-suc}
 use native.Mathlib.Omega.{arith}
 use lib.Dec.{eqb, lit<, lit≤}
-use lib.ListN.{getD, replicate}
+use lib.ListN.{getD}
 use borrow.Author.Tests.{eqb-true, not-true}
 use Rattle.rules.specs.Inputs.{on}
 use Rattle.rules.specs.Lines.{Made, event}
@@ -16,18 +16,15 @@ use Rattle.rules.specs.Ring.{Event}
 use Rattle.rules.specs.Core.{Core, Act}
 use Rattle.rules.specs.Access.{byte, dword}
 use Rattle.rules.specs.Device.{Device, Call, level, poll, write, drain, upFrom, actsOf, step, reset}
-use Rattle.rules.specs.Image.{encode}
-use Rattle.rules.specs.Calls.{Request, askedBy}
-use Rattle.rules.specs.Calls as request
-use Rattle.rules.specs.History.{history, fromReset, Along, Admitted, writesIsr, Exported, leftBy, isReset}
-use Rattle.rules.specs.Demands.{tally, asserts, deasserts, carrying, Each, done, also, inService, Ready, disturbs, Undisturbed, foundBy}
-use Rattle.rules.specs.Demands.{NoLoads, HandedOn, doneCalls, afterReset, returnedBy, drainedBy}
+use Rattle.rules.specs.History.{history, fromReset, Along, Admitted, writesIsr}
+use Rattle.rules.specs.Demands.{tally, asserts, deasserts, carrying, Each, done, also, inService, Eligible, disturbs, Spared, Undisturbed}
+use Rattle.rules.specs.Demands.{someAct, isRaise, Unraised, assertsOf, foundBy}
 use Rattle.rules.specs.Dozen.{raises}
 use Rattle.rules.proofs.laws.Computing.{computing}
 use Rattle.rules.proofs.demands.Account.{asserts-match-service}
-use Rattle.rules.proofs.demands.Service.{in-service-from-then-on}
+use Rattle.rules.proofs.demands.Service.{in-service-from-the-poll-on, in-service-from-then-on, in-service-once-raised}
+use Rattle.rules.proofs.demands.EasyToGetWrong.{no-assert-until-raised}
 use Rattle.rules.proofs.demands.Order.{drained-in-turn, else-dropped}
-use Rattle.rules.proofs.demands.FromCalls.{handed-on-is-no-load}
 
 -- ---- tests that decide the premises
 
@@ -45,12 +42,8 @@ all-below (suc k) f e i h =
 abbrev vectorStays : Core → Core → ℕ → Bool
 vectorStays c d n = not (on (c .lines .isr) n) || eqb (getD (d .vectors) n 0) (getD (c .vectors) n 0)
 
-abbrev admits : Device → Call → Bool
+abbrev pub admits : Device → Call → Bool
 admits d c = not (writesIsr c) && allBelow 64 (vectorStays (d .core) (step d c .after .core))
-
-abbrev admitsAll : Device → List Call → Bool
-admitsAll d [] = true
-admitsAll d (c ∷ cs) = admits d c && admitsAll (step d c .after) cs
 
 admitted : (d : Device) (c : Call) → admits d c ≡ true → Admitted d c
 admitted d c e =
@@ -63,20 +56,9 @@ admitted d c e =
     so : {a b : Bool} → a ≡ true → (not a || b) ≡ true → b ≡ true
     so {a} {b} t u = sym (ap (λ x. not x || b) t) ∙ u
 
-all-admitted : (d : Device) (cs : List Call) → admitsAll d cs ≡ true → Along Admitted d cs
-unfolding Along
-all-admitted d [] e = tt
-all-admitted d (c ∷ cs) e =
-    let both = and-eq-true-iff (admits d c) (admitsAll (step d c .after) cs) .0 e in
-    (admitted d c (both .0), all-admitted (step d c .after) cs (both .1))
-
 abbrev spared : ℕ → List Act → Bool
 spared n [] = true
 spared n (a ∷ xs) = not (disturbs n a) && spared n xs
-
-abbrev sparedAll : ℕ → Device → List Call → Bool
-sparedAll n d [] = true
-sparedAll n d (c ∷ cs) = (not (writesIsr c) && spared n (actsOf (d .core) c)) && sparedAll n (step d c .after) cs
 
 each-spared : (n : ℕ) (xs : List Act) → spared n xs ≡ true → Each (λ a. disturbs n a ≡ false) xs
 each-spared n [] e = done
@@ -84,14 +66,44 @@ each-spared n (a ∷ xs) e =
     let both = and-eq-true-iff (not (disturbs n a)) (spared n xs) .0 e in
     also (not-true (disturbs n a) (both .0)) (each-spared n xs (both .1))
 
-all-undisturbed : (n : ℕ) (d : Device) (cs : List Call) → sparedAll n d cs ≡ true → Along (Undisturbed n) d cs
+-- what a test decides of each call that a history meets
+abbrev pub alongAll : (Device → Call → Bool) → Device → List Call → Bool
+alongAll t d [] = true
+alongAll t d (c ∷ cs) = t d c && alongAll t (step d c .after) cs
+
+along-all : (t : Device → Call → Bool) (P : Device → Call → Type 0) → ((d : Device) (c : Call) → t d c ≡ true → P d c) → (d : Device) (cs : List Call)
+    → alongAll t d cs ≡ true → Along P d cs
 unfolding Along
-all-undisturbed n d [] e = tt
-all-undisturbed n d (c ∷ cs) e =
-    let both = and-eq-true-iff (not (writesIsr c) && spared n (actsOf (d .core) c)) (sparedAll n (step d c .after) cs) .0 e in
-    let here = and-eq-true-iff (not (writesIsr c)) (spared n (actsOf (d .core) c)) .0 (both .0) in
-    let one : Undisturbed n d c = record { noIsrWrite = not-true (writesIsr c) (here .0); notDisturbed = each-spared n (actsOf (d .core) c) (here .1) } in
-    (one, all-undisturbed n (step d c .after) cs (both .1))
+along-all t P h d [] e = tt
+along-all t P h d (c ∷ cs) e =
+    let both = and-eq-true-iff (t d c) (alongAll t (step d c .after) cs) .0 e in
+    (h d c (both .0), along-all t P h (step d c .after) cs (both .1))
+
+abbrev pub spares : ℕ → Device → Call → Bool
+spares n d c = spared n (actsOf (d .core) c)
+
+abbrev pub leavesAlone : ℕ → Device → Call → Bool
+leavesAlone n d c = not (writesIsr c) && spares n d c
+
+abbrev pub noRaise : ℕ → Device → Call → Bool
+noRaise n d c = not (isRaise n c)
+
+pub all-admitted : (d : Device) (cs : List Call) → alongAll admits d cs ≡ true → Along Admitted d cs
+all-admitted = along-all admits Admitted admitted
+
+pub all-spared : (n : ℕ) (d : Device) (cs : List Call) → alongAll (spares n) d cs ≡ true → Along (Spared n) d cs
+all-spared n = along-all (spares n) (Spared n) (λ d c e. each-spared n (actsOf (d .core) c) e)
+
+pub all-undisturbed : (n : ℕ) (d : Device) (cs : List Call) → alongAll (leavesAlone n) d cs ≡ true → Along (Undisturbed n) d cs
+all-undisturbed n = along-all (leavesAlone n) (Undisturbed n) one
+  where
+    one : (d : Device) (c : Call) → leavesAlone n d c ≡ true → Undisturbed n d c
+    one d c e =
+        let both = and-eq-true-iff (not (writesIsr c)) (spares n d c) .0 e in
+        record { noIsrWrite = not-true (writesIsr c) (both .0); notDisturbed = each-spared n (actsOf (d .core) c) (both .1) }
+
+pub all-unraised : (n : ℕ) (d : Device) (cs : List Call) → alongAll (noRaise n) d cs ≡ true → Along (Unraised n) d cs
+all-unraised n = along-all (noRaise n) (Unraised n) (λ d c e. not-true (isRaise n c) e)
 
 -- ---- the account
 
@@ -123,8 +135,8 @@ worked-account = asserts-match-service 5 worked worked-admitted
 
 -- ---- service
 
--- raise 3 and 5 and unmask all: only 3 enters service, and 5 is ready. Then lower 3, drain, poll 5, clear 3, and mask 3
-abbrev begun : List Call
+-- raise 3 and 5 and unmask all: only 3 enters service, and 5 is eligible. Then lower 3, drain, poll 5, clear 3, and mask 3
+abbrev pub begun : List Call
 begun = level 3 true ∷ level 5 true ∷ write dword 0x020 0 ∷ []
 
 abbrev before : List Call
@@ -133,9 +145,9 @@ before = level 3 false ∷ drain 1 ∷ []
 abbrev later : List Call
 later = write dword 0x080 0x8 ∷ write byte 0x020 0x8 ∷ []
 
-five-ready : Ready 5 (fromReset begun .after .core .lines)
+five-eligible : Eligible 5 (fromReset begun .after .core .lines)
 unfolding computing
-five-ready = record { latched = refl; unmasked = refl }
+five-eligible = record { latched = refl; unmasked = refl }
 
 five-waits : inService 5 (fromReset begun .after .core .lines) ≡ false
 unfolding computing
@@ -146,15 +158,54 @@ unfolding computing
 five-undisturbed = all-undisturbed 5 (fromReset begun .after) (before ++ (poll 5 ∷ later)) refl
 
 five-served : inService 5 (history (fromReset begun .after) (before ++ (poll 5 ∷ later)) .after .core .lines) ≡ true
-five-served = in-service-from-then-on 5 (lit< tt) (fromReset begun .after) before (poll 5) later five-ready five-undisturbed refl
+five-served = in-service-from-then-on 5 (lit< tt) (fromReset begun .after) before (poll 5) later five-eligible five-undisturbed refl
+
+-- writes to ISR before the poll, one that puts 5 into service and one that takes it out again
+abbrev isrBefore : List Call
+isrBefore = write dword 0x3a0 0x28 ∷ level 3 false ∷ write dword 0x3a0 0 ∷ []
+
+five-served-after-isr-writes : inService 5 (history (fromReset begun .after) (isrBefore ++ (poll 5 ∷ later)) .after .core .lines) ≡ true
+unfolding computing
+five-served-after-isr-writes =
+    in-service-from-the-poll-on 5 (lit< tt) (fromReset begun .after) isrBefore (poll 5) later five-eligible
+    (all-spared 5 (fromReset begun .after) isrBefore refl) refl (all-undisturbed 5 (history (fromReset begun .after) (isrBefore ++ (poll 5 ∷ [])) .after) later refl)
+
+-- 7 is unmasked since begun, and not latched: a raise of it puts it into service
+seven-served : inService 7 (history (fromReset begun .after) (level 7 true ∷ later) .after .core .lines) ≡ true
+unfolding computing
+seven-served =
+    in-service-once-raised 7 (lit< tt) (fromReset begun .after) later refl (all-undisturbed 7 (step (fromReset begun .after) (level 7 true) .after) later refl)
+
+-- ---- a cleared input
+
+-- 3 is in service after begun, and its line is high: clear it; then poll it, mask it and unmask it
+abbrev clearThree : Call
+clearThree = write dword 0x080 0x8
+
+abbrev afterClear : List Call
+afterClear = poll 3 ∷ write dword 0x020 0x8 ∷ write dword 0x020 0 ∷ []
+
+three-quiet : assertsOf 3 (history (step (fromReset begun .after) clearThree .after) afterClear .made) ≡ 0
+unfolding computing someAct
+three-quiet =
+    no-assert-until-raised 3 (lit< tt) (fromReset begun .after) clearThree afterClear refl
+    (all-unraised 3 (step (fromReset begun .after) clearThree .after) afterClear refl)
+
+-- and a new raise asserts it
+three-raised : assertsOf 3 (history (step (fromReset begun .after) clearThree .after) (afterClear ++ (level 3 true ∷ [])) .made) ≡ 1
+unfolding computing tally
+three-raised = refl
 
 -- ---- order
 
 -- unmask 0 to 31 and raise 0 to 16, so that seventeen are in service; then mask them: seventeen deasserts are offered, lowest first
-abbrev seventeen : Device
-seventeen = fromReset (write dword 0x020 0 ∷ raises 0 17) .after
+abbrev pub seventeen : List Call
+seventeen = write dword 0x020 0 ∷ raises 0 17
 
-abbrev maskAll : Call
+abbrev filled : Device
+filled = fromReset seventeen .after
+
+abbrev pub maskAll : Call
 maskAll = write dword 0x020 0xffffffff
 
 abbrev deassertOf : ℕ → Made
@@ -164,56 +215,12 @@ abbrev deassertsFrom : ℕ → ℕ → List Made
 deassertsFrom n k = map deassertOf (upFrom n k)
 
 -- the third finds two waiting, and is the third that two drains of room for two drain
-third-drained : (x : Event) → getD (history seventeen (maskAll ∷ drain 2 ∷ drain 2 ∷ []) .drained) 2 x ≡ record { vector = 2; asserted = false }
+third-drained : (x : Event) → getD (history filled (maskAll ∷ drain 2 ∷ drain 2 ∷ []) .drained) 2 x ≡ record { vector = 2; asserted = false }
 unfolding computing
 third-drained =
-    drained-in-turn seventeen maskAll (deassertsFrom 0 2) (deassertOf 2) (deassertsFrom 3 14) refl refl 2 refl (lit< tt) (drain 2 ∷ drain 2 ∷ []) (lit< tt)
+    drained-in-turn filled maskAll (deassertsFrom 0 2) (deassertOf 2) (deassertsFrom 3 14) refl refl 2 refl (lit< tt) (drain 2 ∷ drain 2 ∷ []) (lit< tt)
 
 -- the seventeenth finds sixteen, and is dropped and counted
-seventeenth-dropped : foundBy seventeen (deassertsFrom 0 17) .drops ≡ 1
+seventeenth-dropped : foundBy filled (deassertsFrom 0 17) .drops ≡ 1
 unfolding computing
-seventeenth-dropped = ap (λ r. r .drops) (else-dropped seventeen maskAll (deassertsFrom 0 16) (deassertOf 16) [] refl refl 16 refl (lit≤ tt))
-
--- ---- exported calls
-
--- requests with an answer area of zeros, each given the image that the one before it left
-abbrev handedOn : List ℕ → List Request → List Exported
-handedOn i [] = []
-handedOn i (q ∷ qs) =
-    let x : Exported = record { given = i; asked = q; answer = replicate 16 0 } in
-    x ∷ handedOn (leftBy x .image) qs
-
-abbrev noReset : List Request → Bool
-noReset [] = true
-noReset (q ∷ qs) = not (isReset (askedBy q)) && noReset qs
-
-handed-on : (i : List ℕ) (qs : List Request) → noReset qs ≡ true → HandedOn i (handedOn i qs)
-unfolding HandedOn
-handed-on i [] e = tt
-handed-on i (q ∷ qs) e =
-    let both = and-eq-true-iff (not (isReset (askedBy q))) (noReset qs) .0 e in
-    (refl, not-true (isReset (askedBy q)) (both .0), handed-on _ qs (both .1))
-
--- raise 5, unmask it, a level call on input 64, lower 5, and drain into seven bytes from place 1 on
-abbrev asked : List Request
-asked = request.level 5 1 ∷ request.write 0 0x400 0x020 4 0xffffffdf ∷ request.level 64 1 ∷ request.level 5 0 ∷ request.drain (replicate 7 0xee) 1 ∷ []
-
-abbrev exported : List Exported
-exported = handedOn (encode reset) asked
-
-exported-carried-on : NoLoads afterReset exported
-exported-carried-on = handed-on-is-no-load afterReset exported (handed-on (encode reset) asked refl)
-
--- the refused call is no call of the history
-exported-calls : doneCalls exported ≡ level 5 true ∷ write dword 0x020 0xffffffdf ∷ level 5 false ∷ drain 3 ∷ []
-unfolding computing doneCalls
-exported-calls = refl
-
--- a deassert of 5 comes back in an answer area, its assert in the event buffer
-exported-returned : returnedBy exported ≡ record { vector = 5; asserted = false } ∷ []
-unfolding computing returnedBy
-exported-returned = refl
-
-exported-drained : drainedBy exported ≡ record { vector = 5; asserted = true } ∷ []
-unfolding computing drainedBy
-exported-drained = refl
+seventeenth-dropped = ap (λ r. r .drops) (else-dropped filled maskAll (deassertsFrom 0 16) (deassertOf 16) [] refl refl 16 refl (lit≤ tt))

@@ -13,12 +13,12 @@ use Rattle.rules.specs.Core.{Core, Move, poll, raise, lower, clear, setM
 use Rattle.rules.specs.Device.{Device, Call, actsOf, acted, step}
 use Rattle.rules.specs.Device as call
 use Rattle.rules.specs.History.{history, Along}
-use Rattle.rules.specs.Demands.{inService, Ready, disturbs, Undisturbed, asks}
+use Rattle.rules.specs.Demands.{done, also, inService, Eligible, disturbs, Spared, Undisturbed, pollsOrRaises}
 use Rattle.rules.proofs.laws.Bits.{test, on-put, on-without}
 use Rattle.rules.proofs.laws.Inputs.{only-waiting}
 use Rattle.rules.proofs.laws.Halves.{by-halves, on-new-half, on-kept-half}
 use Rattle.rules.proofs.laws.Reach.{each-both, NotIsr, no-isr-act}
-use Rattle.rules.proofs.laws.Folds.{fold-acts, fold-calls, history-append, along-append}
+use Rattle.rules.proofs.laws.Folds.{fold-acts, fold-calls, history-append, along-append, along-each}
 
 -- a write to a half of MASK that brings no 1 to n's place leaves n unmasked
 stays-unmasked : (h : Bool) (x v n : ℕ) → n < 64 → on (asHalf h v) n ≡ false → on x n ≡ false → on (withHalf h x v) n ≡ false
@@ -27,67 +27,67 @@ stays-unmasked h x v =
     (λ j l e f. on-new-half h x v j l ∙ sym (on-new-half h 0 v j l) ∙ e) (λ j l e f. on-kept-half h x v j l ∙ f)
 
 module _ (n : ℕ) (b : n < 64) where
-  -- n is ready still, and in service if it was
+  -- n is eligible still, and in service if it was
   record Goes (l m : Lines) : Type 0 where
-    ready : Ready n m
+    eligible : Eligible n m
     served : inService n l ≡ true → inService n m ≡ true
 
-  serve-goes : (vs : List ℕ) (o : Bool) (l : Lines) (ns : List ℕ) → Ready n l → Goes l (serve vs o l ns .after)
-  serve-goes vs o l [] r = record { ready = r; served = λ e. e }
+  serve-goes : (vs : List ℕ) (o : Bool) (l : Lines) (ns : List ℕ) → Eligible n l → Goes l (serve vs o l ns .after)
+  serve-goes vs o l [] r = record { eligible = r; served = λ e. e }
   serve-goes vs o l (m ∷ ns) r =
-      record { ready = record { latched = r .latched; unmasked = r .unmasked }; served = λ e. rw (on-put (l .isr) m n b, e) }
+      record { eligible = record { latched = r .latched; unmasked = r .unmasked }; served = λ e. rw (on-put (l .isr) m n b, e) }
 
-  leave-goes : (vs : List ℕ) (o : Bool) (f : ℕ → Bool) (l : Lines) → f n ≡ false → Ready n l → Goes l (leave vs o f l .after)
+  leave-goes : (vs : List ℕ) (o : Bool) (f : ℕ → Bool) (l : Lines) → f n ≡ false → Eligible n l → Goes l (leave vs o f l .after)
   leave-goes vs o f l e r =
-      record { ready = record { latched = r .latched; unmasked = r .unmasked }; served = λ s. rw (on-without (l .isr) f n b, s, e) }
+      record { eligible = record { latched = r .latched; unmasked = r .unmasked }; served = λ s. rw (on-without (l .isr) f n b, s, e) }
 
   -- a latch more, or other latches fewer
-  latch-ready : (l : Lines) (m : ℕ) → Ready n l → Ready n (withIrr l (put (l .irr) m))
-  latch-ready l m r = record { latched = rw (on-put (l .irr) m n b, r .latched); unmasked = r .unmasked }
+  latch-eligible : (l : Lines) (m : ℕ) → Eligible n l → Eligible n (withIrr l (put (l .irr) m))
+  latch-eligible l m r = record { latched = rw (on-put (l .irr) m n b, r .latched); unmasked = r .unmasked }
 
-  unlatch-ready : (l : Lines) (f : ℕ → Bool) → f n ≡ false → Ready n l → Ready n (withIrr l (without (l .irr) f))
-  unlatch-ready l f e r = record { latched = rw (on-without (l .irr) f n b, r .latched, e); unmasked = r .unmasked }
+  unlatch-eligible : (l : Lines) (f : ℕ → Bool) → f n ≡ false → Eligible n l → Eligible n (withIrr l (without (l .irr) f))
+  unlatch-eligible l f e r = record { latched = rw (on-without (l .irr) f n b, r .latched, e); unmasked = r .unmasked }
 
-  move-goes : (vs : List ℕ) (l : Lines) (m : Move) → disturbs n (move m) ≡ false → Ready n l → Goes l (moved vs l m .after)
+  move-goes : (vs : List ℕ) (l : Lines) (m : Move) → disturbs n (move m) ≡ false → Eligible n l → Goes l (moved vs l m .after)
   unfolding moved polled raised lowered cleared masked
   move-goes vs l (poll m) e r = serve-goes vs false l (inputs (pendingIn (only m) l)) r
   move-goes vs l (raise m) e r =
       let k = withIrr l (put (l .irr) m) in
-      let g = serve-goes vs false k (inputs (pendingIn (only m) k)) (latch-ready l m r) in
-      record { ready = g .ready; served = g .served }
+      let g = serve-goes vs false k (inputs (pendingIn (only m) k)) (latch-eligible l m r) in
+      record { eligible = g .eligible; served = g .served }
   move-goes vs l (lower m) e r =
-      let g = leave-goes vs false (only m) (withIrr l (without (l .irr) (only m))) e (unlatch-ready l (only m) e r) in
-      record { ready = g .ready; served = g .served }
+      let g = leave-goes vs false (only m) (withIrr l (without (l .irr) (only m))) e (unlatch-eligible l (only m) e r) in
+      record { eligible = g .eligible; served = g .served }
   move-goes vs l (clear x) e r =
-      let g = leave-goes vs true (on x) (withIrr l (without (l .irr) (on x))) e (unlatch-ready l (on x) e r) in
-      record { ready = g .ready; served = g .served }
+      let g = leave-goes vs true (on x) (withIrr l (without (l .irr) (on x))) e (unlatch-eligible l (on x) e r) in
+      record { eligible = g .eligible; served = g .served }
   move-goes vs l (setMask h v) e r =
       let new = withHalf h (l .mask) v in
       let off = stays-unmasked h (l .mask) v n b e (r .unmasked) in
       let k = withMask l new in
       let one = serve-goes vs true k (inputs (pendingIn (newlyUnmasked (l .mask) new) k)) (record { latched = r .latched; unmasked = off }) in
-      let two = leave-goes vs true (newlyMasked (l .mask) new) _ (rw off (and-false (not (on (l .mask) n)))) (one .ready) in
-      record { ready = two .ready; served = λ s. two .served (one .served s) }
+      let two = leave-goes vs true (newlyMasked (l .mask) new) _ (rw off (and-false (not (on (l .mask) n)))) (one .eligible) in
+      record { eligible = two .eligible; served = λ s. two .served (one .served s) }
 
-  act-goes : (c : Core) (a : Act) → NotIsr a × (disturbs n a ≡ false) → Ready n (c .lines) → Goes (c .lines) (turn c a .after .lines)
+  act-goes : (c : Core) (a : Act) → NotIsr a × (disturbs n a ≡ false) → Eligible n (c .lines) → Goes (c .lines) (turn c a .after .lines)
   unfolding lineTurn
   act-goes c (move m) t r = move-goes (c .vectors) (c .lines) m (t .1) r
   act-goes c (setIsr h v) t r = absurd (t .0)
-  act-goes c (store s) t r = record { ready = r; served = λ e. e }
-  act-goes c (setVector m v) t r = record { ready = r; served = λ e. e }
+  act-goes c (store s) t r = record { eligible = r; served = λ e. e }
+  act-goes c (setVector m v) t r = record { eligible = r; served = λ e. e }
 
   -- along acts and along calls
   abbrev Onward : Core → List Made → Core → Type 0
-  Onward c ms d = Ready n (c .lines) → Goes (c .lines) (d .lines)
+  Onward c ms d = Eligible n (c .lines) → Goes (c .lines) (d .lines)
 
   onward-none : (c : Core) → Onward c [] c
-  onward-none c r = record { ready = r; served = λ e. e }
+  onward-none c r = record { eligible = r; served = λ e. e }
 
   onward-next : (c d e : Core) (xs ys : List Made) → Onward c xs d → Onward d ys e → Onward c (xs ++ ys) e
   onward-next c d e xs ys f g r =
       let one = f r in
-      let two = g (one .ready) in
-      record { ready = two .ready; served = λ s. two .served (one .served s) }
+      let two = g (one .eligible) in
+      record { eligible = two .eligible; served = λ s. two .served (one .served s) }
 
   call-goes : (d : Device) (c : Call) → Undisturbed n d c → Onward (d .core) (step d c .made) (step d c .after .core)
   unfolding step acted
@@ -99,56 +99,94 @@ module _ (n : ℕ) (b : n < 64) where
   calls-go = fold-calls (λ d ms e. Onward (d .core) ms (e .core)) (λ d. onward-none (d .core))
       (λ d e f xs ys x y. onward-next (d .core) (e .core) (f .core) xs ys x y) (Undisturbed n) call-goes
 
+  -- a write of ISR takes n out of service, or puts it in, and leaves it latched and unmasked
+  act-spares : (c : Core) (a : Act) → disturbs n a ≡ false → Eligible n (c .lines) → Eligible n (turn c a .after .lines)
+  unfolding lineTurn
+  act-spares c (move m) t r = move-goes (c .vectors) (c .lines) m t r .eligible
+  act-spares c (setIsr h v) t r = record { latched = r .latched; unmasked = r .unmasked }
+  act-spares c (store s) t r = r
+  act-spares c (setVector m v) t r = r
+
+  call-spares : (d : Device) (c : Call) → Spared n d c → Eligible n (d .core .lines) → Eligible n (step d c .after .core .lines)
+  unfolding step acted
+  call-spares d c p =
+      fold-acts (λ c ms e. Eligible n (c .lines) → Eligible n (e .lines)) (λ c r. r) (λ c d e xs ys f g r. g (f r)) (λ a. disturbs n a ≡ false) act-spares
+      (d .core) p
+
+  calls-spare : (d : Device) (cs : List Call) → Along (Spared n) d cs → Eligible n (d .core .lines) → Eligible n (history d cs .after .core .lines)
+  calls-spare =
+      fold-calls (λ d ms e. Eligible n (d .core .lines) → Eligible n (e .core .lines)) (λ d r. r) (λ d e f xs ys x y r. y (x r)) (Spared n) call-spares
+
   -- ---- a poll or a raise of n
 
-  poll-serves : (vs : List ℕ) (l : Lines) → Ready n l → inService n (polled vs l n .after) ≡ true
+  poll-serves : (vs : List ℕ) (l : Lines) → Eligible n l → inService n (polled vs l n .after) ≡ true
   unfolding polled
   poll-serves vs l r =
       rw (only-waiting n l b, r .latched, r .unmasked)
       (test (on (l .isr) n) (λ e. rw e e) (λ e. rw e (on-put (l .isr) n n b ∙ rw (eq-eqb n n refl) (or-true (on (l .isr) n)))))
 
   -- a raise latches it, so that it needs to be unmasked only
-  latched-ready : (l : Lines) → on (l .mask) n ≡ false → Ready n (withIrr l (put (l .irr) n))
-  latched-ready l e = record { latched = on-put (l .irr) n n b ∙ rw (eq-eqb n n refl) (or-true (on (l .irr) n)); unmasked = e }
+  latched-eligible : (l : Lines) → on (l .mask) n ≡ false → Eligible n (withIrr l (put (l .irr) n))
+  latched-eligible l e = record { latched = on-put (l .irr) n n b ∙ rw (eq-eqb n n refl) (or-true (on (l .irr) n)); unmasked = e }
 
   raise-serves : (vs : List ℕ) (l : Lines) → on (l .mask) n ≡ false → inService n (raised vs l n .after) ≡ true
   unfolding raised
-  raise-serves vs l e = poll-serves vs (withIrr l (put (l .irr) n)) (latched-ready l e)
+  raise-serves vs l e = poll-serves vs (withIrr l (put (l .irr) n)) (latched-eligible l e)
 
-  raise-readies : (vs : List ℕ) (l : Lines) → on (l .mask) n ≡ false → Ready n (raised vs l n .after)
+  raise-admits : (vs : List ℕ) (l : Lines) → on (l .mask) n ≡ false → Eligible n (raised vs l n .after)
   unfolding raised polled
-  raise-readies vs l e =
+  raise-admits vs l e =
       let k = withIrr l (put (l .irr) n) in
-      serve-goes vs false k (inputs (pendingIn (only n) k)) (latched-ready l e) .ready
+      serve-goes vs false k (inputs (pendingIn (only n) k)) (latched-eligible l e) .eligible
 
-  ask-serves : (d : Device) (c : Call) → asks n c ≡ true → Ready n (d .core .lines) → inService n (step d c .after .core .lines) ≡ true
+  -- it is itself no call that disturbs n
+  request-spares : (d : Device) (c : Call) → pollsOrRaises n c ≡ true → Spared n d c
+  unfolding actsOf
+  request-spares d (call.level m true) e = also refl done
+  request-spares d (call.level m false) e = absurd (true≢false (sym e))
+  request-spares d (call.poll m) e = also refl done
+  request-spares d (call.read w o) e = done
+  request-spares d (call.write w o v) e = absurd (true≢false (sym e))
+  request-spares d (call.drain k) e = done
+
+  request-serves : (d : Device) (c : Call) → pollsOrRaises n c ≡ true → Eligible n (d .core .lines) → inService n (step d c .after .core .lines) ≡ true
   unfolding step acted actsOf turns lineTurn moved
-  ask-serves d (call.level m true) e r = rw (eqb-true m n e) (raise-serves (d .core .vectors) (d .core .lines) (r .unmasked))
-  ask-serves d (call.level m false) e r = absurd (true≢false (sym e))
-  ask-serves d (call.poll m) e r = rw (eqb-true m n e) (poll-serves (d .core .vectors) (d .core .lines) r)
-  ask-serves d (call.read w o) e r = absurd (true≢false (sym e))
-  ask-serves d (call.write w o v) e r = absurd (true≢false (sym e))
-  ask-serves d (call.drain k) e r = absurd (true≢false (sym e))
+  request-serves d (call.level m true) e r = rw (eqb-true m n e) (raise-serves (d .core .vectors) (d .core .lines) (r .unmasked))
+  request-serves d (call.level m false) e r = absurd (true≢false (sym e))
+  request-serves d (call.poll m) e r = rw (eqb-true m n e) (poll-serves (d .core .vectors) (d .core .lines) r)
+  request-serves d (call.read w o) e r = absurd (true≢false (sym e))
+  request-serves d (call.write w o v) e r = absurd (true≢false (sym e))
+  request-serves d (call.drain k) e r = absurd (true≢false (sym e))
 
--- 'An input latched and unmasked, and after that not lowered, cleared or masked, is in service from the first poll or raise of it on.' In d the input n
--- is ready, and the calls from there on leave it undisturbed; c among them is a poll or raise of it, the first or another. Then n is in service at their
--- end, whatever other calls lie before and after c.
-pub in-service-from-then-on : (n : ℕ) → n < 64 → (d : Device) (before : List Call) (c : Call) (later : List Call) → Ready n (d .core .lines)
-    → Along (Undisturbed n) d (before ++ (c ∷ later)) → asks n c ≡ true → inService n (history d (before ++ (c ∷ later)) .after .core .lines) ≡ true
+-- 'An input latched and unmasked, and after that not lowered, cleared or masked, is in service from the first poll or raise of it on.' In d the input n is
+-- eligible, and no call from there on lowers, clears or masks it; c among them is a poll or raise of it, the first or another. From c on no write reaches
+-- ISR; before c it may. Then n is in service at their end, whatever other calls lie before and after c.
+pub in-service-from-the-poll-on : (n : ℕ) → n < 64 → (d : Device) (before : List Call) (c : Call) (later : List Call) → Eligible n (d .core .lines)
+    → Along (Spared n) d before → pollsOrRaises n c ≡ true → Along (Undisturbed n) (history d (before ++ (c ∷ [])) .after) later
+    → inService n (history d (before ++ (c ∷ later)) .after .core .lines) ≡ true
+unfolding history
+in-service-from-the-poll-on n b d before c later r p e q =
+    let met = history d before .after in
+    let one = calls-spare n b d before p r in
+    let two = call-spares n b met c (request-spares n b met c e) one in
+    let after = rw (history-append d before (c ∷ [])) at q in
+    let three = calls-go n b (step met c .after) later after two in
+    rw (history-append d before (c ∷ later)) (three .served (request-serves n b met c e one))
+
+-- the same with demand 3's premise over all the calls: none of them is a write that reaches ISR
+pub in-service-from-then-on : (n : ℕ) → n < 64 → (d : Device) (before : List Call) (c : Call) (later : List Call) → Eligible n (d .core .lines)
+    → Along (Undisturbed n) d (before ++ (c ∷ later)) → pollsOrRaises n c ≡ true → inService n (history d (before ++ (c ∷ later)) .after .core .lines) ≡ true
 unfolding history Along
 in-service-from-then-on n b d before c later r p e =
     let parts = along-append (Undisturbed n) d before (c ∷ later) p in
-    let met = history d before .after in
-    let one = calls-go n b d before (parts .0) r in
-    let two = call-goes n b met c (parts .1 .0) (one .ready) in
-    let three = calls-go n b (step met c .after) later (parts .1 .1) (two .ready) in
-    rw (history-append d before (c ∷ later)) (three .served (ask-serves n b met c e (one .ready)))
+    let spared = along-each (Undisturbed n) (Spared n) (λ x y u. u .notDisturbed) d before (parts .0) in
+    in-service-from-the-poll-on n b d before c later r spared e (rw (history-append d before (c ∷ [])) (parts .1 .1))
 
 -- the same where the raise is what latches it: an input that is unmasked and raised is in service from that raise on
 pub in-service-once-raised : (n : ℕ) → n < 64 → (d : Device) (later : List Call) → on (d .core .lines .mask) n ≡ false
-    → Along (Undisturbed n) d (call.level n true ∷ later) → inService n (history d (call.level n true ∷ later) .after .core .lines) ≡ true
-unfolding history Along step acted actsOf turns lineTurn moved
+    → Along (Undisturbed n) (step d (call.level n true) .after) later → inService n (history d (call.level n true ∷ later) .after .core .lines) ≡ true
+unfolding history step acted actsOf turns lineTurn moved
 in-service-once-raised n b d later e p =
     let vs = d .core .vectors in
     let l = d .core .lines in
-    calls-go n b (step d (call.level n true) .after) later (p .1) (raise-readies n b vs l e) .served (raise-serves n b vs l e)
+    calls-go n b (step d (call.level n true) .after) later p (raise-admits n b vs l e) .served (raise-serves n b vs l e)

@@ -1,7 +1,7 @@
 -- Exported calls and the history that they carry on: what a done call was asked and what it leaves, and that the history's device is always the one
 -- that the image last left holds. A refused call changes nothing; a load begins anew from what it was given.
 use mathlib.Core.Path.{_≡_, refl, sym, ap, _∙_}
-use mathlib.Core.Bool.{Bool, true, false, cond, not, true≢false, and-eq-true-iff, Bool·not-not}
+use mathlib.Core.Bool.{Bool, true, false, cond, not, true≢false, and-false, and-eq-true-iff, Bool·not-not}
 use mathlib.Core.List.{List, [], _∷_, _++_, append-nil}
 use Prim.Native.Nat.{ℕ, _≤_}
 use native.Mathlib.Omega.{arith}
@@ -15,11 +15,11 @@ use Rattle.rules.specs.Image as image
 use Rattle.rules.specs.Calls.{Refusal, outside, noWidth, noInput, wrongLength, wrongContents, wrongBody, noRoom, refusalNumber}
 use Rattle.rules.specs.Calls.{Tested, pass, refuse, Request, Asked, afresh, calls, askedBy, Done, doneOn, performed}
 use Rattle.rules.specs.Calls.{answered, bufferOf, placeOf, written, Outcome, leaves, settled, answerLength, hasRoom, outcome}
-use Rattle.rules.specs.History.{history, Exported, leftBy, isDone, isReset, isLoad, callOf, Underway, carriedOn}
-use Rattle.rules.specs.Demands.{doneCall, afterReset, current, Faithful}
+use Rattle.rules.specs.History.{history}
+use Rattle.rules.specs.Exported.{Exported, leftBy, isDone, isReset, isLoad, callOf, Underway, carriedOn, doneCall, afterReset, atLoad, current, Faithful}
 use Rattle.rules.proofs.laws.Bits.{test}
-use Rattle.rules.proofs.laws.Lists.{same-equal}
-use Rattle.rules.proofs.laws.Images.{decode-encode, decode-well-formed, reset-well-formed}
+use Rattle.rules.proofs.laws.Lists.{same-self, same-equal}
+use Rattle.rules.proofs.laws.Images.{decode-encode, encode-decode, decode-well-formed, reset-well-formed}
 use Rattle.rules.proofs.laws.Folds.{history-append}
 use Rattle.rules.proofs.laws.WellFormed.{history-well}
 
@@ -68,7 +68,7 @@ refused-leaves x e = test (hasRoom (x .asked) (x .answer)) (λ t. go t (performe
 -- a done call of the device: its image was accepted, and it gives what the call does to the device there
 record DidCall (t : Tested Call) (i : List ℕ) (y : Done) : Type 0 where
   call : Call
-  asks : t ≡ pass call
+  passes : t ≡ pass call
   accepted : imageTest i ≡ image.accepted
   gives : y ≡ doneOn (decode i) call
 
@@ -84,7 +84,7 @@ unfolding performed
 did-call t i y e = go (imageTest i) refl t refl
   where
     go : (r : ImageTest) → imageTest i ≡ r → (u : Tested Call) → t ≡ u → DidCall t i y
-    go image.accepted f (pass c) g = record { call = c; asks = g; accepted = f; gives = sym (passed (rw (f, g) at e)) }
+    go image.accepted f (pass c) g = record { call = c; passes = g; accepted = f; gives = sym (passed (rw (f, g) at e)) }
     go image.accepted f (refuse r) g = never r y (rw (f, g) at e)
     go image.wrongLength f u g = never wrongLength y (rw f at e)
     go image.wrongContents f u g = never wrongContents y (rw f at e)
@@ -123,6 +123,10 @@ pub faithful-after-reset : Faithful afterReset
 unfolding history
 faithful-after-reset = record { began = reset-well-formed; left = refl }
 
+pub faithful-at-load : (i : List ℕ) → Bytes i → imageTest i ≡ image.accepted → Faithful (atLoad i)
+unfolding history
+faithful-at-load i b e = record { began = decode-well-formed i b e; left = sym (encode-decode i b e) }
+
 history-snoc : (d : Device) (cs : List Call) (c : Call) → history d (cs ++ (c ∷ [])) .after ≡ step (history d cs .after) c .after
 unfolding history
 history-snoc d cs c = ap (λ s. s .after) (history-append d cs (c ∷ []))
@@ -149,7 +153,7 @@ module _ (h : Underway) (x : Exported) where
   -- a done call that is no reset: what it asks of the device, and what it leaves
   record Did : Type 0 where
     call : Call
-    asks : askedBy (x .asked) ≡ calls (pass call)
+    passes : askedBy (x .asked) ≡ calls (pass call)
     accepted : imageTest (x .given) ≡ image.accepted
     left : leftBy x ≡ settled (x .asked) (x .given) (x .answer) (pass (doneOn (decode (x .given)) call))
 
@@ -159,10 +163,22 @@ module _ (h : Underway) (x : Exported) where
       let c = did-call u (x .given) (p .gives) (rw e at (p .passed)) in
       record {
         call = c .call;
-        asks = e ∙ ap calls (c .asks);
+        passes = e ∙ ap calls (c .passes);
         accepted = c .accepted;
         left = p .left ∙ ap (λ y. settled (x .asked) (x .given) (x .answer) (pass y)) (c .gives);
       }
+
+  -- a done call that is no reset: its image was accepted; and if it is a load, it begins the history from what it was given
+  module _ (t : isDone x ≡ true) (no : isReset (askedBy (x .asked)) ≡ false) where
+    done-call : Did
+    done-call = go (askedBy (x .asked)) refl
+      where
+        go : (k : Asked) → askedBy (x .asked) ≡ k → Did
+        go afresh e = absurd (true≢false (sym (ap isReset e) ∙ no))
+        go (calls u) e = did t u e
+
+    pub done-accepted : imageTest (x .given) ≡ image.accepted
+    done-accepted = done-call .accepted
 
   -- given the image that the history left, it meets the history's device
   meets : Faithful h → h .left ≡ x .given → decode (x .given) ≡ current h
@@ -174,11 +190,11 @@ module _ (h : Underway) (x : Exported) where
       let c = r .call in
       let image-is : leftBy x .image ≡ encode (step (decode (x .given)) c .after) = ap (λ (o : Outcome). o .image) (r .left) in
       test (isLoad (h .left) x)
-      (λ n. rw (carried-done t n (r .asks)) (record { began = decode-well-formed (x .given) (b n) (r .accepted); left = image-is }))
-      (λ n. rw (carried-done t n (r .asks)) (record {
+      (λ n. rw (carried-done t n (r .passes)) (record { began = decode-well-formed (x .given) (b n) (r .accepted); left = image-is }))
+      (λ n. rw (carried-done t n (r .passes)) (record {
         began = f .began;
         left =
-            let met = meets f (given-left (h .left) x t (pass c) (r .asks) n) in
+            let met = meets f (given-left (h .left) x t (pass c) (r .passes) n) in
             image-is ∙ ap (λ d. encode (step d c .after)) met ∙ ap encode (sym (history-snoc (h .began) (h .calls) c));
       }))
 
@@ -193,7 +209,7 @@ module _ (h : Underway) (x : Exported) where
   -- a done call that is no load: it is given the history's image, is one call more of it, and hands back what that call's step gives
   pub record Handed : Type 0 where
     pub call : Call
-    pub asks : askedBy (x .asked) ≡ calls (pass call)
+    pub passes : askedBy (x .asked) ≡ calls (pass call)
     pub left : leftBy x ≡ leaves 0 (encode (step (current h) call .after)) (answered 0 (value (current h) call) (x .answer))
         (written (bufferOf (x .asked)) (placeOf (x .asked)) (step (current h) call .drained))
     pub fits : placeOf (x .asked) ≤ length (bufferOf (x .asked))
@@ -209,10 +225,10 @@ module _ (h : Underway) (x : Exported) where
           let met = meets f (given-left (h .left) x t u e n) in
           record {
             call = r .call;
-            asks = r .asks;
+            passes = r .passes;
             left = r .left ∙ ap (λ d. settled (x .asked) (x .given) (x .answer) (pass (doneOn d (r .call)))) met;
             fits = place-fits (x .asked) (x .answer) (did-pass x t .room);
-            carried = carried-done t n (r .asks);
+            carried = carried-done t n (r .passes);
           }
 
   -- so an exported call that is no load carries the history on by the calls that it is, none or one
@@ -227,7 +243,7 @@ module _ (h : Underway) (x : Exported) where
       test (isDone x)
       (λ t.
       let r = handed f t n in
-      let one : doneCall x ≡ r .call ∷ [] = (λ i. cond (t i) (callOf (r .asks i)) []) in
+      let one : doneCall x ≡ r .call ∷ [] = (λ i. cond (t i) (callOf (r .passes i)) []) in
       record {
         began = ap (λ (u : Underway). u .began) (r .carried);
         calls = rw one (ap (λ (u : Underway). u .calls) (r .carried));
@@ -240,3 +256,16 @@ module _ (h : Underway) (x : Exported) where
         calls = rw none (ap (λ (u : Underway). u .calls) (carried-refused t) ∙ sym (append-nil (h .calls)));
         current = rw none (ap current (carried-refused t));
       })
+
+-- ---- a load
+
+module _ (x : Exported) (t : isDone x ≡ true) (no : isReset (askedBy (x .asked)) ≡ false) where
+  -- given the image that it is given, it is no load
+  pub own-image : isLoad (x .given) x ≡ false
+  own-image = rw (no, same-self (x .given)) (and-false (isDone x))
+
+  -- whatever was under way, it begins the history from that image
+  pub load-begins : (h : Underway) → isLoad (h .left) x ≡ true → carriedOn h x ≡ carriedOn (atLoad (x .given)) x
+  load-begins h n =
+      let e = done-call h x t no .passes in
+      carried-done h x t n e ∙ sym (carried-done (atLoad (x .given)) x t own-image e)

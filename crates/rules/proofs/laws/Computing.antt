@@ -9,13 +9,14 @@ use Rattle.rules.specs.Access.{valueOf, entry, readCell, readDword, read
 use Rattle.rules.specs.Device.{upFrom, actsOf, offers, acted, step, value}
 use Rattle.rules.specs.Image.{registersBody, ringBody, encode, decode, imageTest}
 use Rattle.rules.specs.Calls.{performed, answered, written, outcome}
-use Rattle.rules.specs.History.{history, carriedOn}
-use Rattle.rules.specs.Session.{spelled, fields, lineOf, said, played, linesOf, answers, session}
+use Rattle.rules.specs.History.{history}
+use Rattle.rules.specs.Exported.{carriedOn}
+use Rattle.rules.specs.Session.{digitsSpell, fields, lineOf, said, played, linesOf, answers, session}
 use Rattle.rules.specs.Dozen.{found, raises}
 
 unfoldable pub computing : ℕ
 unfolding
     on numberWith from put without polled raised lowered cleared masked offered drawn ringStep ringRun moved lineTurn vectorsAfter storedAfter turns
     cellAt valueOf entry readCell readDword readByte readAt entryActs cellActs dwordActs byteActs writeActs upFrom actsOf offers acted step value
-    registersBody ringBody encode decode imageTest performed answered written outcome history carriedOn spelled fields lineOf said played linesOf answers session found raises
+    registersBody ringBody encode decode imageTest performed answered written outcome history carriedOn digitsSpell fields lineOf said played linesOf answers session found raises
 computing = 0

@@ -60,7 +60,7 @@ pub tally-nil : {A : Type 0} (q : A → Bool) → tally q [] ≡ 0
 unfolding tally
 tally-nil q = refl
 
-tally-none : (q : Made → Bool) (e : ℕ → Made) → ((n : ℕ) → q (e n) ≡ false) → (l : List ℕ) → tally q (map e l) ≡ 0
+pub tally-none : (q : Made → Bool) (e : ℕ → Made) → ((n : ℕ) → q (e n) ≡ false) → (l : List ℕ) → tally q (map e l) ≡ 0
 unfolding tally
 tally-none q e h [] = refl
 tally-none q e h (n ∷ l) = rw (h n) (omega (arith, tally-none q e h l))

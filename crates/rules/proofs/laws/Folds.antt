@@ -60,6 +60,12 @@ unfolding history Along
 along-append P d [] ys p = (tt, p)
 along-append P d (c ∷ xs) ys p = let r = along-append P (step d c .after) xs ys (p .1) in ((p .0, r .0), r .1)
 
+-- what holds of each call in place of something that it follows from
+pub along-each : (P Q : Device → Call → Type 0) → ((d : Device) (c : Call) → P d c → Q d c) → (d : Device) (cs : List Call) → Along P d cs → Along Q d cs
+unfolding Along
+along-each P Q h d [] p = tt
+along-each P Q h d (c ∷ cs) p = (h d c (p .0), along-each P Q h (step d c .after) cs (p .1))
+
 -- ---- what acts leave
 
 -- nothing is made, and the lines stay

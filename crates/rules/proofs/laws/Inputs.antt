@@ -11,7 +11,7 @@ use lib.Bits.{bitAnd, and-le-l}
 use lib.Count.{trailingZeros, under}
 use borrow.Author.Tests.{eq-eqb, ne-eqb, eqb-true, eqb-false}
 use Rattle.rules.specs.Inputs.{on, from, inputs, only, without}
-use Rattle.rules.specs.Lines.{Lines, isPending, pendingIn, servedIn, withIsr, serve, event, enter, leave}
+use Rattle.rules.specs.Lines.{Lines, isPending, pendingIn, servedIn, unlatchedIn, withIsr, serve, event, enter, leave}
 use Rattle.rules.proofs.laws.Bits.{digit, test, is-number, on-zero, on-suc, on-none, on-and, on-and-not, on-without, without-ext}
 
 -- ---- lists
@@ -146,10 +146,6 @@ unfolding without
 lowest-dropped x h n = is-number 64 _ _ (lt-of-le-of-lt (and-le-l x (x - 1)) h) (λ i l. on-and x (x - 1) i ∙ dropped-bits 64 x h n i)
 
 -- ---- the sets of the engine, as the code masks them
--- the inputs that have f, are in service and are not latched
-abbrev pub unlatchedIn : (ℕ → Bool) → Lines → ℕ → Bool
-unlatchedIn f l n = f n && (on (l .isr) n && not (on (l .irr) n))
-
 -- m & irr & !mask & !isr; isr & m; m & isr & !irr
 module _ (m : ℕ) (l : Lines) where
   pub waiting-is : l .mask < 2 ^ 64 → l .isr < 2 ^ 64

@@ -3,16 +3,16 @@
 -- and what a write makes is offered.
 use mathlib.Core.Path.{_≡_, refl, sym, ap, _∙_}
 use mathlib.Core.Logic.{_⊎_, inl, inr}
-use mathlib.Core.Bool.{Bool, true, false, cond, not, _&&_, _||_, true≢false, and-eq-true-iff, and-false}
+use mathlib.Core.Bool.{Bool, true, false, cond, not, _&&_, _||_, true≢false, and-eq-true-iff, and-false, or-true, or-assoc}
 use mathlib.Core.List.{List, [], _∷_, _++_}
 use Prim.Native.Nat.{ℕ, _+_, _-_, _%_, _<_, _≤_}
 use native.Mathlib.Omega.{arith}
 use native.Mathlib.Nat.{le-refl}
 use lib.Dec.{eqb, leb, ltb}
-use borrow.Author.Tests.{eqb-true, lt-ltb, le-ltb, lt-leb, le-leb, ltb-true, ltb-false}
+use borrow.Author.Tests.{eqb-true, not-true, lt-ltb, le-ltb, lt-leb, le-leb, ltb-true, ltb-false}
 use Rattle.rules.specs.Numbers.{byteOf}
 use Rattle.rules.specs.Inputs.{half}
-use Rattle.rules.specs.Core.{Core, Plain, Move, poll, raise, lower, clear, setMask, Act, move, setIsr, store, setPlain, setRoute, setVector}
+use Rattle.rules.specs.Core.{Core, Plain, Move, poll, raise, lower, clear, setMask, Act, move, setIsr, store, setPlain, setRoute, setVector, turns}
 use Rattle.rules.specs.Map.{Register, Cell, halfOf, bytes, nothing, Row, table, lookup}
 use Rattle.rules.specs.Map.{routesAt, vectorsAt, inRoutes, inVectors, inByteArea, cellAt}
 use Rattle.rules.specs.Map as map
@@ -20,7 +20,7 @@ use Rattle.rules.specs.Access.{Width, byte, word, dword, qword, reachabl
 use Rattle.rules.specs.Device.{Call, actsOf}
 use Rattle.rules.specs.Device as call
 use Rattle.rules.specs.History.{byteReaches, reaches, isIsr, writesIsr}
-use Rattle.rules.specs.Demands.{Each, done, also}
+use Rattle.rules.specs.Demands.{Each, done, also, someAct, setsIsr}
 use Rattle.rules.proofs.laws.Bits.{test}
 
 -- ---- lists of acts
@@ -32,6 +32,10 @@ each-append (also t e) f = also t (each-append e f)
 pub each-both : {T U : Act → Type 0} {xs : List Act} → Each T xs → Each U xs → Each (λ a. T a × U a) xs
 each-both done done = done
 each-both (also t e) (also u f) = also (t, u) (each-both e f)
+
+pub each-so : {T U : Act → Type 0} {xs : List Act} → ((a : Act) → T a → U a) → Each T xs → Each U xs
+each-so f done = done
+each-so f (also {a = a} t e) = also (f a t) (each-so f e)
 
 -- ---- what stands at an offset
 
@@ -213,6 +217,61 @@ isr-write c w o v e =
 
 pub no-isr-act : (c : Core) (x : Call) → writesIsr x ≡ false → Each NotIsr (actsOf c x)
 no-isr-act c x e = call-has NotIsr (λ m. tt) c x (λ w o v f. isr-write c w o v (sym (ap writesIsr f) ∙ e))
+
+-- and where it reaches ISR, it writes ISR
+some-append : (t : Act → Bool) (xs ys : List Act) → someAct t (xs ++ ys) ≡ (someAct t xs || someAct t ys)
+unfolding someAct
+some-append t [] ys = refl
+some-append t (a ∷ xs) ys = ap (λ b. t a || b) (some-append t xs ys) ∙ sym (or-assoc (t a) (someAct t xs) (someAct t ys))
+
+none-of : {xs : List Act} → Each NotIsr xs → someAct setsIsr xs ≡ false
+unfolding someAct
+none-of done = refl
+none-of (also {a = move m} t e) = none-of e
+none-of (also {a = setIsr h v} t e) = absurd t
+none-of (also {a = store s} t e) = none-of e
+none-of (also {a = setVector n v} t e) = none-of e
+
+isr-dword : (o v : ℕ) → isIsr o ≡ true → someAct setsIsr (dwordActs o v) ≡ true
+unfolding someAct dwordActs cellActs cellAt
+isr-dword o v e =
+    test (eqb o 0x3a0) (λ t. rw (eqb-true o 0x3a0 t)) (λ t. rw (eqb-true o 0x3a4 (rw t at e)))
+
+isr-byte : (c : Core) (o v : ℕ) → byteReaches isIsr o ≡ true → someAct setsIsr (byteActs c o v) ≡ true
+unfolding byteActs
+isr-byte c o v e =
+    let both = and-eq-true-iff (not (inByteArea o)) (isIsr (o - o % 4)) .0 e in
+    rw (not-true (inByteArea o) (both .0)) (isr-dword (o - o % 4) _ (both .1))
+
+isr-written : (c : Core) (w : Width) (o v : ℕ) → reaches isIsr w o ≡ true → someAct setsIsr (writeActs c w o v) ≡ true
+unfolding writeActs
+isr-written c byte o v e = isr-byte c o (byteOf v 0) e
+isr-written c word o v e =
+    let one = byteActs c o (byteOf v 0) in
+    some-append setsIsr one _
+    ∙ test (byteReaches isIsr o) (λ t. rw (isr-byte c o (byteOf v 0) t))
+    (λ t. rw (isr-byte (turns c one .after) (o + 1) (byteOf v 1) (rw t at e)) (or-true (someAct setsIsr one)))
+isr-written c dword o v e = isr-dword o (half false v) e
+isr-written c qword o v e =
+    some-append setsIsr (dwordActs o (half false v)) _
+    ∙ test (isIsr o) (λ t. rw (isr-dword o (half false v) t)) (λ t. rw (second (rw t at e)) (or-true (someAct setsIsr (dwordActs o (half false v)))))
+  where
+    near : isIsr (o + 4) ≡ true → reachable (o + 4) ≡ true
+    near u = test (eqb (o + 4) 0x3a0) (λ t. rw (eqb-true (o + 4) 0x3a0 t)) (λ t. rw (eqb-true (o + 4) 0x3a4 (rw t at u)))
+
+    second : isIsr (o + 4) ≡ true → someAct setsIsr (cond (reachable (o + 4)) (dwordActs (o + 4) (half true v)) []) ≡ true
+    second u = rw (near u) (isr-dword (o + 4) (half true v) u)
+
+pub isr-acts : (c : Core) (x : Call) → writesIsr x ≡ someAct setsIsr (actsOf c x)
+unfolding actsOf
+isr-acts c x = test (writesIsr x) (λ t. t ∙ sym (go x t)) (λ t. t ∙ sym (none-of (no-isr-act c x t)))
+  where
+    go : (x : Call) → writesIsr x ≡ true → someAct setsIsr (actsOf c x) ≡ true
+    go (call.level n b) t = absurd (true≢false (sym t))
+    go (call.poll n) t = absurd (true≢false (sym t))
+    go (call.read w o) t = absurd (true≢false (sym t))
+    go (call.write w o v) t = isr-written c w o v t
+    go (call.drain k) t = absurd (true≢false (sym t))
 
 -- ---- the lines or the vectors, never both
 

@@ -21,9 +21,10 @@ use Rattle.rules.specs.Image.{eventsOf}
 use Rattle.rules.specs.Calls.{Tested, pass, refuse, onPass, inputCall, widthTest, addressTest, Request, calls, askedBy}
 use Rattle.rules.specs.Calls.{amount, answered, bufferOf, placeOf, written, Outcome}
 use Rattle.rules.specs.Calls as request
-use Rattle.rules.specs.History.{history, Exported, leftBy, isDone, isLoad, Underway, carriedOn}
-use Rattle.rules.specs.Demands.{returnedIn, NoLoads, doneCall, doneCalls, current, Faithful}
-use Rattle.rules.specs.Demands.{valueIn, eventIn, returnedTo, drainedTo, returnedBy, drainedBy}
+use Rattle.rules.specs.History.{history}
+use Rattle.rules.specs.Demands.{returnedIn}
+use Rattle.rules.specs.Exported.{Exported, leftBy, isDone, isLoad, Underway, carriedOn, NoLoads, doneCall}
+use Rattle.rules.specs.Exported.{doneCalls, current, Faithful, valueIn, eventIn, returnedTo, drainedTo, returnedBy, drainedBy}
 use Rattle.rules.proofs.laws.Bits.{test}
 use Rattle.rules.proofs.laws.Bytes.{numberOf-bytesOf}
 use Rattle.rules.proofs.laws.Images.{eventsOf-pairsOf}
@@ -141,10 +142,10 @@ access-is (pass w) (refuse r) f c e = never r c e
 access-is (refuse r) u f c e = never r c e
 
 -- a call on an input that passed its test
-input-is : (n : ℕ) (x c : Call) → inputCall n x ≡ pass c → (n < 64) × (c ≡ x)
+pub input-is : (n : ℕ) (x c : Call) → inputCall n x ≡ pass c → (n < 64) × (c ≡ x)
 input-is n x c e = test (ltb n 64) (λ t. (ltb-true n 64 t, sym (passed (rw t at e)))) (λ t. never request.noInput c (rw t at e))
 
-asked-is : {t : Tested Call} {c : Call} → calls t ≡ calls (pass c) → t ≡ pass c
+pub asked-is : {t : Tested Call} {c : Call} → calls t ≡ calls (pass c) → t ≡ pass c
 asked-is e = cc
 
 -- ---- what is read of one call is what its step gives
@@ -199,7 +200,7 @@ module _ (h : Underway) (f : Faithful h) (x : Exported) (n : isLoad (h .left) x 
       (λ t.
       let r = handed h x f t n in
       let answer : leftBy x .answer ≡ answered 0 (value (current h) (r .call)) (x .answer) = ap (λ (o : Outcome). o .answer) (r .left) in
-      rw (t, r .asks, answer, append-nil) (reads-returned (current h) well (x .asked) (r .call) (x .answer) (r .asks)))
+      rw (t, r .passes, answer, append-nil) (reads-returned (current h) well (x .asked) (r .call) (x .answer) (r .passes)))
       (λ t. rw t)
 
   one-drained : cond (isDone x) (drainedTo (x .asked) (leftBy x .answer) (leftBy x .events)) [] ≡ history (current h) (doneCall x) .drained
@@ -211,7 +212,7 @@ module _ (h : Underway) (f : Faithful h) (x : Exported) (n : isLoad (h .left) x 
       let es = written (bufferOf (x .asked)) (placeOf (x .asked)) (step (current h) (r .call) .drained) in
       let answer : leftBy x .answer ≡ answered 0 (value (current h) (r .call)) (x .answer) = ap (λ (o : Outcome). o .answer) (r .left) in
       let events : leftBy x .events ≡ es = ap (λ (o : Outcome). o .events) (r .left) in
-      rw (t, r .asks, answer, events, append-nil) (reads-drained (current h) well (x .asked) (r .call) (x .answer) (r .asks) (r .fits)))
+      rw (t, r .passes, answer, events, append-nil) (reads-drained (current h) well (x .asked) (r .call) (x .answer) (r .passes) (r .fits)))
       (λ t. rw t)
 
 -- what a host has read is what a history returned and drained

@@ -5,6 +5,7 @@ use mathlib.Core.List.{List, [], _∷_, map, append-nil}
 use Prim.Native.Nat.{ℕ}
 use Rattle.rules.specs.Inputs.{inputs, only, put, without}
 use Rattle.rules.specs.Lines.{Lines, Made, Turn, withIrr, event, serve, enter, leave, pendingIn, servedIn, polled, raised, lowered}
+pub use Rattle.rules.specs.Lines.{levelled}
 use Rattle.rules.specs.Ring.{Ring, RingAct, drawn, ringStep, ringRun}
 use Rattle.rules.specs.Core.{Core, Act, move, Move, poll, raise, lower, CoreTurn, turn, turns, lineTurn, moved, vectorsAfter, storedAfter}
 use Rattle.rules.specs.Access.{Width, writeActs}
@@ -47,11 +48,6 @@ leave-offers : (vs : List ℕ) (f : ℕ → Bool) (l : Lines) → offers (leave 
 leave-offers vs f l = deasserts-offers vs (inputs (servedIn f l))
 
 -- ---- moves that return their event
-
--- what a level or poll call does to the lines
-abbrev pub levelled : List ℕ → Lines → ℕ → Bool → Turn
-levelled vs l n true = raised vs l n
-levelled vs l n false = lowered vs l n
 
 levelled-offers : (vs : List ℕ) (l : Lines) (n : ℕ) (b : Bool) → offers (levelled vs l n b .made) ≡ []
 unfolding raised lowered polled

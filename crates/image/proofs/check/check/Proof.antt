@@ -1,5 +1,5 @@
--- `check` tests in the order of the definition: the length, the contents, the bodies.
-use mathlib.Core.Path.{_≡_, sym, ap, _∙_}
+-- `check` tests in the order of the definition: the length, which tells the form, the contents, the bodies.
+use mathlib.Core.Path.{_≡_, refl, sym, ap, _∙_}
 use mathlib.Core.Bool.{Bool, true, false, cond, false≢true}
 use mathlib.Core.List.{List}
 use Prim.Native.Nat.{ℕ}
@@ -7,39 +7,80 @@ use borrow.Author.Needs.{needs}
 use borrow.Author.Tests.{not-true, not-false}
 use lib.ListN.{length}
 use Rattle.rules.specs.Numbers.{part}
-use Rattle.rules.specs.Image.{imageLength, registersAt, contents, same, accepted, wrongContents, wrongBody, imageTest}
+use Rattle.rules.specs.Form.{forms, unknown, known, formLength, contentsLength, contentsOf, formOf}
+use Rattle.rules.specs.Form as rules-form
+use Rattle.rules.specs.Image.{Finding, clear, found, rules, firstFault, accepted, wrongLength, wrongContents, wrongBody, bodyTest, imageTest}
 use Rattle.rules.proofs.laws.Lists.{equal-same, same-equal}
-use Rattle.rules.proofs.laws.Images.{bodyRules, test-length, test-contents, test-body}
+use Rattle.rules.proofs.laws.Tests.{form-known, test-known, test-contents, test-body}
+use Rattle.image.specs.Shown.{formView, knownView, headGood, isClear, bodiesGood}
+use Rattle.image.specs.declared.form.Form.{Form}
+use Rattle.image.specs.declared.form.Known.{Known}
+use Rattle.image.specs.declared.form.Known.the-variants.{Unknown, As}
 use Rattle.image.proofs.check.check.Statement.{statement}
 use Rattle.image.proofs.check.check.Tie as tie
 
-module _ (l : List ℕ) (s : length l ≡ imageLength) (good : Bool) (e : good ≡ same (part 0 registersAt l) contents) where
-  bad-contents : good ≡ false → imageTest l ≡ wrongContents
-  bad-contents h = test-contents l s (λ q. false≢true (sym h ∙ e ∙ equal-same (part 0 registersAt l) contents q))
+by-bodies : (x : Finding) → bodyTest x ≡ cond (isClear x) accepted wrongBody
+by-bodies clear = refl
+by-bodies (found k a) = refl
 
-  body-decides : good ≡ true → (body : Bool) → body ≡ bodyRules l → imageTest l ≡ cond body accepted wrongBody
-  body-decides h body f = test-body l s (same-equal (part 0 registersAt l) contents (sym e ∙ h)) ∙ ap (λ t. cond t accepted wrongBody) (sym f)
+module _ (l : List ℕ) (k : Known) (e : knownView k ≡ formOf (length l)) where
+  no-form : k ≡ Unknown → wrongLength ≡ imageTest l
+  no-form h = sym (test-known l {k = unknown} (sym e ∙ ap knownView h))
+
+  module _ (form : Form) (h : k ≡ As form) where
+    told : formOf (length l) ≡ known (formView form)
+    told = sym e ∙ ap knownView h
+
+    sized : length l ≡ formLength (formView form)
+    sized = form-known forms (length l) (formView form) told
+
+    module _ (good : Bool) (g : good ≡ headGood (formView form) l) where
+      bad-contents : good ≡ false → wrongContents ≡ imageTest l
+      bad-contents t =
+          let f = formView form in
+          sym (test-known l told ∙ test-contents f l sized (λ q. false≢true (sym t ∙ g ∙ equal-same (part 0 (contentsLength f) l) (contentsOf f) q)))
+
+      body-decides : good ≡ true → (body : Bool) → body ≡ bodiesGood (formView form) l → {t : Bool} → body ≡ t → cond t accepted wrongBody ≡ imageTest l
+      body-decides t body b u =
+          let f = formView form in
+          sym (test-known l told ∙ test-body f l sized (same-equal (part 0 (contentsLength f) l) (contentsOf f) (sym g ∙ t)) ∙ by-bodies (firstFault f l (rules f l)) ∙ ap (λ t. cond t accepted wrongBody) (sym b ∙ u))
 
 returns : tie.Need-returns
-returns c = sym (test-length (c .before .before .args .image .now) (c .if1 .taken))
+returns c =
+    let k = c .before .before in
+    no-form (k .before .before .args .image .now) (k .form-of .result) (k .form-of .ensures) (c .enum-told .given .1)
+
+-- the form that is known, and the image has its length
+fits : (c : tie.After-known-told) → length (c .before .before .before .before .before .args .image .now) ≡ formLength (formView (c .before .form .given .0 .0))
+fits c =
+    let k = c .before .before .before in
+    sized (k .before .before .args .image .now) (k .form-of .result) (k .form-of .ensures) (c .before .form .given .0 .0) (c .before .form .given .1)
 
 returns-2 : tie.Need-returns-2
 returns-2 c =
     let g = c .before in
-    sym (bad-contents (g .before .before .before .args .image .now) (g .before .if1 .left) (g .contents-good .result) (g .contents-good .ensures) (not-true _ (c .if2 .taken)))
+    let m = g .before .before in
+    let k = m .before .before in
+    bad-contents (k .before .before .args .image .now) (k .form-of .result) (k .form-of .ensures) (m .form .given .0 .0) (m .form .given .1) (g .contents-good .result) (g .contents-good .ensures)
+    (not-true _ (c .if1 .taken))
 
--- the contents are good, and the body decides
-decided : (c : tie.After-body-good) → imageTest (c .before .before .before .before .before .args .image .now) ≡ cond (c .body-good .result) accepted wrongBody
+-- the contents are good, and the bodies decide
+decided : (c : tie.After-body-good) {t : Bool} → c .body-good .result ≡ t → cond t accepted wrongBody ≡ imageTest (c .before .before .before .before .before .before .before .before .args .image .now)
 decided c =
     let g = c .before .before in
-    body-decides (g .before .before .before .args .image .now) (g .before .if1 .left) (g .contents-good .result) (g .contents-good .ensures) (not-false _ (c .before .if2 .left))
-    (c .body-good .result) (c .body-good .ensures)
-
-returns-3 : tie.Need-returns-3
-returns-3 c = sym (decided (c .before) ∙ ap (λ t. cond t accepted wrongBody) (not-true (c .before .body-good .result) (c .if3 .taken)))
-
-returns-4 : tie.Need-returns-4
-returns-4 c = sym (decided (c .before) ∙ ap (λ t. cond t accepted wrongBody) (not-false (c .before .body-good .result) (c .if3 .left)))
+    let m = g .before .before in
+    let k = m .before .before in
+    body-decides (k .before .before .args .image .now) (k .form-of .result) (k .form-of .ensures) (m .form .given .0 .0) (m .form .given .1) (g .contents-good .result) (g .contents-good .ensures)
+    (not-false _ (c .before .if1 .left)) (c .body-good .result) (c .body-good .ensures)
 
 pub check-spec : {M : Type 1} → statement M
-check-spec = tie.close (tie.spec returns (λ c κs. search needs) returns-2 (λ c κs. search needs) returns-3 returns-4)
+check-spec =
+    tie.close
+    (tie.spec
+    (λ c κs. search needs) (λ c. search needs) (λ c. search needs)
+    returns
+    (λ c κs. fits c)
+    returns-2
+    (λ c κs. fits (c .before .before))
+    (λ c. decided (c .before) (not-true _ (c .if2 .taken)))
+    (λ c. decided (c .before) (not-false _ (c .if2 .left))))

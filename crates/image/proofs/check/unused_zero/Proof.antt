@@ -9,13 +9,14 @@ use lib.Dec.{eqb}
 use lib.ListN.{length, drop, drop-of-length-le}
 use Rattle.rules.specs.Numbers.{Bytes}
 use Rattle.rules.specs.Ring.{capacity}
-use Rattle.rules.specs.Image.{pairsLength, registerAt, allZero}
+use Rattle.rules.specs.Image.{registerAt}
+use Rattle.image.specs.Shown.{allZero}
 use Rattle.image.proofs.Pairs.{zero-word, zeros-more, none-more}
 use Rattle.image.proofs.check.unused_zero.Statement.{statement}
 use Rattle.image.proofs.check.unused_zero.Tie as tie
 
 -- the word in which the unused pairs begin
-first-word : (n x : ℕ) (l : List ℕ) → Bytes l → length l ≡ pairsLength → n < capacity → x ≡ registerAt (8 * (n / 4)) l
+first-word : (n x : ℕ) (l : List ℕ) → Bytes l → length l ≡ 2 * capacity → n < capacity → x ≡ registerAt (8 * (n / 4)) l
     → (eqb (x / 2 ^ (16 * (n % 4))) 0 && allZero (drop (8 * (n / 4 + 1)) l)) ≡ allZero (drop (2 * n) l)
 first-word n x l b h k e =
     let bits : 16 * (n % 4) ≡ 8 * (2 * (n % 4)) = omega arith in

@@ -1,0 +1,2 @@
+-- What reading digits gives.
+pub mod Reads

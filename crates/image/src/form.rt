@@ -1,0 +1,84 @@
+// The form of an image, known by its length; where its fields stand, and its contents as numbers. No other code has such a number.
+ghost use mathlib.Core.Path.{_≡_};
+ghost use Rattle.rules.specs.Form.{formOf};
+ghost use Rattle.image.specs.Shown.{formView, knownView, PlacesOf, ContentsOf};
+
+pub enum Form {
+    One,
+}
+
+pub enum Known {
+    Unknown,
+    As(Form),
+}
+
+pub fn form_of(length: usize) -> Known
+    ensures { λ r. ⌜ knownView r ≡ formOf length ⌝ }
+{
+    match length {
+        259 => Known::As(Form::One),
+        _ => Known::Unknown,
+    }
+}
+
+// By value, so that a caller that knows the form has constants.
+pub struct Places {
+    pub int_mask: usize,
+    pub htmsi_en: usize,
+    pub intedge: usize,
+    pub last_intirr: usize,
+    pub intirr: usize,
+    pub intisr: usize,
+    pub int_polarity: usize,
+    pub auto_ctrl0: usize,
+    pub auto_ctrl1: usize,
+    pub routes: usize,
+    pub vectors: usize,
+    pub count: usize,
+    pub drops: usize,
+    pub pairs: usize,
+}
+
+pub fn places_of(form: Form) -> Places
+    ensures { λ r. ⌜ PlacesOf (formView form) r ⌝ }
+{
+    match form {
+        Form::One => Places {
+            int_mask: 22,
+            htmsi_en: 30,
+            intedge: 38,
+            last_intirr: 46,
+            intirr: 54,
+            intisr: 62,
+            int_polarity: 70,
+            auto_ctrl0: 78,
+            auto_ctrl1: 86,
+            routes: 94,
+            vectors: 158,
+            count: 222,
+            drops: 223,
+            pairs: 227,
+        },
+    }
+}
+
+// The contents as numbers of eight bytes: from byte 0, from byte 8, and the last eight, some of which the second has too.
+pub struct Contents {
+    pub first: u64,
+    pub second: u64,
+    pub last: u64,
+    pub last_at: usize,
+}
+
+pub fn contents_of(form: Form) -> Contents
+    ensures { λ r. ⌜ ContentsOf (formView form) r ⌝ }
+{
+    match form {
+        Form::One => Contents {
+            first: 0x0200_4800_1601_0401,
+            second: 0x4000_9e03_0040_005e,
+            last: 0x0025_00de_0400_4000,
+            last_at: 14,
+        },
+    }
+}

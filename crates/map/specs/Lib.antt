@@ -1,0 +1,2 @@
+-- The enums of the code as the rules see them.
+pub mod Views

@@ -1,0 +1,67 @@
+-- `play_read` is right since an unknown width and then an address outside are refused, and of any other access the register's value is said.
+use mathlib.Core.Path.{_≡_, refl, sym, ap, _∙_}
+use Prim.Native.Nat.{ℕ}
+use borrow.Author.Needs.{needs}
+use Rattle.rules.specs.Device.{read}
+use Rattle.rules.specs.Calls.{pass, widthTest, addressTest}
+use Rattle.rules.specs.Session.{sessionBase, sessionSize}
+use Rattle.state.specs.View.{view}
+use Rattle.registers.specs.Views.{widthView}
+use Rattle.window.specs.Tests.{knownView, locatedView}
+use Rattle.play.proofs.Playing.{plays-as, offset-below, width-refusal, address-refusal, read-done}
+use Rattle.play.proofs.play_read.Statement.{statement}
+use Rattle.play.proofs.play_read.Tie as tie
+
+width : (c : tie.After-bytes) → widthTest (c .before .before .before .before .args .width) ≡ pass (widthView (c .bytes .given .0 .0))
+width c = sym (c .before .before .width-of .ensures) ∙ ap knownView (c .bytes .given .1)
+
+abbrev asked : tie.After-offset → ℕ
+asked c = c .before .before .before .before .before .before .before .before .args .address
+
+place : (c : tie.After-offset) → addressTest sessionBase sessionSize (asked c) ≡ pass (c .offset .given .0 .0)
+place c = sym (c .before .before .locate .ensures) ∙ ap (locatedView (asked c)) (c .offset .given .1)
+
+returns : tie.Need-returns
+returns c =
+    let e = c .before .before .before .before in
+    let s = e .before .before .before .before in
+    plays-as (c .before .before .refused .ensures)
+    (width-refusal (view (s .args .state)) (s .args .width) (s .args .address) read (sym (e .before .before .width-of .ensures) ∙ ap knownView (e .enum-told .given .1)))
+
+returns-2 : tie.Need-returns-2
+returns-2 c =
+    let e = c .before .before .before .before in
+    let b = e .before .before .before .before in
+    let s = b .before .before .before .before in
+    plays-as (c .before .before .refused2 .ensures)
+    (address-refusal (view (s .args .state)) (s .args .width) (s .args .address) read _ (width b)
+    (sym (e .before .before .locate .ensures) ∙ ap (locatedView (s .args .address)) (e .enum-told2 .given .1)))
+
+returns-3 : tie.Need-returns-3
+returns-3 c =
+    let o = c .before .before .before .before .before .before in
+    let b = o .before .before .before .before in
+    let s = b .before .before .before .before in
+    plays-as (record { state = record { well = s .pre .0; shows = refl }; says = c .before .before .put-value .ensures })
+    (read-done (view (s .args .state)) (s .args .width) (s .args .address) _ _ _ (width b) (place o) (c .before .before .before .before .read-register .ensures))
+
+pub play-read-spec : {M : Type 1} → statement M
+play-read-spec =
+    tie.close
+    (tie.spec
+    (λ c κs. search needs)
+    (λ c. search needs)
+    (λ c. search needs)
+    (λ c κs. search needs)
+    (λ c. search needs)
+    returns
+    (λ c κs. search needs)
+    (λ c. search needs)
+    (λ c. search needs)
+    (λ c κs. search needs)
+    (λ c. search needs)
+    returns-2
+    (λ c κs. offset-below (asked (c .before)) _ (place (c .before)))
+    (λ c κs. search needs)
+    (λ c. search needs)
+    returns-3)

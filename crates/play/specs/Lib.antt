@@ -1,0 +1,2 @@
+-- What playing a line leaves.
+pub mod Plays

@@ -1,0 +1,24 @@
+-- What playing a line leaves: the state, the answer's bytes at the front of the buffer, and every other byte as it was.
+use mathlib.Core.List.{List, [], _∷_}
+use Prim.Native.Nat.{ℕ}
+use Rattle.rules.specs.Device.{Device}
+use Rattle.rules.specs.Session as session
+use Rattle.rules.specs.Session.{letter-e, digit, vectorSaid}
+use Rattle.rules.proofs.laws.Steps.{withLines}
+use Rattle.state.specs.View.{linesView, Is}
+use Rattle.engine.specs.declared.Routed.{Routed}
+use Rattle.engine.specs.Moves.{answerValue}
+use Rattle.reply.specs.Says.{Says}
+use Rattle.play.specs.declared.Played.{Played}
+
+pub record Plays (r : Played) (entry exit : List ℕ) (p : session.Played) : Type 0 where
+  pub state : Is (r .state) (p .after)
+  pub says : Says (r .len) entry exit (p .answer)
+
+-- a refusal prints e and its number
+abbrev pub refusedWith : Device → ℕ → session.Played
+refusedWith d n = record { after = d; answer = letter-e ∷ digit n ∷ [] }
+
+-- a call on an input prints what it returned
+abbrev pub routedWith : Device → Routed → session.Played
+routedWith d r = record { after = withLines d (linesView (r .lines)); answer = vectorSaid (answerValue (r .answer)) }

@@ -1,4 +1,0 @@
--- The laws that the proofs of this crate cite.
-pub mod Indexes
-pub mod Bytes
-pub mod Written

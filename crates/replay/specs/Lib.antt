@@ -1,0 +1,2 @@
+-- What a record does to the image buffer.
+pub mod Replays

@@ -1,0 +1,29 @@
+-- What a call's record asks, and what 01's rules give for it.
+use mathlib.Core.Path.{_≡_}
+use mathlib.Core.Bool.{cond}
+use mathlib.Core.List.{List, _++_}
+use Prim.Native.Nat.{ℕ}
+use lib.Dec.{eqb}
+use lib.ListN.{take, drop}
+use Rattle.rules.specs.Calls.{Request, reset, read, write, level, poll, drain, Outcome, outcome}
+use Rattle.records.specs.Records.{wordAt, kindOf, lentImage, lentAnswer, lentEvents, answerFill, eventFill, Held}
+
+-- what a call's record asks, by its kind, with the event buffer that a drain is lent
+abbrev pub requestOf : ℕ → List ℕ → List ℕ → Request
+requestOf kind r e =
+    cond (eqb kind 1) reset
+    (cond (eqb kind 2) (read (wordAt 16 r) (wordAt 24 r) (wordAt 32 r) (wordAt 40 r))
+    (cond (eqb kind 3) (write (wordAt 16 r) (wordAt 24 r) (wordAt 32 r) (wordAt 40 r) (wordAt 48 r))
+    (cond (eqb kind 4) (level (wordAt 16 r) (wordAt 24 r))
+    (cond (eqb kind 5) (poll (wordAt 16 r))
+    (drain e (wordAt 16 r))))))
+
+-- what 01's rules give for a record, on an image
+abbrev pub ruled : List ℕ → List ℕ → Outcome
+ruled r i =
+    outcome (requestOf (kindOf r) r (take (lentEvents (kindOf r) r) eventFill)) (take (lentImage r) i) (take (lentAnswer r) answerFill)
+
+-- the answer that was recorded is the one that 01's rules give; an image i became j
+pub record Recorded (r i j : List ℕ) : Type 0 where
+  pub after : j ≡ ruled r i .image ++ drop (lentImage r) i
+  pub held : Held r (ruled r i .number) j (ruled r i .answer ++ drop (lentAnswer r) answerFill) (ruled r i .events ++ drop (lentEvents (kindOf r) r) eventFill)

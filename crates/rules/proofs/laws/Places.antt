@@ -1,0 +1,21 @@
+-- The places, lengths and contents of an image as the numbers of document 01, each by computing.
+use mathlib.Core.Path.{_≡_, refl}
+use mathlib.Core.List.{List, [], _∷_, map}
+use Prim.Native.Nat.{ℕ}
+use Rattle.rules.specs.Core.{htmsiEn, edge, pol, auto0, auto1}
+use Rattle.rules.specs.Form.{one, word, mask, irr, isr, copy, stored, routes, vectors, count, drops, pairs, place, contentsLength, contentsOf, formLength}
+
+pub lengths-one : contentsLength one ∷ formLength one ∷ [] ≡ 22 ∷ 259 ∷ []
+lengths-one = refl
+
+pub places-one : map (place one) (word mask ∷ routes ∷ vectors ∷ count ∷ drops ∷ pairs ∷ []) ≡ 22 ∷ 94 ∷ 158 ∷ 222 ∷ 223 ∷ 227 ∷ []
+places-one = refl
+
+pub lines-one : map (λ w. place one (word w)) (copy ∷ irr ∷ isr ∷ []) ≡ 46 ∷ 54 ∷ 62 ∷ []
+lines-one = refl
+
+pub plains-one : map (λ p. place one (word (stored p))) (htmsiEn ∷ edge ∷ pol ∷ auto0 ∷ auto1 ∷ []) ≡ 30 ∷ 38 ∷ 70 ∷ 78 ∷ 86 ∷ []
+plains-one = refl
+
+pub contents-one : contentsOf one ≡ 1 ∷ 4 ∷ 1 ∷ 22 ∷ 0 ∷ 72 ∷ 0 ∷ 2 ∷ 94 ∷ 0 ∷ 64 ∷ 0 ∷ 3 ∷ 158 ∷ 0 ∷ 64 ∷ 0 ∷ 4 ∷ 222 ∷ 0 ∷ 37 ∷ 0 ∷ []
+contents-one = refl

@@ -1,0 +1,177 @@
+-- What an image holds against its bytes, in both directions and in any form; and the sizes that come with it.
+use mathlib.Core.Path.{_≡_, refl, sym, ap, _∙_}
+use mathlib.Core.Bool.{Bool, true}
+use mathlib.Core.List.{List, [], _∷_, _++_}
+use Prim.Native.Nat.{ℕ, zero, suc, _+_, _-_, _*_, _^_, _<_, _≤_}
+use native.Mathlib.Nat.{add-zero}
+use native.Mathlib.Omega.{arith}
+use lib.Dec.{lit<}
+use lib.ListN.{length, getD, replicate}
+use Rattle.rules.specs.Numbers.{numberOf, bytesOf, part, Bytes}
+use Rattle.rules.specs.Ring.{capacity, eventTwos}
+use Rattle.rules.specs.Core.{Plain, plain, htmsiEn, edge, pol, auto0, auto1}
+use Rattle.rules.specs.Device.{Device, WellFormed}
+use Rattle.rules.specs.Form.{Word, mask, irr, isr, copy, stored, Field, word, routes, vectors, count, drops, pairs}
+use Rattle.rules.specs.Form.{Form, one, fields, has, size, place, formLength, contentsOf, read, laid, image}
+use Rattle.rules.specs.Image.{wordOf, sixteen, fieldOf, encodeAs, wordIn, countIn, eventsOf, decodeAs, accepted, testAs}
+use Rattle.rules.proofs.laws.Bytes.{numberOf-bytesOf, bytes-known, bytes-append, bytes-part, bytes-bytesOf, part-number, part-below}
+use Rattle.rules.proofs.laws.Layout.{Sized, by-plain, always, has-all, field-fits, laid-cons, headed-image, image-known, length-image, read-image}
+use Rattle.rules.proofs.laws.Twos.{length-spelled, spelled-written, event-comes, events-back, events-fit, written-flags, bytes-vectors}
+use Rattle.rules.proofs.laws.Twos.{length-sixteen, bytes-sixteen, sixteen-unused, sixteen-back}
+use Rattle.rules.proofs.laws.Tests.{Accepted, length-read, count-read, accepted-if-has}
+
+-- ---- an accepted image, decoded and encoded
+
+alone : (l : List ℕ) → length l ≡ 1 → getD l 0 0 ∷ [] ≡ l
+alone [] e = absurd (omega arith)
+alone (x ∷ []) e = refl
+alone (x ∷ y ∷ l) e = absurd (omega arith)
+
+module _ (f : Form) (l : List ℕ) (b : Bytes l) (a : Accepted f l) where
+  in-image : (p : Field) → has f p ≡ true → place f p + size p ≤ length l
+  in-image p h = omega (arith, field-fits f p h, a .sized)
+
+  -- a field is the bytes of its number
+  number-back : (p : Field) → has f p ≡ true → bytesOf (size p) (numberOf (read f l p)) ≡ read f l p
+  number-back p h = part-number l (place f p) (size p) b (in-image p h)
+
+  number-small : (p : Field) → always p ≡ true → numberOf (read f l p) < 256 ^ size p
+  number-small p h = part-below l (place f p) (size p) b (in-image p (has-all f p h))
+
+  word-back : (w : Word) → has f (word w) ≡ true → bytesOf 8 (wordOf (decodeAs f l .core) w) ≡ read f l (word w)
+  word-back mask h = number-back (word mask) h
+  word-back irr h = number-back (word irr) h
+  word-back isr h = number-back (word isr) h
+  word-back copy h = ap (bytesOf 8) (sym (a .ruled .copied h)) ∙ number-back (word copy) h
+  word-back (stored htmsiEn) h = number-back (word (stored htmsiEn)) h
+  word-back (stored edge) h = number-back (word (stored edge)) h
+  word-back (stored pol) h = number-back (word (stored pol)) h
+  word-back (stored auto0) h = number-back (word (stored auto0)) h
+  word-back (stored auto1) h = number-back (word (stored auto1)) h
+
+  length-pairs : length (read f l pairs) ≡ 2 * capacity
+  length-pairs = length-read f l (a .sized) pairs (has-all f pairs refl)
+
+  -- as many events are spelled as wait
+  many : length (eventsOf (countIn f l) (read f l pairs)) ≡ countIn f l
+  many = length-spelled eventTwos (countIn f l) (read f l pairs) (omega (arith, length-pairs, a .ruled .counted))
+
+  field-back : (p : Field) → has f p ≡ true → fieldOf (decodeAs f l) p ≡ read f l p
+  field-back (word w) h = word-back w h
+  field-back routes h = refl
+  field-back vectors h = refl
+  field-back count h = ap (λ n. n ∷ []) (many ∙ sym (count-read f l)) ∙ alone (read f l count) (length-read f l (a .sized) count h)
+  field-back drops h = number-back drops h
+  field-back pairs h =
+      sixteen-back eventTwos (countIn f l) (read f l pairs) length-pairs (a .ruled .counted)
+      (λ i k. event-comes (getD (read f l pairs) (2 * i) 0) (getD (read f l pairs) (2 * i + 1) 0) (a .ruled .flagged (2 * i + 1) (omega arith) (omega arith))) (a .ruled .unused)
+
+  pub encode-decode : encodeAs f (decodeAs f l) ≡ l
+  encode-decode = image-known f l (fieldOf (decodeAs f l)) (a .sized) (a .headed) field-back
+
+  -- what is loaded has the sizes that can be saved
+  word-small : (w : Word) → always (word w) ≡ true → wordIn f l w < 2 ^ 64
+  word-small w h = number-small (word w) h
+
+  pub decode-well : WellFormed (decodeAs f l)
+  decode-well = record {
+    mask = word-small mask refl;
+    irr = word-small irr refl;
+    isr = word-small isr refl;
+    plains =
+        by-plain (λ p. plain (decodeAs f l .core .stored) p < 2 ^ 64)
+        (word-small (stored htmsiEn) refl, word-small (stored edge) refl, word-small (stored pol) refl, word-small (stored auto0) refl, word-small (stored auto1) refl);
+    routeBytes = bytes-part l (place f routes) (size routes) b;
+    routes = length-read f l (a .sized) routes (has-all f routes refl);
+    vectorBytes = bytes-part l (place f vectors) (size vectors) b;
+    vectors = length-read f l (a .sized) vectors (has-all f vectors refl);
+    eventBytes = bytes-vectors (countIn f l) (read f l pairs) (bytes-part l (place f pairs) (size pairs) b);
+    waiting = omega (arith, many, a .ruled .counted);
+    drops = omega (arith, number-small drops refl);
+  }
+
+-- ---- a device, encoded and decoded
+
+bytes-laid : (c : Field → List ℕ) → ((p : Field) → Bytes (c p)) → (ps : List Field) → Bytes (laid c ps)
+bytes-laid c h [] i = lit< tt
+bytes-laid c h (p ∷ ps) i = rw (laid-cons c p ps) (bytes-append (c p) (laid c ps) (h p) (bytes-laid c h ps) i)
+
+pub bytes-contents : (f : Form) → Bytes (contentsOf f)
+bytes-contents one = bytes-known (contentsOf one) refl
+
+module _ (d : Device) (w : WellFormed d) where
+  pub fields-sized : Sized (fieldOf d)
+  fields-sized (word x) = refl
+  fields-sized routes = w .routes
+  fields-sized vectors = w .vectors
+  fields-sized count = refl
+  fields-sized drops = refl
+  fields-sized pairs = length-sixteen eventTwos (d .ring .waiting) (w .waiting)
+
+  fields-bytes : (p : Field) → Bytes (fieldOf d p)
+  fields-bytes (word x) = bytes-bytesOf 8 (wordOf (d .core) x)
+  fields-bytes routes = w .routeBytes
+  fields-bytes vectors = w .vectorBytes
+  fields-bytes count = elim [ zero ↦ omega (arith, w .waiting) | suc i ↦ lit< tt ]
+  fields-bytes drops = bytes-bytesOf 4 (d .ring .drops)
+  fields-bytes pairs = bytes-sixteen eventTwos (d .ring .waiting) (events-fit (d .ring .waiting) (w .eventBytes))
+
+  module _ (f : Form) where
+    pub bytes-encode : Bytes (encodeAs f d)
+    unfolding image
+    bytes-encode = bytes-append (contentsOf f) (laid (fieldOf d) (fields f)) (bytes-contents f) (bytes-laid (fieldOf d) fields-bytes (fields f))
+
+    pub length-encode : length (encodeAs f d) ≡ formLength f
+    length-encode = length-image f (fieldOf d) fields-sized
+
+    -- each field stands in its place; and the fields that every form has
+    stands : (p : Field) → has f p ≡ true → read f (encodeAs f d) p ≡ fieldOf d p
+    stands = read-image f (fieldOf d) fields-sized
+
+    pub field-stands : (p : Field) → always p ≡ true → read f (encodeAs f d) p ≡ fieldOf d p
+    field-stands p h = stands p (has-all f p h)
+
+    pub count-stands : countIn f (encodeAs f d) ≡ length (d .ring .waiting)
+    count-stands = sym (count-read f (encodeAs f d)) ∙ ap (λ m. getD m 0 0) (field-stands count refl)
+
+    pub word-stands : (x : Word) → always (word x) ≡ true → wordOf (d .core) x < 2 ^ 64 → wordIn f (encodeAs f d) x ≡ wordOf (d .core) x
+    word-stands x h k = ap numberOf (field-stands (word x) h) ∙ numberOf-bytesOf 8 (wordOf (d .core) x) k
+
+    pub encode-has : Accepted f (encodeAs f d)
+    encode-has =
+        let es = d .ring .waiting in
+        record {
+          sized = length-encode;
+          headed = headed-image f (fieldOf d);
+          ruled = record {
+            copied = λ h. ap numberOf (stands (word copy) h) ∙ sym (ap numberOf (field-stands (word irr) refl));
+            counted = rw count-stands (w .waiting);
+            flagged = rw (count-stands, field-stands pairs refl) (written-flags es (replicate (2 * capacity - 2 * length es) 0));
+            unused = rw (count-stands, field-stands pairs refl) (sixteen-unused eventTwos es);
+          };
+        }
+
+    -- a device's image is accepted
+    pub accepted-encode : testAs f (encodeAs f d) ≡ accepted
+    accepted-encode = accepted-if-has f (encodeAs f d) encode-has
+
+    -- and holds the device
+    pub decode-encode : decodeAs f (encodeAs f d) ≡ d
+    decode-encode =
+        let es = d .ring .waiting in
+        let events = (λ j. eventsOf (count-stands j) (field-stands pairs refl j)) ∙ spelled-written eventTwos es (replicate (2 * capacity - 2 * length es) 0) (events-back es) in
+        (λ i. record {
+          core = record {
+            lines = record { mask = word-stands mask refl (w .mask) i; irr = word-stands irr refl (w .irr) i; isr = word-stands isr refl (w .isr) i };
+            vectors = field-stands vectors refl i;
+            stored = record {
+              htmsiEn = word-stands (stored htmsiEn) refl (w .plains htmsiEn) i;
+              edge = word-stands (stored edge) refl (w .plains edge) i;
+              pol = word-stands (stored pol) refl (w .plains pol) i;
+              auto0 = word-stands (stored auto0) refl (w .plains auto0) i;
+              auto1 = word-stands (stored auto1) refl (w .plains auto1) i;
+              routes = field-stands routes refl i;
+            };
+          };
+          ring = record { waiting = events i; drops = (ap numberOf (field-stands drops refl) ∙ numberOf-bytesOf 4 (d .ring .drops) (omega (arith, w .drops))) i };
+        })

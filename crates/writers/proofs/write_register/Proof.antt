@@ -1,0 +1,32 @@
+-- `write_register` is right since each width has its writer, a depth of 2 is enough for any offset, and the low half keeps the low bytes.
+use mathlib.Core.Path.{_∙_}
+use borrow.Author.Needs.{needs}
+use Rattle.rules.specs.Access.{writeActs}
+use Rattle.writers.proofs.Bytes.{low-bytes, word-written}
+use Rattle.writers.proofs.Written.{is-as}
+use Rattle.writers.proofs.write_register.Statement.{statement}
+use Rattle.writers.proofs.write_register.Tie as tie
+
+pub write-register-spec : {M : Type 1} → statement M
+unfolding writeActs
+write-register-spec =
+    tie.close
+    (tie.spec
+    (λ c κs. search needs)
+    (λ c. search needs)
+    (λ c κs. search needs)
+    (λ c κs. search needs)
+    (λ c. search needs)
+    (λ c κs. search needs)
+    (λ c. search needs)
+    (λ c κs. search needs)
+    (λ c. search needs)
+    (λ c κs. search needs)
+    (λ c.
+    let l = low-bytes _ _ (c .before .before .before .before .half .ensures) in
+    rw (c .before .before .enum-told .given .1) (rw (c .before .byte-of .ensures ∙ l .0) at (c .write-byte .ensures)))
+    (λ c.
+    let l = low-bytes _ _ (c .before .before .before .half .ensures) in
+    rw (c .before .enum-told2 .given .1) (is-as (c .write-split-bytes .ensures) (word-written _ _ _ _ (l .0) (l .1))))
+    (λ c. rw (c .before .enum-told3 .given .1) (rw (c .before .before .before .half .ensures) at (c .write-dword .ensures)))
+    (λ c. rw (c .before .enum-told4 .given .1) (c .write-qword .ensures)))

@@ -1,0 +1,2 @@
+-- Bytes one after another.
+pub mod Bytes

@@ -1,0 +1,409 @@
+/* Guests that no driver would write, and what a host makes of them: after each step the vectors that are on above are those of the inputs in
+ * service. Also files that are damaged, and reads of an image that cannot be written.
+ *     guests FOLDER   plays them, with its files in FOLDER; the last line is 'N passed, M failed' */
+#define _DEFAULT_SOURCE
+#include "pic.h"
+
+#include <stdio.h>
+#include <stdlib.h>
+#include <string.h>
+#include <sys/mman.h>
+#include <sys/stat.h>
+#include <unistd.h>
+
+enum { BASE = 0x10000000, HEAD_LEN = 12, SUM_LEN = 4, SAVED_LEN = HEAD_LEN + PCH_PIC_IMAGE_LEN + SUM_LEN };
+
+static int passed, failed;
+
+static void expect(const char *what, bool ok)
+{
+    if (ok) {
+        passed++;
+    } else {
+        failed++;
+        printf("FAILED: %s\n", what);
+    }
+}
+
+/* The controller above: what it was told, and how often. */
+struct above {
+    bool on[PIC_VECTORS];
+    unsigned told, again;
+};
+
+struct host {
+    struct pic pic;
+    struct pic_wires wires;
+    struct above above;
+};
+
+static void route(void *whom, struct pic_event event)
+{
+    struct above *above = whom;
+    bool on = event.change == PIC_ASSERT;
+    above->told++;
+    above->again += above->on[event.vector] == on;
+    above->on[event.vector] = on;
+}
+
+static void start(struct host *host)
+{
+    memset(host, 0, sizeof *host);
+    host->wires.route = route;
+    host->wires.above = &host->above;
+    expect("a device is made", pic_init(&host->pic, BASE) == PCH_PIC_DONE);
+}
+
+static void writes(struct host *host, uint64_t offset, uint64_t width, uint64_t value)
+{
+    int number = pic_write(&host->pic, BASE + offset, width, value);
+    if (number == PCH_PIC_DONE) {
+        number = pic_settle(&host->pic, &host->wires);
+    }
+    if (number != PCH_PIC_DONE) {
+        expect(pic_why(number), false);
+    }
+}
+
+static void line(struct host *host, uint64_t input, bool high)
+{
+    int number = pic_line(&host->pic, &host->wires, input, high);
+    if (number != PCH_PIC_DONE) {
+        expect(pic_why(number), false);
+    }
+}
+
+/* The vectors that ought to be on, found out by calls alone: on a copy, lowering an input returns its vector if it was in service. */
+static bool in_line(const struct host *host)
+{
+    struct pic copy = host->pic;
+    bool want[PIC_VECTORS] = {0};
+    for (unsigned input = 0; input < PCH_PIC_INPUTS; input++) {
+        struct pic_event event;
+        if (pic_level(&copy, input, false, &event) != PCH_PIC_DONE) {
+            return false;
+        }
+        want[event.vector] |= event.change == PIC_DEASSERT;
+    }
+    return memcmp(want, host->above.on, sizeof want) == 0 && memcmp(want, host->wires.on, sizeof want) == 0;
+}
+
+/* Whether exactly the vectors of the list, ended by -1, are on. */
+static bool only(const struct host *host, const int *list)
+{
+    bool want[PIC_VECTORS] = {0};
+    for (; *list >= 0; list++) {
+        want[*list] = true;
+    }
+    return memcmp(want, host->above.on, sizeof want) == 0 && in_line(host);
+}
+
+#define ONLY(host, ...) only(host, (const int[]){__VA_ARGS__, -1})
+#define NONE(host) only(host, (const int[]){-1})
+
+static void a_vector_changed_in_service(void)
+{
+    struct host host;
+    start(&host);
+    writes(&host, PCH_PIC_REG_MASK, 8, 0);
+    line(&host, 0, true);
+    expect("vector 0 is on", ONLY(&host, 0));
+    writes(&host, PCH_PIC_REG_VECTORS, 1, 0x77);
+    expect("the new vector is on in its place", ONLY(&host, 0x77));
+    line(&host, 0, false);
+    expect("no vector is left on", NONE(&host));
+    expect("four things were told", host.above.told == 4 && host.above.again == 0);
+}
+
+static void a_write_of_isr(void)
+{
+    struct host host;
+    uint64_t shown = 1;
+    start(&host);
+    writes(&host, PCH_PIC_REG_ISR, 8, 0x8000000000000020);
+    expect("masked inputs are in service", pic_read(&host.pic, BASE + PCH_PIC_REG_ISR, 8, &shown) == PCH_PIC_DONE && shown == 0);
+    expect("the stored ISR has them", pic_service(&host.pic) == 0x8000000000000020);
+    expect("their vectors are on", ONLY(&host, 5, 63));
+    line(&host, 5, false);
+    expect("lowered, one is off", ONLY(&host, 63));
+    writes(&host, PCH_PIC_REG_ISR, 8, 0);
+    expect("written away, the other is off", NONE(&host));
+    writes(&host, PCH_PIC_REG_MASK, 8, 0);
+    line(&host, 9, true);
+    host.above.told = 0;
+    writes(&host, PCH_PIC_REG_ISR, 8, 0);
+    expect("a line that is still high goes off and on", ONLY(&host, 9) && host.above.told == 2 && host.above.again == 0);
+    line(&host, 9, false);
+    expect("and then off", NONE(&host));
+}
+
+static void a_shared_vector(void)
+{
+    struct host host;
+    start(&host);
+    writes(&host, PCH_PIC_REG_VECTORS + 1, 1, 0);
+    writes(&host, PCH_PIC_REG_MASK, 8, 0);
+    line(&host, 0, true);
+    line(&host, 1, true);
+    expect("the second input asks again", ONLY(&host, 0) && host.above.told == 2 && host.above.again == 1);
+    line(&host, 0, false);
+    expect("one of the two holds it on", ONLY(&host, 0) && host.above.told == 2);
+    line(&host, 0, true);
+    writes(&host, PCH_PIC_REG_VECTORS + 1, 1, 1);
+    expect("they part", ONLY(&host, 0, 1));
+    writes(&host, PCH_PIC_REG_VECTORS + 1, 1, 0);
+    expect("they meet", ONLY(&host, 0));
+    host.wires.high = 0;
+    writes(&host, PCH_PIC_REG_CLEAR, 8, 3);
+    expect("cleared together, it is off", NONE(&host));
+}
+
+static void dropped_events(void)
+{
+    struct host host;
+    start(&host);
+    writes(&host, PCH_PIC_REG_MASK, 4, 0);
+    for (unsigned input = 0; input < 32; input++) {
+        line(&host, input, true);
+    }
+    writes(&host, PCH_PIC_REG_MASK, 4, 0xffffffff);
+    expect("sixteen were dropped by one write", pic_drops(&host.pic) == 16 && pic_waiting(&host.pic) == 0);
+    expect("all are off", NONE(&host) && host.above.told == 64);
+    writes(&host, PCH_PIC_REG_MASK, 4, 0);
+    host.above.told = 0;
+    writes(&host, PCH_PIC_REG_CLEAR, 4, 0xffffffff);
+    expect("cleared lines go off and on, dropped ones too", pic_drops(&host.pic) == 32 && host.above.told == 64 && host.above.again == 0);
+    expect("all are on", in_line(&host) && pic_service(&host.pic) == 0xffffffff);
+    expect("a reset while the guest runs", pic_reset(&host.pic) == PCH_PIC_DONE && pic_settle(&host.pic, &host.wires) == PCH_PIC_DONE);
+    expect("turns all off, and the lines wait", NONE(&host) && pic_latched(&host.pic) == 0xffffffff);
+}
+
+/* Saved: 2 in service, its line falls before the load; 3 too, its line stays; 40 in service and masked; 7 unmasked, its event waits. */
+static void a_restore(const char *path)
+{
+    struct host old, fresh;
+    start(&old);
+    writes(&old, PCH_PIC_REG_MASK, 8, 0xffffffffffffff80);
+    line(&old, 2, true);
+    line(&old, 3, true);
+    line(&old, 7, true);
+    writes(&old, PCH_PIC_REG_ISR + PCH_PIC_REG_HIGH, 4, 0x100);
+    expect("a write whose event waits", pic_write(&old.pic, BASE + PCH_PIC_REG_MASK, 4, 0xffffff00) == PCH_PIC_DONE && pic_waiting(&old.pic) == 1);
+    expect("the device is saved", pic_save(&old.pic, path) == PCH_PIC_DONE);
+    start(&fresh);
+    expect("and loaded", pic_load(&fresh.pic, path) == PCH_PIC_DONE);
+    expect("whole", memcmp(old.pic.image, fresh.pic.image, sizeof old.pic.image) == 0);
+    expect("the fresh host goes on", pic_resume(&fresh.pic, &fresh.wires, 1 << 3 | 1 << 7) == PCH_PIC_DONE);
+    expect("with what is in service, and no more", ONLY(&fresh, 3, 7, 40) && fresh.above.told == 3);
+    expect("a line that fell is not latched", pic_latched(&fresh.pic) == (1 << 3 | 1 << 7));
+    /* A controller above that was restored too has its vectors on already. */
+    start(&fresh);
+    expect("loaded once more", pic_load(&fresh.pic, path) == PCH_PIC_DONE);
+    fresh.above.on[2] = fresh.wires.on[2] = fresh.above.on[40] = fresh.wires.on[40] = true;
+    expect("the host goes on", pic_resume(&fresh.pic, &fresh.wires, 1 << 3 | 1 << 7) == PCH_PIC_DONE);
+    expect("and tells the difference", ONLY(&fresh, 3, 7, 40) && fresh.above.told == 3 && fresh.above.again == 0);
+    remove(path);
+}
+
+static uint64_t chance(void)
+{
+    static uint64_t state = 0x9e3779b97f4a7c15;
+    state ^= state << 13;
+    state ^= state >> 7;
+    state ^= state << 17;
+    return state;
+}
+
+static void any_step(struct host *host)
+{
+    static const uint16_t places[] = {PCH_PIC_REG_MASK, PCH_PIC_REG_CLEAR, PCH_PIC_REG_ISR, PCH_PIC_REG_VECTORS};
+    uint64_t what = chance() % 16;
+    if (what < 8) {
+        line(host, chance() % PCH_PIC_INPUTS, chance() % 2 == 0);
+    } else if (what < 15) {
+        uint64_t place = places[chance() % 4];
+        uint64_t offset = place + (place == PCH_PIC_REG_VECTORS ? chance() % 64 : chance() % 8);
+        writes(host, offset, UINT64_C(1) << chance() % 4, chance() & chance() & chance());
+    } else {
+        struct pic saved = host->pic;
+        struct pic_wires wires = host->wires;
+        start(host);
+        passed--;
+        host->pic = saved;
+        if (pic_resume(&host->pic, &host->wires, wires.high) != PCH_PIC_DONE) {
+            expect("a load at any time", false);
+        }
+    }
+}
+
+static void any_guest(void)
+{
+    struct host host;
+    bool right = true;
+    unsigned most = 0;
+    start(&host);
+    for (int step = 0; step < 20000 && right; step++) {
+        uint64_t masked = 0;
+        host.above.told = 0;
+        any_step(&host);
+        right = in_line(&host) && pic_read(&host.pic, BASE + PCH_PIC_REG_MASK, 8, &masked) == PCH_PIC_DONE;
+        right = right && (host.wires.high & ~masked & ~pic_service(&host.pic)) == 0;
+        most = host.above.told > most ? host.above.told : most;
+    }
+    expect("any guest: what is on is in service, and what is high and unmasked is on", right);
+    expect("no step tells more than the events, the vectors and the lines there are", most <= PCH_PIC_EVENTS + PIC_VECTORS + PCH_PIC_INPUTS);
+}
+
+static uint32_t checksum(const uint8_t *bytes, size_t len)
+{
+    uint32_t sum = 0xffffffff;
+    for (size_t i = 0; i < 8 * len; i++) {
+        uint32_t low = (sum ^ bytes[i / 8] >> i % 8) & 1;
+        sum = sum >> 1 ^ (low ? 0xedb88320 : 0);
+    }
+    return ~sum;
+}
+
+static void put_file(const char *path, const uint8_t *bytes, size_t len)
+{
+    FILE *file = fopen(path, "wb");
+    if (!file || fwrite(bytes, 1, len, file) != len || fclose(file) != 0) {
+        perror(path);
+        exit(2);
+    }
+}
+
+/* A load that hands back number and leaves the device as it was. */
+static bool refused(const char *path, int number)
+{
+    struct pic pic, before;
+    pic_init(&pic, BASE);
+    before = pic;
+    return pic_load(&pic, path) == number && memcmp(pic.image, before.image, sizeof pic.image) == 0;
+}
+
+/* With the checksum made anew, so that the library has to find it. */
+static bool forged(const char *path, const uint8_t saved[SAVED_LEN], size_t place, uint8_t byte, int number)
+{
+    uint8_t bytes[SAVED_LEN];
+    memcpy(bytes, saved, sizeof bytes);
+    bytes[HEAD_LEN + place] = byte;
+    uint32_t sum = checksum(bytes, sizeof bytes - SUM_LEN);
+    for (size_t i = 0; i < SUM_LEN; i++) {
+        bytes[sizeof bytes - SUM_LEN + i] = (uint8_t)(sum >> 8 * i);
+    }
+    put_file(path, bytes, sizeof bytes);
+    return refused(path, number);
+}
+
+static void files(const char *path)
+{
+    struct pic pic;
+    uint8_t saved[SAVED_LEN + 1] = {0}, bytes[SAVED_LEN + 1];
+    char beside[5000];
+    pic_init(&pic, BASE);
+    expect("a device is saved", pic_save(&pic, path) == PCH_PIC_DONE && pic_load(&pic, path) == PCH_PIC_DONE);
+    FILE *file = fopen(path, "rb");
+    expect("in as many bytes as the form says", file && fread(saved, 1, sizeof saved, file) == SAVED_LEN && fclose(file) == 0);
+    snprintf(beside, sizeof beside, "%s.new", path);
+    expect("and nothing is left beside it", access(beside, F_OK) != 0);
+    bool found = true;
+    for (size_t place = 0; place < SAVED_LEN; place++) {
+        memcpy(bytes, saved, sizeof bytes);
+        bytes[place] ^= 1 << place % 8;
+        put_file(path, bytes, SAVED_LEN);
+        found = found && refused(path, place < 8 ? PIC_FOREIGN : place < HEAD_LEN ? PIC_TORN : PIC_DAMAGED);
+    }
+    expect("a changed byte is found, wherever it is", found);
+    for (size_t len = 0; len <= sizeof saved; len++) {
+        put_file(path, saved, len);
+        found = found && (len == SAVED_LEN || refused(path, len < 8 ? PIC_FOREIGN : PIC_TORN));
+    }
+    expect("so is a file that is cut short or too long", found);
+    put_file(path, pic.image, sizeof pic.image);
+    expect("a bare image is no saved device", refused(path, PIC_FOREIGN));
+    expect("another form is refused by the library", forged(path, saved, PCH_PIC_IMAGE_FORM, 9, PCH_PIC_CONTENTS));
+    expect("so is a broken rule", forged(path, saved, PCH_PIC_IMAGE_LEN - 1, 1, PCH_PIC_BODY));
+    remove(path);
+    expect("no file, no load", refused(path, PIC_FILE));
+    expect("what an earlier save left is no hindrance", mkfifo(beside, 0600) == 0 && pic_save(&pic, path) == PCH_PIC_DONE);
+    remove(path);
+    expect("what is no plain file is not replaced", mkfifo(path, 0600) == 0 && pic_save(&pic, path) == PIC_FILE);
+    remove(path);
+    snprintf(beside, sizeof beside, "%s/device", path);
+    expect("no folder, no save", pic_save(&pic, beside) == PIC_FILE);
+}
+
+/* Why reads may run side by side: on pages that cannot be written, a read that stored anything would end this program. */
+static void reads_only_load(void)
+{
+    uint8_t *page = mmap(NULL, 4096, PROT_READ | PROT_WRITE, MAP_PRIVATE | MAP_ANONYMOUS, -1, 0), answer[PCH_PIC_ANSWER_LEN];
+    int numbers = 0;
+    if (page == MAP_FAILED) {
+        perror("mmap");
+        exit(2);
+    }
+    pch_pic_reset(page, PCH_PIC_IMAGE_LEN, answer, sizeof answer);
+    mprotect(page, 4096, PROT_READ);
+    for (uint64_t address = 0; address <= PCH_PIC_WINDOW_LEN; address++) {
+        for (uint64_t width = 0; width <= 8; width++) {
+            numbers |= 1 << pch_pic_read(page, PCH_PIC_IMAGE_LEN, 0, PCH_PIC_WINDOW_LEN, address, width, answer, sizeof answer);
+        }
+    }
+    expect("a read only loads from the image", numbers == (1 << PCH_PIC_DONE | 1 << PCH_PIC_OUTSIDE | 1 << PCH_PIC_WIDTH));
+    munmap(page, 4096);
+}
+
+static void what_is_no_device(void)
+{
+    struct pic pic;
+    struct pic_wires wires = {0};
+    struct pic_event event;
+    memset(&pic, 0xff, sizeof pic);
+    expect("of no image, all is 0", pic_latched(&pic) == 0 && pic_service(&pic) == 0 && pic_vector(&pic, 63) == 0);
+    expect("the events' numbers too", pic_waiting(&pic) == 0 && pic_drops(&pic) == 0);
+    expect("and all is refused", pic_settle(&pic, &wires) == PCH_PIC_CONTENTS && pic_line(&pic, &wires, 0, true) == PCH_PIC_CONTENTS &&
+                                     pic_resume(&pic, &wires, 1) == PCH_PIC_CONTENTS);
+    pic_init(&pic, BASE);
+    expect("a poll of nothing", pic_poll(&pic, 63, &event) == PCH_PIC_DONE && event.change == PIC_NOTHING);
+    expect("there is no input 64", pic_poll(&pic, 64, &event) == PCH_PIC_INPUT && pic_line(&pic, &wires, 64, true) == PCH_PIC_INPUT &&
+                                       pic_line(&pic, &wires, UINT64_MAX, false) == PCH_PIC_INPUT);
+    expect("each input has its vector", pic_vector(&pic, 0) == 0 && pic_vector(&pic, 63) == 63 && pic_vector(&pic, 64) == 0);
+    expect("numbers in words", strcmp(pic_why(6), "the image breaks a rule of the form") == 0 && strcmp(pic_why(99), "unknown number") == 0);
+}
+
+/* What an image holds is found by its contents, so a form with other places is read as well: here the registers have eight bytes less. */
+static void another_form(void)
+{
+    static const uint8_t contents[] = {2, 4, 1, 22, 0, 64, 0, 2, 86, 0, 64, 0, 3, 150, 0, 64, 0, 4, 214, 0, 37, 0};
+    struct pic pic = {0};
+    memcpy(pic.image, contents, sizeof contents);
+    pic.image[22 + 24] = 0x21;
+    pic.image[22 + 32] = 0x23;
+    pic.image[150 + 5] = 0x99;
+    pic.image[214] = 3;
+    pic.image[214 + 4] = 0x80;
+    expect("IRR, ISR and a vector in another form", pic_latched(&pic) == 0x21 && pic_service(&pic) == 0x23 && pic_vector(&pic, 5) == 0x99);
+    expect("how many wait and were dropped in it", pic_waiting(&pic) == 3 && pic_drops(&pic) == 0x80000000);
+}
+
+int main(int argc, char **argv)
+{
+    char path[4096];
+    if (argc != 2 || snprintf(path, sizeof path, "%s/guests.device", argv[1]) >= (int)sizeof path) {
+        fprintf(stderr, "usage: guests FOLDER\n");
+        return 2;
+    }
+    a_vector_changed_in_service();
+    a_write_of_isr();
+    a_shared_vector();
+    dropped_events();
+    a_restore(path);
+    any_guest();
+    files(path);
+    reads_only_load();
+    what_is_no_device();
+    another_form();
+    printf("%d passed, %d failed\n", passed, failed);
+    return failed != 0;
+}

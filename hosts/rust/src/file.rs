@@ -1,0 +1,206 @@
+//! A device in a file, which is replaced whole or not at all.
+//!
+//! A file has 8 bytes of magic, the image's length (4 bytes), the image, and a checksum of all before it (4 bytes); numbers have the
+//! little end first. The checksum is the usual CRC-32, as in gzip. `hosts/c/pic_file.c` writes and reads the same files.
+//!
+//! ```
+//! use pch_pic::{file, PchPic, Wires};
+//!
+//! # let folder = std::env::temp_dir().join(format!("pch-pic-{}", std::process::id()));
+//! # std::fs::create_dir_all(&folder)?;
+//! # let path = folder.join("device");
+//! file::save(&PchPic::new(), &path)?;
+//! let mut pic = file::load(&path)?;
+//! let high = 0; // the lines as the host's other devices hold them now
+//! Wires::new().resume(&mut pic, high, |event| println!("{event}"));
+//! # std::fs::remove_dir_all(&folder)?;
+//! # Ok::<(), Box<dyn std::error::Error>>(())
+//! ```
+
+use crate::{contents, Error, PchPic};
+use core::fmt;
+use std::ffi::OsString;
+use std::fs::{self, File};
+use std::io::{self, Read, Write};
+use std::path::{Path, PathBuf};
+
+const MAGIC: &[u8; 8] = b"PCH-PIC\n";
+const HEAD_LEN: usize = MAGIC.len() + 4;
+const SUM_LEN: usize = 4;
+/// No saved device has more bytes, of whatever form it is.
+const MOST: u64 = 4096;
+
+/// Why a device could not be loaded from a file.
+#[derive(Debug)]
+#[non_exhaustive]
+pub enum LoadError {
+    /// The file cannot be read.
+    Io(io::Error),
+    /// The file is no saved PCH-PIC.
+    Foreign,
+    /// The file is shorter or longer than it says.
+    Torn,
+    /// The file's checksum is not that of its bytes.
+    Damaged,
+    /// The file is whole, and the library refuses its image.
+    Image(Error),
+}
+
+impl fmt::Display for LoadError {
+    fn fmt(&self, f: &mut fmt::Formatter<'_>) -> fmt::Result {
+        match self {
+            LoadError::Io(why) => why.fmt(f),
+            LoadError::Foreign => f.write_str("the file is no saved PCH-PIC"),
+            LoadError::Torn => f.write_str("the file is damaged: it is shorter or longer than it says"),
+            LoadError::Damaged => f.write_str("the file is damaged: its checksum is not that of its bytes"),
+            LoadError::Image(why) => why.fmt(f),
+        }
+    }
+}
+
+impl std::error::Error for LoadError {
+    fn source(&self) -> Option<&(dyn std::error::Error + 'static)> {
+        match self {
+            LoadError::Io(why) => Some(why),
+            LoadError::Image(why) => Some(why),
+            _ => None,
+        }
+    }
+}
+
+impl From<io::Error> for LoadError {
+    fn from(why: io::Error) -> Self {
+        LoadError::Io(why)
+    }
+}
+
+impl From<Error> for LoadError {
+    fn from(why: Error) -> Self {
+        LoadError::Image(why)
+    }
+}
+
+fn checksum(bytes: &[u8]) -> u32 {
+    !bytes
+        .iter()
+        .fold(u32::MAX, |sum, byte| (0..8).fold(sum ^ u32::from(*byte), |sum, _| sum >> 1 ^ if sum & 1 == 1 { 0xedb8_8320 } else { 0 }))
+}
+
+/// The file's bytes.
+fn sealed(image: &[u8]) -> Vec<u8> {
+    let mut bytes = MAGIC.to_vec();
+    bytes.extend((image.len() as u32).to_le_bytes());
+    bytes.extend(image);
+    bytes.extend(checksum(&bytes).to_le_bytes());
+    bytes
+}
+
+/// The image in a file's bytes.
+fn opened(bytes: &[u8]) -> Result<&[u8], LoadError> {
+    let rest = bytes.strip_prefix(MAGIC).ok_or(LoadError::Foreign)?;
+    let image = bytes.get(HEAD_LEN..bytes.len().saturating_sub(SUM_LEN)).ok_or(LoadError::Torn)?;
+    if contents::number(&rest[..4]) != image.len() as u64 {
+        return Err(LoadError::Torn);
+    }
+    let (summed, sum) = bytes.split_at(bytes.len() - SUM_LEN);
+    if contents::number(sum) != u64::from(checksum(summed)) {
+        return Err(LoadError::Damaged);
+    }
+    Ok(image)
+}
+
+fn beside(path: &Path) -> PathBuf {
+    let mut name = OsString::from(path);
+    name.push(".new");
+    name.into()
+}
+
+/// A new file with these bytes, on the disk. What is left there of a save that did not end is taken away first: it may be anything.
+fn write_and_sync(path: &Path, bytes: &[u8]) -> io::Result<()> {
+    let _ = fs::remove_file(path);
+    let mut file = File::create_new(path)?;
+    file.write_all(bytes)?;
+    file.sync_all()
+}
+
+/// The new name is on the disk only when the folder is. Some file systems cannot sync a folder, and say so.
+fn sync_folder(path: &Path) -> io::Result<()> {
+    let folder = path.parent().filter(|folder| !folder.as_os_str().is_empty()).unwrap_or(Path::new("."));
+    match File::open(folder)?.sync_all() {
+        Err(why) if why.kind() == io::ErrorKind::InvalidInput => Ok(()),
+        synced => synced,
+    }
+}
+
+/// Saves a device. The bytes go to a file beside the old one, which takes its name only when it is whole and on the disk.
+///
+/// # Errors
+///
+/// Those of the file system; and what is there and no plain file is not replaced.
+pub fn save(pic: &PchPic, path: impl AsRef<Path>) -> io::Result<()> {
+    let path = path.as_ref();
+    if fs::metadata(path).is_ok_and(|old| !old.is_file()) {
+        return Err(io::Error::new(io::ErrorKind::InvalidInput, "what is there is no plain file"));
+    }
+    let beside = beside(path);
+    let written = write_and_sync(&beside, &sealed(pic.as_ref())).and_then(|()| fs::rename(&beside, path));
+    if written.is_err() {
+        let _ = fs::remove_file(&beside);
+    }
+    written.and_then(|()| sync_folder(path))
+}
+
+/// Loads a device. What comes next is [`Wires::resume`](crate::Wires::resume).
+///
+/// # Errors
+///
+/// A [`LoadError`], where the file cannot be read, is damaged, or holds an image that the library refuses.
+pub fn load(path: impl AsRef<Path>) -> Result<PchPic, LoadError> {
+    let mut bytes = Vec::new();
+    // More is asked for than a device has, so that a longer file is seen.
+    File::open(path)?.take(MOST).read_to_end(&mut bytes)?;
+    Ok(PchPic::load(opened(&bytes)?)?)
+}
+
+#[cfg(test)]
+mod tests {
+    use super::*;
+
+    #[test]
+    fn the_checksum_is_the_usual_one() {
+        assert_eq!(checksum(b"123456789"), 0xcbf4_3926);
+    }
+
+    #[test]
+    fn what_is_sealed_is_opened() {
+        for len in [0, 1, 259, 290] {
+            assert_eq!(opened(&sealed(&vec![0xa5; len])).unwrap(), vec![0xa5; len]);
+        }
+    }
+
+    #[test]
+    fn a_changed_byte_is_found() {
+        let saved = sealed(PchPic::new().as_ref());
+        for place in 0..saved.len() {
+            let mut bytes = saved.clone();
+            bytes[place] ^= 1 << (place % 8);
+            match opened(&bytes) {
+                Err(LoadError::Foreign) => assert!(place < 8),
+                Err(LoadError::Torn) => assert!((8..12).contains(&place)),
+                Err(LoadError::Damaged) => assert!(place >= 12),
+                other => panic!("{place}: {other:?}"),
+            }
+        }
+    }
+
+    #[test]
+    fn so_is_another_length() {
+        let mut saved = sealed(PchPic::new().as_ref());
+        for len in 0..saved.len() {
+            let want = if len < 8 { "Foreign" } else { "Torn" };
+            assert_eq!(format!("{:?}", opened(&saved[..len]).unwrap_err()), want, "{len}");
+        }
+        saved.push(0);
+        assert!(matches!(opened(&saved), Err(LoadError::Torn)));
+    }
+}

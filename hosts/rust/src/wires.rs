@@ -1,0 +1,154 @@
+//! The wires of a device, and what a host does with them.
+
+use crate::{Error, Event, PchPic, EVENTS, INPUTS, VECTORS};
+use core::fmt;
+
+/// The wires of a device: which of its lines are high, and which vectors are on at the controller above.
+///
+/// Which vectors are on is worked out from the device as it stands, so nothing that a guest does can make it wrong: after each call here
+/// exactly the vectors of the inputs in service are on.
+///
+/// Each call takes a `route`, which is called for each vector that is to be asserted or deasserted above. An assert may come for a vector
+/// that is on: another input that carries it wants service. A deassert comes only when no input carries it any more.
+///
+/// ```
+/// use pch_pic::{reg, PchPic, Width, Window, Wires};
+///
+/// let (mut pic, mut wires) = (PchPic::new(), Wires::new());
+/// pic.write(Window::at(0), reg::ISR, Width::Dword, 1)?; // no event tells it, and ISR reads 0: the input is masked
+/// wires.settle(&mut pic, |event| println!("{event}"));
+/// assert!(wires.is_on(0));
+/// # Ok::<(), pch_pic::Error>(())
+/// ```
+#[derive(Clone, PartialEq, Eq, Hash)]
+pub struct Wires {
+    /// Bit n is set while a device of the host holds line n up.
+    high: u64,
+    /// What the controller above was told last.
+    on: [bool; VECTORS],
+}
+
+impl Default for Wires {
+    fn default() -> Self {
+        Wires::new()
+    }
+}
+
+impl fmt::Debug for Wires {
+    fn fmt(&self, f: &mut fmt::Formatter<'_>) -> fmt::Result {
+        /// A list of vectors.
+        struct On<'a>(&'a Wires);
+        impl fmt::Debug for On<'_> {
+            fn fmt(&self, f: &mut fmt::Formatter<'_>) -> fmt::Result {
+                f.debug_list().entries(self.0.vectors_on()).finish()
+            }
+        }
+        f.debug_struct("Wires").field("high", &format_args!("{:#018x}", self.high)).field("on", &On(self)).finish()
+    }
+}
+
+impl Wires {
+    /// Every line low, every vector off.
+    pub const fn new() -> Self {
+        Wires { high: 0, on: [false; VECTORS] }
+    }
+
+    /// The lines that are high: bit n for input n.
+    pub const fn high(&self) -> u64 {
+        self.high
+    }
+
+    /// Whether a vector is on at the controller above.
+    pub const fn is_on(&self, vector: u8) -> bool {
+        self.on[vector as usize]
+    }
+
+    /// The vectors that are on, in rising order.
+    pub fn vectors_on(&self) -> impl Iterator<Item = u8> + '_ {
+        (0..=u8::MAX).filter(|vector| self.is_on(*vector))
+    }
+
+    /// Says what the controller above has on, without telling it. Needed before [`resume`](Wires::resume) where that controller was restored
+    /// too.
+    pub fn assume(&mut self, vector: u8, on: bool) {
+        self.on[usize::from(vector)] = on;
+    }
+
+    /// Brings the wires in line with the device, whatever the guest did: drains and passes on, counts afresh which vectors are on and passes
+    /// on what no event told, and raises each line again that is still high. To be called after each write and each reset.
+    pub fn settle(&mut self, pic: &mut PchPic, mut route: impl FnMut(Event)) {
+        // Waiting events are older than those of the lines. And a line that a CLEAR took goes off above before it goes on again.
+        self.catch_up(pic, &mut route);
+        for input in inputs(self.high) {
+            self.shift(pic, input, true, &mut route);
+        }
+    }
+
+    /// A device of the host moves a line, and what comes of it is passed on.
+    ///
+    /// # Errors
+    ///
+    /// [`Error::Input`] where the input is 64 or more.
+    pub fn line(&mut self, pic: &mut PchPic, input: u64, high: bool, mut route: impl FnMut(Event)) -> Result<(), Error> {
+        if input >= INPUTS as u64 {
+            return Err(Error::Input);
+        }
+        let bit = 1 << input;
+        self.high = if high { self.high | bit } else { self.high & !bit };
+        self.catch_up(pic, &mut route);
+        self.shift(pic, input, high, &mut route);
+        Ok(())
+    }
+
+    /// After a load: the lines are as `high` says, bit n for input n, and the rest follows. Wires that are new say that the controller above
+    /// has nothing on; see [`assume`](Wires::assume).
+    pub fn resume(&mut self, pic: &mut PchPic, high: u64, route: impl FnMut(Event)) {
+        // A line that was high when the device was saved may have gone low since: then its input is still latched.
+        for input in inputs(pic.latched() & !high) {
+            // What it returns is left to the count.
+            let _ = pic.set_level(input, false);
+        }
+        self.high = high;
+        self.settle(pic, route);
+    }
+
+    /// Passes on what waits, and then what no event told: a drop, a vector changed in service, a write of ISR, a load.
+    fn catch_up(&mut self, pic: &mut PchPic, route: &mut impl FnMut(Event)) {
+        let mut events = [Event::default(); EVENTS];
+        let count = pic.drain(&mut events);
+        let held = pic.held();
+        for event in &events[..count] {
+            self.pass_on(&held, *event, route);
+        }
+        for (vector, held) in (0..=u8::MAX).zip(held) {
+            if self.is_on(vector) != (held != 0) {
+                self.tell(Event { vector, asserted: held != 0 }, route);
+            }
+        }
+    }
+
+    fn shift(&mut self, pic: &mut PchPic, input: u64, high: bool, route: &mut impl FnMut(Event)) {
+        for event in pic.set_level(input, high).into_iter().flatten() {
+            self.pass_on(&pic.held(), event, route);
+        }
+    }
+
+    /// An event is passed on where the device, as it stands now, agrees with it. A deassert is not where another input still carries the
+    /// vector; an assert is not where the input has left service since.
+    fn pass_on(&mut self, held: &[u8; VECTORS], event: Event, route: &mut impl FnMut(Event)) {
+        let on = held[usize::from(event.vector)] != 0;
+        if event.asserted == on && (on || self.is_on(event.vector)) {
+            self.tell(event, route);
+        }
+    }
+
+    fn tell(&mut self, event: Event, route: &mut impl FnMut(Event)) {
+        self.on[usize::from(event.vector)] = event.asserted;
+        route(event);
+    }
+}
+
+/// The inputs of a set, lowest first.
+fn inputs(set: u64) -> impl Iterator<Item = u64> {
+    (0..INPUTS as u64).filter(move |input| set >> input & 1 == 1)
+}

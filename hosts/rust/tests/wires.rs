@@ -1,0 +1,224 @@
+//! Guests that no driver would write, and what a host makes of them: after each step the vectors that are on above are those of the inputs
+//! in service.
+
+use pch_pic::{reg, Error, Event, PchPic, Width, Window, Wires, EVENTS, INPUTS, VECTORS};
+
+const WINDOW: Window = Window::at(0);
+const WIDTHS: [Width; 4] = [Width::Byte, Width::Word, Width::Dword, Width::Qword];
+
+/// The controller above: which vectors are on, how often it was told something, and how often what it knew.
+#[derive(Default)]
+struct Above {
+    on: Vec<u8>,
+    told: usize,
+    again: usize,
+}
+
+impl Above {
+    fn route(&mut self, event: Event) {
+        self.told += 1;
+        self.again += usize::from(self.on.contains(&event.vector) == event.asserted);
+        self.on.retain(|vector| *vector != event.vector);
+        if event.asserted {
+            self.on.push(event.vector);
+            self.on.sort_unstable();
+        }
+    }
+}
+
+struct Host {
+    pic: PchPic,
+    wires: Wires,
+    above: Above,
+}
+
+impl Host {
+    fn new(pic: PchPic) -> Self {
+        Host { pic, wires: Wires::new(), above: Above::default() }
+    }
+
+    /// The device after reset, all unmasked.
+    fn unmasked() -> Self {
+        let mut host = Host::new(PchPic::new());
+        host.writes(reg::MASK, Width::Qword, 0);
+        host
+    }
+
+    fn writes(&mut self, offset: u64, width: Width, value: u64) {
+        self.pic.write(WINDOW, offset, width, value).unwrap();
+        self.settle();
+    }
+
+    fn settle(&mut self) {
+        self.wires.settle(&mut self.pic, |event| self.above.route(event));
+        self.in_line();
+    }
+
+    fn line(&mut self, input: u64, high: bool) {
+        self.wires.line(&mut self.pic, input, high, |event| self.above.route(event)).unwrap();
+        self.in_line();
+    }
+
+    fn resume(&mut self, high: u64) {
+        self.wires.resume(&mut self.pic, high, |event| self.above.route(event));
+        self.in_line();
+    }
+
+    /// The vectors that ought to be on, found out by calls alone: on a copy, lowering an input returns its vector if it was in service.
+    fn in_line(&self) {
+        let mut copy = self.pic.clone();
+        let lowered = (0..INPUTS as u64).flat_map(|input| copy.set_level(input, false).unwrap());
+        let mut want: Vec<u8> = lowered.map(|event| event.vector).collect();
+        want.sort_unstable();
+        want.dedup();
+        assert_eq!(self.above.on, want);
+        assert_eq!(self.wires.vectors_on().collect::<Vec<_>>(), want);
+        let waits = self.wires.high() & !self.pic.read(WINDOW, reg::MASK, Width::Qword).unwrap() & !self.pic.in_service();
+        assert_eq!(waits, 0, "a line that is high and unmasked is in service");
+    }
+
+    #[track_caller]
+    fn expect(&self, on: &[u8], told: usize, again: usize) {
+        assert_eq!((&self.above.on[..], self.above.told, self.above.again), (on, told, again));
+    }
+}
+
+#[test]
+fn a_vector_changed_in_service() {
+    let mut host = Host::unmasked();
+    host.line(0, true);
+    host.expect(&[0], 1, 0);
+    host.writes(reg::VECTORS, Width::Byte, 0x77);
+    host.expect(&[0x77], 3, 0);
+    host.line(0, false);
+    host.expect(&[], 4, 0);
+}
+
+#[test]
+fn a_write_of_isr() {
+    let mut host = Host::new(PchPic::new());
+    host.writes(reg::ISR, Width::Qword, 0x8000_0000_0000_0020);
+    assert_eq!(host.pic.read(WINDOW, reg::ISR, Width::Qword), Ok(0));
+    host.expect(&[5, 63], 2, 0);
+    host.line(5, false);
+    host.expect(&[63], 3, 0);
+    host.writes(reg::ISR, Width::Qword, 0);
+    host.expect(&[], 4, 0);
+    host.writes(reg::MASK, Width::Qword, 0);
+    host.line(9, true);
+    host.writes(reg::ISR, Width::Qword, 0);
+    host.expect(&[9], 7, 0); // still high: off, and on again
+    host.line(9, false);
+    host.expect(&[], 8, 0);
+}
+
+#[test]
+fn a_shared_vector() {
+    let mut host = Host::unmasked();
+    host.writes(reg::VECTORS + 1, Width::Byte, 0);
+    host.line(0, true);
+    host.line(1, true);
+    host.expect(&[0], 2, 1); // the second input asks again
+    host.line(0, false);
+    host.expect(&[0], 2, 1);
+    host.line(0, true);
+    host.writes(reg::VECTORS + 1, Width::Byte, 1);
+    host.expect(&[0, 1], 4, 2);
+    host.writes(reg::VECTORS + 1, Width::Byte, 0);
+    host.expect(&[0], 5, 2);
+    host.writes(reg::MASK, Width::Dword, 3);
+    host.expect(&[], 6, 2);
+}
+
+#[test]
+fn dropped_events() {
+    let mut host = Host::unmasked();
+    for input in 0..32 {
+        host.line(input, true);
+    }
+    host.writes(reg::MASK, Width::Dword, 0xffff_ffff);
+    assert_eq!((host.pic.drops(), host.pic.waiting()), (16, 0));
+    host.expect(&[], 64, 0);
+    host.writes(reg::MASK, Width::Dword, 0);
+    let all: Vec<u8> = (0..32).collect();
+    host.expect(&all, 96, 0);
+    host.writes(reg::CLEAR, Width::Dword, 0xffff_ffff);
+    assert_eq!(host.pic.drops(), 32);
+    host.expect(&all, 160, 0); // all off and on again, the dropped ones too
+    host.pic.reset();
+    host.settle();
+    host.expect(&[], 192, 0);
+    assert_eq!(host.pic.latched(), 0xffff_ffff);
+}
+
+/// Saved: 2 in service, its line falls before the load; 3 too, its line stays; 40 in service and masked; 7 unmasked, its event waits.
+fn saved() -> PchPic {
+    let mut host = Host::new(PchPic::new());
+    host.writes(reg::MASK, Width::Qword, 0xffff_ffff_ffff_ff80);
+    for input in [2, 3, 7] {
+        host.line(input, true);
+    }
+    host.writes(reg::ISR + reg::HIGH, Width::Dword, 0x100);
+    host.pic.write(WINDOW, reg::MASK, Width::Dword, 0xffff_ff00).unwrap();
+    assert_eq!(host.pic.waiting(), 1);
+    host.pic
+}
+
+#[test]
+fn a_restore_into_a_fresh_host() {
+    let mut host = Host::new(PchPic::load(saved().as_ref()).unwrap());
+    host.resume(1 << 3 | 1 << 7);
+    host.expect(&[3, 7, 40], 3, 0);
+    assert_eq!((host.pic.latched(), host.wires.high()), (1 << 3 | 1 << 7, 1 << 3 | 1 << 7));
+}
+
+#[test]
+fn a_restore_below_a_controller_that_was_restored() {
+    let mut host = Host::new(saved());
+    host.above.on = vec![2, 40];
+    host.wires.assume(2, true);
+    host.wires.assume(40, true);
+    assert_eq!(format!("{:?}", host.wires), "Wires { high: 0x0000000000000000, on: [2, 40] }");
+    host.resume(1 << 3 | 1 << 7);
+    host.expect(&[3, 7, 40], 3, 0);
+}
+
+#[test]
+fn there_is_no_input_64() {
+    let mut host = Host::unmasked();
+    let before = host.wires.clone();
+    for input in [64, u64::MAX] {
+        assert_eq!(host.wires.line(&mut host.pic, input, true, |_| unreachable!()), Err(Error::Input));
+    }
+    assert_eq!(host.wires, before);
+    assert_eq!(host.wires, Wires::default());
+}
+
+#[test]
+fn any_guest() {
+    let mut state = 0x9e37_79b9_7f4a_7c15_u64;
+    let mut chance = move || {
+        state ^= state << 13;
+        state ^= state >> 7;
+        state ^= state << 17;
+        state
+    };
+    let mut host = Host::new(PchPic::new());
+    for _ in 0..2000 {
+        host.above.told = 0;
+        match chance() % 16 {
+            0..=7 => host.line(chance() % 64, chance() % 2 == 0),
+            8..=14 => {
+                let place = [reg::MASK, reg::CLEAR, reg::ISR, reg::VECTORS][(chance() % 4) as usize];
+                let offset = place + chance() % if place == reg::VECTORS { 64 } else { 8 };
+                host.writes(offset, WIDTHS[(chance() % 4) as usize], chance() & chance() & chance());
+            }
+            _ => {
+                let high = host.wires.high();
+                host = Host::new(PchPic::load(host.pic.as_ref()).unwrap());
+                host.resume(high);
+            }
+        }
+        assert!(host.above.told <= EVENTS + VECTORS + INPUTS);
+    }
+}
