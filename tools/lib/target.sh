@@ -30,22 +30,22 @@ install_packages() {
         >"$target_root/target/apt.log" 2>&1 </dev/null
 }
 
+system_run() {
+    [ -e "$cross/lib64/ld-linux-x86-64.so.2" ] && command -v qemu-x86_64 >/dev/null 2>&1 && run=(qemu-x86_64 -L "$cross")
+}
+
 x86_run() {
     local kit
     run=()
     if on_x86; then return 0; fi
-    if [ ! -e "$cross/lib64/ld-linux-x86-64.so.2" ] || ! command -v qemu-x86_64 >/dev/null 2>&1; then
-        install_packages qemu-user libc6-amd64-cross
-    fi
-    if [ -e "$cross/lib64/ld-linux-x86-64.so.2" ] && command -v qemu-x86_64 >/dev/null 2>&1; then
-        run=(qemu-x86_64 -L "$cross")
-        return 0
-    fi
+    if system_run; then return 0; fi
     # Rattle's kit brings an emulator and a C library for the programs that it builds; a program that needs no more runs with these.
     if kit=$(command -v rt) && kit=$(dirname "$(readlink -f "$kit")")/../on/$(uname -m)/toolchain && [ -x "$kit/bin/qemu-x86_64" ]; then
         run=("$kit/bin/qemu-x86_64" "$kit/lib/ld-linux-x86-64.so.2" --library-path "$kit/lib")
         return 0
     fi
+    install_packages qemu-user libc6-amd64-cross
+    if system_run; then return 0; fi
     why="nothing here runs x86-64 programs (on Debian: qemu-user and libc6-amd64-cross)"
     return 1
 }

@@ -12,6 +12,14 @@ bad() {
 # wants OPTION WHAT COUNT: an option that has a value must have a word after it; COUNT is how many words there are, with the option.
 wants() { [ "$3" -gt 1 ] || bad "$1 wants $2"; }
 
+# no_words WORDS..: a tool that takes none but --help.
+no_words() {
+    case ${1:-} in
+    -h | --help) usage; exit 0 ;;
+    esac
+    [ $# -eq 0 ] || bad "it takes no words, and not '$1'"
+}
+
 # number OPTION VALUE: a value that is to be a number.
 number() {
     case $2 in
