@@ -1,18 +1,17 @@
 -- The slots of the ring as a list of events: how many they are, one more at the end, the oldest taken out.
 use mathlib.Core.Path.{_≡_, refl, sym, ap, ap₂, _∙_}
-use mathlib.Core.Bool.{Bool, false}
+use mathlib.Core.Bool.{Bool, true, false}
 use mathlib.Core.List.{List, [], _∷_, _++_}
 use Prim.Native.Nat.{ℕ, zero, suc, _+_, _-_, _%_, _≤_, _<_, min}
-use native.Mathlib.Nat.{mod-eq-of-lt, add-zero, add-suc, suc-add, sub-zero}
+use native.Mathlib.Nat.{mod-eq-of-lt, add-zero, add-suc, suc-add}
 use native.Mathlib.Numerals.{add-one}
 use native.Mathlib.Omega.{arith}
-use lib.Dec.{leb}
-use lib.ListN.{length, getD, set, take, drop, drop-of-length-le}
-use lib.Seq.{getD-set-same, getD-set-other, take-all}
-use borrow.Author.Tests.{leb-true, leb-false}
-use Rattle.rules.specs.Ring.{stop, Event, offered, drawn}
+use lib.ListN.{length, getD, set, take, drop}
+use lib.Seq.{getD-set-same, getD-set-other}
+use lib.Dec.{ltb}
+use borrow.Author.Tests.{lt-ltb, le-ltb}
+use Rattle.rules.specs.Ring.{capacity, stop, Event, Drawn, offered, drawn}
 use Rattle.rules.specs.Ring as rules-ring
-use Rattle.rules.proofs.laws.Bits.{test}
 use Rattle.rules.proofs.laws.Rings.{offered-room, offered-full}
 use Rattle.state.specs.View.{slot, slots, ringView}
 use Rattle.state.specs.declared.Ring.{Ring}
@@ -20,8 +19,8 @@ use Rattle.state.specs.declared.Ring.{Ring}
 abbrev pub ev : ℕ → Bool → Event
 ev v a = record { vector = v; asserted = a }
 
-abbrev ring-of : List Event → ℕ → rules-ring.Ring
-ring-of es n = record { waiting = es; drops = n }
+abbrev ringOf : List Event → ℕ → rules-ring.Ring
+ringOf es n = record { waiting = es; drops = n }
 
 module _ (vs : List ℕ) (fs : List Bool) where
   pub slots-length : (h n : ℕ) → length (slots vs fs h n) ≡ n
@@ -43,22 +42,16 @@ module _ (vs : List ℕ) (fs : List Bool) where
   slots-round h g (suc n) e =
       ap₂ (λ (x : Event) (l : List Event). x ∷ l) (ap (λ (j : ℕ). ev (getD vs j 0) (getD fs j false)) e) (slots-round (suc h) (suc g) n (omega arith))
 
-  -- fewer slots are the first of the events
-  pub take-slots : (h n m : ℕ) → n ≤ m → take n (slots vs fs h m) ≡ slots vs fs h n
+  -- the oldest, and the others from the next head on
+  pub slots-first : (h n : ℕ) → h < 16 → (n ≡ 0 → ⊥) → slots vs fs h n ≡ ev (getD vs h 0) (getD fs h false) ∷ slots vs fs ((h + 1) % 16) (n - 1)
   unfolding slots
-  take-slots h zero m k = refl
-  take-slots h (suc n) zero k = absurd (omega arith)
-  take-slots h (suc n) (suc m) k = ap (λ (l : List Event). slot vs fs h ∷ l) (take-slots (suc h) n m (omega arith))
-
-  -- the others wait from a later head on
-  drop-slots : (h n m : ℕ) → n ≤ m → drop n (slots vs fs h m) ≡ slots vs fs (h + n) (m - n)
-  unfolding slots
-  drop-slots h zero m k = λ i. slots vs fs (sym (add-zero h) i) (sym (sub-zero m) i)
-  drop-slots h (suc n) zero k = absurd (omega arith)
-  drop-slots h (suc n) (suc m) k =
-      let head : suc h + n ≡ h + suc n = omega arith in
-      let left : m - n ≡ suc m - suc n = omega arith in
-      drop-slots (suc h) n m (omega arith) ∙ (λ i. slots vs fs (head i) (left i))
+  slots-first h zero l z = absurd (z refl)
+  slots-first h (suc n) l z =
+      ap₂ (λ (x : Event) (r : List Event). x ∷ r) (ap (λ (j : ℕ). ev (getD vs j 0) (getD fs j false)) (mod-eq-of-lt l))
+      (slots-round (suc h) ((h + 1) % 16) n (omega arith) ∙ ap (slots vs fs ((h + 1) % 16)) same)
+    where
+      same : n ≡ suc n - 1
+      same = omega arith
 
 -- slots that are not read may differ
 slots-ext : (vs ws : List ℕ) (fs gs : List Bool) (h n : ℕ) → ((i : ℕ) → h ≤ i → i < h + n → slot vs fs i ≡ slot ws gs i) → slots vs fs h n ≡ slots ws gs h n
@@ -78,66 +71,44 @@ slots-push vs fs h n v a lv lf l =
     (λ i p q. ap₂ ev (getD-set-other vs j (i % 16) v 0 (omega arith)) (getD-set-other fs j (i % 16) a false (omega arith))))
     (ap₂ ev (getD-set-same vs j v 0 (omega arith)) (getD-set-same fs j a false (omega arith)))
 
--- room for more than wait is room for those that wait
-drawn-fewer : (r : rules-ring.Ring) (n k : ℕ) → n ≡ min (length (r .waiting)) k → drawn r n ≡ drawn r k
-unfolding drawn
-drawn-fewer r n k e =
-    let l = r .waiting in
-    test (leb k (length l)) (λ t. let q : n ≡ k = omega (arith, leb-true k (length l) t) in ap (drawn r) q)
-    (λ t.
-    let q = leb-false k (length l) t in
-    let none = drop-of-length-le l {i = n} (omega arith) ∙ sym (drop-of-length-le l {i = k} (omega arith)) in
-    let all = take-all n l (omega arith) ∙ sym (take-all k l (omega arith)) in
-    λ i. record { after = ring-of (none i) (r .drops); drained = all i })
-
--- ---- what the functions come to
+-- ---- what the two functions come to
 module _ (r : Ring) where
-  pub waiting-length : length (ringView r .waiting) ≡ r .queue .«output_len»
-  waiting-length = slots-length (r .«output_vectors») (r .«output_asserted») (r .queue .«output_head») (r .queue .«output_len»)
+  waiting-length : length (ringView r .waiting) ≡ r .«output_len»
+  waiting-length = slots-length (r .«output_vectors») (r .«output_asserted») (r .«output_head») (r .«output_len»)
 
-  -- room: the event is stored
-  pub push-room : (v : ℕ) (a : Bool) → length (r .«output_vectors») ≡ 16 → length (r .«output_asserted») ≡ 16 → r .queue .«output_len» < 16
-      → ring-of (slots (set (r .«output_vectors») ((r .queue .«output_head» + r .queue .«output_len») % 16) v) (set (r .«output_asserted») ((r .queue .«output_head» + r .queue .«output_len») % 16) a) (r .queue .«output_head») (r .queue .«output_len» + 1)) (r .queue .«output_drops»)
+  -- room: the event is stored and kept
+  pub push-room : (v : ℕ) (a : Bool) → length (r .«output_vectors») ≡ 16 → length (r .«output_asserted») ≡ 16 → r .«output_len» < 16
+      → ringOf (slots (set (r .«output_vectors») ((r .«output_head» + r .«output_len») % 16) v) (set (r .«output_asserted») ((r .«output_head» + r .«output_len») % 16) a) (r .«output_head») (r .«output_len» + 1)) (r .«output_drops»)
       ≡ offered (ringView r) (ev v a)
   push-room v a lv lf l =
-      ap (λ (es : List Event). ring-of es (r .queue .«output_drops»)) (slots-push (r .«output_vectors») (r .«output_asserted») (r .queue .«output_head») (r .queue .«output_len») v a lv lf l)
+      ap (λ (es : List Event). ringOf es (r .«output_drops»)) (slots-push (r .«output_vectors») (r .«output_asserted») (r .«output_head») (r .«output_len») v a lv lf l)
       ∙ sym (offered-room (ringView r) (ev v a) (omega (arith, waiting-length)))
 
-  -- no room: it is counted
-  pub push-full : (e : Event) (n : ℕ) → r .queue .«output_len» ≡ 16 → n ≡ min (r .queue .«output_drops» + 1) stop → ring-of (ringView r .waiting) n ≡ offered (ringView r) e
-  push-full e n l p = ap (ring-of (ringView r .waiting)) p ∙ sym (offered-full (ringView r) e (omega (arith, waiting-length)))
+  pub kept-room : r .«output_len» < 16 → true ≡ ltb (length (ringView r .waiting)) capacity
+  kept-room l = sym (lt-ltb (length (ringView r .waiting)) capacity (omega (arith, waiting-length)))
 
-  -- n events come out: the head moves on by n, and n fewer wait
-  pub drain-some : (n k : ℕ) → n ≡ min (r .queue .«output_len») k
+  -- no room: it is counted and not kept
+  pub push-full : (e : Event) (n : ℕ) → r .«output_len» ≡ 16 → n ≡ min (r .«output_drops» + 1) stop → ringOf (ringView r .waiting) n ≡ offered (ringView r) e
+  push-full e n l p = ap (ringOf (ringView r .waiting)) p ∙ sym (offered-full (ringView r) e (omega (arith, waiting-length)))
+
+  pub kept-full : r .«output_len» ≡ 16 → false ≡ ltb (length (ringView r .waiting)) capacity
+  kept-full l = sym (le-ltb (length (ringView r .waiting)) capacity (omega (arith, waiting-length)))
+
+  -- a drain with room for one, by the events that wait
+  abbrev one-of : List Event → Drawn
+  one-of es = record { after = ringOf (drop 1 es) (r .«output_drops»); drained = take 1 es }
+
+  pub pop-none : r .«output_len» ≡ 0 → record { after = ringView r; drained = [] } ≡ drawn (ringView r) 1
+  unfolding drawn slots
+  pop-none e =
+      let none = ap (slots (r .«output_vectors») (r .«output_asserted») (r .«output_head»)) e in
+      ap (λ (es : List Event). record { after = ringOf es (r .«output_drops»); drained = [] }) none ∙ sym (ap one-of none)
+
+  pub pop-one : r .«output_head» < 16 → (r .«output_len» ≡ 0 → ⊥)
       → record {
-        after = ring-of (slots (r .«output_vectors») (r .«output_asserted») ((r .queue .«output_head» + n) % 16) (r .queue .«output_len» - n)) (r .queue .«output_drops»);
-        drained = take n (ringView r .waiting);
-      }
-      ≡ drawn (ringView r) k
-  unfolding drawn
-  drain-some n k e =
-      let h = r .queue .«output_head» in
-      let m = r .queue .«output_len» in
-      let left = drop-slots (r .«output_vectors») (r .«output_asserted») h n m (omega arith) ∙ slots-round (r .«output_vectors») (r .«output_asserted») (h + n) ((h + n) % 16) (m - n) (omega arith) in
-      (λ i. record { after = ring-of (sym left i) (r .queue .«output_drops»); drained = take n (ringView r .waiting) })
-      ∙ drawn-fewer (ringView r) n k (omega (arith, waiting-length))
-
-  pub pop-none : r .queue .«output_len» ≡ 0 → record { after = ringView r; drained = [] } ≡ drawn (ringView r) 1
-  unfolding drawn
-  pop-none e = drawn-fewer (ringView r) 0 1 (omega (arith, waiting-length))
-
-  pub pop-one : r .queue .«output_head» < 16 → (r .queue .«output_len» ≡ 0 → ⊥)
-      → record {
-        after = ring-of (slots (r .«output_vectors») (r .«output_asserted») ((r .queue .«output_head» + 1) % 16) (r .queue .«output_len» - 1)) (r .queue .«output_drops»);
-        drained = ev (getD (r .«output_vectors») (r .queue .«output_head») 0) (getD (r .«output_asserted») (r .queue .«output_head») false) ∷ [];
+        after = ringOf (slots (r .«output_vectors») (r .«output_asserted») ((r .«output_head» + 1) % 16) (r .«output_len» - 1)) (r .«output_drops»);
+        drained = ev (getD (r .«output_vectors») (r .«output_head») 0) (getD (r .«output_asserted») (r .«output_head») false) ∷ [];
       }
       ≡ drawn (ringView r) 1
-  unfolding slots
-  pop-one h n =
-      let vs = r .«output_vectors» in
-      let fs = r .«output_asserted» in
-      let at = r .queue .«output_head» in
-      let m = r .queue .«output_len» in
-      let first = take-slots vs fs at 1 m (omega arith) ∙ ap (λ (j : ℕ). ev (getD vs j 0) (getD fs j false) ∷ []) (mod-eq-of-lt h) in
-      (λ i. record { after = ring-of (slots vs fs ((at + 1) % 16) (m - 1)) (r .queue .«output_drops»); drained = sym first i })
-      ∙ drain-some 1 1 (omega arith)
+  unfolding drawn
+  pop-one h n = sym (ap one-of (slots-first (r .«output_vectors») (r .«output_asserted») (r .«output_head») (r .«output_len») h n))

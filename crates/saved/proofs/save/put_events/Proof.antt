@@ -6,38 +6,36 @@ use native.Mathlib.Omega.{arith}
 use borrow.Author.Needs.{needs}
 use lib.ListN.{drop, length-set}
 use Rattle.rules.specs.Ring.{pairsOf}
-use Rattle.state.proofs.Slots.{take-slots}
-use Rattle.state.proofs.Written.{Written, written-none, written-next, written-all}
-use Rattle.state.proofs.put_events.Statement.{statement}
-use Rattle.state.proofs.put_events.Tie as tie
+use Rattle.saved.proofs.Events.{take-slots, Written, written-none, written-next, written-all}
+use Rattle.saved.proofs.save.put_events.Statement.{statement}
+use Rattle.saved.proofs.save.put_events.Tie as tie
 
 abbrev Inv-loop : tie.InvT-loop
-Inv-loop vectors asserted buf₀ n head i₀ buf i = (i ≤ n) × Written vectors asserted head n buf₀ buf i
+Inv-loop dst₀ n ring i₀ dst i = (i ≤ n) × Written (ring .«output_vectors») (ring .«output_asserted») (ring .«output_head») n dst₀ dst i
 
 abbrev μ-loop : tie.MeasureT-loop
-μ-loop vectors asserted buf₀ n head i₀ buf i = n - i
+μ-loop dst₀ n ring i₀ dst i = n - i
 
 loop-holds : tie.Need-loop-holds Inv-loop μ-loop
 loop-holds c =
-    let a = c .before .before .before .args in
-    (omega arith, written-none (a .vectors .now) (a .asserted .now) (a .queue .«output_head») (a .n) (a .buf .now))
+    let a = c .before .args in
+    (omega arith, written-none (a .t2 .«output_vectors») (a .t2 .«output_asserted») (a .t2 .«output_head») (a .n) (a .dst .now))
 
 loop-again : tie.Need-loop-again Inv-loop μ-loop
 loop-again c =
     let l = c .before .before .before .before in
-    let a = l .before .before .before .before .args in (
+    let a = l .before .before .args in (
       omega arith,
-      written-next (a .vectors .now) (a .asserted .now) (l .loop .inv .1) (omega arith) (omega arith) (c .flag-byte .result) (c .flag-byte .ensures),
+      written-next (a .t2 .«output_vectors») (a .t2 .«output_asserted») (l .loop .inv .1) (omega arith) (omega arith) (c .flag-byte .result) (c .flag-byte .ensures),
     )
 
 returns : tie.Need-returns Inv-loop μ-loop
 returns c =
     let l = c .before .loop in
-    let a = c .before .before .before .before .before .args in
-    let vs = a .vectors .now in
-    let fs = a .asserted .now in
-    written-all vs fs (l .inv .1) (omega arith)
-    ∙ ap (λ es. pairsOf es ++ drop (2 * a .n) (a .buf .now)) (sym (take-slots vs fs (a .queue .«output_head») (a .n) (a .queue .«output_len») (omega arith)))
+    let a = c .before .before .before .args in
+    let r = a .t2 in
+    written-all (r .«output_vectors») (r .«output_asserted») (l .inv .1) (omega arith)
+    ∙ ap (λ es. pairsOf es ++ drop (2 * a .n) (a .dst .now)) (sym (take-slots (r .«output_vectors») (r .«output_asserted») (r .«output_head») (a .n) (r .«output_len») (omega arith)))
 
 pub put-events-spec : {M : Type 1} → statement M
 put-events-spec =
