@@ -1,29 +1,19 @@
--- What a part of the state is as the rules see it, and what it is to save one.
+-- What it is to save a part of a state, in the rules' terms.
 use mathlib.Core.Path.{_≡_}
 use mathlib.Core.Bool.{true, false}
 use mathlib.Core.List.{List, [], _∷_}
 use Prim.Native.Nat.{ℕ}
 use lib.ListN.{length}
 use Rattle.rules.specs.Numbers.{part}
-use Rattle.rules.specs.Lines as rules-lines
-use Rattle.rules.specs.Core as rules-core
 use Rattle.rules.specs.Core.{htmsiEn, edge, pol, auto0, auto1}
 use Rattle.rules.specs.Device.{Device}
 use Rattle.rules.specs.Form.{mask, irr, isr, copy, stored, Field, word, routes, vectors, count, drops, pairs, Form, listed, has, contentsLength, read}
 use Rattle.rules.specs.Image.{fieldOf}
-use Rattle.state.specs.View.{linesView, storedView, ringView, WellLines}
+use Rattle.state.specs.View.{linesView, storedView, ringView}
 use Rattle.state.specs.declared.Lines.{Lines}
 use Rattle.state.specs.declared.Stored.{Stored}
 use Rattle.state.specs.declared.Tables.{Tables}
 use Rattle.state.specs.declared.Ring.{Ring}
-
--- what a function that hands back a part of the state promises, beside IsRing and Is: it is well formed, and shows what the rules say
-pub record IsLines (l : Lines) (shown : rules-lines.Lines) : Type 0 where
-  pub well : WellLines l
-  pub shows : linesView l ≡ shown
-
-abbrev pub IsStored : Stored → rules-core.Stored → Type 0
-IsStored s shown = storedView s (shown .routes) ≡ shown
 
 -- an image in which some fields are as a device has them, and all else is as it was
 pub record Puts (f : Form) (d : Device) (ps : List Field) (entry exit : List ℕ) : Type 0 where
