@@ -5,10 +5,9 @@ use mathlib.Core.List.{List, [], _∷_, _++_}
 use Prim.Native.Nat.{ℕ, zero, suc, _+_, _*_}
 use lib.Dec.{eqb}
 use lib.ListN.{length, drop, getD}
-use Rattle.rules.specs.Device.{Device}
+use Rattle.rules.specs.Device.{Device, withLines}
 use Rattle.rules.specs.Session as session
 use Rattle.rules.specs.Session.{space, plus, minus, letter-e, digit, digits, vectorSaid}
-use Rattle.rules.proofs.laws.Steps.{withLines}
 use Rattle.state.specs.View.{linesView, Is}
 use Rattle.engine.specs.declared.Routed.{Routed}
 use Rattle.engine.specs.Moves.{answerValue}
