@@ -83,7 +83,12 @@ pub fn load_ring(image: &[u8], vectors: &mut [u8], asserted: &mut [bool]) -> Que
     ensures { λ r. ⌜ IsRing (ringOf r (now (vectors .exit)) (now (asserted .exit))) (decode (now (image .entry)) .ring) ⌝ }
 {
     let len = image[places::COUNT] as usize;
-    fill_slots(&image[places::PAIRS..places::LENGTH], len, vectors, asserted);
+    fill_slots(
+        &image[places::PAIRS..places::LENGTH],
+        len,
+        vectors,
+        asserted,
+    );
     let drops = number(&image[223..227]) as u32;
     Queue {
         output_head: 0,

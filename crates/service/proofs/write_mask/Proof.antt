@@ -28,7 +28,8 @@ write-mask-spec =
     let p = u .before .before .before .before in
     let r = p .before in
     let w = r .before .before in
-    let a = w .before .before .before .args in
-    (omega (arith, l .leave .ensures .0, o .offer-entered .ensures .0),
-    mask-done (a .image .now) (a .high) (a .val) (u .newly-unmasked .result) (d .newly-masked .result) (w .mask .ensures) (r .replace-u32 .ensures) (u .newly-unmasked .ensures) (d .newly-masked .ensures) (answerValue (e .enter .result))
-    (p .put-mask .ensures) (e .enter .ensures) (o .offer-entered .ensures .1) (l .leave .ensures .1))))
+    let a = w .before .before .before .args in (
+      omega (arith, l .leave .ensures .0, o .offer-entered .ensures .0),
+      mask-done (a .image .now) (a .high) (a .val) (u .newly-unmasked .result) (d .newly-masked .result) (w .mask .ensures) (r .replace-u32 .ensures) (u .newly-unmasked .ensures) (d .newly-masked .ensures) (answerValue (e .enter .result))
+          (p .put-mask .ensures) (e .enter .ensures) (o .offer-entered .ensures .1) (l .leave .ensures .1),
+    )))
