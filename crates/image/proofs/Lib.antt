@@ -2,4 +2,3 @@
 pub mod Pairs
 pub mod Events
 pub mod Saved
-pub mod Words

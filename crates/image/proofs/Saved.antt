@@ -1,25 +1,21 @@
 -- Bodies written into an image: words one after another, the ring, and a part of the image of a device replaced.
 use mathlib.Core.Path.{_≡_, refl, sym, ap, _∙_}
-use mathlib.Core.List.{List, [], _∷_, _++_, map, append-assoc, append-nil}
-use Prim.Native.Nat.{ℕ, zero, suc, _+_, _-_, _*_, _%_, _^_, _≤_, _<_}
+use mathlib.Core.List.{List, [], _∷_, _++_, append-assoc}
+use Prim.Native.Nat.{ℕ, zero, suc, _+_, _-_, _*_, _%_, _≤_, _<_}
 use native.Mathlib.Nat.{sub-zero, mod-eq-of-lt}
 use native.Mathlib.Numerals.{add-one}
 use native.Mathlib.Omega.{arith}
-use lib.ListN.{length, take, drop, getD, replicate, length-append, length-drop, length-replicate, drop-of-length-le}
+use lib.ListN.{length, take, drop, getD, replicate, length-append, length-drop, length-replicate}
 use lib.Seq.{length-take-le, take-all, take-at, drop-at, take-suc}
 use borrow.Rule.Slice.PartMut.{putMid}
-use Rattle.rules.specs.Numbers.{bytesOf, part, Bytes}
-use Rattle.rules.specs.Lines as lines
+use Rattle.rules.specs.Numbers.{bytesOf, part}
 use Rattle.rules.specs.Ring as ring
-use Rattle.rules.specs.Ring.{capacity, stop, pairsOf}
-use Rattle.rules.specs.Device.{Device, WellFormed, reset}
-use Rattle.rules.specs.Image.{imageLength, bytesLength, maskAt, lastIrrAt, irrAt, isrAt, ringAt, ringLength, contents, registersBody, ringBody, encode}
+use Rattle.rules.specs.Ring.{capacity, pairsOf}
+use Rattle.rules.specs.Device.{Device, reset}
+use Rattle.rules.specs.Image.{imageLength, bytesLength, ringLength, contents, registersBody, ringBody, encode}
 use Rattle.rules.proofs.laws.Parts.{Filled, start, length-next, put-this, put-bytes, filled}
 use Rattle.rules.proofs.laws.Images.{length-pairsOf, length-registersBody, length-ringBody, unusedAfter}
-use Rattle.state.specs.View.{WellLines, linesView}
-use Rattle.state.specs.declared.Lines.{Lines}
-use Rattle.bytes.specs.Put.{withWord}
-use Rattle.image.specs.Shown.{spelled, withLines, withRing}
+use Rattle.image.specs.Shown.{spelled, withRing}
 
 -- ---- words
 
@@ -81,40 +77,6 @@ ring-put r n l y₁ y₂ zs ys size many few e₁ e₂ ez ey =
     put-put 5 32 l₂ zs within width ys ∙ filled (put-this head 32 (pairsOf es ++ unusedAfter (length es)) ys long pairs) size
     ∙ ap (λ k. k ∷ (bytesOf 4 (r .drops) ++ (pairsOf es ++ unusedAfter (length es)))) count
 
--- ---- a part of the image of a device replaced
-
-module _ (d : Device) (w : WellFormed d) where
-  -- everything before the ring
-  abbrev ahead : List ℕ
-  ahead = contents ++ (registersBody d ++ (d .core .stored .routes ++ d .core .vectors))
-
-  length-ahead : length ahead ≡ ringAt
-  length-ahead = simp length-append (omega (arith, length-registersBody d, w .routes, w .vectors))
-
-  ring-last : (r : ring.Ring) → encode (withRing r d) ≡ ahead ++ ringBody (withRing r d)
-  unfolding encode registersBody
-  ring-last r =
-      let routes = d .core .stored .routes in
-      let vectors = d .core .vectors in
-      let body = ringBody (withRing r d) in
-      ap (λ m. contents ++ (registersBody d ++ m)) (sym (append-assoc routes vectors body)) ∙ ap (λ m. contents ++ m) (sym (append-assoc (registersBody d) (routes ++ vectors) body))
-      ∙ sym (append-assoc contents (registersBody d ++ (routes ++ vectors)) body)
-
-  pub ring-saved : (r : ring.Ring) {l ys : List ℕ} → l ≡ encode d → ys ≡ ringBody (withRing r reset) → putMid ringAt ringLength l ys ≡ encode (withRing r d)
-  unfolding ringBody
-  ring-saved r e f =
-      let short : length (ringBody d) ≤ ringLength = omega (arith, length-ringBody d (w .waiting)) in
-      (λ i. putMid ringAt ringLength ((e ∙ ring-last (d .ring)) i) (f i))
-      ∙ (λ i. take-at ahead (ringBody d) ringAt length-ahead i ++ (ringBody (withRing r d) ++ drop ringLength (drop-at ahead (ringBody d) ringAt length-ahead i)))
-      ∙ ap (λ m. ahead ++ (ringBody (withRing r d) ++ m)) (drop-of-length-le (ringBody d) short)
-      ∙ ap (λ m. ahead ++ m) (append-nil (ringBody (withRing r d))) ∙ sym (ring-last r)
-
--- MASK, and the three from last_intirr on
-pub lines-saved : (d : Device) (n : Lines) → WellLines n
-    → withWord isrAt (n .intisr) (withWord irrAt (n .intirr) (withWord lastIrrAt (n .«last_intirr») (withWord maskAt (n .«int_mask») (encode d)))) ≡ encode (withLines (linesView n) d)
-unfolding encode registersBody ringBody
-lines-saved d n well = ap (λ x. withWord isrAt (n .intisr) (withWord irrAt (n .intirr) (withWord lastIrrAt x (withWord maskAt (n .«int_mask») (encode d))))) well
-
 -- ---- all of an image
 
 five : (a b c d e : List ℕ) → (((a ++ b) ++ c) ++ d) ++ e ≡ a ++ (b ++ (c ++ (d ++ e)))
@@ -132,37 +94,3 @@ image-put d l {y₁} {y₂} {y₃} {y₄} {y₅} size h₃ h₄ few e₁ e₂ e�
     let f₃ = put-this f₂ 64 routes y₃ h₃ e₃ in
     let f₄ = put-this f₃ 64 vectors y₄ h₄ e₄ in
     filled (put-this f₄ 37 (ringBody d) y₅ (length-ringBody d few) e₅) size ∙ five contents (registersBody d) routes vectors (ringBody d)
-
--- ---- for those who save
-
--- a device stays well formed with other lines of 64 bits, and with another ring of its sizes
-module _ {d : Device} (w : WellFormed d) where
-  pub lines-well : (l : lines.Lines) → l .mask < 2 ^ 64 → l .irr < 2 ^ 64 → l .isr < 2 ^ 64 → WellFormed (withLines l d)
-  lines-well l h k m = record {
-    mask = h;
-    irr = k;
-    isr = m;
-    plains = w .plains;
-    routeBytes = w .routeBytes;
-    routes = w .routes;
-    vectorBytes = w .vectorBytes;
-    vectors = w .vectors;
-    eventBytes = w .eventBytes;
-    waiting = w .waiting;
-    drops = w .drops;
-  }
-
-  pub ring-well : (r : ring.Ring) → Bytes (map (λ e. e .vector) (r .waiting)) → length (r .waiting) ≤ capacity → r .drops ≤ stop → WellFormed (withRing r d)
-  ring-well r h k m = record {
-    mask = w .mask;
-    irr = w .irr;
-    isr = w .isr;
-    plains = w .plains;
-    routeBytes = w .routeBytes;
-    routes = w .routes;
-    vectorBytes = w .vectorBytes;
-    vectors = w .vectors;
-    eventBytes = h;
-    waiting = k;
-    drops = m;
-  }

@@ -2,8 +2,6 @@
 use crate::places;
 use bytes::copy;
 use bytes::number;
-use bytes::word_at;
-use state::Lines;
 use state::Queue;
 ghost use mathlib.Core.Path.{_≡_};
 ghost use Prim.Native.Nat.{_≤_};
@@ -11,40 +9,7 @@ ghost use lib.ListN.{length};
 ghost use Rattle.rules.specs.Ring.{capacity};
 ghost use Rattle.rules.specs.Image.{imageLength, pairsLength, countOf, decode};
 ghost use Rattle.state.specs.View.{ringOf, IsRing};
-ghost use Rattle.image.specs.Shown.{imageWords, IsLines, Held};
-
-pub fn load_lines(image: &[u8]) -> Lines
-    requires { ⌜ length (now image) ≡ imageLength ⌝ }
-    ensures { λ r. ⌜ IsLines r (decode (now (image .entry)) .core .lines) ⌝ }
-{
-    let int_mask = word_at(image, places::MASK);
-    let intirr = word_at(image, places::IRR);
-    let intisr = word_at(image, places::ISR);
-    Lines {
-        int_mask,
-        last_intirr: intirr,
-        intirr,
-        intisr,
-    }
-}
-
-// The nine registers in their order, with the copy of IRR as the image has it.
-pub fn load_words(image: &[u8]) -> [u64; 9]
-    requires { ⌜ length (now image) ≡ imageLength ⌝ }
-    ensures { λ r. ⌜ r ≡ imageWords (now (image .entry)) ⌝ }
-{
-    [
-        word_at(image, places::MASK),
-        word_at(image, places::HTMSI_EN),
-        word_at(image, places::EDGE),
-        word_at(image, places::LAST_IRR),
-        word_at(image, places::IRR),
-        word_at(image, places::ISR),
-        word_at(image, places::POL),
-        word_at(image, places::AUTO0),
-        word_at(image, places::AUTO1),
-    ]
-}
+ghost use Rattle.image.specs.Shown.{Held};
 
 // The 64 entries that a part of the image holds, a byte for each input.
 pub fn fill_entries(part: &[u8]) -> [u8; 64]

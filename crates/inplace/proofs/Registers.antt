@@ -8,10 +8,10 @@ use Rattle.rules.specs.Numbers.{Bytes}
 use Rattle.rules.specs.Lines.{Lines, withMask, withIrr, withIsr}
 use Rattle.rules.specs.Core.{Plain, htmsiEn, edge, pol, auto0, auto1, plain, withPlain}
 use Rattle.rules.specs.Device.{Device, WellFormed}
-use Rattle.rules.specs.Image.{maskAt, htmsiEnAt, edgeAt, lastIrrAt, irrAt, isrAt, polAt, auto0At, auto1At, registersBody, ringBody, encode, registerAt}
+use Rattle.rules.specs.Image.{maskAt, lastIrrAt, irrAt, isrAt, registersBody, ringBody, encode, registerAt}
 use Rattle.rules.proofs.laws.Bytes.{numberOf-bytesOf}
 use Rattle.bytes.specs.Put.{withWord}
-use Rattle.inplace.specs.Held.{Holds, Reads, Becomes, withLines, withStored}
+use Rattle.inplace.specs.Held.{Reads, Becomes, withLines, withStored}
 use Rattle.inplace.specs.Fields.{plainAt}
 
 module _ {d : Device} (w : WellFormed d) where

@@ -14,7 +14,6 @@ pub mod Outcomes
 pub mod Maps
 pub mod Widths
 pub mod Writes
-pub mod Entries
 pub mod Reach
 pub mod Folds
 pub mod Counts
