@@ -4,16 +4,15 @@ use mathlib.Core.Logic.{_⊎_, inl, inr, ⊎-elim}
 use mathlib.Core.Bool.{Bool, true, false, not, cond, _&&_, _||_, false≢true, and-eq-true-iff}
 use mathlib.Core.List.{List, [], _∷_, _++_, append-nil, append-assoc}
 use Prim.Native.Nat.{ℕ, zero, suc, _+_, _-_, _*_, _/_, _%_, _^_, _<_, _≤_}
-use native.Mathlib.Numerals.{add-one}
 use native.Mathlib.Omega.{arith}
 use lib.Dec.{eqb}
 use lib.ListN.{length, take, drop, getD, set}
 use lib.Seq.{sets, sets-eq, drop-cons}
 use borrow.Author.Tests.{le-leb, eqb-true}
 use Rattle.rules.specs.Numbers.{numberOf, bytesOf, byteOf, part}
-use Rattle.rules.specs.Core.{Core, CoreTurn, Act, store, setRoute, setVector, withRoutes, turns, lineTurn}
+use Rattle.rules.specs.Core.{Core, CoreTurn, setRoute, withRoutes, turns, lineTurn}
 use Rattle.rules.specs.Map.{Row, Cell, bytes, nothing, table, lookup, within, routesAt, routesEnd, vectorsAt, vectorsEnd, inRoutes, inVectors, cellAt}
-use Rattle.rules.specs.Access.{qword, entry, readCell, readDword, readAt, entryActs, cellActs, dwordActs, writeActs}
+use Rattle.rules.specs.Access.{qword, entry, readCell, readAt, entryActs, cellActs, writeActs}
 use Rattle.rules.specs.Device.{Device, acted}
 use Rattle.rules.proofs.laws.Acts.{turns-append, acted-none, acted-append}
 use Rattle.rules.proofs.laws.Bits.{test}

@@ -1,5 +1,4 @@
 -- What a drain promises: of whatever device the image holds, its ring draws for the room that there is.
-use mathlib.Core.Path.{_≡_}
 use mathlib.Core.List.{List, _++_}
 use Prim.Native.Nat.{ℕ, _*_, _/_}
 use lib.ListN.{length, drop}

@@ -1,12 +1,11 @@
 -- The leaves of `decide`, and what their numbers tell: the inputs of a set's register are the set's.
 use mathlib.Core.Path.{_≡_, refl, sym, ap, _∙_}
 use mathlib.Core.Bool.{Bool, true, false, not, _&&_}
-use mathlib.Core.List.{List, []}
 use Prim.Native.Nat.{ℕ, _-_, _^_, _<_}
 use lib.Bits.{bitAnd}
 use Rattle.rules.specs.Inputs.{on, inputs, register, without}
-use Rattle.rules.proofs.laws.Bits.{test, is-number, on-number, on-and, on-and-not, on-none, and-below, on-without, on-ext, without-lt}
-use Rattle.rules.proofs.laws.Inputs.{inputs-ext, no-input}
+use Rattle.rules.proofs.laws.Bits.{is-number, on-number, on-and, on-and-not, on-none, and-below, on-without, on-ext, without-lt}
+use Rattle.rules.proofs.laws.Inputs.{inputs-ext}
 use Rattle.engine.specs.Decide.{waitingOf, servedOf}
 
 pub pending-is : (set irr mask isr : ℕ) → set < 2 ^ 64 → mask < 2 ^ 64 → isr < 2 ^ 64

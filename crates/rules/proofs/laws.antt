@@ -21,7 +21,6 @@ pub mod Refusals
 pub mod Maps
 pub mod Widths
 pub mod Writes
-pub mod Entries
 pub mod Reach
 pub mod Folds
 pub mod Counts

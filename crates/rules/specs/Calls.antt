@@ -58,6 +58,13 @@ imageAnswer image.wrongLength d = refuse wrongLength
 imageAnswer image.wrongContents d = refuse wrongContents
 imageAnswer image.wrongBody d = refuse wrongBody
 
+-- the number of what was found, 0 for an accepted image (01, Numbers handed back)
+abbrev pub imageNumber : ImageTest → ℕ
+imageNumber image.accepted = 0
+imageNumber image.wrongLength = refusalNumber wrongLength
+imageNumber image.wrongContents = refusalNumber wrongContents
+imageNumber image.wrongBody = refusalNumber wrongBody
+
 -- 3: a call on an input asks for one below 64 (01, Numbers handed back)
 abbrev pub inputCall : ℕ → Call → Tested Call
 inputCall n c = cond (ltb n 64) (pass c) (refuse noInput)

@@ -9,14 +9,14 @@ use lib.Count.{trailingZeros}
 use lib.ListN.{getD}
 use Rattle.rules.specs.Inputs.{on, inputs, only, put, register, without, withHalf}
 use Rattle.rules.specs.Lines.{Lines, Turn, stay, withMask, withIrr, withIsr, event, andThen, servedIn, pendingIn, serve, enter, leave, newlyUnmasked, newlyMasked, polled, raised, lowered, cleared, masked}
-use Rattle.rules.specs.Core.{Move, move, moved, poll, raise, lower, clear, setMask}
+use Rattle.rules.specs.Core.{move, moved, poll, raise, lower, clear, setMask}
 use Rattle.rules.specs.Ring.{ringRun}
 use Rattle.rules.specs.Device.{Device, Value, none, some, offers}
-use Rattle.rules.proofs.laws.Bits.{test, put-is, without-is, without-these, on-bit, bit-lt, without-ext}
+use Rattle.rules.proofs.laws.Bits.{test, put-is, without-is, without-these, on-bit, bit-lt}
 use Rattle.rules.proofs.laws.Inputs.{inputs-ext, first-input, no-input, enter-ext, leave-ext, only-served}
 use Rattle.engine.specs.Decide.{waitingOf, servedOf}
 use Rattle.engine.proofs.Deciding.{inputs-of, none-served}
-use Rattle.inplace.specs.Held.{Holds, Reads, Becomes, Does, Offers, Moves, Writes, Returns, withLines, lost, dropped, given, turned}
+use Rattle.inplace.specs.Held.{Holds, Reads, Becomes, Does, Offers, Moves, Writes, Returns, withLines, lost, dropped, given}
 use Rattle.inplace.proofs.Doing.{does-same, becomes-then, moves-acts}
 use Rattle.service.specs.Offered.{assertOf, deasserts}
 use Rattle.service.proofs.Turning.{afterTurn, moves-by, moves-then, entered-offered}

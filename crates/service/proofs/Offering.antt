@@ -1,7 +1,7 @@
 -- The loop that offers a deassert for each input of a set, lowest first.
 use mathlib.Core.Path.{_≡_, refl, sym, ap, _∙_}
 use mathlib.Core.Bool.{Bool, true, false}
-use mathlib.Core.List.{List, [], _∷_, _++_, map, append-nil, append-assoc}
+use mathlib.Core.List.{List, [], _++_, map, append-nil, append-assoc}
 use Prim.Native.Nat.{ℕ, zero, suc, _+_, _-_, _^_, _<_, _≤_}
 use native.Mathlib.Nat.{lt-of-le-of-lt}
 use native.Mathlib.Omega.{arith}
@@ -15,7 +15,7 @@ use Rattle.rules.specs.Core.{Core}
 use Rattle.rules.specs.Device.{offers}
 use Rattle.rules.specs.Image.{imageLength}
 use Rattle.rules.proofs.laws.Bits.{test}
-use Rattle.rules.proofs.laws.Inputs.{first-below, first-input, lowest-dropped, no-input}
+use Rattle.rules.proofs.laws.Inputs.{first-input, lowest-dropped, no-input}
 use Rattle.inplace.specs.Held.{Reads, Offers}
 use Rattle.inplace.specs.Fields.{offering}
 use Rattle.inplace.proofs.Doing.{offers-none, offers-then, offers-same}

@@ -1,7 +1,7 @@
 -- Turns of the lines done in place: by another name, one after another, and an event offered that was returned.
 use mathlib.Core.Path.{_≡_, refl, sym, ap, subst, _∙_}
 use mathlib.Core.Bool.{Bool, true, false}
-use mathlib.Core.List.{List, [], _∷_, _++_}
+use mathlib.Core.List.{List, [], _∷_}
 use Prim.Native.Nat.{ℕ, _+_}
 use Rattle.rules.specs.Inputs.{inputs}
 use Rattle.rules.specs.Lines.{Lines, Made, Turn, andThen, serve, enter, pendingIn}

@@ -4,7 +4,6 @@ use mathlib.Core.Bool.{false≢true}
 use Prim.Native.Nat.{_%_}
 use native.Mathlib.Omega.{arith}
 use borrow.Author.Tests.{leb-true}
-use borrow.Author.Needs.{needs}
 use Rattle.access.proofs.eight_together.Statement.{statement}
 use Rattle.access.proofs.eight_together.Tie as tie
 

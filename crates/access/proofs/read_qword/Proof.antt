@@ -1,5 +1,5 @@
 -- `read_qword`: eight bytes of a run at once; and else a Dword, and the next one where there is one.
-use mathlib.Core.Path.{sym, _∙_}
+use mathlib.Core.Path.{_∙_}
 use native.Mathlib.Omega.{arith}
 use Rattle.rules.proofs.laws.Widths.{qword-one, qword-both}
 use Rattle.access.proofs.Entries.{eight-read}

@@ -41,19 +41,6 @@ fifo r (a ∷ xs) =
     ∙ append-assoc (s .drained) (s .after .waiting) (kept (s .after) xs) ∙ ap (λ es. s .drained ++ es) (fifo (s .after) xs)
     ∙ sym (append-assoc (s .drained) (t .drained) (t .after .waiting))
 
-no-elements : (l : List Event) → length l ≡ 0 → l ≡ []
-no-elements [] e = refl
-no-elements (x ∷ l) e = absurd (omega arith)
-
--- where offers leave as many events waiting as there were, and as many counted, the ring is as it was
-pub offers-unseen : (r : Ring) (ms : List Made) → length (ringRun r (offers ms) .after .waiting) ≡ length (r .waiting) → ringRun r (offers ms) .after .drops ≡ r .drops → ringRun r (offers ms) .after ≡ r
-offers-unseen r ms many lost =
-    let after = ringRun r (offers ms) .after in
-    let all : r .waiting ++ kept r (offers ms) ≡ after .waiting = fifo r (offers ms) ∙ ap (λ (l : List Event). l ++ after .waiting) (offers-drain r ms) in
-    let none : length (kept r (offers ms)) ≡ 0 = omega (arith, length-append (r .waiting) (kept r (offers ms)), ap length all) in
-    let same : after .waiting ≡ r .waiting = sym all ∙ ap (λ (l : List Event). r .waiting ++ l) (no-elements (kept r (offers ms)) none) ∙ append-nil (r .waiting) in
-    λ i. record { waiting = same i; drops = lost i }
-
 -- an event that finds room: as many are drained before it as wait
 pub kept-place : (r : Ring) (e : Event) (xs : List RingAct) (x : Event) → length (r .waiting) < 16
     → length (r .waiting) < length (ringRun (offered r e) xs .drained) → getD (ringRun (offered r e) xs .drained) (length (r .waiting)) x ≡ e

@@ -1,24 +1,16 @@
 -- The outcome of an exported call, by the test that decides it: one law for each way that a call can end.
 use mathlib.Core.Path.{_≡_, refl, ap, _∙_}
-use mathlib.Core.Bool.{false, and-false}
+use mathlib.Core.Bool.{and-false}
 use mathlib.Core.List.{List, []}
 use Prim.Native.Nat.{ℕ, _<_, _≤_}
 use native.Mathlib.Nat.{le-refl}
-use lib.Dec.{eqb, leb, ltb}
 use lib.ListN.{length}
 use borrow.Author.Tests.{lt-ltb, le-ltb, le-leb, lt-leb, eq-eqb, ne-eqb}
 use Rattle.rules.specs.Access.{Width}
-use Rattle.rules.specs.Device.{Call, Value, none, step, value, reset}
+use Rattle.rules.specs.Device.{Call, none, step, value, reset}
 use Rattle.rules.specs.Image.{imageLength, ImageTest, imageTest, encode, decode}
 use Rattle.rules.specs.Image as image
-use Rattle.rules.specs.Calls.{Refusal, refusalNumber, refusalValue, wrongLength, wrongContents, wrongBody, noInput, noRoom, Tested, pass, refuse, onPass, imageAnswer, inputCall, widthTest, addressTest, accessCall, Request, Asked, calls, askedBy, doneOn, performed, answerLength, answered, bufferOf, placeOf, written, Outcome, leaves, settled, outcome}
-
--- the number of what the test of an image found
-abbrev pub imageNumber : ImageTest → ℕ
-imageNumber image.accepted = 0
-imageNumber image.wrongLength = refusalNumber wrongLength
-imageNumber image.wrongContents = refusalNumber wrongContents
-imageNumber image.wrongBody = refusalNumber wrongBody
+use Rattle.rules.specs.Calls.{Refusal, refusalNumber, refusalValue, wrongLength, wrongContents, wrongBody, noInput, noRoom, Tested, pass, refuse, onPass, imageAnswer, imageNumber, inputCall, widthTest, addressTest, accessCall, Request, Asked, calls, askedBy, doneOn, performed, answerLength, answered, bufferOf, placeOf, written, Outcome, leaves, settled, outcome}
 
 -- ---- 7
 

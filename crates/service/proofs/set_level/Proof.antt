@@ -1,7 +1,4 @@
 -- `set_level`: by its two cases.
-use Rattle.inplace.specs.Held.{Returns}
-use Rattle.engine.specs.Moves.{answerValue}
-use Rattle.service.specs.Offered.{levelMove}
 use borrow.Author.Needs.{needs}
 use Rattle.service.proofs.set_level.Statement.{statement}
 use Rattle.service.proofs.set_level.Tie as tie

@@ -1,5 +1,4 @@
 -- `read_four`: at once where they are a run, and else one by one.
-use Prim.Native.Nat.{_<_, _^_}
 use native.Mathlib.Omega.{arith}
 use Rattle.rules.specs.Access.{readCell}
 use Rattle.rules.proofs.laws.Maps.{at-bytes}

@@ -1,6 +1,4 @@
 -- `read_run`: by the table that the run lies in.
-use native.Mathlib.Omega.{arith}
-use mathlib.Core.Logic.{⊎-elim}
 use Rattle.access.proofs.Entries.{routes-run, vectors-run}
 use borrow.Author.Needs.{needs}
 use Rattle.access.proofs.cells.read_run.Statement.{statement}

@@ -3,9 +3,9 @@ use mathlib.Core.Path.{sym, ap, _∙_}
 use mathlib.Core.List.{[]}
 use native.Mathlib.Omega.{arith}
 use Rattle.rules.specs.Map.{bytes}
-use Rattle.rules.specs.Access.{registerActs, cellActs, dwordActs}
+use Rattle.rules.specs.Access.{cellActs, dwordActs}
 use Rattle.rules.proofs.laws.Writes.{dword-acts-of}
-use Rattle.map.specs.Views.{registerView, cellView}
+use Rattle.map.specs.Views.{cellView}
 use Rattle.inplace.proofs.Doing.{writes-none, writes-same}
 use borrow.Author.Needs.{needs}
 use Rattle.access.proofs.cells.write_dword.Statement.{statement}

@@ -1,8 +1,6 @@
 -- `offer_entered`: by its two cases.
-use mathlib.Core.Path.{sym, ap}
 use native.Mathlib.Omega.{arith}
 use Rattle.inplace.proofs.Doing.{offers-none}
-use Rattle.engine.specs.Moves.{answerValue}
 use borrow.Author.Needs.{needs}
 use Rattle.service.proofs.events.offer_entered.Statement.{statement}
 use Rattle.service.proofs.events.offer_entered.Tie as tie
