@@ -5,8 +5,9 @@ use mathlib.Core.List.{List, _++_}
 use Prim.Native.Nat.{ℕ}
 use lib.Dec.{eqb}
 use lib.ListN.{take, drop}
-use Rattle.rules.specs.Calls.{Request, reset, read, write, level, poll, drain, Outcome, outcome}
+use Rattle.rules.specs.Calls.{Request, reset, read, write, level, poll, drain, Outcome, leaves, outcome}
 use Rattle.records.specs.Records.{wordAt, kindOf, lentImage, lentAnswer, lentEvents, answerFill, eventFill, Held}
+use Rattle.replay_call.specs.declared.Made.{Made}
 
 -- what a call's record asks, by its kind, with the event buffer that a drain is lent
 abbrev pub requestOf : ℕ → List ℕ → List ℕ → Request
@@ -22,7 +23,13 @@ requestOf kind r e =
 abbrev pub made : List ℕ → List ℕ → List ℕ → List ℕ → Outcome
 made r i a e = outcome (requestOf (kindOf r) r e) i a
 
--- the same on the record's own lengths, and on the areas as they are before every call
+-- a call that is lent k bytes of the event buffer leaves that, and all other bytes of the buffer as they were
+pub record Makes (m : Made) (r : List ℕ) (k : ℕ) (i a j b : List ℕ) : Type 0 where
+  pub written : List ℕ
+  pub buffer : m .events ≡ written ++ drop k eventFill
+  pub left : leaves (m .number) j b written ≡ made r i a (take k eventFill)
+
+-- what 01's rules give on the record's own lengths, and on the areas as they are before every call
 abbrev pub ruled : List ℕ → List ℕ → Outcome
 ruled r i =
     made r (take (lentImage r) i) (take (lentAnswer r) answerFill) (take (lentEvents (kindOf r) r) eventFill)

@@ -5,10 +5,12 @@ use bytes::word_at;
 use records::Verdict;
 ghost use mathlib.Core.Path.{_≡_};
 ghost use mathlib.Core.Bool.{true};
+ghost use mathlib.Core.List.{[]};
+ghost use Prim.Native.Nat.{_<_, _≤_};
 ghost use lib.ListN.{length};
 ghost use Rattle.rules.specs.Calls.{leaves};
 ghost use Rattle.records.specs.Records.{kindOf, lentImage, lentAnswer, lentEvents, agreed};
-ghost use Rattle.replay_call.specs.Recorded.{made, Recorded};
+ghost use Rattle.replay_call.specs.Recorded.{made, Makes, Recorded};
 
 fn lent_image(noted: &[u8]) -> usize
     requires { ⌜ length (now noted) ≡ 64 ⌝ }
@@ -34,10 +36,10 @@ fn lent_events(noted: &[u8]) -> usize
     word_at(noted, 24) as usize
 }
 
-// The call of a record, by its kind. Only a drain is lent an event buffer.
-fn make(noted: &[u8], image: &mut [u8], answer: &mut [u8], events: &mut [u8]) -> u8
-    requires { ⌜ (length (now noted) ≡ 64) × (length (now events) ≡ lentEvents (kindOf (now noted)) (now noted)) ⌝ }
-    ensures { λ r. ⌜ leaves r (now (image .exit)) (now (answer .exit)) (now (events .exit)) ≡ made (now (noted .entry)) (now (image .entry)) (now (answer .entry)) (now (events .entry)) ⌝ }
+// The call of a record that is no drain, by its kind.
+fn make_plain(noted: &[u8], image: &mut [u8], answer: &mut [u8]) -> u8
+    requires { ⌜ (length (now noted) ≡ 64) × (0 < kindOf (now noted)) × (kindOf (now noted) < 6) ⌝ }
+    ensures { λ r. ⌜ leaves r (now (image .exit)) (now (answer .exit)) [] ≡ made (now (noted .entry)) (now (image .entry)) (now (answer .entry)) [] ⌝ }
 {
     let first = word_at(noted, 16);
     let second = word_at(noted, 24);
@@ -51,8 +53,32 @@ fn make(noted: &[u8], image: &mut [u8], answer: &mut [u8], events: &mut [u8]) ->
             pch_pic::pch_pic_write(image, first, second, address, width, value, answer)
         }
         4 => pch_pic::pch_pic_level(image, first, second, answer),
-        5 => pch_pic::pch_pic_poll(image, first, answer),
-        _ => pch_pic::pch_pic_drain(image, events, first as usize, answer),
+        _ => pch_pic::pch_pic_poll(image, first, answer),
+    }
+}
+
+// What a call handed back, and the whole event buffer behind it.
+struct Made {
+    number: u8,
+    events: [u8; 64],
+}
+
+// The call of a record. Only a drain is lent an event buffer, k bytes of it.
+fn make(noted: &[u8], image: &mut [u8], answer: &mut [u8], k: usize) -> Made
+    requires { ⌜ (length (now noted) ≡ 64) × (k ≡ lentEvents (kindOf (now noted)) (now noted)) × (k ≤ 64) ⌝ }
+    ensures { λ r. ⌜ Makes r (now (noted .entry)) k (now (image .entry)) (now (answer .entry)) (now (image .exit)) (now (answer .exit)) ⌝ }
+{
+    let mut events = [0xddu8; 64];
+    match noted[0] {
+        1..=5 => {
+            let number = make_plain(noted, image, answer);
+            Made { number, events }
+        }
+        _ => {
+            let place = word_at(noted, 16) as usize;
+            let number = pch_pic::pch_pic_drain(image, &mut events[..k], place, answer);
+            Made { number, events }
+        }
     }
 }
 
@@ -74,7 +100,7 @@ pub fn replay_call(noted: &[u8], image: &mut [u8]) -> Verdict
         return Verdict::Lent;
     }
     let mut answer = [0xeeu8; 32];
-    let mut events = [0xddu8; 64];
-    let handed = make(noted, &mut image[..n], &mut answer[..m], &mut events[..k]);
-    records::compare(noted, handed, image, &answer, &events)
+    let left = make(noted, &mut image[..n], &mut answer[..m], k);
+    let events = left.events;
+    records::compare(noted, left.number, image, &answer, &events)
 }
