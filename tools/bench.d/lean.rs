@@ -173,7 +173,9 @@ fn read_at(image: &Image, width: u64, offset: u64) -> u64 {
         1 => u64::from(byte(image, offset)),
         2 => match entry(offset) {
             Some((at, 2..)) => u64::from(u16::from_le_bytes(image[at..at + 2].try_into().unwrap())),
-            None if offset & 3 != 3 && !(0x100..0x3a0).contains(&offset) => u64::from((dword(image, offset & !3) >> (8 * (offset & 3))) as u16),
+            None if offset & 3 != 3 && !(0x100..0x3a0).contains(&offset) => {
+                u64::from((dword(image, offset & !3) >> (8 * (offset & 3))) as u16)
+            }
             _ => u64::from(byte(image, offset)) | u64::from(byte(image, offset + 1)) << 8,
         },
         4 => u64::from(dword(image, offset)),
@@ -238,7 +240,11 @@ fn write_dword(image: &mut Image, offset: u64, value: u32) {
             (Some(at), _) => at,
             (_, Some((at, left))) => {
                 let bytes = value.to_le_bytes();
-                return if left < 4 { image[at..at + left].copy_from_slice(&bytes[..left]) } else { image[at..at + 4].copy_from_slice(&bytes) };
+                return if left < 4 {
+                    image[at..at + left].copy_from_slice(&bytes[..left])
+                } else {
+                    image[at..at + 4].copy_from_slice(&bytes)
+                };
             }
             _ => return,
         },
