@@ -4,11 +4,11 @@ use mathlib.Core.Bool.{Bool, true, false, _&&_, and-false}
 use mathlib.Core.List.{List, [], map}
 use Prim.Native.Nat.{ℕ, _<_, _-_, _^_}
 use lib.Bits.{bitAnd}
-use Rattle.rules.specs.Inputs.{on, inputs, without}
+use Rattle.rules.specs.Inputs.{on, inputs}
 use Rattle.rules.specs.Lines as lines
-use Rattle.rules.specs.Lines.{Turn, withMask, withIsr, event, enter, leave, serve, pendingIn, newlyUnmasked, newlyMasked, masked}
+use Rattle.rules.specs.Lines.{Turn, withMask, withIsr, event, enter, leave, pendingIn, newlyUnmasked, newlyMasked, masked}
 use Rattle.rules.specs.Ring.{RingAct, offered, ringStep, ringRun}
-use Rattle.rules.specs.Device.{none, some, offers, returned}
+use Rattle.rules.specs.Device.{offers, returned}
 use Rattle.rules.proofs.laws.Bits.{without-common-is, on-none}
 use Rattle.rules.proofs.laws.Inputs.{enter-ext, leave-ext, served-is}
 use Rattle.state.specs.View.{WellLines, WellRing, IsRing, linesView, ringView}

@@ -2,25 +2,18 @@
 use mathlib.Core.Path.{_≡_, refl, sym, ap, subst, _∙_}
 use mathlib.Core.Bool.{true, false}
 use mathlib.Core.List.{List}
-use Prim.Native.Nat.{ℕ, _<_, _-_, _*_, _%_, _^_}
-use native.Mathlib.Nat.{lt-of-le-of-lt}
-use lib.Bits.{bitAnd, bitOr, and-le-l}
+use Prim.Native.Nat.{ℕ, _<_, _-_, _^_}
+use lib.Bits.{bitAnd, bitOr}
 use lib.Count.{trailingZeros}
 use lib.ListN.{getD}
-use Rattle.rules.specs.Inputs.{on}
 use Rattle.rules.specs.Lines.{withIsr, serve}
-use Rattle.rules.proofs.laws.Bits.{put-is, without-only-is}
+use Rattle.rules.proofs.laws.Bits.{put-is, without-only-is, and-below}
 use Rattle.rules.proofs.laws.Inputs.{first-below, first-input, no-input, waiting-is, unlatched-is}
 use Rattle.state.specs.View.{WellLines, linesView}
 use Rattle.state.specs.declared.Lines.{Lines}
 use Rattle.engine.specs.Moves.{Answers, retire, updated}
 use Rattle.engine.specs.declared.Answer.the-variants.{None, Vector}
-
-pub and-lt : {a : ℕ} (b : ℕ) → a < 2 ^ 64 → bitAnd a b < 2 ^ 64
-and-lt {a} b h = lt-of-le-of-lt (and-le-l a b) h
-
-abbrev bit : ℕ → ℕ
-bit n = 1 * 2 ^ n % 2 ^ 64
+use Rattle.engine.proofs.Turns.{bit}
 
 abbrev withService : Lines → ℕ → Lines
 withService l x = record { «int_mask» = l .«int_mask»; «last_intirr» = l .«last_intirr»; intirr = l .intirr; intisr = x }
@@ -33,10 +26,10 @@ module _ (l : Lines) (m : ℕ) (hm : m < 2 ^ 64) where
   inactive = bitAnd (bitAnd m (l .intisr)) ((2 ^ 64 - 1) - l .intirr)
 
   pending-lt : pending < 2 ^ 64
-  pending-lt = and-lt _ (and-lt _ (and-lt _ hm))
+  pending-lt = and-below _ _ (and-below _ _ (and-below _ _ hm))
 
   inactive-lt : inactive < 2 ^ 64
-  inactive-lt = and-lt _ (and-lt _ hm)
+  inactive-lt = and-below _ _ (and-below _ _ hm)
 
   pub pending-below : (pending ≡ 0 → ⊥) → trailingZeros 64 pending < 64
   pending-below n = first-below pending pending-lt n

@@ -1,5 +1,7 @@
 // What moves the input lines, after loongarch_pch_pic.rs of axdevice 0.8.5: the same functions, names and mask expressions, in its order.
 // A function takes the parts of the state that it reads or changes, and hands those back that it changes; the vector bytes are lent.
+pub mod decide;
+
 use state::Lines;
 use state::PchPicOutputEvent;
 use state::PchPicState;
@@ -180,7 +182,7 @@ pub fn update_int_mask(
     let mut queue = ring;
     let old = out.int_mask;
     out.int_mask = bits::replace_u32(old, val, high);
-    let newly_unmasked = bits::newly_unmasked(old, val, high);
+    let newly_unmasked = decide::newly_unmasked(old, val, high);
     if newly_unmasked != 0 {
         let routed = update_irq(out, vectors, newly_unmasked, true);
         out = routed.lines;
@@ -196,7 +198,7 @@ pub fn update_int_mask(
             queue = pushed.ring;
         }
     }
-    let newly_masked = bits::newly_masked(old, val, high);
+    let newly_masked = decide::newly_masked(old, val, high);
     if newly_masked != 0 {
         // Masking takes an input out of service though its line may stay high; its latch is kept, so that a later unmask can assert it again.
         let active = out.intisr & newly_masked;

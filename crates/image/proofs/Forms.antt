@@ -10,12 +10,12 @@ use lib.ListN.{length}
 use borrow.Author.Tests.{eq-eqb, eqb-true, le-leb, leb-true}
 use Rattle.rules.specs.Numbers.{numberOf, part, Bytes}
 use Rattle.rules.specs.Ring.{capacity}
-use Rattle.rules.specs.Form.{one, Field, word, copy, irr, pairs, has, size, place, formLength, read}
+use Rattle.rules.specs.Form.{one, Word, Field, word, copy, irr, pairs, has, size, place, formLength, read}
 use Rattle.rules.specs.Form as rules-form
 use Rattle.rules.specs.Image.{registerAt, wordIn, countIn, rules, Finding, clear, found, firstFault}
 use Rattle.rules.proofs.laws.Lists.{part-add, part-part}
 use Rattle.rules.proofs.laws.Bytes.{part-known}
-use Rattle.rules.proofs.laws.Layout.{test, has-all, field-fits}
+use Rattle.rules.proofs.laws.Layout.{test, always, has-all, field-fits}
 use Rattle.rules.proofs.laws.Tests.{Ruled, clear-ruled, ruled-clear}
 use Rattle.image.specs.Shown.{formView, placeIn, PlacesOf, isClear, bodiesGood, pairsGood}
 use Rattle.image.specs.declared.form.Form.{Form}
@@ -31,6 +31,17 @@ only One = refl
 module _ (f : rules-form.Form) (l : List ℕ) (s : length l ≡ formLength f) (p : Places) (o : PlacesOf f p) where
   pub field-within : (q : Field) → has f q ≡ true → placeIn p q + size q ≤ length l
   field-within q h = omega (arith, o .fields q h, field-fits f q h)
+
+  -- those that every form has
+  pub always-at : (q : Field) → always q ≡ true → placeIn p q ≡ place f q
+  always-at q h = o .fields q (has-all f q h)
+
+  pub always-within : (q : Field) → always q ≡ true → placeIn p q + size q ≤ length l
+  always-within q h = field-within q (has-all f q h)
+
+  -- of a word: what is read where the code says it is
+  pub always-word : (w : Word) → always (word w) ≡ true → (x : ℕ) → x ≡ registerAt (placeIn p (word w)) l → x ≡ wordIn f l w
+  always-word w h x e = e ∙ ap (λ a. registerAt a l) (always-at (word w) h)
 
   pub copy-within : p .«last_intirr» + 8 ≤ length l
   copy-within = test (has f (word copy)) (field-within (word copy)) (λ h. omega (arith, o .copy h, field-within (word irr) (has-all f (word irr) refl)))

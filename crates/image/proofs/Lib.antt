@@ -1,4 +1,3 @@
 -- The laws that the proofs of this crate cite.
-pub mod Saved
 pub mod Pairs
 pub mod Forms

@@ -1,14 +1,13 @@
 -- What the functions of this crate hand back, as the rules see it.
 use mathlib.Core.Path.{_≡_}
 use mathlib.Core.Bool.{Bool, true, false, _&&_}
-use mathlib.Core.List.{List, [], _∷_, _++_}
+use mathlib.Core.List.{List, [], _∷_}
 use Prim.Native.Nat.{ℕ, zero, suc, _+_, _*_, _≤_}
 use lib.Bits.{bitOr}
 use lib.Dec.{eqb, leb}
-use lib.ListN.{take, drop}
-use Rattle.rules.specs.Numbers.{bytesOf, part}
+use lib.ListN.{drop}
+use Rattle.rules.specs.Numbers.{part}
 use Rattle.rules.specs.Core.{htmsiEn, edge, pol, auto0, auto1}
-use Rattle.rules.specs.Device as device
 use Rattle.rules.specs.Form.{mask, irr, isr, copy, stored, Field, word, routes, vectors, count, drops, pairs, one, has, place, contentsLength, contentsOf, unknown, known}
 use Rattle.rules.specs.Form as rules-form
 use Rattle.rules.specs.Image.{registerAt, Finding, clear, found, rules, firstFault, same, ImageTest, accepted, wrongLength, wrongContents, wrongBody}
@@ -20,8 +19,6 @@ use Rattle.image.specs.declared.form.Places.{Places}
 use Rattle.image.specs.declared.form.Contents.{Contents}
 use Rattle.image.specs.declared.check.Checked.{Checked}
 use Rattle.image.specs.declared.check.Checked.the-variants.{Accepted, WrongLength, WrongContents, WrongBody}
-use Rattle.image.specs.declared.answer.Value.{Value}
-use Rattle.image.specs.declared.answer.Value.the-variants.{Absent, Present}
 
 -- ---- the form
 
@@ -100,21 +97,3 @@ pairsGood n l = flagsGood n l && allZero (drop (2 * n) l)
 abbrev pub bitsOf : ℕ → List ℕ → ℕ
 bitsOf zero l = 0
 bitsOf (suc k) l = bitOr (bitsOf k l) (registerAt (8 * k) l)
-
--- ---- bytes
-
--- bytes with the n from a place on replaced by the low ones of x, and with the eight of a word
-abbrev pub withBytes : ℕ → ℕ → ℕ → List ℕ → List ℕ
-withBytes at n x l = take at l ++ (bytesOf n x ++ drop (at + n) l)
-
-abbrev pub withWord : ℕ → ℕ → List ℕ → List ℕ
-withWord at x l = withBytes at 8 x l
-
--- words one after another, eight bytes each
-abbrev pub spelled : List ℕ → List ℕ
-spelled [] = []
-spelled (x ∷ xs) = bytesOf 8 x ++ spelled xs
-
-abbrev pub valueView : Value → device.Value
-valueView Absent = device.none
-valueView (Present v) = device.some v

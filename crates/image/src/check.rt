@@ -1,11 +1,11 @@
 // Whether an image may be loaded. Bytes are compared as numbers, eight at a time. Of the ring's pairs the bits are gathered that any has:
 // they settle the commonest ring, and all flags at once.
-use crate::bytes::word_at;
 use crate::form::Form;
 use crate::form::Known;
 use crate::form::contents_of;
 use crate::form::form_of;
 use crate::form::places_of;
+use bytes::word_at;
 ghost use mathlib.Core.Path.{_≡_};
 ghost use Prim.Native.Nat.{_*_, _≤_};
 ghost use lib.ListN.{length, drop};

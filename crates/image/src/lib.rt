@@ -1,5 +1,3 @@
 // The boundary's bytes: the form of the saved image, and whether an image may be loaded.
-pub mod answer;
-pub mod bytes;
 pub mod check;
 pub mod form;

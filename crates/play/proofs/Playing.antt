@@ -18,10 +18,10 @@ use Rattle.rules.specs.Session.{space, plus, minus, equals, letter-d, letter-k,
 use Rattle.rules.specs.Session as session
 use Rattle.rules.proofs.laws.Bits.{test}
 use Rattle.rules.proofs.laws.Maps as maps
-use Rattle.rules.proofs.laws.Steps.{levelled, withLines, withRing, level-device, level-value, poll-device, poll-value, drain-device, drain-drained, read-device, write-device}
-use Rattle.rules.specs.Lines.{polled}
+use Rattle.rules.proofs.laws.Steps.{withLines, withRing, level-device, level-value, poll-device, poll-value, drain-device, drain-drained, read-device, write-device}
+use Rattle.rules.specs.Lines.{polled, levelled}
 use Rattle.rules.proofs.laws.Outcomes.{input-refused, input-passed, width-refused, address-refused, access-passed}
-use Rattle.state.specs.View.{ringOf, ringView}
+use Rattle.state.specs.View.{ringView}
 use Rattle.engine.specs.declared.Routed.{Routed}
 use Rattle.engine.specs.declared.Drained.{Drained}
 use Rattle.engine.specs.Moves.{Answers, Drains}
@@ -132,8 +132,7 @@ pairs-events es rest (suc n) h =
     ∙ sym (events-append (take n es) (getD es n none-event ∷ [])) ∙ ap eventsSaid (sym (take-suc es n none-event (omega arith)))
 
 -- a drain into 32 bytes
-module _ (d : Device) (r : Drained) (events : List ℕ) (flags : List Bool) (entry exit : List ℕ) (h : length entry ≡ 32)
-    (drains : Drains r events flags (d .ring) entry exit) where
+module _ (d : Device) (r : Drained) (entry exit : List ℕ) (h : length entry ≡ 32) (drains : Drains r (d .ring) entry exit) where
   pub drained-few : r .count ≤ 16
   unfolding drawn
   drained-few = omega (arith, drains .count, length-take (length entry / 2) (d .ring .waiting))
@@ -141,7 +140,7 @@ module _ (d : Device) (r : Drained) (events : List ℕ) (flags : List Bool) (ent
   drained : length entry / 2 ≡ capacity
   drained = omega arith
 
-  pub drain-done : record { after = withRing d (ringView (ringOf (r .queue) events flags)); answer = letter-d ∷ pairsSaid (r .count) exit } ≡ playedLine d (asks (pass (drain capacity)))
+  pub drain-done : record { after = withRing d (ringView (r .ring)); answer = letter-d ∷ pairsSaid (r .count) exit } ≡ playedLine d (asks (pass (drain capacity)))
   unfolding said
   drain-done =
       let es = drawn (d .ring) (length entry / 2) .drained in

@@ -1,10 +1,9 @@
 -- What playing a line leaves: the state, the answer's bytes at the front of the buffer, and every other byte as it was.
 use mathlib.Core.List.{List, [], _∷_}
 use Prim.Native.Nat.{ℕ}
-use Rattle.rules.specs.Device.{Device}
+use Rattle.rules.specs.Device.{Device, withLines}
 use Rattle.rules.specs.Session as session
 use Rattle.rules.specs.Session.{letter-e, digit, vectorSaid}
-use Rattle.rules.proofs.laws.Steps.{withLines}
 use Rattle.state.specs.View.{linesView, Is}
 use Rattle.engine.specs.declared.Routed.{Routed}
 use Rattle.engine.specs.Moves.{answerValue}

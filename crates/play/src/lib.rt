@@ -2,7 +2,6 @@
 use engine::Routed;
 use request::Request;
 use state::PchPicState;
-use state::Ring;
 use window::Known;
 use window::Located;
 ghost use Prim.Native.Nat.{_<_, _≤_};
@@ -81,7 +80,7 @@ fn play_read(state: PchPicState, width: u64, address: u64, out: &mut [u8]) -> Pl
     let Located::At(offset) = window::locate(BASE, SIZE, address) else {
         return refused(state, 1, out);
     };
-    let value = registers::read_register(state, bytes, offset);
+    let value = readers::read_register(state, bytes, offset);
     let len = reply::put_value(out, value);
     Played { state, len }
 }
@@ -96,7 +95,7 @@ fn play_write(state: PchPicState, width: u64, address: u64, value: u64, out: &mu
     let Located::At(offset) = window::locate(BASE, SIZE, address) else {
         return refused(state, 1, out);
     };
-    let next = registers::write_register(state, bytes, offset, value);
+    let next = writers::write_register(state, bytes, offset, value);
     let len = reply::put_ok(out);
     Played { state: next, len }
 }
@@ -106,23 +105,10 @@ fn play_drain(state: PchPicState, out: &mut [u8]) -> Played
     ensures { λ r. ⌜ Plays r (now (out .entry)) (now (out .exit)) (playedLine (view state) (requestView Drain)) ⌝ }
 {
     let mut next = state;
-    let ring = next.ring;
-    let output_vectors = ring.output_vectors;
-    let output_asserted = ring.output_asserted;
     let mut pairs = [0u8; 32];
-    let drained = engine::drain_output_events(
-        ring.queue,
-        &output_vectors,
-        &output_asserted,
-        &mut pairs,
-    );
-    let queue = drained.queue;
-    let left = Ring {
-        output_vectors,
-        output_asserted,
-        queue,
-    };
-    next.ring = left;
+    let drained = engine::drain_output_events(next.ring, &mut pairs);
+    let ring = drained.ring;
+    next.ring = ring;
     let len = reply::put_drained(out, &pairs, drained.count);
     Played { state: next, len }
 }
@@ -150,5 +136,5 @@ pub fn finish(state: PchPicState, out: &mut [u8]) -> usize
     requires { ⌜ 14 ≤ length (now out) ⌝ }
     ensures { λ r. ⌜ Says r (now (out .entry)) (now (out .exit)) (ending (view state)) ⌝ }
 {
-    reply::put_drops(out, state.ring.queue.output_drops)
+    reply::put_drops(out, state.ring.output_drops)
 }

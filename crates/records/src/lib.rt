@@ -1,8 +1,8 @@
 // What a call left, held against its record.
-use image::bytes::number;
-use image::bytes::put_word;
-use image::bytes::wide;
-use image::bytes::word_at;
+use bytes::number;
+use bytes::put_word;
+use bytes::wide;
+use bytes::word_at;
 ghost use mathlib.Core.Path.{_≡_};
 ghost use mathlib.Core.Bool.{true};
 ghost use lib.ListN.{length};

@@ -12,9 +12,13 @@ use Rattle.replay_call.specs.Recorded.{Recorded}
 abbrev pub loaded : List ℕ → List ℕ
 loaded b = take 259 b ++ replicate 41 0
 
+-- one byte of it is damaged, or mended
+abbrev pub damagedBy : List ℕ → List ℕ → List ℕ
+damagedBy r i = set i (wordAt 16 r) (getD r 24 0)
+
 -- a record, by its kind: an image i became j; b are the bytes behind the record of an image
 pub record Replays (r b i j : List ℕ) (v : Verdict) : Type 0 where
   pub called : kindOf r < 7 → agreed v ≡ true → Recorded r i j
   pub replaced : kindOf r ≡ 7 → j ≡ loaded b
   pub compared : kindOf r ≡ 8 → (j ≡ i) × (agreed v ≡ true → i ≡ take 300 b)
-  pub damaged : kindOf r ≡ 9 → wordAt 16 r < 300 → j ≡ set i (wordAt 16 r) (getD r 24 0)
+  pub damaged : kindOf r ≡ 9 → wordAt 16 r < 300 → j ≡ damagedBy r i

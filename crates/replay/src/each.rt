@@ -1,14 +1,14 @@
 // One record of the file, with the bytes of the five that stand behind an image's, replayed on the image buffer.
-use image::bytes::copy;
-use image::bytes::put_zeros;
-use image::bytes::word_at;
+use bytes::copy;
+use bytes::put_zeros;
+use bytes::word_at;
 use records::Verdict;
 ghost use mathlib.Core.Path.{_≡_};
 ghost use mathlib.Core.Bool.{true};
 ghost use Prim.Native.Nat.{_<_};
-ghost use lib.ListN.{length, take, getD, set};
+ghost use lib.ListN.{length, take};
 ghost use Rattle.records.specs.Records.{agreed, wordAt};
-ghost use Rattle.replay.specs.Replays.{loaded, Replays};
+ghost use Rattle.replay.specs.Replays.{loaded, damagedBy, Replays};
 
 // The buffer becomes a recorded image, with zeros behind it.
 fn set_image(bytes: &[u8], image: &mut [u8])
@@ -34,7 +34,7 @@ fn whole_image(bytes: &[u8], image: &[u8]) -> Verdict
 // One byte of the buffer is damaged, or mended.
 fn set_byte(noted: &[u8], image: &mut [u8]) -> Verdict
     requires { ⌜ (length (now noted) ≡ 64) × (length (now image) ≡ 300) ⌝ }
-    ensures { λ _. ⌜ (wordAt 16 (now (noted .entry)) < 300 → now (image .exit) ≡ set (now (image .entry)) (wordAt 16 (now (noted .entry))) (getD (now (noted .entry)) 24 0)) ⌝ }
+    ensures { λ _. ⌜ (wordAt 16 (now (noted .entry)) < 300 → now (image .exit) ≡ damagedBy (now (noted .entry)) (now (image .entry))) ⌝ }
 {
     let at = word_at(noted, 16) as usize;
     if 300 <= at {

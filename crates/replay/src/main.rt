@@ -3,7 +3,7 @@
 mod each;
 mod say;
 
-use image::bytes::number;
+use bytes::number;
 use records::Verdict;
 ghost use mathlib.Core.Path.{_≡_};
 ghost use Prim.Native.Nat.{_+_, _^_, _<_, _≤_};
@@ -24,27 +24,51 @@ fn together(kind: u8) -> u64
     }
 }
 
-// One comparison more, of its kind and at place 0 of all.
-fn count(counts: &mut [u64], kind: u8)
-    requires { ⌜ length (now counts) ≡ 10 ⌝ }
-{
-    counts[0] = sum(counts[0], 1);
+// How many comparisons passed and how many failed: of each kind, and at place 0 of all.
+struct Counts {
+    passed: [u64; 10],
+    failed: [u64; 10],
+}
+
+// One comparison more.
+fn count(counts: [u64; 10], kind: u8) -> [u64; 10] {
+    let mut next = counts;
+    next[0] = sum(next[0], 1);
     let k = kind as usize;
     if k < 10 {
-        counts[k] = sum(counts[k], 1);
+        next[k] = sum(next[k], 1);
+    }
+    next
+}
+
+fn pass(counts: Counts, kind: u8) -> Counts {
+    let passed = counts.passed;
+    let failed = counts.failed;
+    let more = count(passed, kind);
+    Counts {
+        passed: more,
+        failed,
+    }
+}
+
+fn fail(counts: Counts, kind: u8) -> Counts {
+    let passed = counts.passed;
+    let failed = counts.failed;
+    let more = count(failed, kind);
+    Counts {
+        passed,
+        failed: more,
     }
 }
 
 // A verdict counts, unless there was nothing to compare.
-fn tally(at: u64, kind: u8, verdict: Verdict, passed: &mut [u64], failed: &mut [u64])
-    requires { ⌜ (length (now passed) ≡ 10) × (length (now failed) ≡ 10) ⌝ }
-{
+fn tally(counts: Counts, at: u64, kind: u8, verdict: Verdict) -> Counts {
     match verdict {
-        Verdict::Agrees => count(passed, kind),
-        Verdict::Nothing => {}
+        Verdict::Agrees => pass(counts, kind),
+        Verdict::Nothing => counts,
         _ => {
             say::failure(at, verdict);
-            count(failed, kind);
+            fail(counts, kind)
         }
     }
 }
@@ -64,86 +88,97 @@ fn read_record(fd: i32, noted: &mut [u8], bytes: &mut [u8]) -> bool
     m == bytes.len()
 }
 
-// The next record, number `at`. The number of the one behind it is handed back, or one past all where the file ends.
-fn replay_next(fd: i32, at: u64, image: &mut [u8], passed: &mut [u64], failed: &mut [u64]) -> u64
-    requires { ⌜ at < 2 ^ 32 ⌝ }
-    requires { ⌜ length (now image) ≡ 300 ⌝ }
-    requires { ⌜ (length (now passed) ≡ 10) × (length (now failed) ≡ 10) ⌝ }
-    ensures { λ r. ⌜ at < r ⌝ }
+// What a record leaves: the counts, and the number of the record behind it, or one past all where the file ends.
+struct Next {
+    counts: Counts,
+    at: u64,
+}
+
+// The next record, number `at`.
+fn replay_next(fd: i32, at: u64, image: &mut [u8], counts: Counts) -> Next
+    requires { ⌜ (at < 2 ^ 32) × (length (now image) ≡ 300) ⌝ }
+    ensures { λ r. ⌜ at < r .at ⌝ }
 {
     let mut noted = [0u8; 64];
     let mut bytes = [0u8; 320];
     if !read_record(fd, &mut noted, &mut bytes) {
-        tally(at, 0, Verdict::Cut, passed, failed);
-        return u64::MAX;
+        let cut = tally(counts, at, 0, Verdict::Cut);
+        return Next {
+            counts: cut,
+            at: u64::MAX,
+        };
     }
     let kind = noted[0];
     let verdict = each::replay_record(&noted, &bytes, image);
-    tally(at, kind, verdict, passed, failed);
-    at + together(kind)
-}
-
-fn replay_all(fd: i32, records: u64, passed: &mut [u64], failed: &mut [u64])
-    requires { ⌜ records < 2 ^ 32 ⌝ }
-    requires { ⌜ (length (now passed) ≡ 10) × (length (now failed) ≡ 10) ⌝ }
-{
-    let mut image = [0u8; 300];
-    let mut at = 0;
-    while at < records {
-        at = replay_next(fd, at, &mut image, passed, failed);
+    let held = tally(counts, at, kind, verdict);
+    let behind = at + together(kind);
+    Next {
+        counts: held,
+        at: behind,
     }
 }
 
-// How many calls were made and compared.
-fn calls(counts: &[u64]) -> u64
-    requires { ⌜ length (now counts) ≡ 10 ⌝ }
+fn replay_all(fd: i32, records: u64) -> Counts
+    requires { ⌜ records < 2 ^ 32 ⌝ }
 {
+    let mut image = [0u8; 300];
+    let mut counts = Counts {
+        passed: [0u64; 10],
+        failed: [0u64; 10],
+    };
+    let mut at = 0;
+    while at < records {
+        let next = replay_next(fd, at, &mut image, counts);
+        counts = next.counts;
+        at = next.at;
+    }
+    counts
+}
+
+// How many calls were made and compared.
+fn calls(counts: [u64; 10]) -> u64 {
     let few = sum(sum(counts[1], counts[2]), counts[3]);
     sum(few, sum(sum(counts[4], counts[5]), counts[6]))
 }
 
 // The file ends where its header says.
-fn check_end(fd: i32, failed: &mut [u64])
-    requires { ⌜ length (now failed) ≡ 10 ⌝ }
-{
+fn check_end(fd: i32, counts: Counts) -> Counts {
     let mut more = [0u8; 1];
     let n = io::read_full(fd, &mut more);
     if n == 0 {
-        return;
+        return counts;
     }
     say::text(b"FAILED: the file does not end where its header says\n");
-    count(failed, 0);
+    fail(counts, 0)
 }
 
 // As many calls were made as the header tells of.
-fn check_calls(wanted: u64, passed: &[u64], failed: &mut [u64])
-    requires { ⌜ (length (now passed) ≡ 10) × (length (now failed) ≡ 10) ⌝ }
-{
+fn check_calls(wanted: u64, counts: Counts) -> Counts {
+    let passed = counts.passed;
+    let failed = counts.failed;
     if sum(calls(passed), calls(failed)) == wanted {
-        return;
+        return counts;
     }
     say::text(b"FAILED: the header tells of another number of calls\n");
-    count(failed, 0);
+    fail(counts, 0)
 }
 
-fn say_kind(name: &[u8], kind: usize, passed: &[u64], failed: &[u64])
-    requires { ⌜ (length (now passed) ≡ 10) × (length (now failed) ≡ 10) × (kind < 10) ⌝ }
+fn say_kind(name: &[u8], kind: usize, counts: Counts)
+    requires { ⌜ kind < 10 ⌝ }
 {
     say::text(name);
-    say::counts(passed[kind], failed[kind]);
+    say::counts(counts.passed[kind], counts.failed[kind]);
 }
 
-fn say_kinds(passed: &[u64], failed: &[u64])
-    requires { ⌜ (length (now passed) ≡ 10) × (length (now failed) ≡ 10) ⌝ }
-{
-    say_kind(b"reset: ", 1, passed, failed);
-    say_kind(b"read: ", 2, passed, failed);
-    say_kind(b"write: ", 3, passed, failed);
-    say_kind(b"level: ", 4, passed, failed);
-    say_kind(b"poll: ", 5, passed, failed);
-    say_kind(b"drain: ", 6, passed, failed);
-    say_kind(b"whole images: ", 8, passed, failed);
-    say_kind(b"", 0, passed, failed);
+fn say_kinds(counts: Counts) {
+    say_kind(b"reset: ", 1, counts);
+    say_kind(b"read: ", 2, counts);
+    say_kind(b"write: ", 3, counts);
+    say_kind(b"level: ", 4, counts);
+    say_kind(b"poll: ", 5, counts);
+    say_kind(b"drain: ", 6, counts);
+    say_kind(b"whole images: ", 8, counts);
+    say_kind(b"", 0, counts);
 }
 
 // The header's form is known: it begins with the letters of this form.
@@ -156,12 +191,10 @@ fn is_known(header: &[u8]) -> bool
 fn replay_file(fd: i32, header: &[u8])
     requires { ⌜ length (now header) ≡ 64 ⌝ }
 {
-    let mut passed = [0u64; 10];
-    let mut failed = [0u64; 10];
-    replay_all(fd, number(&header[8..12]), &mut passed, &mut failed);
-    check_end(fd, &mut failed);
-    check_calls(number(&header[12..16]), &passed, &mut failed);
-    say_kinds(&passed, &failed);
+    let replayed = replay_all(fd, number(&header[8..12]));
+    let ended = check_end(fd, replayed);
+    let counts = check_calls(number(&header[12..16]), ended);
+    say_kinds(counts);
 }
 
 fn main() {

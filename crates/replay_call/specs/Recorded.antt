@@ -18,10 +18,14 @@ requestOf kind r e =
     (cond (eqb kind 5) (poll (wordAt 16 r))
     (drain e (wordAt 16 r))))))
 
--- what 01's rules give for a record, on an image
+-- what 01's rules give for it, on what is lent
+abbrev pub made : List ℕ → List ℕ → List ℕ → List ℕ → Outcome
+made r i a e = outcome (requestOf (kindOf r) r e) i a
+
+-- the same on the record's own lengths, and on the areas as they are before every call
 abbrev pub ruled : List ℕ → List ℕ → Outcome
 ruled r i =
-    outcome (requestOf (kindOf r) r (take (lentEvents (kindOf r) r) eventFill)) (take (lentImage r) i) (take (lentAnswer r) answerFill)
+    made r (take (lentImage r) i) (take (lentAnswer r) answerFill) (take (lentEvents (kindOf r) r) eventFill)
 
 -- the answer that was recorded is the one that 01's rules give; an image i became j
 pub record Recorded (r i j : List ℕ) : Type 0 where

@@ -1,14 +1,14 @@
 // A record of a call: the call is made on what the record lends, and what it left is held against the record.
-use image::bytes::number;
-use image::bytes::wide;
-use image::bytes::word_at;
+use bytes::number;
+use bytes::wide;
+use bytes::word_at;
 use records::Verdict;
 ghost use mathlib.Core.Path.{_≡_};
 ghost use mathlib.Core.Bool.{true};
 ghost use lib.ListN.{length};
-ghost use Rattle.rules.specs.Calls.{leaves, outcome};
+ghost use Rattle.rules.specs.Calls.{leaves};
 ghost use Rattle.records.specs.Records.{kindOf, lentImage, lentAnswer, lentEvents, agreed};
-ghost use Rattle.replay_call.specs.Recorded.{requestOf, Recorded};
+ghost use Rattle.replay_call.specs.Recorded.{made, Recorded};
 
 fn lent_image(noted: &[u8]) -> usize
     requires { ⌜ length (now noted) ≡ 64 ⌝ }
@@ -36,9 +36,8 @@ fn lent_events(noted: &[u8]) -> usize
 
 // The call of a record, by its kind. Only a drain is lent an event buffer.
 fn make(noted: &[u8], image: &mut [u8], answer: &mut [u8], events: &mut [u8]) -> u8
-    requires { ⌜ length (now noted) ≡ 64 ⌝ }
-    requires { ⌜ length (now events) ≡ lentEvents (kindOf (now noted)) (now noted) ⌝ }
-    ensures { λ r. ⌜ leaves r (now (image .exit)) (now (answer .exit)) (now (events .exit)) ≡ outcome (requestOf (kindOf (now (noted .entry))) (now (noted .entry)) (now (events .entry))) (now (image .entry)) (now (answer .entry)) ⌝ }
+    requires { ⌜ (length (now noted) ≡ 64) × (length (now events) ≡ lentEvents (kindOf (now noted)) (now noted)) ⌝ }
+    ensures { λ r. ⌜ leaves r (now (image .exit)) (now (answer .exit)) (now (events .exit)) ≡ made (now (noted .entry)) (now (image .entry)) (now (answer .entry)) (now (events .entry)) ⌝ }
 {
     let first = word_at(noted, 16);
     let second = word_at(noted, 24);
@@ -59,8 +58,7 @@ fn make(noted: &[u8], image: &mut [u8], answer: &mut [u8], events: &mut [u8]) ->
 
 // A record that agrees is what 01's rules give on the image, in every byte that it tells of.
 pub fn replay_call(noted: &[u8], image: &mut [u8]) -> Verdict
-    requires { ⌜ length (now noted) ≡ 64 ⌝ }
-    requires { ⌜ length (now image) ≡ 300 ⌝ }
+    requires { ⌜ (length (now noted) ≡ 64) × (length (now image) ≡ 300) ⌝ }
     ensures { λ r. ⌜ (agreed r ≡ true → Recorded (now (noted .entry)) (now (image .entry)) (now (image .exit))) ⌝ }
 {
     let n = lent_image(noted);

@@ -10,5 +10,6 @@ pub mod OneOutcome
 pub mod Refused
 pub mod FromCalls
 pub mod HandedBack
+pub mod ClearedCalls
 pub mod PremisesMet
 pub mod ExportedMet

@@ -26,6 +26,7 @@ pub mod Reach
 pub mod Folds
 pub mod Counts
 pub mod Latches
+pub mod Carriers
 pub mod Draining
 pub mod WellFormed
 pub mod Chains

@@ -2,7 +2,7 @@
 use mathlib.Core.Bool.{Bool, true, false, cond, not, _&&_, _||_}
 use mathlib.Core.List.{List, [], _∷_, _++_}
 use mathlib.Core.Path.{_≡_}
-use Prim.Native.Nat.{ℕ, _+_}
+use Prim.Native.Nat.{ℕ, _+_, _<_}
 use lib.Dec.{eqb, ltb}
 use lib.ListN.{length, getD}
 use Rattle.rules.specs.Inputs.{on, inputs, only, asHalf}
@@ -130,7 +130,7 @@ clears n (setVector m v) = false
 abbrev pub Clears : ℕ → Device → Call → Type 0
 Clears n d c = someAct (clears n) (actsOf (d .core) c) ≡ true
 
--- a call is no raise of n
+-- a call is a raise of n, and a call that is none
 abbrev pub isRaise : ℕ → Call → Bool
 isRaise n (call.level m true) = only m n
 isRaise n (call.level m false) = false
@@ -145,6 +145,10 @@ Unraised n d c = isRaise n c ≡ false
 -- how many asserts of the input n there are among events
 abbrev pub assertsOf : ℕ → List Made → ℕ
 assertsOf n = assertsWith (λ m. only n (m .input))
+
+-- where a call meets d, no other input than n carries the vector v
+abbrev pub CarriedAlone : ℕ → ℕ → Device → Call → Type 0
+CarriedAlone n v d c = (m : ℕ) → m < 64 → carries v (d .core .vectors) m ≡ true → m ≡ n
 
 -- ---- order
 

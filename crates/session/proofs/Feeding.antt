@@ -14,7 +14,8 @@ use Rattle.rules.specs.Session as session
 use Rattle.rules.specs.Session.{newline, played, linesOf, answers}
 use Rattle.state.specs.View.{view}
 use Rattle.play.specs.Plays.{Plays}
-use Rattle.session.specs.Feeds.{ended, Unended, Starts, Ready, toSay, Feeds}
+use Rattle.ended.specs.Ended.{ended}
+use Rattle.session.specs.Feeds.{Unended, Starts, Ready, toSay, Feeds}
 use Rattle.play.specs.declared.Played.{Played}
 use Rattle.session.specs.declared.Session.{Session}
 use Rattle.reply.proofs.Writing.{filled, put-part, size, says}

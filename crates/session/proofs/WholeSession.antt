@@ -7,9 +7,9 @@ use lib.ListN.{length, take}
 use lib.Seq.{take-at}
 use Rattle.rules.specs.Session.{linesOf, answers, session}
 use Rattle.state.specs.View.{view}
-use Rattle.session.specs.Plays.{Says}
+use Rattle.reply.specs.Says.{Says}
 use Rattle.session.specs.Feeds.{Starts, Ready, toSay, Feeds}
-use Rattle.session.specs.declared.lines.Session.{Session}
+use Rattle.session.specs.declared.Session.{Session}
 use Rattle.session.proofs.Feeding.{start-ready}
 
 -- a call of `feed`: the bytes that it took of its chunk, its buffer at entry, and what it left, with how many bytes it wrote

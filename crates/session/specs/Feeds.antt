@@ -6,15 +6,12 @@ use Prim.Native.Nat.{ℕ, _<_, _≤_}
 use lib.Dec.{eqb}
 use lib.ListN.{length, take}
 use Rattle.rules.specs.Device.{reset}
-use Rattle.rules.specs.Session as session
 use Rattle.rules.specs.Session.{newline, linesOf, answers}
 use Rattle.state.specs.View.{view, Well, Is}
 use Rattle.reply.specs.Says.{Says}
 use Rattle.session.specs.declared.Session.{Session}
-
--- a line's answer with its ending
-abbrev pub ended : session.Played → session.Played
-ended p = record { after = p .after; answer = p .answer ++ (newline ∷ []) }
+use Rattle.session.specs.declared.Step.{Step}
+use Rattle.session.specs.declared.Fed.{Fed}
 
 -- a line that goes on: no byte of it is an ending
 abbrev pub Unended : List ℕ → Type 0
@@ -49,3 +46,13 @@ pub record Takes (n : ℕ) (chunk : List ℕ) (m : ℕ) (out : List ℕ) : Type 
   pub within : n ≤ length chunk
   pub some : 0 < length chunk → 0 < n
   pub room : m ≤ length out
+
+-- one byte of the input is taken, with no more written than a line's answer and its ending
+pub record FeedsByte (s : Session) (line : List ℕ) (b : ℕ) (entry : List ℕ) (r : Step) (after exit : List ℕ) : Type 0 where
+  pub feeds : Feeds s line (b ∷ []) entry (r .session) after (r .len) exit
+  pub short : r .len ≤ 66
+
+-- the front of a chunk is taken
+pub record FeedsChunk (s : Session) (line chunk entry : List ℕ) (r : Fed) (after exit : List ℕ) : Type 0 where
+  pub feeds : Feeds s line (take (r .taken) chunk) entry (r .session) after (r .len) exit
+  pub takes : Takes (r .taken) chunk (r .len) entry

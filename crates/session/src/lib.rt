@@ -1,16 +1,11 @@
 // The input, in chunks of any size: its lines are put together and played, and each answer is written with its ending.
-use play::Played;
 use state::PchPicState;
-ghost use mathlib.Core.Path.{_≡_};
-ghost use mathlib.Core.List.{[], _∷_};
 ghost use Prim.Native.Nat.{_≤_};
 ghost use lib.ListN.{length, take};
-ghost use Rattle.rules.specs.Device.{reset};
-ghost use Rattle.rules.specs.Session.{played, linesOf, answers};
-ghost use Rattle.state.specs.View.{view, Well};
+ghost use Rattle.rules.specs.Session.{linesOf, answers};
+ghost use Rattle.state.specs.View.{view};
 ghost use Rattle.reply.specs.Says.{Says};
-ghost use Rattle.play.specs.Plays.{Plays};
-ghost use Rattle.session.specs.Feeds.{ended, Starts, Ready, Feeds, Takes};
+ghost use Rattle.session.specs.Feeds.{Starts, Ready, FeedsByte, FeedsChunk};
 
 // Between two bytes of the input: the state, and how many bytes of the line so far stand at the front of the line buffer.
 // That buffer has 32 bytes or more. The longest line that asks for something has 25, so of a longer one it is enough to
@@ -27,33 +22,6 @@ pub fn start() -> Session
     Session { state, kept: 0 }
 }
 
-// A line, with the ending behind its answer.
-fn play_line(state: PchPicState, line: &[u8], out: &mut [u8]) -> Played
-    requires { ⌜ Well state × (66 ≤ length (now out)) ⌝ }
-    ensures { λ r. ⌜ Plays r (now (out .entry)) (now (out .exit)) (ended (played (view state) (now (line .entry)))) ⌝ }
-    ensures { λ r. ⌜ r .len ≤ 66 ⌝ }
-{
-    let played = play::play(state, line, &mut out[..65]);
-    let next = played.state;
-    let len = played.len;
-    out[len] = b'\n';
-    Played {
-        state: next,
-        len: len + 1,
-    }
-}
-
-// The end's line, with its ending.
-fn end(state: PchPicState, out: &mut [u8]) -> usize
-    requires { ⌜ 15 ≤ length (now out) ⌝ }
-    ensures { λ r. ⌜ Says r (now (out .entry)) (now (out .exit)) (answers (view state) []) ⌝ }
-    ensures { λ r. ⌜ r ≡ 15 ⌝ }
-{
-    let len = play::finish(state, out);
-    out[len] = b'\n';
-    len + 1
-}
-
 // What a byte of the input leaves, and how many bytes it had written.
 struct Step {
     session: Session,
@@ -63,13 +31,12 @@ struct Step {
 // An ending plays the line so far; any other byte goes behind it, where there is room.
 fn feed_byte(session: Session, line: &mut [u8], byte: u8, out: &mut [u8]) -> Step
     requires { ⌜ Ready session (now line) × (66 ≤ length (now out)) ⌝ }
-    ensures { λ r. ⌜ Feeds session (now (line .entry)) (byte ∷ []) (now (out .entry)) (r .session) (now (line .exit)) (r .len) (now (out .exit)) ⌝ }
-    ensures { λ r. ⌜ r .len ≤ 66 ⌝ }
+    ensures { λ r. ⌜ FeedsByte session (now (line .entry)) byte (now (out .entry)) r (now (line .exit)) (now (out .exit)) ⌝ }
 {
     let state = session.state;
     let kept = session.kept;
     if byte == b'\n' {
-        let played = play_line(state, &line[..kept], out);
+        let played = ended::play_line(state, &line[..kept], out);
         let next = played.state;
         let fresh = Session {
             state: next,
@@ -104,8 +71,7 @@ pub struct Fed {
 // As much of a chunk as the buffer has room for the answers of, at least one byte.
 pub fn feed(session: Session, line: &mut [u8], chunk: &[u8], out: &mut [u8]) -> Fed
     requires { ⌜ Ready session (now line) × (66 ≤ length (now out)) ⌝ }
-    ensures { λ r. ⌜ Feeds session (now (line .entry)) (take (r .taken) (now (chunk .entry))) (now (out .entry)) (r .session) (now (line .exit)) (r .len) (now (out .exit)) ⌝ }
-    ensures { λ r. ⌜ Takes (r .taken) (now (chunk .entry)) (r .len) (now (out .entry)) ⌝ }
+    ensures { λ r. ⌜ FeedsChunk session (now (line .entry)) (now (chunk .entry)) (now (out .entry)) r (now (line .exit)) (now (out .exit)) ⌝ }
 {
     let room = out.len() - 66;
     let mut next = session;
@@ -132,11 +98,11 @@ pub fn close(session: Session, line: &[u8], out: &mut [u8]) -> usize
     let state = session.state;
     let kept = session.kept;
     if kept == 0 {
-        return end(state, out);
+        return ended::end(state, out);
     }
-    let played = play_line(state, &line[..kept], out);
+    let played = ended::play_line(state, &line[..kept], out);
     let next = played.state;
     let len = played.len;
-    let more = end(next, &mut out[len..]);
+    let more = ended::end(next, &mut out[len..]);
     len + more
 }

@@ -8,6 +8,7 @@ use lib.Bits.{bitAnd}
 use lib.ListN.{set}
 use Rattle.rules.specs.Numbers.{byteOf, withByte}
 use Rattle.rules.specs.Inputs.{withHalf}
+use Rattle.rules.specs.Core as core
 use Rattle.rules.specs.Core.{Act, Move, Plain, plain, withPlain, move, moved, store, setPlain, setRoute, setVector}
 use Rattle.rules.specs.Map.{inByteArea}
 use Rattle.rules.specs.Access.{readDword, dwordActs, byteActs}
@@ -15,6 +16,7 @@ use Rattle.rules.specs.Device.{Device, acted}
 use Rattle.rules.proofs.laws.Acts.{acted-none}
 use Rattle.rules.proofs.laws.Writes.{byte-acts-outside, deviceOf, acted-move, acted-store, acted-vector}
 use Rattle.state.specs.declared.PchPicState.{PchPicState}
+use Rattle.state.specs.declared.Stored.{Stored}
 use Rattle.state.specs.View.{linesView, storedView, ringView, view, Well, Is}
 use Rattle.engine.specs.declared.Moved.{Moved}
 use Rattle.engine.specs.Moves.{Moves}
@@ -65,10 +67,15 @@ module _ (s : PchPicState) (w : Well s) where
       (acted (view s) (setVector n v ∷ []))
   is-vector n v = record { well = record { copy = w .copy; ring = w .ring }; shows = sym (acted-vector (view s) n v) }
 
--- x, which is the plain register q with a half replaced, is put for the register p that q is
-pub plain-shows : (d : Device) (p : Plain) {q : Plain} (h : Bool) (v : ℕ) {x y : ℕ} → q ≡ p → y ≡ plain (d .core .stored) q → x ≡ withHalf h y v
-    → deviceOf (d .core .lines) (d .core .vectors) (withPlain (d .core .stored) p x) (d .ring) ≡ acted d (store (setPlain q h v) ∷ [])
-plain-shows d p h v e f g =
-    ap (λ (z : ℕ). deviceOf (d .core .lines) (d .core .vectors) (withPlain (d .core .stored) p z) (d .ring))
-    (g ∙ ap (λ (z : ℕ). withHalf h z v) (f ∙ ap (plain (d .core .stored)) e))
-    ∙ sym (acted-store d (setPlain p h v)) ∙ ap (λ (z : Plain). acted d (store (setPlain z h v) ∷ [])) (sym e)
+  -- x, which is the plain register q with a half replaced, is put for the register p that q is
+  pub is-plain : (t : Stored) (p : Plain) {q : Plain} (h : Bool) (v : ℕ) {x y : ℕ} → storedView t (s .tables .«route_entry») ≡ withPlain (view s .core .stored) p x
+      → q ≡ p → y ≡ plain (view s .core .stored) q → x ≡ withHalf h y v
+      → Is (record { lines = s .lines; stored = t; tables = s .tables; ring = s .ring }) (acted (view s) (store (setPlain q h v) ∷ []))
+  is-plain t p {q} h v {x} {y} shown e f g =
+      let new : x ≡ withHalf h (plain (view s .core .stored) p) v = g ∙ ap (λ (z : ℕ). withHalf h z v) (f ∙ ap (plain (view s .core .stored)) e) in
+      record {
+        well = record { copy = w .copy; ring = w .ring };
+        shows =
+            ap (λ (k : core.Stored). deviceOf (linesView (s .lines)) (s .tables .«htmsi_vector») k (ringView (s .ring))) (shown ∙ ap (withPlain (view s .core .stored) p) new)
+            ∙ sym (acted-store (view s) (setPlain p h v)) ∙ ap (λ (z : Plain). acted (view s) (store (setPlain z h v) ∷ [])) (sym e);
+      }

@@ -10,26 +10,24 @@ use Rattle.play.proofs.play_drain.Tie as tie
 put-drained-requires : tie.Need-put-drained-requires
 put-drained-requires c κs =
     let e = c .before .before .before .before in
-    let s = e .before .before .before .before .before .before .before .before in
-    omega (arith, drained-few (view (s .args .state)) _ _ _ _ _ refl (e .drain-output-events .ensures))
+    let s = e .before .before .before in
+    omega (arith, drained-few (view (s .args .state)) _ _ _ refl (e .drain-output-events .ensures))
 
 returns : tie.Need-returns
 returns c =
     let e = c .before .before .before .before .before .before .before in
-    let s = e .before .before .before .before .before .before .before .before in
+    let s = e .before .before .before in
     plays-as
     (record {
       state = record { well = record { copy = s .pre .0 .copy; ring = e .drain-output-events .ensures .wellRing }; shows = refl };
       says = c .before .before .put-drained .ensures;
     })
-    (drain-done (view (s .args .state)) (e .drain-output-events .result) _ _ _ _ refl (e .drain-output-events .ensures))
+    (drain-done (view (s .args .state)) (e .drain-output-events .result) _ _ refl (e .drain-output-events .ensures))
 
 pub play-drain-spec : {M : Type 1} → statement M
 play-drain-spec =
     tie.close
     (tie.spec
-    (λ c. search needs)
-    (λ c. search needs)
     (λ c. search needs)
     (λ c κs. search needs)
     (λ c. search needs)

@@ -13,7 +13,7 @@ returns c =
 returns-2 : tie.Need-returns-2
 returns-2 c =
     let e = c .before .before .before .before in
-    let t = e .before .before .before .before .before in
+    let t = e .before .before .before .before in
     let a = t .before .before .args in
     plays-as (c .before .before .routed .ensures) (poll-routed (view (a .state)) (a .input) (e .pending-vector .result) (t .if1 .left) (e .pending-vector .ensures))
 

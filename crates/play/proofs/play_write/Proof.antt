@@ -6,7 +6,7 @@ use Rattle.rules.specs.Device.{write}
 use Rattle.rules.specs.Calls.{pass, widthTest, addressTest}
 use Rattle.rules.specs.Session.{sessionBase, sessionSize}
 use Rattle.state.specs.View.{view}
-use Rattle.registers.specs.Views.{widthView}
+use Rattle.map.specs.Views.{widthView}
 use Rattle.window.specs.Tests.{knownView, locatedView}
 use Rattle.play.proofs.Playing.{plays-as, offset-below, width-refusal, address-refusal, write-done}
 use Rattle.play.proofs.play_write.Statement.{statement}

@@ -4,7 +4,7 @@ use Prim.Native.Nat.{_+_, _*_}
 use native.Mathlib.Omega.{arith}
 use borrow.Author.Needs.{needs}
 use borrow.Author.Tests.{eq-eqb, ne-eqb}
-use Rattle.image.specs.Shown.{withWord}
+use Rattle.bytes.specs.Put.{withWord}
 use Rattle.records.specs.Records.{answerFill, wordAt}
 use Rattle.records.proofs.recorded_answer.Statement.{statement}
 use Rattle.records.proofs.recorded_answer.Tie as tie

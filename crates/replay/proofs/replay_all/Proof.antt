@@ -1,5 +1,5 @@
--- `replay_all` is safe and ends: each turn goes on to a later record, and the lent areas keep their lengths.
-use mathlib.Core.Path.{_≡_}
+-- `replay_all` is safe and ends: each turn goes on to a later record, and the image buffer keeps its length.
+use mathlib.Core.Path.{_≡_, refl, sym, _∙_}
 use Prim.Native.Nat.{_-_}
 use native.Mathlib.Omega.{arith}
 use lib.ListN.{length}
@@ -8,19 +8,16 @@ use Rattle.replay.proofs.replay_all.Statement.{statement}
 use Rattle.replay.proofs.replay_all.Tie as tie
 
 abbrev Inv-loop : tie.InvT-loop
-Inv-loop fd records passed₀ failed₀ image₀ at₀ passed failed image at = (length passed ≡ 10) × (length failed ≡ 10) × (length image ≡ 300)
+Inv-loop fd records image₀ counts₀ at₀ image counts at = length image ≡ 300
 
 abbrev μ-loop : tie.MeasureT-loop
-μ-loop fd records passed₀ failed₀ image₀ at₀ passed failed image at = records - at
+μ-loop fd records image₀ counts₀ at₀ image counts at = records - at
+
+loop-less : tie.Need-loop-less Inv-loop μ-loop
+loop-less c = omega (arith, c .before .before .replay-next .ensures, c .before .before .before .before .loop-test .taken)
 
 loop-again : tie.Need-loop-again Inv-loop μ-loop
-loop-again c =
-    let n = c .before .before .before .before .before in
-    let l = n .before .before .before .before .before .loop in (
-      omega (arith, n .replay-next .kept .1 .1 .1 .0, l .inv .0),
-      omega (arith, n .replay-next .kept .1 .1 .1 .1 .0, l .inv .1),
-      omega (arith, n .replay-next .kept .1 .1 .0, l .inv .2),
-    )
+loop-again c = c .before .before .replay-next .kept .1 .1 .0 ∙ c .before .before .before .before .before .loop .inv
 
 pub replay-all-spec : {M : Type 1} → statement M
 replay-all-spec =
@@ -28,11 +25,9 @@ replay-all-spec =
     (tie.spec
     Inv-loop
     μ-loop
-    (λ c. search needs)
-    (λ c. omega arith)
+    (λ c. refl)
+    (λ c. sym (c .before .before .loop .inv))
     (λ c κs. search needs)
-    (λ c. omega (arith, c .before .before .before .before .before .replay-next .ensures))
+    loop-less
     loop-again
-    (λ c. search needs)
-    (λ c. search needs)
     (λ c. search needs))

@@ -1,5 +1,4 @@
 -- `replay_file` is safe: a number of four bytes is small.
-use mathlib.Core.Path.{refl}
 use native.Mathlib.Omega.{arith}
 use borrow.Author.Needs.{needs}
 use Rattle.rules.proofs.laws.Bytes.{part-below}
@@ -8,11 +7,10 @@ use Rattle.replay.proofs.replay_file.Tie as tie
 
 replay-all-requires : tie.Need-replay-all-requires
 replay-all-requires c κs =
-    let n = c .before .before in
-    let k = n .before .before in
+    let k = c .before .before in
     let s = k .before in
     let small = part-below (s .args .header .now) 8 4 (λ i. omega (arith, k .shared-slice-known .given i)) (omega (arith, s .pre)) in
-    (omega (arith, n .number .ensures, small), (refl, refl))
+    omega (arith, c .number .ensures, small)
 
 pub replay-file-spec : {M : Type 1} → statement M
 replay-file-spec =
@@ -22,19 +20,12 @@ replay-file-spec =
     (λ c. search needs)
     (λ c. search needs)
     (λ c κs. search needs)
-    (λ c. search needs)
-    (λ c. search needs)
     replay-all-requires
-    (λ c. search needs)
     (λ c κs. search needs)
     (λ c. search needs)
     (λ c. search needs)
     (λ c. search needs)
     (λ c κs. search needs)
-    (λ c. search needs)
-    (λ c. search needs)
     (λ c κs. search needs)
-    (λ c. search needs)
-    (λ c. search needs)
     (λ c κs. search needs)
     (λ c. search needs))

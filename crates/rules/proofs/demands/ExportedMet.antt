@@ -3,7 +3,7 @@
 use mathlib.Core.Path.{_≡_, refl}
 use mathlib.Core.Bool.{Bool, true, false, not, _&&_, and-eq-true-iff}
 use mathlib.Core.List.{List, [], _∷_, _++_}
-use Prim.Native.Nat.{ℕ}
+use Prim.Native.Nat.{ℕ, _+_}
 use native.Mathlib.Omega.{arith}
 use lib.Dec.{lit<}
 use lib.ListN.{take, drop, getD, replicate}
@@ -13,18 +13,19 @@ use Rattle.rules.specs.Device.{Device, Call, level, poll, write, drain, 
 use Rattle.rules.specs.Image.{encode, decode}
 use Rattle.rules.specs.Calls.{Request, askedBy, answered, outcome}
 use Rattle.rules.specs.Calls as request
-use Rattle.rules.specs.History.{history, fromReset}
-use Rattle.rules.specs.Demands.{tally, inService, someAct, dropped, ringActs, carrying, assertsAmong, deassertsAmong}
+use Rattle.rules.specs.History.{history, fromReset, Along, Admitted}
+use Rattle.rules.specs.Demands.{tally, asserts, deasserts, inService, someAct, dropped, ringActs, carrying, assertsAmong, deassertsAmong}
 use Rattle.rules.specs.Exported.{Exported, leftBy, isReset, isLoad, Underway, carriedOn, carriedThrough, NoLoads, HandedOn, doneCalls}
 use Rattle.rules.specs.Exported.{inImage, Faithful, afterReset, atLoad, returnedBy, drainedBy, Balances}
 use Rattle.rules.proofs.laws.Computing.{computing}
 use Rattle.rules.proofs.laws.WellFormed.{history-well}
-use Rattle.rules.proofs.laws.Chains.{faithful-at-load}
+use Rattle.rules.proofs.laws.Chains.{faithful-after-reset, faithful-at-load}
 use Rattle.rules.proofs.demands.RoundTrip.{saved-is-bytes, saved-is-accepted, reset-can-be-saved}
 use Rattle.rules.proofs.demands.FromCalls.{handed-on-is-no-load}
-use Rattle.rules.proofs.demands.HandedBack.{account-from-load, drops-of-calls, service-of-calls, service-once-raised, cleared-polled-in-vain}
+use Rattle.rules.proofs.demands.HandedBack.{account-from-load, drops-of-calls, service-of-calls, service-once-raised, account-since-load, account-under-way}
+use Rattle.rules.proofs.demands.ClearedCalls.{cleared-polled-in-vain, cleared-asserts-had-waited}
 use Rattle.rules.proofs.demands.Refused.{Unchanged, refused-changes-nothing}
-use Rattle.rules.proofs.demands.PremisesMet.{all-admitted, all-spared, all-undisturbed, all-unraised, begun, seventeen}
+use Rattle.rules.proofs.demands.PremisesMet.{all-admitted, all-spared, all-undisturbed, all-unraised, all-carried-alone, begun, seventeen}
 
 -- ---- exported calls
 
@@ -110,6 +111,26 @@ loaded-balances =
     account-from-load 5 afterReset loading loading-loads refl (saved-is-bytes savedDevice (history-well reset savedCalls reset-can-be-saved)) thenDrained drained-handed-on
     (all-admitted (decode (encode savedDevice)) (doneCalls (loading ∷ thenDrained)) refl) [] refl
 
+-- the same of the history that is under way once it is loaded, and of the events made since
+under-way-balances : Balances 5 (decode (encode savedDevice)) (loading ∷ thenDrained) [] (inImage (carriedThrough (atLoad (imageOf savedCalls)) (loading ∷ thenDrained)))
+unfolding computing doneCalls dropped ringActs NoLoads
+under-way-balances =
+    account-under-way 5 (atLoad (imageOf savedCalls)) (begins savedCalls) (loading ∷ thenDrained) (refl, drained-handed-on)
+    (all-admitted (decode (encode savedDevice)) (doneCalls (loading ∷ thenDrained)) refl) [] refl
+
+abbrev once : Underway
+once = carriedThrough afterReset (loading ∷ [])
+
+once-admitted : Along Admitted (once .began) (once .calls)
+unfolding computing carriedThrough
+once-admitted = all-admitted (once .began) (once .calls) refl
+
+since-load : asserts 5 (history (once .began) (once .calls) .made) + carrying 5 (once .began .core)
+    ≡ deasserts 5 (history (once .began) (once .calls) .made) + carrying 5 (inImage once .core)
+since-load =
+    account-since-load 5 afterReset (loading ∷ []) faithful-after-reset (saved-is-bytes savedDevice (history-well reset savedCalls reset-can-be-saved), tt)
+    once-admitted
+
 loaded-returned : deassertsAmong 5 (returnedBy (loading ∷ thenDrained)) ≡ 1
 unfolding computing returnedBy tally
 loaded-returned = refl
@@ -184,13 +205,29 @@ clearing = request.write 0 0x400 0x080 4 0x8 ∷ request.poll 3 ∷ request.writ
 abbrev clearingCalls : List Exported
 clearingCalls = handedOn (imageOf begun) clearing
 
+abbrev clearing3 : Exported
+clearing3 = getD clearingCalls 0 loading
+
+abbrev after3 : List Exported
+after3 = take 3 (drop 1 clearingCalls)
+
+none-loads : NoLoads fromBegun (clearing3 ∷ after3)
+unfolding computing
+none-loads = handed-on-is-no-load fromBegun (take 4 clearingCalls) (handed-on (imageOf begun) (take 4 clearing) refl)
+
 three-polled-in-vain : leftBy (getD clearingCalls 4 loading) .answer ≡ answered 0 none (replicate 16 0)
 unfolding computing doneCalls someAct carriedThrough
 three-polled-in-vain =
-    let n = handed-on-is-no-load fromBegun (take 4 clearingCalls) (handed-on (imageOf begun) (take 4 clearing) refl) in
-    cleared-polled-in-vain fromBegun (begins begun) 3 (lit< tt) (getD clearingCalls 0 loading) (take 3 (drop 1 clearingCalls)) (write dword 0x080 0x8) n refl refl
-    (all-unraised 3 (inImage (carriedOn fromBegun (getD clearingCalls 0 loading))) (doneCalls (take 3 (drop 1 clearingCalls))) refl)
-    (getD clearingCalls 4 loading) refl refl refl
+    cleared-polled-in-vain fromBegun (begins begun) 3 (lit< tt) clearing3 after3 (write dword 0x080 0x8) none-loads refl refl
+    (all-unraised 3 (inImage (carriedOn fromBegun clearing3)) (doneCalls after3) refl) (getD clearingCalls 4 loading) refl refl refl
+
+-- its assert waited before the CLEAR, and is the only one that waits at last
+three-had-waited : assertsAmong 3 (inImage (carriedThrough fromBegun (clearing3 ∷ after3)) .ring .waiting) ≡ 1
+unfolding computing doneCalls someAct dropped ringActs returnedBy drainedBy tally carriedThrough
+three-had-waited =
+    cleared-asserts-had-waited fromBegun (begins begun) 3 (lit< tt) clearing3 after3 (write dword 0x080 0x8) none-loads refl refl
+    (all-unraised 3 (inImage (carriedOn fromBegun clearing3)) (doneCalls after3) refl) 3
+    (all-carried-alone 3 3 (inImage fromBegun) (doneCalls (clearing3 ∷ after3)) refl) [] refl
 
 -- ---- refusals
 

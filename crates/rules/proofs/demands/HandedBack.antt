@@ -1,8 +1,8 @@
 -- Demand 3 of what exported calls hand back. What a host reads in answer areas and event buffers is what the history returns and drains, in order
 -- (Readings); so the account holds of the events that it has read, those that still wait in the image and those dropped, and so do service and order.
-use mathlib.Core.Path.{_≡_, refl, sym, ap, subst, _∙_}
+use mathlib.Core.Path.{_≡_, refl, sym, ap, ap₂, subst, _∙_}
 use mathlib.Core.Bool.{Bool, true, false, not, _&&_}
-use mathlib.Core.List.{List, [], _∷_, _++_, append-assoc}
+use mathlib.Core.List.{List, [], _∷_, _++_}
 use Prim.Native.Nat.{ℕ, _+_, _<_, min}
 use native.Mathlib.Omega.{arith}
 use lib.Dec.{eqb, lit≤}
@@ -11,25 +11,23 @@ use Rattle.rules.specs.Numbers.{Bytes}
 use Rattle.rules.specs.Inputs.{on}
 use Rattle.rules.specs.Lines.{Made}
 use Rattle.rules.specs.Ring.{Event}
-use Rattle.rules.specs.Device.{Device, Call, level, none, step, value, reset}
-use Rattle.rules.specs.Device as device
+use Rattle.rules.specs.Device.{Device, Call, level, step, reset}
 use Rattle.rules.specs.Image.{decode}
-use Rattle.rules.specs.Calls.{poll, askedBy, answered, Outcome}
+use Rattle.rules.specs.Calls.{askedBy}
 use Rattle.rules.specs.History.{history, Along, Admitted}
-use Rattle.rules.specs.Demands.{carrying, inService, Eligible, Spared, Undisturbed, pollsOrRaises, Clears, Unraised, assertsOf, asEvent, foundBy, ringActs, dropped, returnedIn}
+use Rattle.rules.specs.Demands.{carrying, inService, Eligible, Spared, Undisturbed, pollsOrRaises, asEvent, foundBy, ringActs, dropped, returnedIn}
 use Rattle.rules.specs.Demands.{asserts, deasserts, assertsAmong, deassertsAmong}
-use Rattle.rules.specs.Exported.{Exported, leftBy, isDone, isReset, isLoad, Underway, carriedOn, carriedThrough, NoLoads, doneCall, doneCalls}
+use Rattle.rules.specs.Exported.{Exported, isReset, isLoad, Underway, carriedOn, carriedThrough, NoLoads, doneCall, doneCalls}
 use Rattle.rules.specs.Exported.{GivenBytes, current, inImage, Faithful, afterReset, atLoad, returnedBy, drainedBy, Balances}
 use Rattle.rules.proofs.laws.Counts.{tally-nil}
 use Rattle.rules.proofs.laws.Draining.{all-accounted}
-use Rattle.rules.proofs.laws.Chains.{faithful-after-reset, faithful-at-load, handed}
-use Rattle.rules.proofs.laws.Latches.{Quiet, quiet-until-raised, poll-finds-none, call-unlatches}
+use Rattle.rules.proofs.laws.Chains.{faithful-after-reset, faithful-at-load, calls-split}
 use Rattle.rules.proofs.laws.WellFormed.{history-well}
-use Rattle.rules.proofs.laws.Readings.{input-is, asked-is, read-as}
+use Rattle.rules.proofs.laws.Readings.{read-as}
 use Rattle.rules.proofs.demands.Account.{none-served, asserts-match-service-from}
 use Rattle.rules.proofs.demands.Service.{in-service-from-the-poll-on, in-service-once-raised}
 use Rattle.rules.proofs.demands.Order.{drained-in-turn, drops-counted}
-use Rattle.rules.proofs.demands.FromCalls.{a-load-begins, image-holds-device, faithful-through, image-holds-history, history-since-load}
+use Rattle.rules.proofs.demands.FromCalls.{a-load-begins, image-holds-device, image-holds-history, history-since-load}
 
 -- ---- what is read
 
@@ -118,13 +116,6 @@ module _ (v : ℕ) (xs : List Exported) (n : NoLoads afterReset xs) (p : Along A
 
 -- ---- service and order
 
-calls-split : (before : List Exported) (x : Exported) (later : List Exported) (c : Call) → doneCall x ≡ c ∷ []
-    → doneCalls (before ++ (x ∷ later)) ≡ doneCalls before ++ (c ∷ doneCalls later)
-unfolding doneCalls
-calls-split [] x later c e = ap (λ cs. cs ++ doneCalls later) e
-calls-split (y ∷ before) x later c e =
-    ap (λ cs. doneCall y ++ cs) (calls-split before x later c e) ∙ sym (append-assoc (doneCall y) (doneCalls before) (c ∷ doneCalls later))
-
 module _ (h : Underway) (f : Faithful h) where
   -- In the image left at first the input i is latched and unmasked; none of the exported calls from there on is a load, and none lowers, clears or masks
   -- it. Of them x is done and is a poll or raise of i, and no write after x reaches ISR. Then i is in service in the image left last.
@@ -155,8 +146,8 @@ module _ (h : Underway) (f : Faithful h) where
       → k < length (drainedBy (x ∷ later)) → (e : Event) → getD (drainedBy (x ∷ later)) k e ≡ asEvent m
   unfolding doneCalls
   order-of-calls x later c n o earlier m rest is off k found small many e =
-      let read : drainedBy (x ∷ later) ≡ history (inImage h) (c ∷ doneCalls later) .drained =
-      drained-is-read h f (x ∷ later) n ∙ (λ i. history (sym (image-holds-device h f) i) (calls-split [] x later c o i) .drained) in
+      let calls-are = ap₂ (λ d cs. history d cs .drained) (sym (image-holds-device h f)) (calls-split [] x later c o) in
+      let read = drained-is-read h f (x ∷ later) n ∙ calls-are in
       rw read (drained-in-turn (inImage h) c earlier m rest is off k found small (doneCalls later) (rw read at many) e)
 
   -- The drop count in the image left last is that in the image left at first and the events dropped since, up to the stop.
@@ -165,41 +156,3 @@ module _ (h : Underway) (f : Faithful h) where
   drops-of-calls xs n =
       let well = history-well (h .began) (h .calls) (f .began) in
       rw (image-holds-history h f xs n, image-holds-device h f) (drops-counted (current h) (doneCalls xs) (well .drops))
-
-  -- ---- a cleared input
-
-  -- The done call x clears the input i, and none of the calls after it is a load or a raise of i.
-  module _ (i : ℕ) (b : i < 64) (x : Exported) (later : List Exported) (c : Call) (n : NoLoads h (x ∷ later)) (e : doneCall x ≡ c ∷ [])
-      (s : Clears i (inImage h) c) (p : Along (Unraised i) (inImage (carriedOn h x)) (doneCalls later)) where
-    met : inImage (carriedOn h x) ≡ step (inImage h) c .after
-    unfolding history carriedThrough NoLoads doneCalls
-    met =
-        image-holds-history h f (x ∷ []) (n .0, tt) ∙ (λ j. history (sym (image-holds-device h f) j) (calls-split [] x [] c e j) .after)
-
-    quiet : Quiet i b (history (inImage (carriedOn h x)) (doneCalls later) .made) (inImage (carriedThrough h (x ∷ later)) .core .lines)
-    unfolding carriedThrough NoLoads
-    quiet =
-        let on-from = faithful-through h f (x ∷ []) (n .0, tt) in
-        let left = image-holds-history (carriedOn h x) on-from later (n .1) in
-        rw (left, ← image-holds-device (carriedOn h x) on-from)
-        (quiet-until-raised i b (inImage (carriedOn h x)) (doneCalls later) p (rw met (call-unlatches i b (inImage h) c s)))
-
-    -- Then the calls after it make no assert of i, whatever its line, the masks and the polls do.
-    pub cleared-makes-no-assert : assertsOf i (history (inImage (carriedOn h x)) (doneCalls later) .made) ≡ 0
-    cleared-makes-no-assert = quiet .silent
-
-    -- In the image left last it is not latched,
-    pub cleared-stays-unlatched : on (inImage (carriedThrough h (x ∷ later)) .core .lines .irr) i ≡ false
-    cleared-stays-unlatched = quiet .unlatched
-
-    -- and a poll of it there, if it is done, answers that it returns nothing.
-    pub cleared-polled-in-vain : (y : Exported) → y .asked ≡ poll i → isDone y ≡ true → isLoad (carriedThrough h (x ∷ later) .left) y ≡ false
-        → leftBy y .answer ≡ answered 0 none (y .answer)
-    cleared-polled-in-vain y a t l =
-        let u = carriedThrough h (x ∷ later) in
-        let still = faithful-through h f (x ∷ later) n in
-        let r = handed u y still t l in
-        let is = input-is i (device.poll i) (r .call) (asked-is (sym (ap askedBy a) ∙ r .passes)) .1 in
-        let off = ap (λ d. on (d .core .lines .irr) i) (sym (image-holds-device u still)) ∙ cleared-stays-unlatched in
-        ap (λ (o : Outcome). o .answer) (r .left)
-        ∙ ap (λ v. answered 0 v (y .answer)) (ap (value (current u)) is ∙ poll-finds-none i b (current u) off)

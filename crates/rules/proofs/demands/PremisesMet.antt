@@ -18,7 +18,7 @@ use Rattle.rules.specs.Access.{byte, dword}
 use Rattle.rules.specs.Device.{Device, Call, level, poll, write, drain, upFrom, actsOf, step, reset}
 use Rattle.rules.specs.History.{history, fromReset, Along, Admitted, writesIsr}
 use Rattle.rules.specs.Demands.{tally, asserts, deasserts, carrying, Each, done, also, inService, Eligible, disturbs, Spared, Undisturbed}
-use Rattle.rules.specs.Demands.{someAct, isRaise, Unraised, assertsOf, foundBy}
+use Rattle.rules.specs.Demands.{carries, CarriedAlone, someAct, isRaise, Unraised, assertsOf, foundBy}
 use Rattle.rules.specs.Dozen.{raises}
 use Rattle.rules.proofs.laws.Computing.{computing}
 use Rattle.rules.proofs.demands.Account.{asserts-match-service}
@@ -38,6 +38,9 @@ all-below (suc k) f e i h =
     let both = and-eq-true-iff (f k) (allBelow k f) .0 e in
     ⊎-elim (λ same. rw same (both .0)) (λ less. all-below k f (both .1) i less) (eq-or-lt-of-le (le-of-suc-le-suc h))
 
+so : {a b : Bool} → a ≡ true → (not a || b) ≡ true → b ≡ true
+so {a} {b} t u = sym (ap (λ x. not x || b) t) ∙ u
+
 -- no input of which the vector byte changes is in service
 abbrev vectorStays : Core → Core → ℕ → Bool
 vectorStays c d n = not (on (c .lines .isr) n) || eqb (getD (d .vectors) n 0) (getD (c .vectors) n 0)
@@ -52,9 +55,6 @@ admitted d c e =
       noIsrWrite = not-true (writesIsr c) (both .0);
       vectorsStay = λ n h t. eqb-true _ _ (so t (all-below 64 (vectorStays (d .core) (step d c .after .core)) (both .1) n h));
     }
-  where
-    so : {a b : Bool} → a ≡ true → (not a || b) ≡ true → b ≡ true
-    so {a} {b} t u = sym (ap (λ x. not x || b) t) ∙ u
 
 abbrev spared : ℕ → List Act → Bool
 spared n [] = true
@@ -104,6 +104,14 @@ all-undisturbed n = along-all (leavesAlone n) (Undisturbed n) one
 
 pub all-unraised : (n : ℕ) (d : Device) (cs : List Call) → alongAll (noRaise n) d cs ≡ true → Along (Unraised n) d cs
 all-unraised n = along-all (noRaise n) (Unraised n) (λ d c e. not-true (isRaise n c) e)
+
+abbrev pub carriesAlone : ℕ → ℕ → Device → Call → Bool
+carriesAlone n v d c = allBelow 64 (λ m. not (carries v (d .core .vectors) m) || eqb m n)
+
+pub all-carried-alone : (n v : ℕ) (d : Device) (cs : List Call) → alongAll (carriesAlone n v) d cs ≡ true → Along (CarriedAlone n v) d cs
+all-carried-alone n v =
+    along-all (carriesAlone n v) (CarriedAlone n v)
+    (λ d c e m b t. eqb-true m n (so t (all-below 64 (λ m. not (carries v (d .core .vectors) m) || eqb m n) e m b)))
 
 -- ---- the account
 
@@ -185,14 +193,14 @@ clearThree = write dword 0x080 0x8
 abbrev afterClear : List Call
 afterClear = poll 3 ∷ write dword 0x020 0x8 ∷ write dword 0x020 0 ∷ []
 
-three-quiet : assertsOf 3 (history (step (fromReset begun .after) clearThree .after) afterClear .made) ≡ 0
+three-quiet : assertsOf 3 (history (fromReset begun .after) (clearThree ∷ afterClear) .made) ≡ 0
 unfolding computing someAct
 three-quiet =
     no-assert-until-raised 3 (lit< tt) (fromReset begun .after) clearThree afterClear refl
     (all-unraised 3 (step (fromReset begun .after) clearThree .after) afterClear refl)
 
 -- and a new raise asserts it
-three-raised : assertsOf 3 (history (step (fromReset begun .after) clearThree .after) (afterClear ++ (level 3 true ∷ [])) .made) ≡ 1
+three-raised : assertsOf 3 (history (fromReset begun .after) (clearThree ∷ (afterClear ++ (level 3 true ∷ []))) .made) ≡ 1
 unfolding computing tally
 three-raised = refl
 

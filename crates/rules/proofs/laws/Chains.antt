@@ -2,7 +2,7 @@
 -- that the image last left holds. A refused call changes nothing; a load begins anew from what it was given.
 use mathlib.Core.Path.{_≡_, refl, sym, ap, _∙_}
 use mathlib.Core.Bool.{Bool, true, false, cond, not, true≢false, and-false, and-eq-true-iff, Bool·not-not}
-use mathlib.Core.List.{List, [], _∷_, _++_, append-nil}
+use mathlib.Core.List.{List, [], _∷_, _++_, append-nil, append-assoc}
 use Prim.Native.Nat.{ℕ, _≤_}
 use native.Mathlib.Omega.{arith}
 use lib.Dec.{eqb, leb}
@@ -16,7 +16,7 @@ use Rattle.rules.specs.Calls.{Refusal, outside, noWidth, noInput, wrongL
 use Rattle.rules.specs.Calls.{Tested, pass, refuse, Request, Asked, afresh, calls, askedBy, Done, doneOn, performed}
 use Rattle.rules.specs.Calls.{answered, bufferOf, placeOf, written, Outcome, leaves, settled, answerLength, hasRoom, outcome}
 use Rattle.rules.specs.History.{history}
-use Rattle.rules.specs.Exported.{Exported, leftBy, isDone, isReset, isLoad, callOf, Underway, carriedOn, doneCall, afterReset, atLoad, current, Faithful}
+use Rattle.rules.specs.Exported.{Exported, leftBy, isDone, isReset, isLoad, callOf, Underway, carriedOn, doneCall, doneCalls, afterReset, atLoad, current, Faithful}
 use Rattle.rules.proofs.laws.Bits.{test}
 use Rattle.rules.proofs.laws.Lists.{same-self, same-equal}
 use Rattle.rules.proofs.laws.Images.{decode-encode, encode-decode, decode-well-formed, reset-well-formed}
@@ -269,3 +269,12 @@ module _ (x : Exported) (t : isDone x ≡ true) (no : isReset (askedBy (x .asked
   load-begins h n =
       let e = done-call h x t no .passes in
       carried-done h x t n e ∙ sym (carried-done (atLoad (x .given)) x t own-image e)
+
+-- ---- the calls of the device in a list of exported calls
+
+pub calls-split : (before : List Exported) (x : Exported) (later : List Exported) (c : Call) → doneCall x ≡ c ∷ []
+    → doneCalls (before ++ (x ∷ later)) ≡ doneCalls before ++ (c ∷ doneCalls later)
+unfolding doneCalls
+calls-split [] x later c e = ap (λ cs. cs ++ doneCalls later) e
+calls-split (y ∷ before) x later c e =
+    ap (λ cs. doneCall y ++ cs) (calls-split before x later c e) ∙ sym (append-assoc (doneCall y) (doneCalls before) (c ∷ doneCalls later))

@@ -1,5 +1,6 @@
 -- An input that is not latched: no act but a raise of it makes an assert of it or latches it. CLEAR with its bit unlatches it.
 use mathlib.Core.Path.{_≡_, refl, sym, ap, _∙_}
+use mathlib.Core.Logic.{⊎-elim}
 use mathlib.Core.Bool.{Bool, true, false, _&&_, true≢false, and-false}
 use mathlib.Core.List.{List, [], _∷_, _++_}
 use Prim.Native.Nat.{ℕ, _+_, _<_}
@@ -17,7 +18,7 @@ use Rattle.rules.proofs.laws.Bits.{test, on-put, on-without}
 use Rattle.rules.proofs.laws.Inputs.{first-has, only-waiting}
 use Rattle.rules.proofs.laws.Steps.{poll-value}
 use Rattle.rules.proofs.laws.Counts.{tally-append, tally-nil, tally-none}
-use Rattle.rules.proofs.laws.Reach.{each-so, ReturnsNone, write-returns-none}
+use Rattle.rules.proofs.laws.Reach.{each-both, each-so, NotMask, NotClear, mask-or-clear, ReturnsNone, write-returns-none}
 use Rattle.rules.proofs.laws.Folds.{fold-acts, fold-calls}
 
 latched-of : (a b c d : Bool) → (a && ((b && c) && d)) ≡ true → b ≡ true
@@ -53,9 +54,11 @@ module _ (n : ℕ) (b : n < 64) where
   enter-quiet vs o f l h =
       record { silent = enter-silent vs o f l h; unlatched = ap (λ x. on x n) (serve-latches vs o l (inputs (pendingIn f l))) ∙ h }
 
+  leave-silent : (vs : List ℕ) (o : Bool) (f : ℕ → Bool) (l : Lines) → assertsOf n (leave vs o f l .made) ≡ 0
+  leave-silent vs o f l = tally-none (λ m. m .asserted && only n (m .input)) (event vs o false) (λ m. refl) (inputs (servedIn f l))
+
   leave-quiet : (vs : List ℕ) (o : Bool) (f : ℕ → Bool) (l : Lines) → on (l .irr) n ≡ false → Quiet (leave vs o f l .made) (leave vs o f l .after)
-  leave-quiet vs o f l h =
-      record { silent = tally-none (λ m. m .asserted && only n (m .input)) (event vs o false) (λ m. refl) (inputs (servedIn f l)); unlatched = h }
+  leave-quiet vs o f l h = record { silent = leave-silent vs o f l; unlatched = h }
 
   fewer-latches : (l : Lines) (f : ℕ → Bool) → on (l .irr) n ≡ false → on (without (l .irr) f) n ≡ false
   fewer-latches l f h = on-without (l .irr) f n b ∙ rw h
@@ -166,17 +169,51 @@ module _ (n : ℕ) (b : n < 64) where
   acts-unlatch c (also {a = a} t e) s =
       test (clears n a) (λ k. acts-quiet (turn c a .after) e (clear-unlatches c a k) .unlatched) (λ k. acts-unlatch (turn c a .after) e (rw k at s))
 
-  -- a call that clears n is no raise of it
-  clears-unraised : (d : Device) (c : Call) → Clears n d c → Unraised n d c
-  unfolding actsOf someAct
-  clears-unraised d (call.level m true) s = absurd (true≢false (sym s))
-  clears-unraised d (call.level m false) s = refl
-  clears-unraised d (call.poll m) s = refl
-  clears-unraised d (call.read w o) s = refl
-  clears-unraised d (call.write w o v) s = refl
-  clears-unraised d (call.drain k) s = refl
+  -- a call that clears n is a write, and it writes no MASK
+  clears-nothing : {xs : List Act} → Each NotClear xs → someAct (clears n) xs ≡ false
+  unfolding someAct
+  clears-nothing done = refl
+  clears-nothing (also {a = move (poll m)} t e) = clears-nothing e
+  clears-nothing (also {a = move (raise m)} t e) = clears-nothing e
+  clears-nothing (also {a = move (lower m)} t e) = clears-nothing e
+  clears-nothing (also {a = move (clear x)} t e) = absurd t
+  clears-nothing (also {a = move (setMask h v)} t e) = clears-nothing e
+  clears-nothing (also {a = setIsr h v} t e) = clears-nothing e
+  clears-nothing (also {a = store s} t e) = clears-nothing e
+  clears-nothing (also {a = setVector m v} t e) = clears-nothing e
 
-  -- and leaves it unlatched
+  abbrev Gentle : Act → Type 0
+  Gentle a = NotMask a × ReturnsNone a
+
+  call-gentle : (d : Device) (c : Call) → Clears n d c → Each Gentle (actsOf (d .core) c)
+  unfolding actsOf someAct
+  call-gentle d (call.level m true) s = absurd (true≢false (sym s))
+  call-gentle d (call.level m false) s = absurd (true≢false (sym s))
+  call-gentle d (call.poll m) s = absurd (true≢false (sym s))
+  call-gentle d (call.read w o) s = absurd (true≢false (sym s))
+  call-gentle d (call.write w o v) s =
+      ⊎-elim (λ e. each-both e (write-returns-none (d .core) w o v)) (λ e. absurd (true≢false (sym s ∙ clears-nothing e))) (mask-or-clear (d .core) w o v)
+  call-gentle d (call.drain k) s = absurd (true≢false (sym s))
+
+  -- so it makes no assert
+  gentle-silent : (c : Core) (a : Act) → Gentle a → assertsOf n (turn c a .made) ≡ 0
+  unfolding lineTurn moved cleared
+  gentle-silent c (move (poll m)) t = absurd (t .1)
+  gentle-silent c (move (raise m)) t = absurd (t .1)
+  gentle-silent c (move (lower m)) t = absurd (t .1)
+  gentle-silent c (move (clear x)) t = leave-silent (c .vectors) true (on x) (withIrr (c .lines) (without (c .lines .irr) (on x)))
+  gentle-silent c (move (setMask h v)) t = absurd (t .0)
+  gentle-silent c (setIsr h v) t = tally-nil _
+  gentle-silent c (store s) t = tally-nil _
+  gentle-silent c (setVector m v) t = tally-nil _
+
+  pub clear-silent : (d : Device) (c : Call) → Clears n d c → assertsOf n (step d c .made) ≡ 0
+  unfolding step
+  clear-silent d c s =
+      fold-acts (λ c ms e. assertsOf n ms ≡ 0) (λ c. tally-nil _)
+      (λ c e f xs ys x y. omega (arith, tally-append (λ m. m .asserted && only n (m .input)) xs ys, x, y)) Gentle gentle-silent (d .core) (call-gentle d c s)
+
+  -- and leaves n unlatched
   pub call-unlatches : (d : Device) (c : Call) → Clears n d c → on (step d c .after .core .lines .irr) n ≡ false
   unfolding step acted
-  call-unlatches d c s = acts-unlatch (d .core) (call-unraised d c (clears-unraised d c s)) s
+  call-unlatches d c s = acts-unlatch (d .core) (each-so (λ a t. no-raise a (t .1)) (call-gentle d c s)) s

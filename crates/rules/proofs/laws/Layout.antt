@@ -1,6 +1,7 @@
 -- Fields that stand one after another, and the image that they make: read, known by what is read, and written in part. Stated once over the form and the field.
 use mathlib.Core.Path.{_≡_, refl, sym, ap, _∙_, subst}
 use mathlib.Core.Bool.{Bool, true, false, not, _&&_, _||_, cond, false≢true, and-eq-true-iff, or-true, or-assoc}
+use mathlib.Core.Logic.{_⊎_, inl, inr, ⊎-elim}
 use mathlib.Core.List.{List, [], _∷_, _++_, append-assoc, append-nil}
 use Prim.Native.Nat.{ℕ, zero, suc, _+_, _≤_}
 use native.Mathlib.Nat.{add-zero}
@@ -15,6 +16,7 @@ use Rattle.rules.specs.Form.{Word, mask, irr, isr, copy, stored, Word-di
 use Rattle.rules.specs.Form.{size, decided, is, listed, total, before, from, laid}
 use Rattle.rules.specs.Form.{Form, one, fields, has, contentsLength, formLength, place, contentsOf, read, image}
 use Rattle.rules.proofs.laws.Lists.{part-then}
+use Rattle.rules.proofs.laws.Parts.{put-there, put-before, put-behind, length-put}
 
 -- ---- fields
 
@@ -23,14 +25,14 @@ pub test : {A : Type 0} (t : Bool) → (t ≡ true → A) → (t ≡ false → A
 test true f g = f refl
 test false f g = g refl
 
-is-sound : (p q : Field) → is p q ≡ true → p ≡ q
+pub is-sound : (p q : Field) → is p q ≡ true → p ≡ q
 is-sound p q = go (Field-discrete (Word-discrete Plain-discrete) p q)
   where
     go : (d : Dec (p ≡ q)) → decided d ≡ true → p ≡ q
     go (yes e) t = e
     go (no n) t = absurd (false≢true t)
 
-is-self : (p : Field) → is p p ≡ true
+pub is-self : (p : Field) → is p p ≡ true
 is-self p = go (Field-discrete (Word-discrete Plain-discrete) p p)
   where
     go : (d : Dec (p ≡ p)) → decided d ≡ true
@@ -46,7 +48,7 @@ distinct (p ∷ ps) = not (listed p ps) && distinct ps
 abbrev pub Sized : (Field → List ℕ) → Type 0
 Sized b = (p : Field) → length (b p) ≡ size p
 
-listed-append : (q : Field) (ps rs : List Field) → listed q (ps ++ rs) ≡ (listed q ps || listed q rs)
+pub listed-append : (q : Field) (ps rs : List Field) → listed q (ps ++ rs) ≡ (listed q ps || listed q rs)
 listed-append q [] rs = refl
 listed-append q (p ∷ ps) rs = ap (λ t. is q p || t) (listed-append q ps rs) ∙ sym (or-assoc (is q p) (listed q ps) (listed q rs))
 
@@ -239,3 +241,39 @@ module _ (f : Form) (b : Field → List ℕ) (s : Sized b) where
       let apart = subst (λ m. distinct m ≡ true) (sym split) (distinct-fields f) in
       subst (λ m. putMid (place f p + i) k (contentsOf f ++ laid b m) ys ≡ contentsOf f ++ laid c m) split
       (run-written b c s (before p ps) (run p n) (drop n (from p ps)) apart (λ q t. same q (subst (λ m. listed q m ≡ true) split t)) (contentsOf f) (contentsLength f) i k ys (length-contents f) h e)
+
+-- ---- a field written over bytes of the form's length
+
+-- of two fields one ends before the other begins
+places-apart : (p q : Field) (ps : List Field) → is q p ≡ false → listed p ps ≡ true → listed q ps ≡ true
+    → (total (before q ps) + size q ≤ total (before p ps)) ⊎ (total (before p ps) + size p ≤ total (before q ps))
+places-apart p q [] d h k = absurd (false≢true h)
+places-apart p q (r ∷ ps) d h k =
+    test (is q r)
+    (λ t. let n : is p r ≡ false = test (is p r) (λ u. absurd (false≢true (sym d ∙ ap (is q) (is-sound p r u) ∙ t))) (λ u. u) in
+    let same = ap size (is-sound q r t) in
+    inl (rw (t, n) (omega arith)))
+    (λ t. test (is p r)
+    (λ u. let same = ap size (is-sound p r u) in inr (rw (t, u) (omega arith)))
+    (λ u. ⊎-elim (λ x. inl (rw (t, u) (omega (arith, x)))) (λ x. inr (rw (t, u) (omega (arith, x)))) (places-apart p q ps d (rw u at h) (rw t at k))))
+
+module _ (f : Form) (l : List ℕ) (e : length l ≡ formLength f) (p : Field) (h : has f p ≡ true) (ys : List ℕ) (s : length ys ≡ size p) where
+  abbrev pub over : List ℕ
+  over = putMid (place f p) (size p) l ys
+
+  ends : place f p + size p ≤ length l
+  ends = omega (arith, field-fits f p h)
+
+  pub length-over : length over ≡ formLength f
+  length-over = length-put l ys (place f p) (size p) ends s ∙ e
+
+  pub read-over : read f over p ≡ ys
+  read-over = put-there l ys (place f p) (size p) ends s
+
+  pub other-over : (q : Field) → has f q ≡ true → is q p ≡ false → read f over q ≡ read f l q
+  other-over q k d =
+      ⊎-elim (λ x. put-before l ys (place f p) (size p) ends s (place f q) (size q) (omega (arith, x))) (λ x. put-behind l ys (place f p) (size p) ends s (place f q) (size q) (omega (arith, x)))
+      (places-apart p q (fields f) d h k)
+
+  pub head-over : part 0 (contentsLength f) over ≡ part 0 (contentsLength f) l
+  head-over = put-before l ys (place f p) (size p) ends s 0 (contentsLength f) (omega arith)

@@ -2,13 +2,14 @@
 -- and ends at `filled`: the list is what the parts were filled with.
 use mathlib.Core.Path.{_≡_, refl, sym, ap, _∙_, subst}
 use mathlib.Core.List.{List, [], _++_, append-assoc, append-nil}
-use Prim.Native.Nat.{ℕ, _+_, _≤_}
+use Prim.Native.Nat.{ℕ, _+_, _-_, _≤_}
+use native.Mathlib.Nat.{zero-add}
 use native.Mathlib.Omega.{arith}
-use lib.ListN.{length, take, drop, length-append, drop-of-length-le}
-use lib.Seq.{take-at, drop-at, drop-drop}
+use lib.ListN.{length, take, drop, length-append, length-drop, drop-of-length-le}
+use lib.Seq.{take-at, drop-at, drop-drop, length-take-le, take-append-le, drop-append-le}
 use borrow.Rule.Slice.PartMut.{putMid}
 use Rattle.rules.specs.Numbers.{bytesOf, part}
-use Rattle.rules.proofs.laws.Lists.{length-part}
+use Rattle.rules.proofs.laws.Lists.{length-part, part-part}
 use Rattle.rules.proofs.laws.Bytes.{length-bytesOf}
 
 -- l was l₀ and has been written up to place a: there stands `front`, and from there on what stood there
@@ -58,3 +59,34 @@ module _ {l l₀ front : List ℕ} {a : ℕ} (f : Filled l l₀ front a) where
   filled h =
       let b : length l₀ ≤ a = omega arith in
       f .is ∙ ap (λ m. front ++ m) (drop-of-length-le l₀ b) ∙ append-nil front
+
+-- ---- a part of any list written over
+
+-- k places from a on are written with ys; a part that ends before them, or begins behind them, is as it was
+module _ (l ys : List ℕ) (a k : ℕ) (h : a + k ≤ length l) (e : length ys ≡ k) where
+  from-there : drop a (putMid a k l ys) ≡ ys ++ drop k (drop a l)
+  from-there = drop-at (take a l) (ys ++ drop k (drop a l)) a (length-take-le a l (omega arith))
+
+  pub put-there : part a k (putMid a k l ys) ≡ ys
+  put-there = ap (take k) from-there ∙ take-at ys (drop k (drop a l)) k e
+
+  pub put-before : (b n : ℕ) → b + n ≤ a → part b n (putMid a k l ys) ≡ part b n l
+  put-before b n w =
+      let front : length (take a l) ≡ a = length-take-le a l (omega arith) in
+      let room : n ≤ length (drop b (take a l)) = simp length-drop (omega arith) in
+      ap (take n) (drop-append-le b (take a l) (ys ++ drop k (drop a l)) (omega arith)) ∙ take-append-le n (drop b (take a l)) (ys ++ drop k (drop a l)) room
+      ∙ (rw zero-add at (part-part l 0 a b n w))
+
+  pub put-behind : (b n : ℕ) → a + k ≤ b → part b n (putMid a k l ys) ≡ part b n l
+  put-behind b n w =
+      let s : b ≡ a + k + (b - (a + k)) = omega arith in
+      let rest : drop (a + k) (putMid a k l ys) ≡ drop (a + k) l =
+      sym (drop-drop k a (putMid a k l ys)) ∙ ap (drop k) from-there ∙ drop-at ys (drop k (drop a l)) k e ∙ drop-drop k a l
+      in
+      let past : (m : List ℕ) → drop b m ≡ drop (b - (a + k)) (drop (a + k) m) = λ m. ap (λ j. drop j m) s ∙ sym (drop-drop (b - (a + k)) (a + k) m) in
+      ap (take n) (past (putMid a k l ys) ∙ ap (drop (b - (a + k))) rest ∙ sym (past l))
+
+  pub length-put : length (putMid a k l ys) ≡ length l
+  length-put =
+      let front : length (take a l) ≡ a = length-take-le a l (omega arith) in
+      simp (length-append, length-drop) (omega arith)

@@ -1,6 +1,6 @@
 -- Which acts a write can do. What holds of the register halves and of the route and vector bytes that it meets holds of each of its acts (write-has).
--- Hence: no act on ISR where a write does not reach it; a write moves the lines or changes vector bytes, never both; a byte is stored where one belongs;
--- and what a write makes is offered.
+-- Hence: an act on ISR where a write reaches it, and only there; a write moves the lines or changes vector bytes, never both, and writes MASK or CLEAR,
+-- never both; a byte is stored where one belongs; and what a write makes is offered.
 use mathlib.Core.Path.{_≡_, refl, sym, ap, _∙_}
 use mathlib.Core.Logic.{_⊎_, inl, inr}
 use mathlib.Core.Bool.{Bool, true, false, cond, not, _&&_, _||_, true≢false, and-eq-true-iff, and-false, or-true, or-assoc}
@@ -367,6 +367,97 @@ lines-or-vectors c (call.poll n) = inr (also tt done)
 lines-or-vectors c (call.read w o) = inr done
 lines-or-vectors c (call.write w o v) = write-leaves c w o v
 lines-or-vectors c (call.drain k) = inr done
+
+-- ---- MASK or CLEAR, never both
+
+-- an act that is no write of MASK; one that is no write of CLEAR
+abbrev pub NotMask : Act → Type 0
+NotMask (move (poll n)) = Unit {0}
+NotMask (move (raise n)) = Unit {0}
+NotMask (move (lower n)) = Unit {0}
+NotMask (move (clear b)) = Unit {0}
+NotMask (move (setMask h v)) = ⊥
+NotMask (setIsr h v) = Unit {0}
+NotMask (store s) = Unit {0}
+NotMask (setVector n v) = Unit {0}
+
+abbrev pub NotClear : Act → Type 0
+NotClear (move (poll n)) = Unit {0}
+NotClear (move (raise n)) = Unit {0}
+NotClear (move (lower n)) = Unit {0}
+NotClear (move (clear b)) = ⊥
+NotClear (move (setMask h v)) = Unit {0}
+NotClear (setIsr h v) = Unit {0}
+NotClear (store s) = Unit {0}
+NotClear (setVector n v) = Unit {0}
+
+-- MASK stands below 0x60, CLEAR above
+abbrev standsRight : ℕ → Cell → Bool
+standsRight i (halfOf map.id h) = true
+standsRight i (halfOf map.mask h) = ltb i 0x60
+standsRight i (halfOf map.clear h) = not (ltb i 0x80)
+standsRight i (halfOf map.irr h) = true
+standsRight i (halfOf map.isr h) = true
+standsRight i (halfOf (map.plain p) h) = true
+standsRight i bytes = true
+standsRight i nothing = true
+
+stands : (o : ℕ) (r : Register) (h : Bool) → cellAt o ≡ halfOf r h → standsRight o (halfOf r h) ≡ true
+stands o r h e = sym (ap (standsRight o) e) ∙ cell-has standsRight refl o refl refl
+
+mask-left : (c : Core) (w : Width) (o v : ℕ) → 0x60 ≤ o → Each NotMask (writeActs c w o v)
+mask-left c w o v a =
+    write-has NotMask (λ i. 0x60 ≤ i) (λ i. Unit {0}) (λ i x m. dword-has NotMask i x (λ r h s. half-at i x r h m (stands i r h s)) (λ k p q. entry k))
+    (λ i u. entry i) c w o v (fine w)
+  where
+    half-at : (i x : ℕ) (r : Register) (h : Bool) → 0x60 ≤ i → standsRight i (halfOf r h) ≡ true → Each NotMask (registerActs r h x)
+    half-at i x map.id h m s = done
+    half-at i x map.mask h m s = absurd (true≢false (sym s ∙ le-ltb i 0x60 m))
+    half-at i x map.clear h m s = also tt done
+    half-at i x map.irr h m s = done
+    half-at i x map.isr h m s = also tt done
+    half-at i x (map.plain p) h m s = also tt done
+
+    entry : (i : ℕ) → Passes NotMask i
+    entry i = entry-has NotMask i (λ b h. tt) (λ e b h. tt)
+
+    fine-byte : (i : ℕ) → 0x60 ≤ i → FineByte (λ k. 0x60 ≤ k) (λ k. Unit {0}) i
+    fine-byte i p = record { single = λ s. tt; inDword = λ s. omega arith }
+
+    fine : (w : Width) → Fine (λ i. 0x60 ≤ i) (λ i. Unit {0}) w o
+    fine byte = fine-byte o a
+    fine word = (fine-byte o a, fine-byte (o + 1) (omega arith))
+    fine dword = a
+    fine qword = (a, omega arith)
+
+clear-left : (c : Core) (w : Width) (o v : ℕ) → o < 0x60 → Each NotClear (writeActs c w o v)
+clear-left c w o v a =
+    write-has NotClear (λ i. i < 0x80) (λ i. Unit {0}) (λ i x m. dword-has NotClear i x (λ r h s. half-at i x r h m (stands i r h s)) (λ k p q. entry k))
+    (λ i u. entry i) c w o v (fine w)
+  where
+    half-at : (i x : ℕ) (r : Register) (h : Bool) → i < 0x80 → standsRight i (halfOf r h) ≡ true → Each NotClear (registerActs r h x)
+    half-at i x map.id h m s = done
+    half-at i x map.mask h m s = also tt done
+    half-at i x map.clear h m s = absurd (true≢false (sym s ∙ ap not (lt-ltb i 0x80 m)))
+    half-at i x map.irr h m s = done
+    half-at i x map.isr h m s = also tt done
+    half-at i x (map.plain p) h m s = also tt done
+
+    entry : (i : ℕ) → Passes NotClear i
+    entry i = entry-has NotClear i (λ b h. tt) (λ e b h. tt)
+
+    fine-byte : (i : ℕ) → i < 0x62 → FineByte (λ k. k < 0x80) (λ k. Unit {0}) i
+    fine-byte i p = record { single = λ s. tt; inDword = λ s. omega arith }
+
+    fine : (w : Width) → Fine (λ i. i < 0x80) (λ i. Unit {0}) w o
+    fine byte = fine-byte o (omega arith)
+    fine word = (fine-byte o (omega arith), fine-byte (o + 1) (omega arith))
+    fine dword = omega arith
+    fine qword = (omega arith, omega arith)
+
+pub mask-or-clear : (c : Core) (w : Width) (o v : ℕ) → Each NotMask (writeActs c w o v) ⊎ Each NotClear (writeActs c w o v)
+mask-or-clear c w o v =
+    test (ltb o 0x60) (λ t. inr (clear-left c w o v (ltb-true o 0x60 t))) (λ t. inl (mask-left c w o v (ltb-false o 0x60 t)))
 
 -- ---- bytes
 

@@ -10,15 +10,9 @@ use Rattle.rules.specs.Ring.{Ring, RingAct, drawn, ringStep, ringRun}
 use Rattle.rules.specs.Core.{Core, Act, move, Move, poll, raise, lower, CoreTurn, turn, turns, lineTurn, moved, vectorsAfter, storedAfter}
 use Rattle.rules.specs.Access.{Width, writeActs}
 use Rattle.rules.specs.Device.{Device, level, read, write, drain, none, actsOf, offers, acted, Step, step, value, returned}
+pub use Rattle.rules.specs.Device.{withLines, withRing}
 use Rattle.rules.specs.Device as device
 use Rattle.rules.proofs.laws.Acts.{acted-none, step-acted}
-
--- a device with other lines, or another ring
-abbrev pub withLines : Device → Lines → Device
-withLines d l = record { core = record { lines = l; vectors = d .core .vectors; stored = d .core .stored }; ring = d .ring }
-
-abbrev pub withRing : Device → Ring → Device
-withRing d r = record { core = d .core; ring = r }
 
 -- one act
 pub turns-one : (c : Core) (a : Act) → turns c (a ∷ []) ≡ turn c a

@@ -34,14 +34,14 @@ loop-again c =
     let l = t .before .before .loop in
     let s = t .before .before .before .before .before .before in
     feed-next (s .args .session) _ _ (s .args .line .now) _ _ (s .args .chunk .now) (s .args .out .now) (l .out) _ (l .taken) (l .len) _ (l .inv) (t .before .loop-test .taken) (room t)
-    (s .pre .1) (f .feed-byte .ensures .0) (f .feed-byte .ensures .1) (f .feed-byte .kept .1 .0)
+    (s .pre .1) (f .feed-byte .ensures .feeds) (f .feed-byte .ensures .short) (f .feed-byte .kept .1 .0)
 
 add-len : tie.Need-add-len Inv-loop μ-loop
 add-len c =
     let f = c .before .before .before .before .before .before in
     let t = f .before .before .before .before in
     let s = t .before .before .before .before .before .before in
-    omega (arith, room t, f .feed-byte .ensures .1, s .pre .1, s .good)
+    omega (arith, room t, f .feed-byte .ensures .short, s .pre .1, s .good)
 
 add-taken : tie.Need-add-taken Inv-loop μ-loop
 add-taken c =
@@ -53,12 +53,12 @@ returns : tie.Need-returns Inv-loop μ-loop
 returns c =
     let l = c .before .before .loop in
     let full = leb-false (l .len) (length (c .before .before .before .before .before .before .args .out .now) - 66) (c .if1 .left) in
-    (l .inv .fed, record { within = l .inv .within; some = λ h. omega (arith, full, l .inv .most); room = fits (l .inv .fed .writes) (l .inv .size) })
+    record { feeds = l .inv .fed; takes = record { within = l .inv .within; some = λ h. omega (arith, full, l .inv .most); room = fits (l .inv .fed .writes) (l .inv .size) } }
 
 returns-2 : tie.Need-returns-2 Inv-loop μ-loop
 returns-2 c =
     let l = c .before .loop in
-    (l .inv .fed, record { within = l .inv .within; some = λ h. omega arith; room = fits (l .inv .fed .writes) (l .inv .size) })
+    record { feeds = l .inv .fed; takes = record { within = l .inv .within; some = λ h. omega arith; room = fits (l .inv .fed .writes) (l .inv .size) } }
 
 pub feed-spec : {M : Type 1} → statement M
 feed-spec =

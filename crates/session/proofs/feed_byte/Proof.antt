@@ -12,17 +12,20 @@ returns c =
     let p = c .before .before .before in
     let t = p .before .before .before in
     let s = t .before .before .before .before in
-    (fed-ending (s .args .session) (s .args .line .now) (s .pre .0) (s .args .byte) (p .play-line .result) _ _ (t .if1 .taken) (p .play-line .ensures .0), p .play-line .ensures .1)
+    record {
+      feeds = fed-ending (s .args .session) (s .args .line .now) (s .pre .0) (s .args .byte) (p .play-line .result) _ _ (t .if1 .taken) (p .play-line .ensures .0);
+      short = p .play-line .ensures .1;
+    }
 
 returns-2 : tie.Need-returns-2
 returns-2 c =
     let s = c .before .before .before .before .before in
-    (fed-lost (s .args .session) (s .args .line .now) (s .pre .0) (s .args .byte) _ (c .before .if1 .left) (c .if2 .taken), omega arith)
+    record { feeds = fed-lost (s .args .session) (s .args .line .now) (s .pre .0) (s .args .byte) _ (c .before .if1 .left) (c .if2 .taken); short = omega arith }
 
 returns-3 : tie.Need-returns-3
 returns-3 c =
     let s = c .before .before .before .before .before in
-    (fed-kept (s .args .session) (s .args .line .now) (s .pre .0) (s .args .byte) _ (c .before .if1 .left) (c .if2 .left), omega arith)
+    record { feeds = fed-kept (s .args .session) (s .args .line .now) (s .pre .0) (s .args .byte) _ (c .before .if1 .left) (c .if2 .left); short = omega arith }
 
 pub feed-byte-spec : {M : Type 1} → statement M
 feed-byte-spec =

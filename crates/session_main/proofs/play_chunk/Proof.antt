@@ -28,12 +28,12 @@ takes c =
     let some : at < length chunk = ltb-true _ _ (t .if1 .taken) in
     let whole : length chunk - at ≤ length (drop at chunk) = simp length-drop (omega arith) in
     let left : length (take (length chunk - at) (drop at chunk)) ≡ length chunk - at = length-take-le (length chunk - at) (drop at chunk) whole in
-    let k = c .feed .ensures .1 in
+    let k = c .feed .ensures .takes in
     (k .some (omega (arith, left)), omega (arith, left, k .within))
 
 -- what was written lies in the buffer
 written : (c : tie.After-feed Inv-loop μ-loop) → c .feed .result .len ≤ length (c .feed .last .1 .1 .1 .0)
-written c = omega (arith, c .feed .kept .1 .1 .1 .0, c .feed .ensures .1 .room)
+written c = omega (arith, c .feed .kept .1 .1 .1 .0, c .feed .ensures .takes .room)
 
 add-at : tie.Need-add-at Inv-loop μ-loop
 add-at c =
@@ -44,7 +44,7 @@ loop-again : tie.Need-loop-again Inv-loop μ-loop
 loop-again c =
     let f = c .before .before .before .before .before .before .before in
     let l = f .before .before .before .before .before .before .loop in
-    (f .feed .ensures .0 .ready, f .feed .kept .1 .0 ∙ l .inv .1, takes f .1, f .feed .kept .1 .1 .1 .0 ∙ l .inv .3)
+    (f .feed .ensures .feeds .ready, f .feed .kept .1 .0 ∙ l .inv .1, takes f .1, f .feed .kept .1 .1 .1 .0 ∙ l .inv .3)
 
 pub play-chunk-spec : {M : Type 1} → statement M
 play-chunk-spec =

@@ -12,30 +12,29 @@ use Rattle.rules.specs.Numbers.{part}
 use Rattle.rules.specs.Ring.{capacity}
 use Rattle.rules.specs.Form.{Form, word, irr, copy, count, pairs, formLength, read}
 use Rattle.rules.specs.Image.{registerAt, countIn}
-use Rattle.rules.proofs.laws.Layout.{has-all}
 use Rattle.image.specs.Shown.{formView, PlacesOf, pairsGood, bodiesGood}
 use Rattle.image.specs.declared.form.Places.{Places}
-use Rattle.image.proofs.Forms.{field-within, copy-within, rules-tested}
+use Rattle.image.proofs.Forms.{always-within, always-at, copy-within, rules-tested}
 use Rattle.image.proofs.check.body_good.Statement.{statement}
 use Rattle.image.proofs.check.body_good.Tie as tie
 
 -- the rules, given what the first two say
 module _ (f : Form) (l : List ℕ) (s : length l ≡ formLength f) (p : Places) (o : PlacesOf f p) where
   counts : getD l (p .count) 0 ≡ countIn f l
-  counts = ap (λ a. getD l a 0) (o .fields count (has-all f count refl))
+  counts = ap (λ a. getD l a 0) (always-at f l s p o count refl)
 
   module _ {x y : ℕ} (e : x ≡ registerAt (p .«last_intirr») l) (g : y ≡ registerAt (p .intirr) l) where
     tested : {t u : Bool} → eqb x y ≡ t → leb (getD l (p .count) 0) capacity ≡ u → (t && (u && pairsGood (countIn f l) (read f l pairs))) ≡ bodiesGood f l
     tested h k =
         let at : (a b : ℕ) → a ≡ b → registerAt a l ≡ registerAt b l = λ a b. ap (λ n. registerAt n l) in
         (λ i. sym h i && ((sym k ∙ ap (λ n. leb n capacity) counts) i && pairsGood (countIn f l) (read f l pairs)))
-        ∙ sym (rules-tested f l s x y (λ c. e ∙ at _ _ (o .fields (word copy) c)) (λ c. e ∙ at _ _ (o .copy c) ∙ sym g) (g ∙ at _ _ (o .fields (word irr) (has-all f (word irr) refl))))
+        ∙ sym (rules-tested f l s x y (λ c. e ∙ at _ _ (o .fields (word copy) c)) (λ c. e ∙ at _ _ (o .copy c) ∙ sym g) (g ∙ at _ _ (always-at f l s p o (word irr) refl)))
 
     -- the pairs decide
     by-pairs : (r : Bool) → x ≡ y → leb (getD l (p .count) 0) capacity ≡ true → r ≡ pairsGood (getD l (p .count) 0) (part (p .pairs) (p .pairs + 32 - p .pairs) l) → r ≡ bodiesGood f l
     by-pairs r h k q =
         let w : p .pairs + 32 - p .pairs ≡ 32 = omega arith in
-        q ∙ (λ i. pairsGood (counts i) (part (o .fields pairs (has-all f pairs refl) i) (w i) l)) ∙ tested (eq-eqb x y h) k
+        q ∙ (λ i. pairsGood (counts i) (part (always-at f l s p o pairs refl i) (w i) l)) ∙ tested (eq-eqb x y h) k
 
 word-at-requires : tie.Need-word-at-requires
 word-at-requires c κs =
@@ -46,7 +45,7 @@ word-at-requires-2 : tie.Need-word-at-requires-2
 word-at-requires-2 c κs =
     let p = c .before in
     let s = p .before .before in
-    field-within (formView (s .args .form)) (s .args .image .now) (s .pre) (p .places-of .result) (p .places-of .ensures) (word irr) (has-all (formView (s .args .form)) (word irr) refl)
+    always-within (formView (s .args .form)) (s .args .image .now) (s .pre) (p .places-of .result) (p .places-of .ensures) (word irr) refl
 
 returns : tie.Need-returns
 returns c =
@@ -60,7 +59,7 @@ shared-slice-read-count : tie.Need-shared-slice-read-count
 shared-slice-read-count c =
     let p = c .before .before .before .before in
     let s = p .before .before in
-    let h = field-within (formView (s .args .form)) (s .args .image .now) (s .pre) (p .places-of .result) (p .places-of .ensures) count (has-all (formView (s .args .form)) count refl) in
+    let h = always-within (formView (s .args .form)) (s .args .image .now) (s .pre) (p .places-of .result) (p .places-of .ensures) count refl in
     omega (arith, h)
 
 cast-count : tie.Need-cast-count
@@ -79,14 +78,14 @@ add-end : tie.Need-add-end
 add-end c =
     let p = c .before .before .before .before .before in
     let s = p .before .before in
-    let h = field-within (formView (s .args .form)) (s .args .image .now) (s .pre) (p .places-of .result) (p .places-of .ensures) pairs (has-all (formView (s .args .form)) pairs refl) in
+    let h = always-within (formView (s .args .form)) (s .args .image .now) (s .pre) (p .places-of .result) (p .places-of .ensures) pairs refl in
     record { fits = omega (arith, h) }
 
 part-pairs-good-end : tie.Need-part-pairs-good-end
 part-pairs-good-end c =
     let p = c .before .before .before .before .before in
     let s = p .before .before in
-    let h = field-within (formView (s .args .form)) (s .args .image .now) (s .pre) (p .places-of .result) (p .places-of .ensures) pairs (has-all (formView (s .args .form)) pairs refl) in
+    let h = always-within (formView (s .args .form)) (s .args .image .now) (s .pre) (p .places-of .result) (p .places-of .ensures) pairs refl in
     search needs
 
 returns-3 : tie.Need-returns-3

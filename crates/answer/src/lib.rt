@@ -1,0 +1,42 @@
+// The answer area: the refusal, whether a value is present, and the value.
+use bytes::put_word;
+use bytes::wide;
+ghost use mathlib.Core.Path.{_≡_};
+ghost use Prim.Native.Nat.{_≤_};
+ghost use lib.ListN.{length};
+ghost use Rattle.rules.specs.Calls.{answerLength, present, amount, answered};
+ghost use Rattle.answer.specs.Given.{valueView};
+
+// What a call gives, if it gives something.
+pub enum Value {
+    Absent,
+    Present(u64),
+}
+
+fn present_byte(value: Value) -> u64
+    ensures { λ r. ⌜ r ≡ present (valueView value) ⌝ }
+{
+    match value {
+        Value::Absent => 0,
+        Value::Present(_) => 1,
+    }
+}
+
+fn amount_of(value: Value) -> u64
+    ensures { λ r. ⌜ r ≡ amount (valueView value) ⌝ }
+{
+    match value {
+        Value::Absent => 0,
+        Value::Present(v) => v,
+    }
+}
+
+// Sixteen bytes are written, eight and eight; those past them stay.
+pub fn put_answer(answer: &mut [u8], number: u8, value: Value)
+    requires { ⌜ answerLength ≤ length (now answer) ⌝ }
+    ensures { λ _. ⌜ now (answer .exit) ≡ answered number (valueView value) (now (answer .entry)) ⌝ }
+{
+    let head = wide(number) + 256 * present_byte(value);
+    put_word(answer, 0, head);
+    put_word(answer, 8, amount_of(value));
+}

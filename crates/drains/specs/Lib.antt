@@ -1,0 +1,2 @@
+-- What a drain promises, in the rules' terms.
+pub mod Drained

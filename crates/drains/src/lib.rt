@@ -1,0 +1,67 @@
+// A drain in place: the oldest pairs are copied out, the others move to the front, and zeros follow them.
+use bytes::copy;
+use bytes::put_zeros;
+use image::form::Form;
+use image::form::places_of;
+ghost use mathlib.Core.Path.{_≡_};
+ghost use mathlib.Core.List.{_++_};
+ghost use Prim.Native.Nat.{_+_, _*_, _-_, _/_, _≤_, min};
+ghost use lib.ListN.{length, drop, getD, replicate};
+ghost use Rattle.rules.specs.Numbers.{part};
+ghost use Rattle.rules.specs.Ring.{capacity};
+ghost use Rattle.rules.specs.Image.{imageLength, countAt, pairsAt, countOf};
+ghost use Rattle.drains.specs.Drained.{Drains};
+
+// As many events as wait or as fit, whichever is fewer.
+fn fitting(waiting: usize, bytes: usize) -> usize
+    ensures { λ r. ⌜ r ≡ min waiting (bytes / 2) ⌝ }
+{
+    let pairs = bytes / 2;
+    if waiting < pairs { waiting } else { pairs }
+}
+
+// The n bytes from a place on are moved to the front; from n on every byte stays.
+fn move_down(dst: &mut [u8], by: usize, n: usize)
+    requires { ⌜ by + n ≤ length (now dst) ⌝ }
+    ensures { λ _. ⌜ now (dst .exit) ≡ part by n (now (dst .entry)) ++ drop n (now (dst .entry)) ⌝ }
+{
+    let mut i = 0;
+    while i < n {
+        dst[i] = dst[by + i];
+        i += 1;
+    }
+}
+
+// Of `used` bytes the first `taken` go.
+fn drop_front(dst: &mut [u8], taken: usize, used: usize)
+    requires { ⌜ (taken ≤ used) × (used ≤ length (now dst)) ⌝ }
+    ensures { λ _. ⌜ now (dst .exit) ≡ part taken (used - taken) (now (dst .entry)) ++ (replicate taken 0 ++ drop used (now (dst .entry))) ⌝ }
+{
+    let rest = used - taken;
+    move_down(dst, taken, rest);
+    put_zeros(&mut dst[rest..used]);
+}
+
+// With the places of the count and of the pairs.
+fn drain_from(image: &mut [u8], out: &mut [u8], count: usize, at: usize) -> usize
+    requires { ⌜ (length (now image) ≡ imageLength) × (getD (now image) count 0 ≤ capacity) × (count ≡ countAt) × (at ≡ pairsAt) ⌝ }
+    ensures { λ r. ⌜ Drains (now (image .entry)) (now (image .exit)) (now (out .entry)) (now (out .exit)) r ⌝ }
+{
+    let len = image[count] as usize;
+    let n = fitting(len, out.len());
+    let taken = 2 * n;
+    let end = at + taken;
+    copy(&mut out[0..taken], &image[at..end]);
+    let last = at + 32;
+    drop_front(&mut image[at..last], taken, 2 * len);
+    image[count] = (len - n) as u8;
+    n
+}
+
+pub fn drain(image: &mut [u8], out: &mut [u8]) -> usize
+    requires { ⌜ (length (now image) ≡ imageLength) × (countOf (now image) ≤ capacity) ⌝ }
+    ensures { λ r. ⌜ Drains (now (image .entry)) (now (image .exit)) (now (out .entry)) (now (out .exit)) r ⌝ }
+{
+    let p = places_of(Form::One);
+    drain_from(image, out, p.count, p.pairs)
+}

@@ -1,0 +1,2 @@
+-- A line's answer with its ending.
+pub mod Ended

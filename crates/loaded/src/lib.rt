@@ -1,0 +1,120 @@
+// A whole state from the bytes of an image: each part from its fields. What is asked of an image is its length, and of its ring the count.
+use bytes::copy;
+use bytes::number;
+use bytes::word_at;
+use image::form::Form;
+use image::form::places_of;
+use pairs::ring_of;
+use state::Lines;
+use state::PchPicState;
+use state::Ring;
+use state::Stored;
+use state::Tables;
+ghost use mathlib.Core.Path.{_≡_};
+ghost use Prim.Native.Nat.{_+_, _≤_};
+ghost use lib.ListN.{length};
+ghost use Rattle.rules.specs.Numbers.{numberOf, part};
+ghost use Rattle.rules.specs.Ring.{capacity};
+ghost use Rattle.rules.specs.Form.{formLength};
+ghost use Rattle.rules.specs.Image.{imageLength, countOf, countIn, decodeAs, decode};
+ghost use Rattle.state.specs.View.{IsRing, Is};
+ghost use Rattle.image.specs.Shown.{formView};
+ghost use Rattle.loaded.specs.Shown.{IsLines, IsStored};
+
+pub fn load_lines(image: &[u8], form: Form) -> Lines
+    requires { ⌜ length (now image) ≡ formLength (formView form) ⌝ }
+    ensures { λ r. ⌜ IsLines r (decodeAs (formView form) (now (image .entry)) .core .lines) ⌝ }
+{
+    let p = places_of(form);
+    let int_mask = word_at(image, p.int_mask);
+    let intirr = word_at(image, p.intirr);
+    let intisr = word_at(image, p.intisr);
+    Lines {
+        int_mask,
+        last_intirr: intirr,
+        intirr,
+        intisr,
+    }
+}
+
+pub fn load_stored(image: &[u8], form: Form) -> Stored
+    requires { ⌜ length (now image) ≡ formLength (formView form) ⌝ }
+    ensures { λ r. ⌜ IsStored r (decodeAs (formView form) (now (image .entry)) .core .stored) ⌝ }
+{
+    let p = places_of(form);
+    let htmsi_en = word_at(image, p.htmsi_en);
+    let intedge = word_at(image, p.intedge);
+    let int_polarity = word_at(image, p.int_polarity);
+    let auto_ctrl0 = word_at(image, p.auto_ctrl0);
+    let auto_ctrl1 = word_at(image, p.auto_ctrl1);
+    Stored {
+        htmsi_en,
+        intedge,
+        int_polarity,
+        auto_ctrl0,
+        auto_ctrl1,
+    }
+}
+
+// The 64 entries that a part of the image holds, a byte for each input.
+fn fill_entries(part: &[u8]) -> [u8; 64]
+    requires { ⌜ length (now part) ≡ 64 ⌝ }
+    ensures { λ r. ⌜ r ≡ now (part .entry) ⌝ }
+{
+    let mut out = [0u8; 64];
+    copy(&mut out, part);
+    out
+}
+
+pub fn load_routes(image: &[u8], form: Form) -> [u8; 64]
+    requires { ⌜ length (now image) ≡ formLength (formView form) ⌝ }
+    ensures { λ r. ⌜ r ≡ decodeAs (formView form) (now (image .entry)) .core .stored .routes ⌝ }
+{
+    let p = places_of(form);
+    let at = p.routes;
+    let end = at + 64;
+    fill_entries(&image[at..end])
+}
+
+// The number that four bytes from a place on spell.
+fn drops_at(image: &[u8], at: usize) -> u32
+    requires { ⌜ at + 4 ≤ length (now image) ⌝ }
+    ensures { λ r. ⌜ r ≡ numberOf (part at 4 (now (image .entry))) ⌝ }
+{
+    let end = at + 4;
+    number(&image[at..end]) as u32
+}
+
+pub fn load_ring(image: &[u8], form: Form) -> Ring
+    requires { ⌜ (length (now image) ≡ formLength (formView form)) × (countIn (formView form) (now image) ≤ capacity) ⌝ }
+    ensures { λ r. ⌜ IsRing r (decodeAs (formView form) (now (image .entry)) .ring) ⌝ }
+{
+    let p = places_of(form);
+    let place = p.count;
+    let len = image[place] as usize;
+    let drops = drops_at(image, p.drops);
+    let at = p.pairs;
+    let end = at + 32;
+    ring_of(&image[at..end], len, drops)
+}
+
+// The vector body is handed on to the leaf that fills 64 entries.
+pub fn load(image: &[u8]) -> PchPicState
+    requires { ⌜ (length (now image) ≡ imageLength) × (countOf (now image) ≤ capacity) ⌝ }
+    ensures { λ r. ⌜ Is r (decode (now (image .entry))) ⌝ }
+{
+    let lines = load_lines(image, Form::One);
+    let stored = load_stored(image, Form::One);
+    let route_entry = load_routes(image, Form::One);
+    let htmsi_vector = fill_entries(&image[158..222]);
+    let ring = load_ring(image, Form::One);
+    PchPicState {
+        lines,
+        stored,
+        tables: Tables {
+            route_entry,
+            htmsi_vector,
+        },
+        ring,
+    }
+}

@@ -1,0 +1,60 @@
+-- `save_tables`: each table is copied over its field, and all else stays.
+use mathlib.Core.Bool.{true}
+use mathlib.Core.Path.{_≡_, refl, sym, ap, _∙_}
+use mathlib.Core.List.{List, [], _∷_}
+use Prim.Native.Nat.{ℕ, _+_, _-_, _≤_}
+use native.Mathlib.Nat.{mod-eq-of-lt}
+use native.Mathlib.Omega.{arith}
+use lib.ListN.{length, getD}
+use borrow.Author.Needs.{needs}
+use Rattle.rules.specs.Numbers.{numberOf, bytesOf, part}
+use Rattle.rules.specs.Ring.{capacity, eventTwos}
+use Rattle.rules.specs.Form.{Field, routes, vectors, count, drops, pairs, size}
+use Rattle.rules.proofs.laws.Layout.{always}
+use Rattle.image.specs.Shown.{formView, placeIn}
+use Rattle.image.proofs.Forms.{always-within}
+use Rattle.saved.proofs.Putting.{puts-then, puts-part}
+use Rattle.saved.proofs.save_tables.Statement.{statement}
+use Rattle.saved.proofs.save_tables.Tie as tie
+
+-- a field ends within the image
+within : (c : tie.After-places-of) (q : Field) → always q ≡ true → placeIn (c .places-of .result) q + size q ≤ length (c .before .before .args .image .now)
+within c = let s = c .before .before in always-within (formView (s .args .form)) (s .args .image .now) (s .pre) (c .places-of .result) (c .places-of .ensures)
+
+add-routes-end : tie.Need-add-routes-end
+add-routes-end c = record { fits = omega (arith, within c routes refl) }
+
+part-copy-end : tie.Need-part-copy-end
+part-copy-end c = let h = within c routes refl in search needs
+
+add-vectors-end : tie.Need-add-vectors-end
+add-vectors-end c = record { fits = omega (arith, within (c .before .before .before .before .before .before .before) vectors refl) }
+
+part-copy-end-2 : tie.Need-part-copy-end-2
+part-copy-end-2 c = let h = within (c .before .before .before .before .before .before .before) vectors refl in search needs
+
+returns : tie.Need-returns
+returns c d r v =
+    let two = c .before .before in
+    let one = two .before .before .before .before .before .before .before in
+    let k = one .before .before .before .before .before in
+    let s = k .before .before in
+    let f = formView (s .args .form) in
+    let first = puts-part f d (k .places-of .result) (k .places-of .ensures) routes refl (s .pre) (one .copy .ensures ∙ sym r) (ap length (one .copy .ensures) ∙ search needs) refl in
+    puts-then f d first (puts-part f d (k .places-of .result) (k .places-of .ensures) vectors refl (first .size ∙ s .pre) (two .copy2 .ensures ∙ sym v) (ap length (two .copy2 .ensures) ∙ search needs) refl)
+
+pub save-tables-spec : {M : Type 1} → statement M
+save-tables-spec =
+    tie.close
+    (tie.spec
+    (λ c κs. search needs)
+    add-routes-end
+    (λ c. search needs) (λ c. search needs)
+    part-copy-end
+    (λ c κs. search needs)
+    add-vectors-end
+    (λ c. search needs) (λ c. search needs)
+    part-copy-end-2
+    (λ c κs. search needs)
+    (λ c. search needs)
+    returns)

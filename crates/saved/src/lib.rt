@@ -1,0 +1,90 @@
+// A whole state into the bytes of an image: each part into its fields, and no other byte.
+use bytes::copy;
+use bytes::put_bytes;
+use bytes::put_word;
+use image::form::Form;
+use image::form::contents_of;
+use image::form::places_of;
+use pairs::put_pairs;
+use state::Lines;
+use state::PchPicState;
+use state::Ring;
+use state::Stored;
+use state::Tables;
+ghost use mathlib.Core.Path.{_≡_};
+ghost use mathlib.Core.List.{_++_};
+ghost use lib.ListN.{length, drop};
+ghost use Rattle.rules.specs.Form.{formLength, contentsLength, contentsOf};
+ghost use Rattle.rules.specs.Image.{imageLength, encode};
+ghost use Rattle.state.specs.View.{WellLines, WellRing, Well, view};
+ghost use Rattle.image.specs.Shown.{formView};
+ghost use Rattle.saved.specs.Shown.{SavesLines, SavesStored, SavesTables, SavesRing};
+
+fn put_contents(image: &mut [u8], form: Form)
+    requires { ⌜ length (now image) ≡ formLength (formView form) ⌝ }
+    ensures { λ _. ⌜ now (image .exit) ≡ contentsOf (formView form) ++ drop (contentsLength (formView form)) (now (image .entry)) ⌝ }
+{
+    let c = contents_of(form);
+    put_word(image, 0, c.first);
+    put_word(image, 8, c.second);
+    put_word(image, c.last_at, c.last);
+}
+
+pub fn save_lines(image: &mut [u8], form: Form, lines: Lines)
+    requires { ⌜ (length (now image) ≡ formLength (formView form)) × WellLines lines ⌝ }
+    ensures { λ _. ⌜ SavesLines (formView form) lines (now (image .entry)) (now (image .exit)) ⌝ }
+{
+    let p = places_of(form);
+    put_word(image, p.int_mask, lines.int_mask);
+    put_word(image, p.last_intirr, lines.last_intirr);
+    put_word(image, p.intirr, lines.intirr);
+    put_word(image, p.intisr, lines.intisr);
+}
+
+pub fn save_stored(image: &mut [u8], form: Form, stored: Stored)
+    requires { ⌜ length (now image) ≡ formLength (formView form) ⌝ }
+    ensures { λ _. ⌜ SavesStored (formView form) stored (now (image .entry)) (now (image .exit)) ⌝ }
+{
+    let p = places_of(form);
+    put_word(image, p.htmsi_en, stored.htmsi_en);
+    put_word(image, p.intedge, stored.intedge);
+    put_word(image, p.int_polarity, stored.int_polarity);
+    put_word(image, p.auto_ctrl0, stored.auto_ctrl0);
+    put_word(image, p.auto_ctrl1, stored.auto_ctrl1);
+}
+
+pub fn save_tables(image: &mut [u8], form: Form, tables: Tables)
+    requires { ⌜ length (now image) ≡ formLength (formView form) ⌝ }
+    ensures { λ _. ⌜ SavesTables (formView form) tables (now (image .entry)) (now (image .exit)) ⌝ }
+{
+    let p = places_of(form);
+    let routes = p.routes;
+    let routes_end = routes + 64;
+    copy(&mut image[routes..routes_end], &tables.route_entry);
+    let vectors = p.vectors;
+    let vectors_end = vectors + 64;
+    copy(&mut image[vectors..vectors_end], &tables.htmsi_vector);
+}
+
+pub fn save_ring(image: &mut [u8], form: Form, ring: Ring)
+    requires { ⌜ (length (now image) ≡ formLength (formView form)) × WellRing ring ⌝ }
+    ensures { λ _. ⌜ SavesRing (formView form) ring (now (image .entry)) (now (image .exit)) ⌝ }
+{
+    let p = places_of(form);
+    put_bytes(image, p.count, 1, ring.output_len as u64);
+    put_bytes(image, p.drops, 4, ring.output_drops as u64);
+    let at = p.pairs;
+    let end = at + 32;
+    put_pairs(&mut image[at..end], ring);
+}
+
+pub fn save(image: &mut [u8], state: PchPicState)
+    requires { ⌜ (length (now image) ≡ imageLength) × Well state ⌝ }
+    ensures { λ _. ⌜ now (image .exit) ≡ encode (view state) ⌝ }
+{
+    put_contents(image, Form::One);
+    save_lines(image, Form::One, state.lines);
+    save_stored(image, Form::One, state.stored);
+    save_tables(image, Form::One, state.tables);
+    save_ring(image, Form::One, state.ring);
+}

@@ -1,0 +1,168 @@
+-- What enters and what leaves, done in place: the stores to the registers and the offers come to the rules' steps.
+use mathlib.Core.Path.{_≡_, refl, sym, ap, _∙_}
+use mathlib.Core.Bool.{Bool, true, false, cond}
+use mathlib.Core.List.{List, [], _∷_, map}
+use Prim.Native.Nat.{ℕ, _+_, _-_, _*_, _%_, _^_, _<_}
+use native.Mathlib.Omega.{arith}
+use lib.Bits.{bitAnd, bitOr}
+use lib.Count.{trailingZeros}
+use lib.ListN.{getD}
+use Rattle.rules.specs.Inputs.{on, inputs, only, put, register, without, withHalf}
+use Rattle.rules.specs.Lines.{Lines, Turn, stay, withMask, withIrr, withIsr, event, andThen, servedIn, pendingIn, serve, enter, leave, newlyUnmasked, newlyMasked, polled, raised, lowered, cleared, masked}
+use Rattle.rules.specs.Core.{Move, move, moved, poll, raise, lower, clear, setMask}
+use Rattle.rules.specs.Ring.{ringRun}
+use Rattle.rules.specs.Device.{Device, Value, none, some, offers}
+use Rattle.rules.proofs.laws.Bits.{test, put-is, without-is, without-these, on-bit, bit-lt, without-ext}
+use Rattle.rules.proofs.laws.Inputs.{inputs-ext, first-input, no-input, enter-ext, leave-ext, only-served}
+use Rattle.engine.specs.Decide.{waitingOf, servedOf}
+use Rattle.engine.proofs.Deciding.{inputs-of, none-served}
+use Rattle.inplace.specs.Held.{Holds, Reads, Becomes, Does, Offers, Moves, Writes, Returns, withLines, lost, dropped, given, turned}
+use Rattle.inplace.proofs.Doing.{does-same, becomes-then, moves-acts}
+use Rattle.service.specs.Offered.{assertOf, deasserts}
+use Rattle.service.proofs.Turning.{afterTurn, moves-by, moves-then, entered-offered}
+
+-- ---- enter
+
+module _ (i : List ℕ) (x : ℕ) {irr mask isr : ℕ} (rirr : Reads i irr (λ d. d .core .lines .irr)) (rmask : Reads i mask (λ d. d .core .lines .mask)) (risr : Reads i isr (λ d. d .core .lines .isr))
+    {p : ℕ} (is : p ≡ register (waitingOf x irr mask isr)) where
+  -- the inputs that wait, by what was read
+  waiting : (d : Device) → Holds i d → inputs (on p) ≡ inputs (pendingIn (on x) (d .core .lines))
+  waiting d h = inputs-of (waitingOf x irr mask isr) is ∙ (λ t. inputs (waitingOf x (rirr d h t) (rmask d h t) (risr d h t)))
+
+  pub enter-none : p ≡ 0 → Moves i i none given (λ vs. enter vs false (on x))
+  unfolding offers ringRun
+  enter-none z =
+      moves-by given (λ d. stay (d .core .lines)) (λ vs. enter vs false (on x)) (record { becomes = λ d h. h; gives = λ d h. refl })
+      (λ d h. ap (serve (d .core .vectors) false (d .core .lines)) (sym (no-input p z) ∙ waiting d h))
+
+  module _ (below : p < 2 ^ 64) (some-wait : p ≡ 0 → ⊥) (lt : trailingZeros 64 p < 64) where
+    abbrev lowest : ℕ
+    lowest = trailingZeros 64 p
+
+    pub enter-some : {j : List ℕ} {v : ℕ} → Becomes i j (λ d. withLines d (withIsr (d .core .lines) (bitOr isr (1 * 2 ^ lowest % 2 ^ 64)))) → Reads j v (λ d. getD (d .core .vectors) lowest 0) → Moves i j (some v) given (λ vs. enter vs false (on x))
+    unfolding offers ringRun
+    enter-some {j} {v} s r =
+        let stored : Does i j (some v) (λ d. withLines d (withIsr (d .core .lines) (bitOr isr (1 * 2 ^ lowest % 2 ^ 64)))) (λ d. some (getD (d .core .vectors) lowest 0)) = record { becomes = s; gives = λ d h. ap some (r _ (s d h)) } in
+        moves-by given (λ d. serve (d .core .vectors) false (d .core .lines) (lowest ∷ [])) (λ vs. enter vs false (on x))
+        (does-same stored (λ d h. ap (λ y. withLines d (withIsr (d .core .lines) y)) (ap (λ y. bitOr y (1 * 2 ^ lowest % 2 ^ 64)) (risr d h) ∙ put-is (d .core .lines .isr) lowest (h .well .isr) lt)) (λ d h. refl))
+        (λ d h. ap (serve (d .core .vectors) false (d .core .lines)) (sym (first-input p below some-wait) ∙ waiting d h))
+
+-- ---- leave
+
+module _ (i : List ℕ) (x : ℕ) {isr : ℕ} (risr : Reads i isr (λ d. d .core .lines .isr)) {p : ℕ} (is : p ≡ register (servedOf x isr)) where
+  -- the inputs that are in service, by what was read
+  serving : (d : Device) → Holds i d → inputs (on p) ≡ inputs (servedIn (on x) (d .core .lines))
+  serving d h = inputs-of (servedOf x isr) is ∙ (λ t. inputs (servedOf x (risr d h t)))
+
+  -- with none in service the lines stay
+  stays : p ≡ 0 → (o : Bool) (d : Device) → Holds i d → stay (d .core .lines) ≡ leave (d .core .vectors) o (on x) (d .core .lines)
+  stays z o d h =
+      let e = risr d h in
+      let isr-stays = none-served x (d .core .lines .isr) (h .well .isr) (is ∙ ap (λ y. register (servedOf x y)) e) z in
+      λ t. record { after = withIsr (d .core .lines) (isr-stays t); made = map (event (d .core .vectors) o false) ((sym (no-input p z) ∙ serving d h) t) }
+
+  pub leave-none : p ≡ 0 → Moves i i 0 dropped (λ vs. leave vs true (on x))
+  unfolding offers ringRun lost
+  leave-none z = moves-by dropped (λ d. stay (d .core .lines)) (λ vs. leave vs true (on x)) (record { becomes = λ d h. h; gives = λ d h. refl }) (stays z true)
+
+  module _ (below : x < 2 ^ 64) {j : List ℕ} (s : Becomes i j (λ d. withLines d (withIsr (d .core .lines) (bitAnd isr ((2 ^ 64 - 1) - x))))) where
+    loses : (d : Device) → Holds i d → bitAnd isr ((2 ^ 64 - 1) - x) ≡ without (d .core .lines .isr) (on x)
+    loses d h = ap (λ y. bitAnd y ((2 ^ 64 - 1) - x)) (risr d h) ∙ without-is (d .core .lines .isr) x (h .well .isr) below
+
+    pub leave-done : {n : ℕ} {k : List ℕ} → Offers j k n (λ d. deasserts (d .core) p) → Moves i k n dropped (λ vs. leave vs true (on x))
+    leave-done o =
+        does-same (becomes-then s o)
+        (λ d h t. afterTurn d (record { after = withIsr (d .core .lines) (loses d h t); made = map (event (d .core .vectors) true false) (serving d h t) }))
+        (λ d h. ap (λ ns. lost (d .ring) (offers (map (event (d .core .vectors) true false) ns))) (serving d h))
+
+-- one input, whose event is returned
+module _ (i : List ℕ) (n : ℕ) (lt : n < 64) {isr : ℕ} (risr : Reads i isr (λ d. d .core .lines .isr)) {p : ℕ} (is : p ≡ register (servedOf (1 * 2 ^ n % 2 ^ 64) isr)) where
+  abbrev bit : ℕ
+  bit = 1 * 2 ^ n % 2 ^ 64
+
+  alone : (d : Device) → leave (d .core .vectors) false (on bit) (d .core .lines) ≡ leave (d .core .vectors) false (only n) (d .core .lines)
+  alone d = leave-ext (d .core .vectors) false (on bit) (only n) (d .core .lines) (λ k l. on-bit n lt k)
+
+  pub leave-one-none : p ≡ 0 → Moves i i none given (λ vs. leave vs false (only n))
+  unfolding offers ringRun
+  leave-one-none z = moves-by given (λ d. stay (d .core .lines)) (λ vs. leave vs false (only n)) (record { becomes = λ d h. h; gives = λ d h. refl }) (λ d h. stays i bit risr is z false d h ∙ alone d)
+
+  module _ (below : p < 2 ^ 64) (some-leave : p ≡ 0 → ⊥) where
+    -- it is in service
+    its : (d : Device) → Holds i d → n ∷ [] ≡ inputs (servedIn (only n) (d .core .lines))
+    its d h =
+        let same = sym (first-input p below some-leave) ∙ serving i bit risr is d h ∙ inputs-ext _ (servedIn (only n) (d .core .lines)) (λ k l. rw (on-bit n lt k)) ∙ only-served n (d .core .lines) lt in
+        sym (only-served n (d .core .lines) lt ∙ test (on (d .core .lines .isr) n) (λ t. ap (λ b. cond b (n ∷ []) []) t) (λ t. absurd (let e = same ∙ ap (λ b. cond b (n ∷ []) []) t in let z : _≡_ {A = ℕ} 0 1 = cc in omega arith)))
+
+    pub leave-one-done : {j : List ℕ} {v : ℕ} → Becomes i j (λ d. withLines d (withIsr (d .core .lines) (bitAnd isr ((2 ^ 64 - 1) - bit)))) → Reads j v (λ d. getD (d .core .vectors) n 0) → Moves i j (some v) given (λ vs. leave vs false (only n))
+    unfolding offers ringRun
+    leave-one-done {j} {v} s r =
+        let stored : Does i j (some v) (λ d. withLines d (withIsr (d .core .lines) (bitAnd isr ((2 ^ 64 - 1) - bit)))) (λ d. some (getD (d .core .vectors) n 0)) = record { becomes = s; gives = λ d h. ap some (r _ (s d h)) } in
+        moves-by given (λ d. record { after = withIsr (d .core .lines) (without (d .core .lines .isr) (only n)); made = event (d .core .vectors) false false n ∷ [] }) (λ vs. leave vs false (only n))
+        (does-same stored
+        (λ d h. ap (λ y. withLines d (withIsr (d .core .lines) y)) (ap (λ y. bitAnd y ((2 ^ 64 - 1) - bit)) (risr d h) ∙ without-these (d .core .lines .isr) bit (only n) (h .well .isr) (bit-lt n) (λ k l. on-bit n lt k)))
+        (λ d h. refl))
+        (λ d h. ap (λ ns. record { after = withIsr (d .core .lines) (without (d .core .lines .isr) (only n)); made = map (event (d .core .vectors) false false) ns }) (its d h))
+
+-- ---- MASK and CLEAR
+
+-- the two stages, by sets that are the newly unmasked and the newly masked
+stages : (vs : List ℕ) (l : Lines) (new up down : ℕ) → ((i : ℕ) → i < 64 → on up i ≡ newlyUnmasked (l .mask) new i) → ((i : ℕ) → i < 64 → on down i ≡ newlyMasked (l .mask) new i)
+    → andThen (enter vs true (on up) (withMask l new)) (leave vs true (on down)) ≡ masked vs l new
+unfolding masked
+stages vs l new up down ups downs =
+    let first = enter-ext vs true (on up) (newlyUnmasked (l .mask) new) (withMask l new) ups in
+    let second : (m : Lines) → leave vs true (on down) m ≡ leave vs true (newlyMasked (l .mask) new) m = λ m. leave-ext vs true (on down) (newlyMasked (l .mask) new) m downs in
+    (λ t. andThen (first t) (λ m. second m t))
+
+module _ (i : List ℕ) (b : Bool) (v up down : ℕ) {old new : ℕ} (rold : Reads i old (λ d. d .core .lines .mask)) (is : new ≡ withHalf b old v)
+    (ups : (n : ℕ) → n < 64 → on up n ≡ newlyUnmasked old (withHalf b old v) n) (downs : (n : ℕ) → n < 64 → on down n ≡ newlyMasked old (withHalf b old v) n) where
+  pub mask-done : {j k l m : List ℕ} {n o : ℕ} (a : Value) → Becomes i j (λ d. withLines d (withMask (d .core .lines) new)) → Moves j k a given (λ vs. enter vs false (on up)) → Offers k l n (λ d. assertOf a)
+      → Moves l m o dropped (λ vs. leave vs true (on down)) → Writes i m (n + o) (λ c. move (setMask b v) ∷ [])
+  unfolding moved
+  mask-done a s p q r =
+      let both = becomes-then s (moves-then (λ vs. enter vs true (on up)) (λ vs. leave vs true (on down)) (entered-offered a (on up) p q) r) in
+      let turn : (d : Device) → Holds i d → andThen (enter (d .core .vectors) true (on up) (withMask (d .core .lines) new)) (leave (d .core .vectors) true (on down)) ≡ masked (d .core .vectors) (d .core .lines) (withHalf b (d .core .lines .mask) v) =
+      λ d h. let e = rold d h in
+      ap (λ y. andThen (enter (d .core .vectors) true (on up) (withMask (d .core .lines) y)) (leave (d .core .vectors) true (on down))) (is ∙ ap (λ y. withHalf b y v) e)
+      ∙ stages (d .core .vectors) (d .core .lines) (withHalf b (d .core .lines .mask) v) up down (λ n lt. ups n lt ∙ ap (λ y. newlyUnmasked y (withHalf b y v) n) e) (λ n lt. downs n lt ∙ ap (λ y. newlyMasked y (withHalf b y v) n) e)
+      in
+      moves-acts dropped (setMask b v) (does-same both (λ d h. ap (afterTurn d) (turn d h)) (λ d h. ap (λ (t : Turn). dropped (d .ring) (t .made)) (turn d h)))
+
+module _ (i : List ℕ) {irr : ℕ} (rirr : Reads i irr (λ d. d .core .lines .irr)) where
+  pub clear-done : (x : ℕ) → x < 2 ^ 64 → {j k : List ℕ} {n : ℕ} → Becomes i j (λ d. withLines d (withIrr (d .core .lines) (bitAnd irr ((2 ^ 64 - 1) - x)))) → Moves j k n dropped (λ vs. leave vs true (on x)) → Writes i k n (λ c. move (clear x) ∷ [])
+  unfolding moved cleared
+  clear-done x below s p =
+      let turn : (d : Device) → Holds i d → bitAnd irr ((2 ^ 64 - 1) - x) ≡ without (d .core .lines .irr) (on x) = λ d h. ap (λ y. bitAnd y ((2 ^ 64 - 1) - x)) (rirr d h) ∙ without-is (d .core .lines .irr) x (h .well .irr) below in
+      moves-acts dropped (clear x)
+      (does-same (becomes-then s p) (λ d h. ap (λ y. afterTurn d (leave (d .core .vectors) true (on x) (withIrr (d .core .lines) y))) (turn d h))
+      (λ d h. ap (λ y. dropped (d .ring) (leave (d .core .vectors) true (on x) (withIrr (d .core .lines) y) .made)) (turn d h)))
+
+  -- ---- the calls on an input
+
+  module _ (n : ℕ) (lt : n < 64) where
+    abbrev bitOf : ℕ
+    bitOf = 1 * 2 ^ n % 2 ^ 64
+
+    pub raise-done : (v : Value) {j k : List ℕ} → Becomes i j (λ d. withLines d (withIrr (d .core .lines) (bitOr irr bitOf))) → Moves j k v given (λ vs. enter vs false (on bitOf)) → Returns i k v (raise n)
+    unfolding moved raised polled
+    raise-done v s p =
+        let turn : (d : Device) → Holds i d → enter (d .core .vectors) false (on bitOf) (withIrr (d .core .lines) (bitOr irr bitOf)) ≡ raised (d .core .vectors) (d .core .lines) n =
+        λ d h. ap (λ y. enter (d .core .vectors) false (on bitOf) (withIrr (d .core .lines) y)) (ap (λ y. bitOr y bitOf) (rirr d h) ∙ put-is (d .core .lines .irr) n (h .well .irr) lt)
+        ∙ enter-ext (d .core .vectors) false (on bitOf) (only n) (withIrr (d .core .lines) (put (d .core .lines .irr) n)) (λ m l. on-bit n lt m)
+        in
+        moves-acts given (raise n) (does-same (becomes-then s p) (λ d h. ap (afterTurn d) (turn d h)) (λ d h. ap (λ (t : Turn). given (d .ring) (t .made)) (turn d h)))
+
+    pub lower-done : (v : Value) {j k : List ℕ} → Becomes i j (λ d. withLines d (withIrr (d .core .lines) (bitAnd irr ((2 ^ 64 - 1) - bitOf)))) → Moves j k v given (λ vs. leave vs false (only n)) → Returns i k v (lower n)
+    unfolding moved lowered
+    lower-done v s p =
+        let turn : (d : Device) → Holds i d → bitAnd irr ((2 ^ 64 - 1) - bitOf) ≡ without (d .core .lines .irr) (only n) =
+        λ d h. ap (λ y. bitAnd y ((2 ^ 64 - 1) - bitOf)) (rirr d h) ∙ without-these (d .core .lines .irr) bitOf (only n) (h .well .irr) (bit-lt n) (λ m l. on-bit n lt m)
+        in
+        moves-acts given (lower n)
+        (does-same (becomes-then s p) (λ d h. ap (λ y. afterTurn d (leave (d .core .vectors) false (only n) (withIrr (d .core .lines) y))) (turn d h))
+        (λ d h. ap (λ y. given (d .ring) (leave (d .core .vectors) false (only n) (withIrr (d .core .lines) y) .made)) (turn d h)))
+
+pub poll-done : {i j : List ℕ} (n : ℕ) → n < 64 → (v : Value) → Moves i j v given (λ vs. enter vs false (on (1 * 2 ^ n % 2 ^ 64))) → Returns i j v (poll n)
+unfolding moved polled
+poll-done n lt v p = moves-acts given (poll n) (moves-by given (λ d. enter (d .core .vectors) false (on (1 * 2 ^ n % 2 ^ 64)) (d .core .lines)) (λ vs l. polled vs l n) p (λ d h. enter-ext (d .core .vectors) false _ (only n) (d .core .lines) (λ m l. on-bit n lt m)))
