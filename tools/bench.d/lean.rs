@@ -171,7 +171,13 @@ fn byte(image: &Image, offset: u64) -> u8 {
 fn read_at(image: &Image, width: u64, offset: u64) -> u64 {
     match width {
         1 => u64::from(byte(image, offset)),
-        2 => u64::from(byte(image, offset)) | u64::from(byte(image, offset + 1)) << 8,
+        2 => match entry(offset) {
+            Some((at, 2..)) => u64::from(u16::from_le_bytes(image[at..at + 2].try_into().unwrap())),
+            None if offset & 3 != 3 && !(0x100..0x3a0).contains(&offset) => {
+                u64::from((dword(image, offset & !3) >> (8 * (offset & 3))) as u16)
+            }
+            _ => u64::from(byte(image, offset)) | u64::from(byte(image, offset + 1)) << 8,
+        },
         4 => u64::from(dword(image, offset)),
         _ => {
             if let Some((at, 8..)) = entry(offset) {
@@ -234,7 +240,11 @@ fn write_dword(image: &mut Image, offset: u64, value: u32) {
             (Some(at), _) => at,
             (_, Some((at, left))) => {
                 let bytes = value.to_le_bytes();
-                return if left < 4 { image[at..at + left].copy_from_slice(&bytes[..left]) } else { image[at..at + 4].copy_from_slice(&bytes) };
+                return if left < 4 {
+                    image[at..at + left].copy_from_slice(&bytes[..left])
+                } else {
+                    image[at..at + 4].copy_from_slice(&bytes)
+                };
             }
             _ => return,
         },
@@ -370,6 +380,9 @@ pub fn drain(image: &mut [u8], events: &mut [u8], place: usize, answer: &mut [u8
     let outcome = changed(image, |image| {
         let count = image[COUNT] as usize;
         let moved = count.min(room.len() / 2);
+        if moved == 0 {
+            return (0, Some(0));
+        }
         let pairs: &mut [u8; 32] = (&mut image[PAIRS..]).try_into().unwrap();
         room[..2 * moved].copy_from_slice(&pairs[..2 * moved]);
         if moved == count {

@@ -41,7 +41,8 @@ pub fn parse(words: &[String]) -> Result<Line, String> {
         let (name, value) = word.split_once('=').ok_or(format!("'{word}' is no NAME=VALUE"))?;
         fields.insert(name, value);
     }
-    let known = ["base", "size", "address", "width", "value", "input", "level", "place", "image", "answer", "events", "null", "fill", "head"];
+    let known =
+        ["base", "size", "address", "width", "value", "input", "level", "place", "image", "answer", "events", "null", "fill", "head"];
     if let Some(name) = fields.keys().find(|name| !known.contains(name)) {
         return Err(format!("'{name}=' is no name of a call's"));
     }

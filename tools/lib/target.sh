@@ -21,13 +21,26 @@ target_root=$(cd "$target_lib/../.." && pwd) || exit 2
 
 on_x86() { [ "$(uname -m)" = x86_64 ]; }
 
-# install PACKAGE..: Debian packages, where that can be done.
+# once NAME COMMAND..: what could not be fetched is not tried again within the hour: without a network each try may wait long.
+once() {
+    local stamp=$target_root/target/not-fetched-$1
+    shift
+    [ -z "$(find "$stamp" -mmin -60 2>/dev/null)" ] || return 1
+    "$@" && return 0
+    mkdir -p "$target_root/target" && touch "$stamp"
+    return 1
+}
+
+# install_packages PACKAGE..: Debian packages, where that can be done.
 install_packages() {
     [ "$(id -u)" -eq 0 ] && command -v apt-get >/dev/null 2>&1 || return 1
+    once "$1" fetch_packages "$@"
+}
+fetch_packages() {
+    local apt=(apt-get -qq -o Acquire::http::Timeout=30)
     echo "installing $*" >&2
     mkdir -p "$target_root/target"
-    { DEBIAN_FRONTEND=noninteractive apt-get update -qq && DEBIAN_FRONTEND=noninteractive apt-get install -y -qq --no-install-recommends "$@"; } \
-        >"$target_root/target/apt.log" 2>&1 </dev/null
+    { "${apt[@]}" update && DEBIAN_FRONTEND=noninteractive "${apt[@]}" install -y --no-install-recommends "$@"; } >"$target_root/target/apt.log" 2>&1 </dev/null
 }
 
 system_run() {
@@ -80,7 +93,7 @@ x86_rust() {
         x86_c || return 1
         if has_std rustc; then
             rustc=(rustc)
-        elif folder=$("$target_lib/cross-rust"); then
+        elif folder=$(once rust "$target_lib/cross-rust"); then
             rustc=("$folder/bin/rustc")
             export RUSTC=$folder/bin/rustc RUSTDOC=$folder/bin/rustdoc
         else
