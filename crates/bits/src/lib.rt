@@ -1,10 +1,9 @@
-// The leaves on numbers: a half of a register and a byte of a Dword, taken and replaced by the masks of loongarch_pch_pic.rs, and the inputs
-// that a new half of the mask unmasks or masks. Each is an equation with a definition of rules.
+// The leaves on numbers: a half of a register and a byte of a Dword, taken and replaced by the masks of loongarch_pch_pic.rs.
+// Each is an equation with a definition of rules.
 ghost use mathlib.Core.Path.{_≡_};
-ghost use Prim.Native.Nat.{ℕ, _<_};
+ghost use Prim.Native.Nat.{_<_};
 ghost use Rattle.rules.specs.Numbers.{byteOf, withByte};
-ghost use Rattle.rules.specs.Inputs.{on, half, withHalf, asHalf};
-ghost use Rattle.rules.specs.Lines.{newlyUnmasked, newlyMasked};
+ghost use Rattle.rules.specs.Inputs.{half, withHalf, asHalf};
 
 // old with its high or its low half replaced by val.
 pub fn replace_u32(old: u64, val: u32, high: bool) -> u64
@@ -51,20 +50,4 @@ pub fn with_byte(old: u32, k: usize, val: u8) -> u32
 {
     let shift = k * 8;
     (old & !(0xff << shift)) | ((val as u32) << shift)
-}
-
-// The inputs that are in old and, once the half is val, no longer.
-pub fn newly_unmasked(old: u64, val: u32, high: bool) -> u64
-    ensures { λ r. ⌜ ((i : ℕ) → i < 64 → on r i ≡ newlyUnmasked old (withHalf high old val) i) ⌝ }
-{
-    let old_part = half(old, high);
-    in_half(old_part & !val, high)
-}
-
-// The inputs that are not in old and, once the half is val, are.
-pub fn newly_masked(old: u64, val: u32, high: bool) -> u64
-    ensures { λ r. ⌜ ((i : ℕ) → i < 64 → on r i ≡ newlyMasked old (withHalf high old val) i) ⌝ }
-{
-    let old_part = half(old, high);
-    in_half(!old_part & val, high)
 }

@@ -1,2 +1,3 @@
 -- What the engine's functions promise, in the rules' terms.
+pub mod Decide
 pub mod Moves
