@@ -12,15 +12,13 @@ use Rattle.rules.specs.Ring as ring
 use Rattle.rules.specs.Ring.{Event, Drawn, drawn, flag, pairsOf}
 use Rattle.rules.proofs.laws.Bits.{test}
 use Rattle.rules.proofs.laws.Lists.{turn}
+use Rattle.state.proofs.Slots.{ringOf}
 use Rattle.state.specs.View.{WellRing, ringView, Pops, takenOf, eventOf}
 use Rattle.state.specs.declared.Ring.{Ring}
 use Rattle.state.specs.declared.Popped.{Popped}
 use Rattle.state.specs.declared.Taken.{Taken}
 use Rattle.state.specs.declared.Taken.the-variants.{Nothing, One}
 use Rattle.engine.specs.Moves.{Drains, pairPut}
-
-abbrev ringOf : List Event → ℕ → ring.Ring
-ringOf es n = record { waiting = es; drops = n }
 
 -- what holds at turn i of n: the ring is i events shorter, the pairs so far and those to come are all n, and what lies behind is as it was
 pub record Draining (before : ring.Ring) (n : ℕ) (entry buf : List ℕ) (out : Ring) (i : ℕ) : Type 0 where

@@ -6,9 +6,9 @@ use Prim.Native.Nat.{ℕ, _<_, _-_, _^_}
 use lib.Bits.{bitAnd}
 use Rattle.rules.specs.Inputs.{on, inputs, register}
 use Rattle.rules.specs.Lines as lines
-use Rattle.rules.specs.Lines.{Turn, withMask, withIsr, event, enter, leave, serve, pendingIn, newlyUnmasked, newlyMasked, masked}
+use Rattle.rules.specs.Lines.{Turn, withMask, withIsr, event, enter, leave, pendingIn, newlyUnmasked, newlyMasked, masked}
 use Rattle.rules.specs.Ring.{RingAct, offered, ringStep, ringRun}
-use Rattle.rules.specs.Device.{none, some, offers, returned}
+use Rattle.rules.specs.Device.{offers, returned}
 use Rattle.rules.proofs.laws.Bits.{without-common-is, on-none}
 use Rattle.rules.proofs.laws.Inputs.{enter-ext, leave-ext}
 use Rattle.state.specs.View.{WellLines, WellRing, IsRing, linesView, ringView}

@@ -2,7 +2,7 @@
 use mathlib.Core.Path.{_≡_, refl, sym, ap, subst, subst⁻¹, _∙_}
 use mathlib.Core.Bool.{true, false}
 use mathlib.Core.List.{List}
-use Prim.Native.Nat.{ℕ, _<_, _-_, _*_, _%_, _^_}
+use Prim.Native.Nat.{ℕ, _<_, _-_, _^_}
 use lib.Bits.{bitAnd, bitOr}
 use lib.Count.{trailingZeros}
 use lib.ListN.{getD}
@@ -16,9 +16,7 @@ use Rattle.engine.specs.Decide.{waitingOf}
 use Rattle.engine.specs.Moves.{Answers, retire, updated}
 use Rattle.engine.specs.declared.Answer.the-variants.{None, Vector}
 use Rattle.engine.proofs.Deciding.{inputs-of}
-
-abbrev bit : ℕ → ℕ
-bit n = 1 * 2 ^ n % 2 ^ 64
+use Rattle.engine.proofs.Turns.{bit}
 
 abbrev withService : Lines → ℕ → Lines
 withService l x = record { «int_mask» = l .«int_mask»; «last_intirr» = l .«last_intirr»; intirr = l .intirr; intisr = x }

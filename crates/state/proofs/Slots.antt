@@ -19,7 +19,7 @@ use Rattle.state.specs.declared.Ring.{Ring}
 abbrev pub ev : ℕ → Bool → Event
 ev v a = record { vector = v; asserted = a }
 
-abbrev ringOf : List Event → ℕ → rules-ring.Ring
+abbrev pub ringOf : List Event → ℕ → rules-ring.Ring
 ringOf es n = record { waiting = es; drops = n }
 
 module _ (vs : List ℕ) (fs : List Bool) where
@@ -73,7 +73,8 @@ slots-push vs fs h n v a lv lf l =
 
 -- ---- what the two functions come to
 module _ (r : Ring) where
-  waiting-length : length (ringView r .waiting) ≡ r .«output_len»
+  -- as many wait as the length says
+  pub waiting-length : length (ringView r .waiting) ≡ r .«output_len»
   waiting-length = slots-length (r .«output_vectors») (r .«output_asserted») (r .«output_head») (r .«output_len»)
 
   -- room: the event is stored and kept

@@ -4,15 +4,11 @@ use Prim.Native.Nat.{ℕ, _-_, _/_, min}
 use native.Mathlib.Omega.{arith}
 use lib.ListN.{length}
 use Rattle.state.specs.View.{ringView}
-use Rattle.state.specs.declared.Ring.{Ring}
-use Rattle.state.proofs.Slots.{slots-length}
+use Rattle.state.proofs.Slots.{waiting-length}
 use Rattle.engine.proofs.Draining.{Draining, drain-start, drain-step, drain-done}
 use borrow.Author.Needs.{needs}
 use Rattle.engine.proofs.drain_output_events.Statement.{statement}
 use Rattle.engine.proofs.drain_output_events.Tie as tie
-
-waiting : (r : Ring) → length (ringView r .waiting) ≡ r .«output_len»
-waiting r = slots-length (r .«output_vectors») (r .«output_asserted») (r .«output_head») (r .«output_len»)
 
 abbrev Inv-loop : tie.InvT-loop
 Inv-loop buf₀ out₀ count i₀ buf out i = Draining (ringView out₀) count buf₀ buf out i
@@ -36,7 +32,7 @@ drain-output-events-spec =
     let a = l .before .before .before .args in
     let n = l .before .fitting .ensures in
     drain-step (ringView (a .ring)) (l .before .fitting .result) (a .buf .now) (l .loop .buf) (l .loop .out) (l .loop .i) (l .loop .inv) (p .before .loop-test .taken) (omega (arith, n))
-    (omega (arith, n, waiting (a .ring))) (p .pop-output-event .result) _ (p .pop-output-event .ensures) (c .before .before .put-event .ensures))
+    (omega (arith, n, waiting-length (a .ring))) (p .pop-output-event .result) _ (p .pop-output-event .ensures) (c .before .before .put-event .ensures))
     (λ c. c .before .loop .inv .size)
     (λ c.
     let l = c .before in
@@ -44,4 +40,4 @@ drain-output-events-spec =
     let done : l .loop .i ≡ l .before .fitting .result = omega (arith, l .loop .inv .within) in
     drain-done (ringView (a .ring)) (l .before .fitting .result) (a .buf .now) (l .loop .buf) (l .loop .out)
     (subst (λ (k : ℕ). Draining (ringView (a .ring)) (l .before .fitting .result) (a .buf .now) (l .loop .buf) (l .loop .out) k) done (l .loop .inv))
-    (l .before .fitting .ensures ∙ ap (λ (k : ℕ). min k (length (a .buf .now) / 2)) (sym (waiting (a .ring))))))
+    (l .before .fitting .ensures ∙ ap (λ (k : ℕ). min k (length (a .buf .now) / 2)) (sym (waiting-length (a .ring))))))
