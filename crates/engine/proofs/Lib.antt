@@ -1,5 +1,4 @@
 -- The laws that the proofs of this crate cite.
-pub mod Deciding
 pub mod Turns
 pub mod Queue
 pub mod Service

@@ -4,19 +4,21 @@ use mathlib.Core.Bool.{Bool, true, false, _&&_, and-false}
 use mathlib.Core.List.{List, [], map}
 use Prim.Native.Nat.{ℕ, _<_, _-_, _^_}
 use lib.Bits.{bitAnd}
-use Rattle.rules.specs.Inputs.{on, inputs}
+use Rattle.rules.specs.Inputs.{on, inputs, register}
 use Rattle.rules.specs.Lines as lines
 use Rattle.rules.specs.Lines.{Turn, withMask, withIsr, event, enter, leave, pendingIn, newlyUnmasked, newlyMasked, masked}
 use Rattle.rules.specs.Ring.{RingAct, offered, ringStep, ringRun}
 use Rattle.rules.specs.Device.{offers, returned}
 use Rattle.rules.proofs.laws.Bits.{without-common-is, on-none}
-use Rattle.rules.proofs.laws.Inputs.{enter-ext, leave-ext, served-is}
+use Rattle.rules.proofs.laws.Inputs.{enter-ext, leave-ext}
 use Rattle.state.specs.View.{WellLines, WellRing, IsRing, linesView, ringView}
 use Rattle.state.specs.declared.Lines.{Lines}
 use Rattle.state.specs.declared.Ring.{Ring}
+use Rattle.decide.specs.Sets.{servedOf}
 use Rattle.engine.specs.Moves.{Answers, Moves, queued, answerValue}
 use Rattle.engine.specs.declared.Answer.the-variants.{None, Vector}
 use Rattle.engine.specs.declared.Routed.{Routed}
+use Rattle.decide.proofs.Deciding.{served-is, inputs-of}
 use Rattle.engine.proofs.Turns.{serve-after, serve-isr, offers-one, offers-none, enter-none, leave-none, then-ring}
 
 module _ (vs : List ℕ) (l : Lines) (r : Ring) (new up : ℕ) (ups : (i : ℕ) → i < 64 → on up i ≡ newlyUnmasked (l .«int_mask») new i)
@@ -99,16 +101,18 @@ module _ (vs : List ℕ) (l : Lines) (r : Ring) (new up : ℕ) (ups : (i : ℕ) 
     leaves : leave vs true (on down) (linesView out) ≡ last (linesView out)
     leaves = leave-ext vs true (on down) (newlyMasked (l .«int_mask») new) (linesView out) downs
 
-    abbrev retracted : Lines
-    retracted = record { «int_mask» = out .«int_mask»; «last_intirr» = out .«last_intirr»; intirr = out .intirr; intisr = bitAnd (out .intisr) ((2 ^ 64 - 1) - bitAnd (out .intisr) down) }
+    abbrev retracted : ℕ → Lines
+    retracted active = record { «int_mask» = out .«int_mask»; «last_intirr» = out .«last_intirr»; intirr = out .intirr; intisr = bitAnd (out .intisr) ((2 ^ 64 - 1) - active) }
 
-    pub left-some : (s : Ring) → IsRing s (queued vs (ringView q) (bitAnd (out .intisr) down) false) → Moves (record { lines = retracted; ring = s }) (ringView r) (masked vs (linesView l) new)
-    left-some s pushed = record {
+    pub left-some : (active : ℕ) (s : Ring) → active ≡ register (servedOf down (out .intisr)) → IsRing s (queued vs (ringView q) active false)
+        → Moves (record { lines = retracted active; ring = s }) (ringView r) (masked vs (linesView l) new)
+    left-some active s e pushed = record {
       wellLines = entered .wellLines;
       wellRing = pushed .well;
-      lines = lines-then (ap (withIsr (linesView out)) (without-common-is (out .intisr) down isr-lt) ∙ ap (λ (t : Turn). t .after) leaves);
+      lines = lines-then
+          (ap (withIsr (linesView out)) (ap (λ (x : ℕ). bitAnd (out .intisr) ((2 ^ 64 - 1) - x)) (e ∙ sym (served-is down (out .intisr) isr-lt)) ∙ without-common-is (out .intisr) down isr-lt) ∙ ap (λ (t : Turn). t .after) leaves);
       ring = ring-then s _ (pushed .shows)
-          (ap (λ (ns : List ℕ). offers (map (event vs true false) ns)) (served-is down (linesView out)) ∙ ap (λ (t : Turn). offers (t .made)) leaves);
+          (ap (λ (ns : List ℕ). offers (map (event vs true false) ns)) (inputs-of (servedOf down (out .intisr)) e) ∙ ap (λ (t : Turn). offers (t .made)) leaves);
     }
 
     pub left-none : down ≡ 0 → Moves (record { lines = out; ring = q }) (ringView r) (masked vs (linesView l) new)

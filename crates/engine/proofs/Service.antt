@@ -1,55 +1,59 @@
--- What `update_irq` comes to: its mask expressions hold the inputs that can move, and the lowest bit is the first of them.
-use mathlib.Core.Path.{_≡_, refl, sym, ap, subst, _∙_}
+-- What `update_irq` comes to: what `decide` gives, and its own mask expression, hold the inputs that can move, and the lowest bit is the first of them.
+use mathlib.Core.Path.{_≡_, refl, sym, ap, subst, subst⁻¹, _∙_}
 use mathlib.Core.Bool.{true, false}
 use mathlib.Core.List.{List}
 use Prim.Native.Nat.{ℕ, _<_, _-_, _^_}
 use lib.Bits.{bitAnd, bitOr}
 use lib.Count.{trailingZeros}
 use lib.ListN.{getD}
-use Rattle.rules.specs.Lines.{withIsr, serve}
-use Rattle.rules.proofs.laws.Bits.{put-is, without-only-is, and-below}
-use Rattle.rules.proofs.laws.Inputs.{first-below, first-input, no-input, waiting-is, unlatched-is}
+use Rattle.rules.specs.Inputs.{on, inputs, register}
+use Rattle.rules.specs.Lines.{withIsr, serve, pendingIn}
+use Rattle.rules.proofs.laws.Bits.{put-is, without-only-is, and-below, numberWith-lt}
+use Rattle.rules.proofs.laws.Inputs.{first-below, first-input, no-input, unlatched-is}
 use Rattle.state.specs.View.{WellLines, linesView}
 use Rattle.state.specs.declared.Lines.{Lines}
+use Rattle.decide.specs.Sets.{waitingOf}
 use Rattle.engine.specs.Moves.{Answers, retire, updated}
 use Rattle.engine.specs.declared.Answer.the-variants.{None, Vector}
+use Rattle.decide.proofs.Deciding.{inputs-of}
 use Rattle.engine.proofs.Turns.{bit}
 
 abbrev withService : Lines → ℕ → Lines
 withService l x = record { «int_mask» = l .«int_mask»; «last_intirr» = l .«last_intirr»; intirr = l .intirr; intisr = x }
 
-module _ (l : Lines) (m : ℕ) (hm : m < 2 ^ 64) where
-  abbrev pub pending : ℕ
-  pending = bitAnd (bitAnd (bitAnd m (l .intirr)) ((2 ^ 64 - 1) - l .«int_mask»)) ((2 ^ 64 - 1) - l .intisr)
+-- x holds the inputs of m that wait
+module _ (l : Lines) (m x : ℕ) (e : x ≡ register (waitingOf m (l .intirr) (l .«int_mask») (l .intisr))) where
+  waiting : inputs (on x) ≡ inputs (pendingIn (on m) (linesView l))
+  waiting = inputs-of (waitingOf m (l .intirr) (l .«int_mask») (l .intisr)) e
 
+  waiting-lt : x < 2 ^ 64
+  waiting-lt = subst⁻¹ (λ (y : ℕ). y < 2 ^ 64) e (numberWith-lt 64 (waitingOf m (l .intirr) (l .«int_mask») (l .intisr)))
+
+  pub pending-below : (x ≡ 0 → ⊥) → trailingZeros 64 x < 64
+  pending-below n = first-below x waiting-lt n
+
+  module _ (vs : List ℕ) (well : WellLines l) (hisr : l .intisr < 2 ^ 64) where
+    -- the lowest goes into service
+    pub pending-some : (x ≡ 0 → ⊥)
+        → Answers (record { lines = withService l (bitOr (l .intisr) (bit (trailingZeros 64 x))); answer = Vector (getD vs (trailingZeros 64 x) 0) }) (updated vs (linesView l) m true)
+    pending-some n =
+        subst (Answers _) (sym (ap (serve vs false (linesView l)) (sym waiting ∙ first-input x waiting-lt n)))
+        (record { well = well; after = ap (withIsr (linesView l)) (put-is (l .intisr) (trailingZeros 64 x) hisr (pending-below n)); gives = refl })
+
+    pub pending-none : x ≡ 0 → Answers (record { lines = l; answer = None }) (updated vs (linesView l) m true)
+    pending-none z =
+        subst (Answers _) (sym (ap (serve vs false (linesView l)) (sym waiting ∙ no-input x z)))
+        (record { well = well; after = refl; gives = refl })
+
+module _ (l : Lines) (m : ℕ) (hm : m < 2 ^ 64) where
   abbrev pub inactive : ℕ
   inactive = bitAnd (bitAnd m (l .intisr)) ((2 ^ 64 - 1) - l .intirr)
-
-  pending-lt : pending < 2 ^ 64
-  pending-lt = and-below _ _ (and-below _ _ (and-below _ _ hm))
 
   inactive-lt : inactive < 2 ^ 64
   inactive-lt = and-below _ _ (and-below _ _ hm)
 
-  pub pending-below : (pending ≡ 0 → ⊥) → trailingZeros 64 pending < 64
-  pending-below n = first-below pending pending-lt n
-
   pub inactive-below : (inactive ≡ 0 → ⊥) → trailingZeros 64 inactive < 64
   inactive-below n = first-below inactive inactive-lt n
-
-  module _ (vs : List ℕ) (well : WellLines l) (hmask : l .«int_mask» < 2 ^ 64) (hisr : l .intisr < 2 ^ 64) where
-    -- the lowest that waits goes into service
-    pub pending-some : (pending ≡ 0 → ⊥)
-        → Answers (record { lines = withService l (bitOr (l .intisr) (bit (trailingZeros 64 pending))); answer = Vector (getD vs (trailingZeros 64 pending) 0) }) (updated vs (linesView l) m true)
-    pending-some n =
-        let first = sym (waiting-is m (linesView l) hmask hisr) ∙ first-input pending pending-lt n in
-        subst (Answers _) (sym (ap (serve vs false (linesView l)) first))
-        (record { well = well; after = ap (withIsr (linesView l)) (put-is (l .intisr) (trailingZeros 64 pending) hisr (pending-below n)); gives = refl })
-
-    pub pending-none : pending ≡ 0 → Answers (record { lines = l; answer = None }) (updated vs (linesView l) m true)
-    pending-none e =
-        subst (Answers _) (sym (ap (serve vs false (linesView l)) (sym (waiting-is m (linesView l) hmask hisr) ∙ no-input pending e)))
-        (record { well = well; after = refl; gives = refl })
 
   module _ (vs : List ℕ) (well : WellLines l) (hirr : l .intirr < 2 ^ 64) (hisr : l .intisr < 2 ^ 64) where
     -- the lowest that is in service and not latched leaves it

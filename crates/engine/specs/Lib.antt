@@ -1,3 +1,2 @@
 -- What the engine's functions promise, in the rules' terms.
-pub mod Decide
 pub mod Moves

@@ -1,7 +1,5 @@
-// What moves the input lines, after loongarch_pch_pic.rs of axdevice 0.8.5: the same functions, names and mask expressions, in its order.
-// A function takes the parts of the state that it reads or changes, and hands those back that it changes; the vector bytes are lent.
-pub mod decide;
-
+// What moves the input lines, after loongarch_pch_pic.rs of axdevice 0.8.5: the same functions and names, in its order. Its mask expressions
+// stand in crate decide, which the calls in place ask too. A function takes the parts of the state that it reads or changes, and hands those back that it changes; the vector bytes are lent.
 use state::Lines;
 use state::PchPicOutputEvent;
 use state::PchPicState;
@@ -117,7 +115,7 @@ pub fn update_irq(
 {
     let mut out = lines;
     if level {
-        let pending = mask & out.intirr & !out.int_mask & !out.intisr;
+        let pending = decide::pending(mask, out.intirr, out.int_mask, out.intisr);
         if pending != 0 {
             let irq = u64::trailing_zeros(pending) as usize;
             out.intisr |= 1u64 << irq;
@@ -156,7 +154,7 @@ pub fn clear_irq(
     ensures { λ r. ⌜ Moves r (ringView ring) (cleared (now (vectors .entry)) (linesView lines) mask) ⌝ }
 {
     let mut out = lines;
-    let active = out.intisr & mask;
+    let active = decide::served(mask, out.intisr);
     out.intirr &= !mask;
     out.last_intirr &= !mask;
     out.intisr &= !mask;
@@ -201,7 +199,7 @@ pub fn update_int_mask(
     let newly_masked = decide::newly_masked(old, val, high);
     if newly_masked != 0 {
         // Masking takes an input out of service though its line may stay high; its latch is kept, so that a later unmask can assert it again.
-        let active = out.intisr & newly_masked;
+        let active = decide::served(newly_masked, out.intisr);
         out.intisr &= !active;
         queue = queue_events_for_mask(queue, vectors, active, false);
     }

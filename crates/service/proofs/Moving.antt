@@ -14,8 +14,8 @@ use Rattle.rules.specs.Ring.{ringRun}
 use Rattle.rules.specs.Device.{Device, Value, none, some, offers}
 use Rattle.rules.proofs.laws.Bits.{test, put-is, without-is, without-these, on-bit, bit-lt}
 use Rattle.rules.proofs.laws.Inputs.{inputs-ext, first-input, no-input, enter-ext, leave-ext, only-served}
-use Rattle.engine.specs.Decide.{waitingOf, servedOf}
-use Rattle.engine.proofs.Deciding.{inputs-of, none-served}
+use Rattle.decide.specs.Sets.{waitingOf, servedOf}
+use Rattle.decide.proofs.Deciding.{inputs-of, none-served}
 use Rattle.inplace.specs.Held.{Holds, Reads, Becomes, Does, Offers, Moves, Writes, Returns, withLines, lost, dropped, given}
 use Rattle.inplace.proofs.Doing.{does-same, becomes-then, moves-acts}
 use Rattle.service.specs.Offered.{assertOf, deasserts}

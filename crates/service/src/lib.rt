@@ -1,11 +1,10 @@
 // Which inputs go into service and leave it, in place on an image, as the rules say it: of a set the lowest that waits enters, and those in service
-// leave. `decide` of crate engine says which they are.
+// leave. Crate decide says which they are.
 mod events;
 
 use crate::events::offer_each;
 use crate::events::offer_entered;
 use engine::Answer;
-use engine::decide;
 use inplace::entries::vector;
 use inplace::words;
 ghost use mathlib.Core.Path.{_≡_};

@@ -47,12 +47,13 @@ update-int-mask-spec =
     (λ c κs. search needs)
     (λ c. search needs)
     (λ c κs. search needs)
+    (λ c κs. search needs)
     (λ c κs. entered (c .before .before .before .before) .wellRing)
     (λ c.
     let m = c .before .before .before .before in
     let j = m .before in
     let a = j .before .before .before .args in
-    left-some (a .vectors .now) (a .lines) (a .ring) _ _ _ _ (m .newly-masked .result) (m .newly-masked .ensures) (j .if1 .out) (j .if1 .queue) (entered j) (c .queue-events-for-mask .result) (c .queue-events-for-mask .ensures))
+    left-some (a .vectors .now) (a .lines) (a .ring) _ _ _ _ (m .newly-masked .result) (m .newly-masked .ensures) (j .if1 .out) (j .if1 .queue) (entered j) _ (c .queue-events-for-mask .result) (c .before .before .served .ensures) (c .queue-events-for-mask .ensures))
     (λ c.
     let m = c .before in
     let j = m .before in

@@ -4,7 +4,7 @@ ghost use mathlib.Core.Path.{_≡_};
 ghost use Prim.Native.Nat.{ℕ, _<_};
 ghost use Rattle.rules.specs.Inputs.{on, register, withHalf};
 ghost use Rattle.rules.specs.Lines.{newlyUnmasked, newlyMasked};
-ghost use Rattle.engine.specs.Decide.{waitingOf, servedOf};
+ghost use Rattle.decide.specs.Sets.{waitingOf, servedOf};
 
 // The inputs of a set that are latched, unmasked and not in service.
 pub fn pending(set: u64, irr: u64, mask: u64, isr: u64) -> u64

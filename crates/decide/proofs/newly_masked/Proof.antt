@@ -1,8 +1,8 @@
 -- `newly_masked` is right since a half compared bit by bit and put in its place compares the registers: the other half stays.
 use borrow.Author.Needs.{needs}
 use Rattle.rules.proofs.laws.Halves.{newly-masked-is}
-use Rattle.engine.proofs.decide.newly_masked.Statement.{statement}
-use Rattle.engine.proofs.decide.newly_masked.Tie as tie
+use Rattle.decide.proofs.newly_masked.Statement.{statement}
+use Rattle.decide.proofs.newly_masked.Tie as tie
 
 pub newly-masked-spec : {M : Type 1} → statement M
 newly-masked-spec =

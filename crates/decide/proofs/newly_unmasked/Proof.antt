@@ -1,8 +1,8 @@
 -- `newly_unmasked` is right since a half compared bit by bit and put in its place compares the registers: the other half stays.
 use borrow.Author.Needs.{needs}
 use Rattle.rules.proofs.laws.Halves.{newly-unmasked-is}
-use Rattle.engine.proofs.decide.newly_unmasked.Statement.{statement}
-use Rattle.engine.proofs.decide.newly_unmasked.Tie as tie
+use Rattle.decide.proofs.newly_unmasked.Statement.{statement}
+use Rattle.decide.proofs.newly_unmasked.Tie as tie
 
 pub newly-unmasked-spec : {M : Type 1} → statement M
 newly-unmasked-spec =

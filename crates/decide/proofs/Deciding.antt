@@ -6,7 +6,7 @@ use lib.Bits.{bitAnd}
 use Rattle.rules.specs.Inputs.{on, inputs, register, without}
 use Rattle.rules.proofs.laws.Bits.{is-number, on-number, on-and, on-and-not, on-none, and-below, on-without, on-ext, without-lt}
 use Rattle.rules.proofs.laws.Inputs.{inputs-ext}
-use Rattle.engine.specs.Decide.{waitingOf, servedOf}
+use Rattle.decide.specs.Sets.{waitingOf, servedOf}
 
 pub pending-is : (set irr mask isr : ℕ) → set < 2 ^ 64 → mask < 2 ^ 64 → isr < 2 ^ 64
     → bitAnd (bitAnd (bitAnd set irr) ((2 ^ 64 - 1) - mask)) ((2 ^ 64 - 1) - isr) ≡ register (waitingOf set irr mask isr)

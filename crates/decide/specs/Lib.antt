@@ -1,0 +1,2 @@
+-- The sets that a step meets.
+pub mod Sets
