@@ -1,4 +1,2 @@
 -- The laws that the proofs of this crate cite.
-pub mod Entries
-pub mod Halves
 pub mod Reaching

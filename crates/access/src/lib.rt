@@ -1,12 +1,10 @@
 // The four widths, in place on an image.
-mod cells;
-
-use crate::cells::read_dword;
-use crate::cells::read_entry;
-use crate::cells::read_run;
-use crate::cells::write_dword;
-use crate::cells::write_entry;
-use crate::cells::write_run;
+use cells::read_dword;
+use cells::read_entry;
+use cells::read_run;
+use cells::write_dword;
+use cells::write_entry;
+use cells::write_run;
 use map::Width;
 ghost use mathlib.Core.Path.{_≡_};
 ghost use mathlib.Core.Bool.{true};
@@ -17,7 +15,7 @@ ghost use Rattle.rules.specs.Access.{word, qword, readByte, readAt, byteActs, w
 ghost use Rattle.rules.specs.Image.{imageLength};
 ghost use Rattle.map.specs.Views.{widthView};
 ghost use Rattle.inplace.specs.Held.{Reads, Writes};
-ghost use Rattle.access.specs.Runs.{Run};
+ghost use Rattle.cells.specs.Runs.{Run};
 
 // The last offset from which a Qword's second Dword counts.
 const LAST_QWORD: usize = 0xffff_ffff_ffff_fffb;

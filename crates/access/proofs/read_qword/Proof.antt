@@ -2,7 +2,7 @@
 use mathlib.Core.Path.{_∙_}
 use native.Mathlib.Omega.{arith}
 use Rattle.rules.proofs.laws.Widths.{qword-one, qword-both}
-use Rattle.access.proofs.Entries.{eight-read}
+use Rattle.cells.proofs.Entries.{eight-read}
 use borrow.Author.Needs.{needs}
 use Rattle.access.proofs.read_qword.Statement.{statement}
 use Rattle.access.proofs.read_qword.Tie as tie

@@ -1,6 +1,6 @@
 -- `write_qword`: eight bytes of a run at once; and else a Dword, and the next one where there is one.
 use native.Mathlib.Omega.{arith}
-use Rattle.access.proofs.Entries.{eight-together}
+use Rattle.cells.proofs.Entries.{eight-together}
 use Rattle.access.proofs.Reaching.{qword-first, qword-second}
 use borrow.Author.Needs.{needs}
 use Rattle.access.proofs.write_qword.Statement.{statement}

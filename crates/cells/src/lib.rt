@@ -1,0 +1,182 @@
+// What stands at an offset, read and written in place: halves of registers, route and vector bytes, and a Dword of either.
+use inplace::entries::put_routes;
+use inplace::entries::put_vectors;
+use inplace::entries::route;
+use inplace::entries::routes;
+use inplace::entries::vector;
+use inplace::entries::vectors;
+use inplace::words;
+use map::Cell;
+use map::Plain;
+use map::Register;
+use service::write_clear;
+use service::write_mask;
+ghost use mathlib.Core.Path.{_≡_};
+ghost use mathlib.Core.List.{[], _∷_};
+ghost use Prim.Native.Nat.{_≤_};
+ghost use lib.ListN.{length};
+ghost use Rattle.rules.specs.Numbers.{numberOf};
+ghost use Rattle.rules.specs.Core.{setIsr, store, setPlain};
+ghost use Rattle.rules.specs.Map.{bytes, cellAt};
+ghost use Rattle.rules.specs.Access.{entry, valueOf, readCell, readDword, registerActs, entryActs, cellActs, dwordActs};
+ghost use Rattle.rules.specs.Image.{imageLength};
+ghost use Rattle.map.specs.Views.{plainView, registerView};
+ghost use Rattle.inplace.specs.Held.{Reads, Writes};
+ghost use Rattle.cells.specs.Runs.{Run, entriesOf, entriesActs};
+
+// ---- registers
+
+// A register as it reads: CLEAR as 0, ISR without the masked bits.
+fn value_of(image: &[u8], register: Register) -> u64
+    requires { ⌜ length (now image) ≡ imageLength ⌝ }
+    ensures { λ r. ⌜ Reads (now (image .entry)) r (λ d. valueOf (d .core) (registerView register)) ⌝ }
+{
+    match register {
+        Register::Id => 0x003f_0001_0700_0000,
+        Register::Mask => words::mask(image),
+        Register::Clear => 0,
+        Register::Irr => words::irr(image),
+        Register::Isr => words::isr(image) & !words::mask(image),
+        Register::Plain(plain) => words::plain(image, plain),
+    }
+}
+
+// It replaces the stored half and makes no event.
+fn write_isr(image: &mut [u8], val: u32, high: bool)
+    requires { ⌜ length (now image) ≡ imageLength ⌝ }
+    ensures { λ _. ⌜ Writes (now (image .entry)) (now (image .exit)) 0 (λ c. setIsr high val ∷ []) ⌝ }
+{
+    let old = words::isr(image);
+    words::put_isr(image, bits::replace_u32(old, val, high));
+}
+
+fn write_plain(image: &mut [u8], plain: Plain, val: u32, high: bool)
+    requires { ⌜ length (now image) ≡ imageLength ⌝ }
+    ensures { λ _. ⌜ Writes (now (image .entry)) (now (image .exit)) 0 (λ c. store (setPlain (plainView plain) high val) ∷ []) ⌝ }
+{
+    let old = words::plain(image, plain);
+    words::put_plain(image, plain, bits::replace_u32(old, val, high));
+}
+
+// ID and IRR ignore it.
+fn write_half(image: &mut [u8], register: Register, val: u32, high: bool) -> u32
+    requires { ⌜ length (now image) ≡ imageLength ⌝ }
+    ensures { λ r. ⌜ (r ≤ 65) × Writes (now (image .entry)) (now (image .exit)) r (λ c. registerActs (registerView register) high val) ⌝ }
+{
+    match register {
+        Register::Id => 0,
+        Register::Mask => write_mask(image, val, high),
+        Register::Clear => write_clear(image, bits::in_half(val, high)),
+        Register::Irr => 0,
+        Register::Isr => {
+            write_isr(image, val, high);
+            0
+        }
+        Register::Plain(plain) => {
+            write_plain(image, plain, val, high);
+            0
+        }
+    }
+}
+
+// ---- route and vector bytes: 64 each, from offsets that 64 divides
+
+pub fn read_entry(image: &[u8], offset: usize) -> u8
+    requires { ⌜ length (now image) ≡ imageLength ⌝ }
+    ensures { λ r. ⌜ Reads (now (image .entry)) r (λ d. entry (d .core) offset) ⌝ }
+{
+    match offset / 64 {
+        4 => route(image, offset % 64),
+        8 => vector(image, offset % 64),
+        _ => 0,
+    }
+}
+
+pub fn write_entry(image: &mut [u8], offset: usize, val: u8)
+    requires { ⌜ length (now image) ≡ imageLength ⌝ }
+    ensures { λ _. ⌜ Writes (now (image .entry)) (now (image .exit)) 0 (λ c. entryActs offset val) ⌝ }
+{
+    match offset / 64 {
+        4 => put_routes(image, offset % 64, 1, val as u64),
+        8 => put_vectors(image, offset % 64, 1, val as u64),
+        _ => {}
+    }
+}
+
+// Several at once, where none is past the last input's.
+pub fn read_run(image: &[u8], offset: usize, n: usize) -> u64
+    requires { ⌜ (length (now image) ≡ imageLength) × Run offset n × (n ≤ 8) ⌝ }
+    ensures { λ r. ⌜ Reads (now (image .entry)) r (λ d. numberOf (entriesOf (d .core) offset n)) ⌝ }
+{
+    if offset < 0x200 {
+        routes(image, offset % 64, n)
+    } else {
+        vectors(image, offset % 64, n)
+    }
+}
+
+pub fn write_run(image: &mut [u8], offset: usize, n: usize, x: u64)
+    requires { ⌜ (length (now image) ≡ imageLength) × Run offset n ⌝ }
+    ensures { λ _. ⌜ Writes (now (image .entry)) (now (image .exit)) 0 (λ c. entriesActs offset n x) ⌝ }
+{
+    if offset < 0x200 {
+        put_routes(image, offset % 64, n, x)
+    } else {
+        put_vectors(image, offset % 64, n, x)
+    }
+}
+
+fn read_four(image: &[u8], offset: usize) -> u32
+    requires { ⌜ (length (now image) ≡ imageLength) × (cellAt offset ≡ bytes) ⌝ }
+    ensures { λ r. ⌜ Reads (now (image .entry)) r (λ d. readCell (d .core) offset bytes) ⌝ }
+{
+    if offset % 64 <= 60 {
+        return bits::half(read_run(image, offset, 4), false);
+    }
+    let a = read_entry(image, offset) as u32;
+    let b = read_entry(image, offset + 1) as u32;
+    let c = read_entry(image, offset + 2) as u32;
+    let d = read_entry(image, offset + 3) as u32;
+    a + 256 * (b + 256 * (c + 256 * d))
+}
+
+fn write_four(image: &mut [u8], offset: usize, val: u32)
+    requires { ⌜ (length (now image) ≡ imageLength) × (cellAt offset ≡ bytes) ⌝ }
+    ensures { λ _. ⌜ Writes (now (image .entry)) (now (image .exit)) 0 (λ c. cellActs offset val bytes) ⌝ }
+{
+    if offset % 64 <= 60 {
+        write_run(image, offset, 4, val as u64);
+        return;
+    }
+    write_entry(image, offset, bits::byte_of(val, 0));
+    write_entry(image, offset + 1, bits::byte_of(val, 1));
+    write_entry(image, offset + 2, bits::byte_of(val, 2));
+    write_entry(image, offset + 3, bits::byte_of(val, 3));
+}
+
+// ---- a Dword
+
+pub fn read_dword(image: &[u8], offset: usize) -> u32
+    requires { ⌜ length (now image) ≡ imageLength ⌝ }
+    ensures { λ r. ⌜ Reads (now (image .entry)) r (λ d. readDword (d .core) offset) ⌝ }
+{
+    match map::decode(offset) {
+        Cell::Half(register, high) => bits::half(value_of(image, register), high),
+        Cell::Bytes => read_four(image, offset),
+        Cell::Nothing => 0,
+    }
+}
+
+pub fn write_dword(image: &mut [u8], offset: usize, val: u32) -> u32
+    requires { ⌜ length (now image) ≡ imageLength ⌝ }
+    ensures { λ r. ⌜ (r ≤ 65) × Writes (now (image .entry)) (now (image .exit)) r (λ c. dwordActs offset val) ⌝ }
+{
+    match map::decode(offset) {
+        Cell::Half(register, high) => write_half(image, register, val, high),
+        Cell::Bytes => {
+            write_four(image, offset, val);
+            0
+        }
+        Cell::Nothing => 0,
+    }
+}
