@@ -1,4 +1,4 @@
-// The form of an image, known by its length; where its fields stand, and its contents as numbers. No other code has such a number.
+// The form of an image, known by its length; where its fields stand, and its contents as numbers. Only here are places in an image literal numbers.
 ghost use mathlib.Core.Path.{_≡_};
 ghost use Rattle.rules.specs.Form.{formOf};
 ghost use Rattle.image.specs.Shown.{formView, knownView, PlacesOf, ContentsOf};

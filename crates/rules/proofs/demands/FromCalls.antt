@@ -109,7 +109,7 @@ calls-are-a-history h x e t xs o =
     ap (λ u. carriedThrough u xs) (begins .1)
     ∙ calls-carry-on afterReset faithful-after-reset xs (handed-on-is-no-load afterReset xs (rw (begins .0) at o))
 
--- With loads and resets among them, exported calls are what History says: whatever they are, the image left last is that of the device to which the
+-- With loads and resets among them, exported calls are what Exported says: whatever they are, the image left last is that of the device to which the
 -- history under way has come since it began, at the last load or reset. A load has to be given bytes.
 pub history-since-load : (h : Underway) (xs : List Exported) → Faithful h → GivenBytes xs → Faithful (carriedThrough h xs)
 unfolding carriedThrough

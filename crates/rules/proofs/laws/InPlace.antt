@@ -12,7 +12,7 @@ use Rattle.rules.specs.Numbers.{Bytes, bytesOf, part}
 use Rattle.rules.specs.Lines.{Lines, withMask, withIrr, withIsr}
 use Rattle.rules.specs.Ring.{Ring}
 use Rattle.rules.specs.Core.{Plain, htmsiEn, edge, pol, auto0, auto1, Stored, Core, plain, withPlain, withRoutes}
-use Rattle.rules.specs.Device.{Device, WellFormed}
+use Rattle.rules.specs.Device.{Device, WellFormed, withRing}
 use Rattle.rules.specs.Form.{Word, mask, irr, isr, copy, stored, Field, word, routes, vectors, count, ringFields}
 use Rattle.rules.specs.Form.{Form, one, words, size, is, listed, total, from, fields, has, place, laid, image}
 use Rattle.rules.specs.Image.{wordOf, fieldOf, encodeAs, decodeAs}
@@ -92,12 +92,9 @@ part-saved f l b a d x h s =
 
 -- ---- what calls write: other words, another table, another ring
 
--- a device with another core, and with another ring
+-- a device with another core
 abbrev pub withCore : Core → Device → Device
 withCore c d = record { core = c; ring = d .ring }
-
-abbrev pub withRing : Ring → Device → Device
-withRing r d = record { core = d .core; ring = r }
 
 -- a core with other lines, with other vector bytes, with other route bytes, with one word replaced
 abbrev pub coreLines : Lines → Core → Core
@@ -172,8 +169,8 @@ pub latch-apart : (f : Form) (d : Device) (x y : ℕ)
 latch-apart one d x y = words-apart one d _ refl refl (word copy) 3 (by-word _ (λ h t. refl) (λ h. never) (λ h. never) (λ h. never) (λ p h t. refl))
 
 -- the ring's body
-pub ring-apart : (f : Form) (d : Device) (r : Ring) → Apart f (fieldOf d) (fieldOf (withRing r d)) ringPart
-ring-apart f d r q h t = by-field (λ q. listed q ringFields ≡ false → fieldOf d q ≡ fieldOf (withRing r d) q)
+pub ring-apart : (f : Form) (d : Device) (r : Ring) → Apart f (fieldOf d) (fieldOf (withRing d r)) ringPart
+ring-apart f d r q h t = by-field (λ q. listed q ringFields ≡ false → fieldOf d q ≡ fieldOf (withRing d r) q)
     (λ w t. refl) (λ t. refl) (λ t. refl) (never, never, never) q (rw (ring-touched f) at t)
   where
     ring-touched : (f : Form) → touched f ringPart ≡ ringFields
