@@ -20,7 +20,7 @@ use Rattle.rules.proofs.laws.Images.{length-pairsOf, unusedAfter, count-stands,
 use Rattle.rules.proofs.laws.Steps.{drain-device}
 use Rattle.rules.proofs.laws.WellFormed.{step-well}
 use Rattle.inplace.specs.Held.{Holds, withRing}
-use Rattle.drains.specs.Drained.{Drains}
+use Rattle.drains.specs.Drained.{Drains, Leaves}
 
 -- ---- moved to the front
 
@@ -90,6 +90,19 @@ pairs-left es m n e h k =
     ∙ (λ t. take (2 * m - 2 * n) (drop-pairs n es t ++ unusedAfter m) ++ replicate-append-replicate (2 * n) (32 - 2 * m) 0 t)
     ∙ (λ t. take-at (pairsOf (drop n es)) (unusedAfter m) (2 * m - 2 * n) all t ++ replicate (zeros t) 0)
 
+-- moved, or all zeros
+pub some-leave : (before after : List ℕ) (m n : ℕ) → n ≤ m → m ≤ 16 → after ≡ part (2 * n) (2 * m - 2 * n) before ++ (replicate (2 * n) 0 ++ drop (2 * m) before) → Leaves before after m n
+some-leave before after m n h k f es e b =
+    let many : m - n ≡ length (drop n es) = omega (arith, length-drop n es) in
+    f ∙ (λ t. part (2 * n) (2 * m - 2 * n) (b t) ++ (replicate (2 * n) 0 ++ drop (2 * m) (b t)))
+    ∙ (λ t. part (2 * n) (2 * m - 2 * n) (pairsOf es ++ unusedAfter (e t)) ++ (replicate (2 * n) 0 ++ drop (2 * m) (pairsOf es ++ unusedAfter (e t))))
+    ∙ pairs-left es m n e h k ∙ ap (λ j. pairsOf (drop n es) ++ unusedAfter j) many
+
+pub none-leave : (before after : List ℕ) (m n : ℕ) → m ≤ n → length before ≡ 32 → after ≡ replicate (length before) 0 → Leaves before after m n
+none-leave before after m n h k f es e b =
+    let all : length es ≤ n = omega arith in
+    f ∙ ap (λ j. replicate j 0) k ∙ ap (λ xs. pairsOf xs ++ unusedAfter (length xs)) (sym (drop-of-length-le es all))
+
 -- as many as wait or as are asked for
 module _ (es : List Event) (k n : ℕ) (e : n ≡ min (length es) k) where
   take-fewer : take n es ≡ take k es
@@ -129,27 +142,23 @@ module _ {i : List ℕ} {d : Device} (h : Holds i d) where
   from-pairs = ap (drop 227) (h .image ∙ apart es ∙ sym (append-assoc ahead (length es ∷ bytesOf 4 (d .ring .drops)) pairs)) ∙ drop-at (ahead ++ (length es ∷ bytesOf 4 (d .ring .drops))) pairs 227 length-head
 
   -- the pairs and the count as a drain leaves them
-  pub drained-image : (m n k : ℕ) (ps : List ℕ) → m ≡ getD i 222 0 → n ≡ min m k → ps ≡ part (2 * n) (2 * m - 2 * n) (part 227 32 i) ++ (replicate (2 * n) 0 ++ drop (2 * m) (part 227 32 i))
+  pub drained-image : (m n k : ℕ) (ps : List ℕ) → m ≡ getD i 222 0 → n ≡ min m k → Leaves (part 227 32 i) ps m n
       → set (putMid 227 32 i ps) 222 (m - n) ≡ encode (withRing d (record { waiting = drop k es; drops = d .ring .drops }))
   drained-image m n k ps c e f =
       let head = length es ∷ bytesOf 4 (d .ring .drops) in
       let count : m ≡ length es = c ∙ ap countOf (h .image) ∙ count-stands d (h .well) in
       let fits : length pairs ≤ 32 = simp (length-append, length-pairsOf, length-replicate) (omega (arith, h .well .waiting)) in
-      let few : length es ≤ 16 = h .well .waiting in
-      let part-is : part 227 32 i ≡ pairs = ap (take 32) from-pairs ∙ take-all 32 pairs fits in
-      let left : ps ≡ pairsOf (drop n es) ++ unusedAfter (m - n) =
-      f ∙ (λ t. part (2 * n) (2 * m - 2 * n) (part-is t) ++ (replicate (2 * n) 0 ++ drop (2 * m) (part-is t)))
-      ∙ (λ t. part (2 * n) (2 * m - 2 * n) (pairsOf es ++ unusedAfter (sym count t)) ++ (replicate (2 * n) 0 ++ drop (2 * m) (pairsOf es ++ unusedAfter (sym count t)))) ∙ pairs-left es m n (sym count) (omega arith) (omega arith)
-      in
+      let rest = pairsOf (drop n es) ++ unusedAfter (length (drop n es)) in
+      let left : ps ≡ rest = f es (sym count) (ap (take 32) from-pairs ∙ take-all 32 pairs fits) in
       let many : m - n ≡ length (drop n es) = omega (arith, length-drop n es) in
       let before : take 227 i ≡ ahead ++ head = ap (take 227) (h .image ∙ apart es ∙ sym (append-assoc ahead head pairs)) ∙ take-at (ahead ++ head) pairs 227 length-head in
       let after : drop 32 (drop 227 i) ≡ [] = ap (drop 32) from-pairs ∙ drop-of-length-le pairs fits in
       let same : drop n es ≡ drop k es = drop-fewer es k n (e ∙ ap (λ j. min j k) count) in
       (λ t. set (before t ++ (left t ++ after t)) 222 (m - n))
-      ∙ (λ t. set ((ahead ++ head) ++ append-nil (pairsOf (drop n es) ++ unusedAfter (m - n)) t) 222 (m - n))
-      ∙ ap (λ l. set l 222 (m - n)) (append-assoc ahead head (pairsOf (drop n es) ++ unusedAfter (m - n)))
-      ∙ set-at ahead (length es) (bytesOf 4 (d .ring .drops) ++ (pairsOf (drop n es) ++ unusedAfter (m - n))) (m - n) 222 length-ahead
-      ∙ (λ t. ahead ++ (many t ∷ (bytesOf 4 (d .ring .drops) ++ (pairsOf (drop n es) ++ unusedAfter (many t)))))
+      ∙ (λ t. set ((ahead ++ head) ++ append-nil rest t) 222 (m - n))
+      ∙ ap (λ l. set l 222 (m - n)) (append-assoc ahead head rest)
+      ∙ set-at ahead (length es) (bytesOf 4 (d .ring .drops) ++ rest) (m - n) 222 length-ahead
+      ∙ ap (λ j. ahead ++ (j ∷ (bytesOf 4 (d .ring .drops) ++ rest))) many
       ∙ sym (apart (drop n es)) ∙ ap (λ xs. encode (withRing d (record { waiting = xs; drops = d .ring .drops }))) same
 
   -- the pairs that are copied out
@@ -165,7 +174,7 @@ module _ {i : List ℕ} {d : Device} (h : Holds i d) where
       omega (arith, length-take k es)
 
 drains-here : (i entry ys ps : List ℕ) (m n : ℕ) → m ≡ getD i 222 0 → n ≡ min m (length entry / 2) → ys ≡ part 227 (227 + 2 * n - 227) i
-    → ps ≡ part (2 * n) (2 * m - 2 * n) (part 227 32 i) ++ (replicate (2 * n) 0 ++ drop (2 * m) (part 227 32 i)) → Drains i (set (putMid 227 32 i ps) 222 (m - n)) entry (putMid 0 (2 * n - 0) entry ys) n
+    → Leaves (part 227 32 i) ps m n → Drains i (set (putMid 227 32 i ps) 222 (m - n)) entry (putMid 0 (2 * n - 0) entry ys) n
 unfolding drawn
 drains-here i entry ys ps m n c e g f =
     let k = length entry / 2 in
@@ -183,7 +192,7 @@ drains-here i entry ys ps m n c e g f =
 abbrev DrainsAt : (i entry ys ps : List ℕ) (m n count at : ℕ) → Type 0
 DrainsAt i entry ys ps m n count at =
     m ≡ getD i count 0 → n ≡ min m (length entry / 2) → ys ≡ part at (at + 2 * n - at) i
-    → ps ≡ part (2 * n) (2 * m - 2 * n) (part at (at + 32 - at) i) ++ (replicate (2 * n) 0 ++ drop (2 * m) (part at (at + 32 - at) i))
+    → Leaves (part at (at + 32 - at) i) ps m n
     → Drains i (set (putMid at (at + 32 - at) i ps) count (m - n)) entry (putMid 0 (2 * n - 0) entry ys) n
 
 pub drains : (i entry ys ps : List ℕ) (m n : ℕ) {count at : ℕ} → count ≡ countAt → at ≡ pairsAt → DrainsAt i entry ys ps m n count at

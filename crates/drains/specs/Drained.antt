@@ -1,9 +1,11 @@
 -- What a drain promises: of whatever device the image holds, its ring draws for the room that there is.
+use mathlib.Core.Path.{_≡_}
 use mathlib.Core.List.{List, _++_}
 use Prim.Native.Nat.{ℕ, _*_, _/_}
 use lib.ListN.{length, drop}
-use Rattle.rules.specs.Ring.{Drawn, drawn, pairsOf}
+use Rattle.rules.specs.Ring.{Event, eventTwos, Drawn, drawn, pairsOf}
 use Rattle.rules.specs.Device.{Device}
+use Rattle.rules.specs.Image.{sixteen}
 use Rattle.inplace.specs.Held.{Reads, Does, withRing}
 
 -- what the ring of d draws into a buffer
@@ -14,3 +16,7 @@ drew d entry = drawn (d .ring) (length entry / 2)
 pub record Drains (i j entry exit : List ℕ) (n : ℕ) : Type 0 where
   pub does : Does i j n (λ d. withRing d (drew d entry .after)) (λ d. length (drew d entry .drained))
   pub pairs : Reads i exit (λ d. pairsOf (drew d entry .drained) ++ drop (2 * n) entry)
+
+-- of whatever m events the pairs hold before, they hold those past the first n after
+abbrev pub Leaves : (before after : List ℕ) (m n : ℕ) → Type 0
+Leaves before after m n = (es : List Event) → length es ≡ m → before ≡ sixteen eventTwos es → after ≡ sixteen eventTwos (drop n es)

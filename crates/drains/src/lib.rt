@@ -9,8 +9,8 @@ ghost use Prim.Native.Nat.{_+_, _*_, _-_, _/_, _≤_, min};
 ghost use lib.ListN.{length, drop, getD, replicate};
 ghost use Rattle.rules.specs.Numbers.{part};
 ghost use Rattle.rules.specs.Ring.{capacity};
-ghost use Rattle.rules.specs.Image.{imageLength, countAt, pairsAt, countOf};
-ghost use Rattle.drains.specs.Drained.{Drains};
+ghost use Rattle.rules.specs.Image.{imageLength, countAt, pairsAt, pairsLength, countOf};
+ghost use Rattle.drains.specs.Drained.{Drains, Leaves};
 
 // As many events as wait or as fit, whichever is fewer.
 fn fitting(waiting: usize, bytes: usize) -> usize
@@ -42,6 +42,18 @@ fn drop_front(dst: &mut [u8], taken: usize, used: usize)
     put_zeros(&mut dst[rest..used]);
 }
 
+// Of `len` pairs the first n go. Where none is left nothing moves: the whole room becomes zeros, by stores of a fixed length.
+fn leave(dst: &mut [u8], n: usize, len: usize)
+    requires { ⌜ (n ≤ len) × (len ≤ capacity) × (length (now dst) ≡ pairsLength) ⌝ }
+    ensures { λ _. ⌜ Leaves (now (dst .entry)) (now (dst .exit)) len n ⌝ }
+{
+    if n < len {
+        drop_front(dst, 2 * n, 2 * len);
+    } else {
+        put_zeros(dst);
+    }
+}
+
 // With the places of the count and of the pairs.
 fn drain_from(image: &mut [u8], out: &mut [u8], count: usize, at: usize) -> usize
     requires { ⌜ (length (now image) ≡ imageLength) × (getD (now image) count 0 ≤ capacity) × (count ≡ countAt) × (at ≡ pairsAt) ⌝ }
@@ -53,7 +65,7 @@ fn drain_from(image: &mut [u8], out: &mut [u8], count: usize, at: usize) -> usiz
     let end = at + taken;
     copy(&mut out[0..taken], &image[at..end]);
     let last = at + 32;
-    drop_front(&mut image[at..last], taken, 2 * len);
+    leave(&mut image[at..last], n, len);
     image[count] = (len - n) as u8;
     n
 }

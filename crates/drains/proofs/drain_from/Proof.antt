@@ -25,7 +25,6 @@ drain-from-spec =
     (λ c. search needs)
     (λ c. search needs)
     (λ c. search needs)
-    (λ c. search needs)
     (λ c κs. search needs)
     (λ c. search needs)
     (λ c. search needs)
@@ -36,4 +35,4 @@ drain-from-spec =
     let p = f .before .before .before .before in
     let g = p .before .before .before .before in
     let s = g .before .before .before .before in
-    drains (s .args .image .now) (s .args .out .now) _ _ _ (g .fitting .result) (s .pre .2) (s .pre .3) refl (g .fitting .ensures) (p .copy .ensures) (f .drop-front .ensures)))
+    drains (s .args .image .now) (s .args .out .now) _ _ _ (g .fitting .result) (s .pre .2) (s .pre .3) refl (g .fitting .ensures) (p .copy .ensures) (f .leave .ensures)))
