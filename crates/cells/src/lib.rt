@@ -160,7 +160,7 @@ pub fn read_dword(image: &[u8], offset: usize) -> u32
     requires { ⌜ length (now image) ≡ imageLength ⌝ }
     ensures { λ r. ⌜ Reads (now (image .entry)) r (λ d. readDword (d .core) offset) ⌝ }
 {
-    match map::decode_low(offset) {
+    match map::low::decode_low(offset) {
         Cell::Half(register, high) => bits::half(value_of(image, register), high),
         Cell::Bytes => read_four(image, offset),
         Cell::Nothing => 0,
@@ -171,7 +171,7 @@ pub fn write_dword(image: &mut [u8], offset: usize, val: u32) -> u32
     requires { ⌜ length (now image) ≡ imageLength ⌝ }
     ensures { λ r. ⌜ (r ≤ 65) × Writes (now (image .entry)) (now (image .exit)) r (λ c. dwordActs offset val) ⌝ }
 {
-    match map::decode_low(offset) {
+    match map::low::decode_low(offset) {
         Cell::Half(register, high) => write_half(image, register, val, high),
         Cell::Bytes => {
             write_four(image, offset, val);

@@ -2,13 +2,12 @@
 use mathlib.Core.Path.{_≡_, refl, sym, ap, _∙_}
 use mathlib.Core.Bool.{Bool, true, false, _&&_, false≢true, and-eq-true-iff}
 use mathlib.Core.List.{List, _++_}
-use Prim.Native.Nat.{ℕ, _+_, _-_, _*_, _≤_}
-use native.Mathlib.Nat.{zero-add}
+use Prim.Native.Nat.{ℕ, _+_, _-_, _≤_}
 use native.Mathlib.Omega.{arith}
 use lib.Dec.{eqb, leb}
 use lib.ListN.{length}
 use borrow.Author.Tests.{eq-eqb, eqb-true, le-leb, leb-true}
-use Rattle.rules.specs.Numbers.{numberOf, part, Bytes}
+use Rattle.rules.specs.Numbers.{part, Bytes}
 use Rattle.rules.specs.Ring.{capacity}
 use Rattle.rules.specs.Form.{one, Word, Field, word, copy, irr, pairs, has, size, place, formLength, read}
 use Rattle.rules.specs.Form as rules-form
@@ -16,7 +15,7 @@ use Rattle.rules.specs.Image.{registerAt, wordIn, countIn, rules, Finding, clea
 use Rattle.rules.proofs.laws.Lists.{part-add, part-part}
 use Rattle.rules.proofs.laws.Bytes.{part-known}
 use Rattle.rules.proofs.laws.Layout.{test, always, has-all, field-fits}
-use Rattle.rules.proofs.laws.Tests.{Ruled, clear-ruled, ruled-clear}
+use Rattle.rules.proofs.laws.Tests.{clear-ruled, ruled-clear}
 use Rattle.image.specs.Shown.{formView, placeIn, PlacesOf, isClear, bodiesGood, pairsGood}
 use Rattle.image.specs.declared.form.Form.{Form}
 use Rattle.image.specs.declared.form.Form.the-variants.{One}

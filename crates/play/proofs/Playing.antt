@@ -11,7 +11,7 @@ use lib.Seq.{take-suc, take-length}
 use Rattle.rules.specs.Ring as ring
 use Rattle.rules.specs.Ring.{Event, capacity, drawn, flag, pairsOf}
 use Rattle.rules.specs.Access.{Width, readAt, writeActs}
-use Rattle.rules.specs.Device.{Device, Call, level, poll, read, write, drain, step, value, acted}
+use Rattle.rules.specs.Device.{Device, Call, level, poll, read, write, drain, step, acted}
 use Rattle.rules.specs.Window.{inside}
 use Rattle.rules.specs.Calls.{Tested, pass, refuse, noWidth, outside, inputCall, widthTest, addressTest, accessCall}
 use Rattle.rules.specs.Session.{space, plus, minus, equals, letter-d, letter-k, letter-o, digits, asks, sessionBase, sessionSize, vectorSaid, eventsSaid, said, playedLine}

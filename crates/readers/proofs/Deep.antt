@@ -1,7 +1,7 @@
 -- A depth that is enough: for the four Bytes of a Dword among the bytes, and for a Word anywhere.
 use mathlib.Core.Path.{_≡_, sym, _∙_}
 use mathlib.Core.Bool.{true≢false}
-use Prim.Native.Nat.{ℕ, _-_, _^_, _≤_, _<_}
+use Prim.Native.Nat.{ℕ, _-_, _≤_}
 use native.Mathlib.Omega.{arith}
 use Rattle.rules.specs.Map.{bytes, cellAt}
 use Rattle.rules.proofs.laws.Maps.{at-bytes, four-inside}
@@ -14,6 +14,3 @@ four-deep o depth e h = record {
   one = omega arith;
   each = λ k l n. absurd (true≢false (sym (four-inside o e k l) ∙ n));
 }
-
-pub word-deep : (o : ℕ) → o < 2 ^ 64 - 1 → SplitDepth o 2 2
-word-deep o h = record { few = omega arith; fits = omega arith; one = omega arith; each = λ k l n. omega arith }

@@ -9,7 +9,7 @@ use lib.Seq.{drop-drop, take-all, take-at, take-take, take-append-le, drop-appen
 use borrow.Rule.Slice.PartMut.{putMid}
 use Rattle.rules.specs.Numbers.{bytesOf, part}
 use Rattle.rules.specs.Device.{Device}
-use Rattle.rules.specs.Form.{Field, word, copy, irr, Form, is, listed, has, size, place, formLength, contentsLength, contentsOf, read, image}
+use Rattle.rules.specs.Form.{Field, word, copy, irr, Form, is, listed, has, size, place, formLength, contentsLength, contentsOf, read}
 use Rattle.rules.specs.Image.{fieldOf, encodeAs, registerAt}
 use Rattle.rules.proofs.laws.Lists.{length-part, part-add}
 use Rattle.rules.proofs.laws.Bytes.{length-bytesOf, part-number}
@@ -17,7 +17,7 @@ use Rattle.rules.proofs.laws.Parts.{start}
 use Rattle.rules.proofs.laws.Layout.{test, is-sound, always, has-all, listed-append, image-known, length-contents, length-over, read-over, other-over, head-over}
 use Rattle.rules.proofs.laws.Saved.{bytes-contents}
 use Rattle.image.specs.Shown.{placeIn, PlacesOf, ContentsOf}
-use Rattle.bytes.specs.Put.{withBytes, withWord}
+use Rattle.bytes.specs.Put.{withBytes}
 use Rattle.image.specs.declared.form.Places.{Places}
 use Rattle.image.specs.declared.form.Contents.{Contents}
 use Rattle.bytes.proofs.Putting.{word-put}

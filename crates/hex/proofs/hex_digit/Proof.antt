@@ -1,5 +1,4 @@
 -- `hex_digit` is right since the test of the rule is the test of the code.
-use Prim.Native.Nat.{_-_}
 use native.Mathlib.Omega.{arith}
 use borrow.Author.Tests.{lt-ltb, le-ltb}
 use borrow.Author.Needs.{needs}

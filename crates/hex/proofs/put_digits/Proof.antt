@@ -1,7 +1,7 @@
 -- `put_digits` is right since the digits still to come, and what stands behind them, are the whole at every turn.
 use mathlib.Core.Path.{_≡_, refl}
 use mathlib.Core.List.{_++_}
-use Prim.Native.Nat.{_+_, _-_, _≤_}
+use Prim.Native.Nat.{_≤_}
 use native.Mathlib.Omega.{arith}
 use lib.ListN.{length, drop, length-set}
 use Rattle.rules.specs.Session.{digits}

@@ -1,15 +1,13 @@
 -- `load_ring`: the count is at its byte, the drops are the number that their four bytes spell, and the pairs are handed on.
 use mathlib.Core.Bool.{true}
-use mathlib.Core.Path.{_≡_, refl, sym, ap, _∙_}
-use mathlib.Core.List.{List, [], _∷_}
+use mathlib.Core.Path.{_≡_, refl, ap, _∙_}
+use mathlib.Core.List.{List}
 use Prim.Native.Nat.{ℕ, _+_, _-_, _≤_}
-use native.Mathlib.Nat.{mod-eq-of-lt}
 use native.Mathlib.Omega.{arith}
 use lib.ListN.{length, getD}
 use borrow.Author.Needs.{needs}
-use Rattle.rules.specs.Numbers.{numberOf, bytesOf, part}
-use Rattle.rules.specs.Ring.{capacity, eventTwos}
-use Rattle.rules.specs.Form.{Field, routes, vectors, count, drops, pairs, size}
+use Rattle.rules.specs.Numbers.{numberOf, part}
+use Rattle.rules.specs.Form.{Field, count, drops, pairs, size}
 use Rattle.rules.proofs.laws.Layout.{always}
 use Rattle.image.specs.Shown.{formView, placeIn}
 use Rattle.rules.specs.Form.{Form, place, read}

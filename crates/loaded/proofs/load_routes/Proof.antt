@@ -1,17 +1,16 @@
 -- `load_routes`: the part that is handed on is the routes' field.
 use mathlib.Core.Bool.{true}
-use mathlib.Core.Path.{_≡_, refl, ap, _∙_}
+use mathlib.Core.Path.{_≡_, refl, _∙_}
 use Prim.Native.Nat.{ℕ, _+_, _-_, _≤_}
 use native.Mathlib.Omega.{arith}
 use mathlib.Core.List.{List}
 use Rattle.rules.specs.Numbers.{part}
 use lib.ListN.{length}
 use borrow.Author.Needs.{needs}
-use Rattle.rules.specs.Form.{mask, irr, isr, stored, Word, Field, word, routes, count, drops, pairs, size}
-use Rattle.rules.specs.Core.{htmsiEn, edge, pol, auto0, auto1}
+use Rattle.rules.specs.Form.{Field, routes, size}
 use Rattle.rules.proofs.laws.Layout.{always}
 use Rattle.image.specs.Shown.{formView, placeIn}
-use Rattle.image.proofs.Forms.{always-at, always-within, always-word}
+use Rattle.image.proofs.Forms.{always-at, always-within}
 use Rattle.loaded.proofs.load_routes.Statement.{statement}
 use Rattle.loaded.proofs.load_routes.Tie as tie
 

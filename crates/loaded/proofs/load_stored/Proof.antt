@@ -1,14 +1,14 @@
 -- `load_stored`: each register is the number that its eight bytes spell.
 use mathlib.Core.Bool.{true}
-use mathlib.Core.Path.{_≡_, refl, ap, _∙_}
+use mathlib.Core.Path.{_≡_, refl}
 use Prim.Native.Nat.{_+_, _≤_}
 use lib.ListN.{length}
 use borrow.Author.Needs.{needs}
-use Rattle.rules.specs.Form.{mask, irr, isr, stored, Word, Field, word, routes, count, drops, pairs, size}
+use Rattle.rules.specs.Form.{stored, Field, word, routes, size}
 use Rattle.rules.specs.Core.{htmsiEn, edge, pol, auto0, auto1}
 use Rattle.rules.proofs.laws.Layout.{always}
 use Rattle.image.specs.Shown.{formView, placeIn}
-use Rattle.image.proofs.Forms.{always-at, always-within, always-word}
+use Rattle.image.proofs.Forms.{always-within, always-word}
 use Rattle.rules.specs.Form.{read}
 use Rattle.loaded.proofs.load_stored.Statement.{statement}
 use Rattle.loaded.proofs.load_stored.Tie as tie

@@ -1,5 +1,4 @@
 -- `put_pairs`: zeros for all sixteen pairs, and the waiting events over them.
-use native.Mathlib.Omega.{arith}
 use borrow.Author.Needs.{needs}
 use Rattle.state.specs.View.{ringView}
 use Rattle.state.proofs.Slots.{slots-length}

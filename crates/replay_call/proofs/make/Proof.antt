@@ -13,7 +13,6 @@ use Rattle.rules.specs.Calls.{Request, leaves, outcome}
 use Rattle.rules.specs.Calls as asked
 use Rattle.records.specs.Records.{kindOf, lentEvents, wordAt, eventFill}
 use Rattle.replay_call.specs.Recorded.{requestOf, made, Makes}
-use Rattle.replay_call.specs.declared.Made.{Made}
 use Rattle.replay_call.proofs.make.Statement.{statement}
 use Rattle.replay_call.proofs.make.Tie as tie
 

@@ -1,24 +1,22 @@
 -- A part of an image is written in place: it is then the image of the device that differs in that part alone. One law over the form and the part,
 -- and then the parts that calls write.
 use mathlib.Core.Path.{_≡_, refl, sym, ap, _∙_}
-use mathlib.Core.Bool.{Bool, true, false, or-false}
+use mathlib.Core.Bool.{true, false, or-false}
 use mathlib.Core.List.{List, [], _∷_, _++_, append-nil}
 use Prim.Native.Nat.{ℕ, _+_, _≤_}
 use native.Mathlib.Nat.{add-zero}
 use native.Mathlib.Omega.{arith}
-use lib.ListN.{length, take, drop, drop-of-length-le}
+use lib.ListN.{length, take, drop-of-length-le}
 use borrow.Rule.Slice.PartMut.{putMid}
-use Rattle.rules.specs.Numbers.{Bytes, bytesOf, part}
+use Rattle.rules.specs.Numbers.{bytesOf, part}
 use Rattle.rules.specs.Lines.{Lines, withMask, withIrr, withIsr}
 use Rattle.rules.specs.Ring.{Ring}
 use Rattle.rules.specs.Core.{Plain, htmsiEn, edge, pol, auto0, auto1, Stored, Core, plain, withPlain, withRoutes}
-use Rattle.rules.specs.Device.{Device, WellFormed, withRing}
+use Rattle.rules.specs.Device.{Device, withRing}
 use Rattle.rules.specs.Form.{Word, mask, irr, isr, copy, stored, Field, word, routes, vectors, count, ringFields}
-use Rattle.rules.specs.Form.{Form, one, words, size, is, listed, total, from, fields, has, place, laid, image}
-use Rattle.rules.specs.Image.{wordOf, fieldOf, encodeAs, decodeAs}
+use Rattle.rules.specs.Form.{Form, one, size, is, listed, total, from, fields, has, place, laid, image}
+use Rattle.rules.specs.Image.{wordOf, fieldOf}
 use Rattle.rules.proofs.laws.Layout.{Sized, never, by-word, by-plain, by-field, length-laid, from-starts, image-written}
-use Rattle.rules.proofs.laws.Tests.{Accepted}
-use Rattle.rules.proofs.laws.Saved.{fields-sized, encode-decode, decode-well}
 
 -- ---- a part: where it stands, how long it is, what its bytes are
 
@@ -82,14 +80,6 @@ module _ (f : Form) (b c : Field → List ℕ) (s : Sized b) where
       let only : take 1 (from p (fields f)) ≡ p ∷ [] = ap (take 1) (from-starts p (fields f) h) in
       rw (only, add-zero) at (part-written (whole p 1) h (λ q y t. o q y (sym (or-false (is q p)) ∙ (rw only at t))))
 
--- an accepted image, with a part of what it holds replaced
-pub part-saved : (f : Form) (l : List ℕ) → Bytes l → Accepted f l → (d : Device) (x : Part) → Inside f x → Apart f (fieldOf (decodeAs f l)) (fieldOf d) x
-    → withPart f x l (partBytes f (fieldOf d) x) ≡ encodeAs f d
-part-saved f l b a d x h s =
-    let was = decodeAs f l in
-    ap (λ m. withPart f x m (partBytes f (fieldOf d) x)) (sym (encode-decode f l b a))
-    ∙ part-written f (fieldOf was) (fieldOf d) (fields-sized was (decode-well f l b a)) x h s
-
 -- ---- what calls write: other words, another table, another ring
 
 -- a device with another core
@@ -113,29 +103,9 @@ coreWord isr x c = coreLines (withIsr (c .lines) x) c
 coreWord copy x c = c
 coreWord (stored p) x c = record { lines = c .lines; vectors = c .vectors; stored = withPlain (c .stored) p x }
 
--- body 1; IRR and ISR, with the copy where there is one; the ring's body
-abbrev pub registersPart : Form → Part
-registersPart f = whole (word mask) (length (words f))
-
-abbrev pub latchPart : Form → Part
-latchPart one = whole (word copy) 3
-
+-- the ring's body
 abbrev pub ringPart : Part
 ringPart = whole count (length ringFields)
-
--- a core whose tables stay: only words can differ
-module _ (f : Form) (d : Device) (c : Core) (vs : d .core .vectors ≡ c .vectors) (rs : d .core .stored .routes ≡ c .stored .routes) where
-  words-apart : (p : Field) (n : ℕ)
-      → ((w : Word) → has f (word w) ≡ true → listed (word w) (touched f (whole p n)) ≡ false → wordOf (d .core) w ≡ wordOf c w)
-      → Apart f (fieldOf d) (fieldOf (withCore c d)) (whole p n)
-  words-apart p n h = by-field _ (λ w y t. ap (bytesOf 8) (h w y t)) (λ y t. rs) (λ y t. vs) (λ y t. refl, λ y t. refl, λ y t. refl)
-
-  -- body 1 has all words
-  pub registers-apart : Apart f (fieldOf d) (fieldOf (withCore c d)) (registersPart f)
-  registers-apart = words-apart (word mask) (length (words f)) (all f)
-    where
-      all : (f : Form) (w : Word) → has f (word w) ≡ true → listed (word w) (touched f (registersPart f)) ≡ false → wordOf (d .core) w ≡ wordOf c w
-      all one w y t = never (sym y ∙ t)
 
 -- the other words stay where one is replaced; IRR has a copy
 plain-stays : (s : Stored) (x : ℕ) (p r : Plain) → is (word (stored r)) (word (stored p)) ≡ false → plain s r ≡ plain (withPlain s p x) r
@@ -162,11 +132,6 @@ word-apart f d w x n =
     let c = d .core in
     let stay = tables-stay c x w in
     by-field _ (λ v h t. ap (bytesOf 8) (word-stays c x w n v t)) (λ h t. stay .1) (λ h t. stay .0) (λ h t. refl, λ h t. refl, λ h t. refl)
-
--- IRR and ISR, with the copy where there is one
-pub latch-apart : (f : Form) (d : Device) (x y : ℕ)
-    → Apart f (fieldOf d) (fieldOf (withCore (coreLines (record { mask = d .core .lines .mask; irr = x; isr = y }) (d .core)) d)) (latchPart f)
-latch-apart one d x y = words-apart one d _ refl refl (word copy) 3 (by-word _ (λ h t. refl) (λ h. never) (λ h. never) (λ h. never) (λ p h t. refl))
 
 -- the ring's body
 pub ring-apart : (f : Form) (d : Device) (r : Ring) → Apart f (fieldOf d) (fieldOf (withRing d r)) ringPart

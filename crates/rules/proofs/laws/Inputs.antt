@@ -148,10 +148,6 @@ lowest-dropped x h n = is-number 64 _ _ (lt-of-le-of-lt (and-le-l x (x - 1)) h) 
 -- ---- the sets of the engine, as the code masks them
 -- m & irr & !mask & !isr; isr & m; m & isr & !irr
 module _ (m : ℕ) (l : Lines) where
-  pub waiting-is : l .mask < 2 ^ 64 → l .isr < 2 ^ 64
-      → inputs (on (bitAnd (bitAnd (bitAnd m (l .irr)) ((2 ^ 64 - 1) - l .mask)) ((2 ^ 64 - 1) - l .isr))) ≡ inputs (pendingIn (on m) l)
-  waiting-is hm hs = inputs-ext _ _ (λ i q. simp (on-and-not, on-and, and-assoc))
-
   pub served-is : inputs (on (bitAnd (l .isr) m)) ≡ inputs (servedIn (on m) l)
   served-is = inputs-ext _ _ (λ i q. on-and (l .isr) m i)
 

@@ -1,7 +1,6 @@
 -- The places, lengths and contents of an image as the numbers of document 01, each by computing.
 use mathlib.Core.Path.{_≡_, refl}
-use mathlib.Core.List.{List, [], _∷_, map}
-use Prim.Native.Nat.{ℕ}
+use mathlib.Core.List.{[], _∷_, map}
 use Rattle.rules.specs.Core.{htmsiEn, edge, pol, auto0, auto1}
 use Rattle.rules.specs.Form.{one, word, mask, irr, isr, copy, stored, routes, vectors, count, drops, pairs, place, contentsLength, contentsOf, formLength}
 

@@ -1,19 +1,18 @@
 -- What an image holds against its bytes, in both directions and in any form; and the sizes that come with it.
 use mathlib.Core.Path.{_≡_, refl, sym, ap, _∙_}
-use mathlib.Core.Bool.{Bool, true}
-use mathlib.Core.List.{List, [], _∷_, _++_}
+use mathlib.Core.Bool.{true}
+use mathlib.Core.List.{List, [], _∷_}
 use Prim.Native.Nat.{ℕ, zero, suc, _+_, _-_, _*_, _^_, _<_, _≤_}
-use native.Mathlib.Nat.{add-zero}
 use native.Mathlib.Omega.{arith}
 use lib.Dec.{lit<}
 use lib.ListN.{length, getD, replicate}
-use Rattle.rules.specs.Numbers.{numberOf, bytesOf, part, Bytes}
+use Rattle.rules.specs.Numbers.{numberOf, bytesOf, Bytes}
 use Rattle.rules.specs.Ring.{capacity, eventTwos}
-use Rattle.rules.specs.Core.{Plain, plain, htmsiEn, edge, pol, auto0, auto1}
+use Rattle.rules.specs.Core.{plain, htmsiEn, edge, pol, auto0, auto1}
 use Rattle.rules.specs.Device.{Device, WellFormed}
 use Rattle.rules.specs.Form.{Word, mask, irr, isr, copy, stored, Field, word, routes, vectors, count, drops, pairs}
 use Rattle.rules.specs.Form.{Form, one, fields, has, size, place, formLength, contentsOf, read, laid, image}
-use Rattle.rules.specs.Image.{wordOf, sixteen, fieldOf, encodeAs, wordIn, countIn, eventsOf, decodeAs, accepted, testAs}
+use Rattle.rules.specs.Image.{wordOf, fieldOf, encodeAs, wordIn, countIn, eventsOf, decodeAs, accepted, testAs}
 use Rattle.rules.proofs.laws.Bytes.{numberOf-bytesOf, bytes-known, bytes-append, bytes-part, bytes-bytesOf, part-number, part-below}
 use Rattle.rules.proofs.laws.Layout.{Sized, by-plain, always, has-all, field-fits, laid-cons, headed-image, image-known, length-image, read-image}
 use Rattle.rules.proofs.laws.Twos.{length-spelled, spelled-written, event-comes, events-back, events-fit, written-flags, bytes-vectors}

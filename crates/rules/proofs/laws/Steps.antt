@@ -4,12 +4,12 @@ use mathlib.Core.Bool.{Bool, true, false}
 use mathlib.Core.List.{List, [], _∷_, map, append-nil}
 use Prim.Native.Nat.{ℕ}
 use Rattle.rules.specs.Inputs.{inputs, only, put, without}
-use Rattle.rules.specs.Lines.{Lines, Made, Turn, withIrr, event, serve, enter, leave, pendingIn, servedIn, polled, raised, lowered}
+use Rattle.rules.specs.Lines.{Lines, Made, withIrr, event, serve, enter, leave, pendingIn, servedIn, polled, raised, lowered}
 pub use Rattle.rules.specs.Lines.{levelled}
-use Rattle.rules.specs.Ring.{Ring, RingAct, drawn, ringStep, ringRun}
+use Rattle.rules.specs.Ring.{RingAct, drawn, ringStep, ringRun}
 use Rattle.rules.specs.Core.{Core, Act, move, Move, poll, raise, lower, CoreTurn, turn, turns, lineTurn, moved, vectorsAfter, storedAfter}
 use Rattle.rules.specs.Access.{Width, writeActs}
-use Rattle.rules.specs.Device.{Device, level, read, write, drain, none, actsOf, offers, acted, Step, step, value, returned}
+use Rattle.rules.specs.Device.{Device, level, read, write, drain, actsOf, offers, acted, step, value, returned}
 pub use Rattle.rules.specs.Device.{withLines, withRing}
 use Rattle.rules.specs.Device as device
 use Rattle.rules.proofs.laws.Acts.{acted-none, step-acted}

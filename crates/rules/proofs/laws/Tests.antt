@@ -1,5 +1,5 @@
 -- The tests on an image: in their order, what each says where it finds nothing, and the place where it finds something.
-use mathlib.Core.Path.{_≡_, refl, sym, ap, _∙_}
+use mathlib.Core.Path.{_≡_, refl, ap, _∙_}
 use mathlib.Core.Bool.{Bool, true, false, cond, not, _&&_}
 use mathlib.Core.List.{List, [], _∷_}
 use mathlib.Core.Logic.{_⊎_, inl, inr}
@@ -14,7 +14,7 @@ use Rattle.rules.specs.Numbers.{part}
 use Rattle.rules.specs.Ring.{capacity}
 use Rattle.rules.specs.Form.{Form, one, Field, word, copy, irr, count, pairs, has, size, place, formLength, contentsLength, contentsOf, read, Known, known, formAmong, formOf}
 use Rattle.rules.specs.Image.{wordIn, countIn, Fault, Finding, clear, found, Rule, copyRule, countRule, flagRule, unusedRule, rules}
-use Rattle.rules.specs.Image.{search, finding, orElse, firstFault, same, ImageTest, accepted, wrongLength, wrongContents, bodyTest, testAs, testKnown, imageTest}
+use Rattle.rules.specs.Image.{search, finding, orElse, firstFault, same, accepted, wrongLength, wrongContents, bodyTest, testAs, testKnown, imageTest}
 use Rattle.rules.proofs.laws.Lists.{Each, length-part, equal-same, differ-same, same-equal}
 use Rattle.rules.proofs.laws.Layout.{test, has-all, field-fits}
 

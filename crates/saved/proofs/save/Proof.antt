@@ -1,12 +1,7 @@
 -- `save`: the contents and every field are put, one part after another.
-use mathlib.Core.Bool.{true}
-use mathlib.Core.Path.{_≡_, refl, ap, _∙_}
-use mathlib.Core.List.{_++_}
-use native.Mathlib.Omega.{arith}
-use lib.ListN.{length, drop, length-append, length-drop}
-use lib.Seq.{take-at}
+use mathlib.Core.Path.{refl}
 use borrow.Author.Needs.{needs}
-use Rattle.rules.specs.Form.{one, Field, vectors, routes, pairs, drops, count, listed, has, formLength, contentsLength, contentsOf}
+use Rattle.rules.specs.Form.{one}
 use Rattle.rules.specs.Image.{encode}
 use Rattle.rules.proofs.laws.Layout.{by-word, by-plain, by-field}
 use Rattle.state.specs.View.{view}

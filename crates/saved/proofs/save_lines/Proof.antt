@@ -2,12 +2,10 @@
 use mathlib.Core.Bool.{true}
 use mathlib.Core.Path.{_≡_, refl, sym, ap, _∙_}
 use Prim.Native.Nat.{_+_, _≤_}
-use native.Mathlib.Omega.{arith}
 use lib.ListN.{length}
 use borrow.Author.Needs.{needs}
-use Rattle.rules.specs.Core.{htmsiEn, edge, pol, auto0, auto1}
 use Rattle.rules.specs.Numbers.{bytesOf}
-use Rattle.rules.specs.Form.{mask, irr, isr, stored, Field, word, routes, vectors, count, drops, pairs, size}
+use Rattle.rules.specs.Form.{mask, irr, isr, Field, word, size}
 use Rattle.rules.proofs.laws.Layout.{always}
 use Rattle.image.specs.Shown.{formView, placeIn}
 use Rattle.image.proofs.Forms.{always-within, copy-within}

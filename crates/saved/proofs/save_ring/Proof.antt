@@ -1,15 +1,15 @@
 -- `save_ring`: the count, the drops and the pairs are put into their fields, and all else stays.
 use mathlib.Core.Bool.{true}
 use mathlib.Core.Path.{_≡_, refl, sym, ap, _∙_}
-use mathlib.Core.List.{List, [], _∷_}
-use Prim.Native.Nat.{ℕ, _+_, _-_, _%_, _≤_}
+use mathlib.Core.List.{[], _∷_}
+use Prim.Native.Nat.{_+_, _%_, _≤_}
 use native.Mathlib.Nat.{mod-eq-of-lt}
 use native.Mathlib.Omega.{arith}
-use lib.ListN.{length, getD}
+use lib.ListN.{length}
 use borrow.Author.Needs.{needs}
-use Rattle.rules.specs.Numbers.{numberOf, bytesOf, part}
+use Rattle.rules.specs.Numbers.{bytesOf}
 use Rattle.rules.specs.Ring.{capacity, eventTwos}
-use Rattle.rules.specs.Form.{Field, routes, vectors, count, drops, pairs, size}
+use Rattle.rules.specs.Form.{Field, count, drops, pairs, size}
 use Rattle.rules.proofs.laws.Layout.{always}
 use Rattle.image.specs.Shown.{formView, placeIn}
 use Rattle.rules.specs.Image.{sixteen}

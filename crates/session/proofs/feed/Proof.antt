@@ -1,7 +1,7 @@
 -- `feed` is right since the bytes are taken one after another, as long as there is room for an answer.
 use Prim.Native.Nat.{_-_, _≤_}
 use native.Mathlib.Omega.{arith}
-use lib.ListN.{length, take, drop, length-drop}
+use lib.ListN.{length, drop, length-drop}
 use lib.Seq.{length-take-le}
 use borrow.Author.Tests.{leb-true, leb-false}
 use Rattle.reply.proofs.Writing.{fits}

@@ -2,10 +2,9 @@
 use mathlib.Core.Path.{_≡_, sym, _∙_}
 use mathlib.Core.Bool.{true, and-eq-true-iff}
 use Prim.Native.Nat.{ℕ, _≤_}
-use lib.Dec.{leb}
 use borrow.Author.Tests.{leb-true}
 use borrow.Author.Needs.{needs}
-use Rattle.rules.specs.Window.{inside, offset}
+use Rattle.rules.specs.Window.{inside}
 use Rattle.window.proofs.locate.Statement.{statement}
 use Rattle.window.proofs.locate.Tie as tie
 

@@ -1,5 +1,4 @@
 -- `form_of`: the length of each arm is that of its form, and every other is none.
-use mathlib.Core.Path.{_≡_, refl}
 use borrow.Author.Tests.{ne-eqb}
 use Rattle.image.proofs.form.form_of.Statement.{statement}
 use Rattle.image.proofs.form.form_of.Tie as tie

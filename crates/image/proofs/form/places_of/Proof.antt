@@ -1,9 +1,6 @@
 -- `places_of`: the places of each form, by computing.
-use mathlib.Core.Path.{_≡_, refl, sym}
-use mathlib.Core.Bool.{true, false}
-use Rattle.rules.specs.Form.{one, has, place}
+use mathlib.Core.Path.{refl}
 use Rattle.rules.proofs.laws.Layout.{never, by-word, by-plain, by-field}
-use Rattle.image.specs.Shown.{placeIn, PlacesOf}
 use Rattle.image.proofs.Forms.{only}
 use Rattle.image.proofs.form.places_of.Statement.{statement}
 use Rattle.image.proofs.form.places_of.Tie as tie
