@@ -67,6 +67,16 @@ zeros-behind l l₁ ys taken used h k e z =
 
 -- ---- pairs
 
+one-pair : (l : List ℕ) → length l ≡ 2 → l ≡ getD l 0 0 ∷ getD l 1 0 ∷ []
+one-pair [] e = absurd (omega arith)
+one-pair (a ∷ []) e = absurd (omega arith)
+one-pair (a ∷ b ∷ []) e = refl
+one-pair (a ∷ b ∷ c ∷ l) e = absurd (omega arith)
+
+-- both bytes of a pair written
+pub pair-copied : (l m : List ℕ) → length l ≡ length m → length m ≡ 2 → set (set l 0 (getD m 0 0)) 1 (getD m 1 0) ≡ m
+pair-copied l m e f = (λ t. set (set (one-pair l (e ∙ f) t) 0 (getD m 0 0)) 1 (getD m 1 0)) ∙ sym (one-pair m f)
+
 take-pairs : (n : ℕ) (es : List Event) → take (2 * n) (pairsOf es) ≡ pairsOf (take n es)
 take-pairs zero es = refl
 take-pairs (suc n) [] = let s : 2 * suc n ≡ suc (suc (2 * n)) = omega arith in ap (λ k. take k (pairsOf [])) s

@@ -54,6 +54,19 @@ fn leave(dst: &mut [u8], n: usize, len: usize)
     }
 }
 
+// All of src over all of dst. One pair, the common case, goes without a loop.
+fn copy_out(dst: &mut [u8], src: &[u8])
+    requires { ⌜ length (now dst) ≡ length (now src) ⌝ }
+    ensures { λ _. ⌜ now (dst .exit) ≡ now (src .entry) ⌝ }
+{
+    if src.len() == 2 {
+        dst[0] = src[0];
+        dst[1] = src[1];
+    } else {
+        copy(dst, src);
+    }
+}
+
 // With the places of the count and of the pairs.
 fn drain_from(image: &mut [u8], out: &mut [u8], count: usize, at: usize) -> usize
     requires { ⌜ (length (now image) ≡ imageLength) × (getD (now image) count 0 ≤ capacity) × (count ≡ countAt) × (at ≡ pairsAt) ⌝ }
@@ -63,7 +76,7 @@ fn drain_from(image: &mut [u8], out: &mut [u8], count: usize, at: usize) -> usiz
     let n = fitting(len, out.len());
     let taken = 2 * n;
     let end = at + taken;
-    copy(&mut out[0..taken], &image[at..end]);
+    copy_out(&mut out[0..taken], &image[at..end]);
     let last = at + 32;
     leave(&mut image[at..last], n, len);
     image[count] = (len - n) as u8;
