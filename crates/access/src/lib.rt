@@ -18,7 +18,7 @@ ghost use Rattle.inplace.specs.Held.{Reads, Writes};
 ghost use Rattle.cells.specs.Runs.{Run};
 
 // The last offset from which a Qword's second Dword counts.
-const LAST_QWORD: usize = 0xffff_ffff_ffff_fffb;
+const LAST_QWORD: usize = map::LAST_QWORD;
 
 // In 0x100..0x39f a Byte meets only route and vector bytes.
 fn in_byte_area(offset: usize) -> bool

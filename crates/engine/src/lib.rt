@@ -1,5 +1,6 @@
-// What moves the input lines, after loongarch_pch_pic.rs of axdevice 0.8.5: the same functions and names, in its order. Its mask expressions
-// stand in crate decide, which the calls in place ask too. A function takes the parts of the state that it reads or changes, and hands those back that it changes; the vector bytes are lent.
+// What moves the input lines, after loongarch_pch_pic.rs of axdevice 0.8.5: the same functions and names, in its order. Mask expressions that
+// the calls in place need too stand in crate decide. A function takes the parts of the state that it reads or changes, and hands back those that it
+// changes; the vector bytes are lent.
 use state::Lines;
 use state::PchPicOutputEvent;
 use state::PchPicState;

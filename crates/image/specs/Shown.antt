@@ -13,8 +13,8 @@ use Rattle.rules.specs.Form as rules-form
 use Rattle.rules.specs.Image.{registerAt, Finding, clear, found, rules, firstFault, same, ImageTest, accepted, wrongLength, wrongContents, wrongBody}
 use Rattle.image.specs.declared.form.Form.{Form}
 use Rattle.image.specs.declared.form.Form.the-variants.{One}
-use Rattle.image.specs.declared.form.Known.{Known}
-use Rattle.image.specs.declared.form.Known.the-variants.{Unknown, As}
+use Rattle.image.specs.declared.form.KnownForm.{KnownForm}
+use Rattle.image.specs.declared.form.KnownForm.the-variants.{Unknown, As}
 use Rattle.image.specs.declared.form.Places.{Places}
 use Rattle.image.specs.declared.form.Contents.{Contents}
 use Rattle.image.specs.declared.check.Checked.{Checked}
@@ -25,9 +25,9 @@ use Rattle.image.specs.declared.check.Checked.the-variants.{Accepted, Wr
 abbrev pub formView : Form → rules-form.Form
 formView One = one
 
-abbrev pub knownView : Known → rules-form.Known
-knownView Unknown = unknown
-knownView (As f) = known (formView f)
+abbrev pub formKnown : KnownForm → rules-form.Known
+formKnown Unknown = unknown
+formKnown (As f) = known (formView f)
 
 -- the place that is said of a field
 abbrev pub placeIn : Places → Field → ℕ

@@ -1,7 +1,7 @@
 // Whether an image may be loaded. Bytes are compared as numbers, eight at a time. Of the ring's pairs the bits are gathered that any has:
 // they settle the commonest ring, and all flags at once.
 use crate::form::Form;
-use crate::form::Known;
+use crate::form::KnownForm;
 use crate::form::contents_of;
 use crate::form::form_of;
 use crate::form::places_of;
@@ -107,7 +107,7 @@ fn body_good(image: &[u8], form: Form) -> bool
 pub fn check(image: &[u8]) -> Checked
     ensures { λ r. ⌜ checkedView r ≡ imageTest (now (image .entry)) ⌝ }
 {
-    let Known::As(form) = form_of(image.len()) else {
+    let KnownForm::As(form) = form_of(image.len()) else {
         return Checked::WrongLength;
     };
     if !contents_good(image, form) {

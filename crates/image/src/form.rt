@@ -1,23 +1,23 @@
 // The form of an image, known by its length; where its fields stand, and its contents as numbers. Only here are places in an image literal numbers.
 ghost use mathlib.Core.Path.{_≡_};
 ghost use Rattle.rules.specs.Form.{formOf};
-ghost use Rattle.image.specs.Shown.{formView, knownView, PlacesOf, ContentsOf};
+ghost use Rattle.image.specs.Shown.{formView, formKnown, PlacesOf, ContentsOf};
 
 pub enum Form {
     One,
 }
 
-pub enum Known {
+pub enum KnownForm {
     Unknown,
     As(Form),
 }
 
-pub fn form_of(length: usize) -> Known
-    ensures { λ r. ⌜ knownView r ≡ formOf length ⌝ }
+pub fn form_of(length: usize) -> KnownForm
+    ensures { λ r. ⌜ formKnown r ≡ formOf length ⌝ }
 {
     match length {
-        259 => Known::As(Form::One),
-        _ => Known::Unknown,
+        259 => KnownForm::As(Form::One),
+        _ => KnownForm::Unknown,
     }
 }
 

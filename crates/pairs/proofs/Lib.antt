@@ -1,3 +1,3 @@
 -- The laws that the proofs of this crate cite.
-pub mod Held
+pub mod Slots
 pub mod Written

@@ -64,7 +64,7 @@ checksumOf h (b ∷ bs) = checksumOf ((257 * h + b + 1) % 4294967291) bs
 -- ---- agreement
 
 -- what a call left is what the record holds
-pub record Held (r : List ℕ) (number : ℕ) (image answer events : List ℕ) : Type 0 where
+pub record AsNoted (r : List ℕ) (number : ℕ) (image answer events : List ℕ) : Type 0 where
   pub handed : number ≡ numberSaid r
   pub area : answer ≡ recordedAnswer r
   pub kept : checksumOf 0 image ≡ imageSum r

@@ -6,7 +6,7 @@ use bytes::word_at;
 ghost use mathlib.Core.Path.{_≡_};
 ghost use mathlib.Core.Bool.{true};
 ghost use lib.ListN.{length};
-ghost use Rattle.records.specs.Records.{kindOf, eventSum, checksumOf, recordedAnswer, Held, agreed};
+ghost use Rattle.records.specs.Records.{kindOf, eventSum, checksumOf, recordedAnswer, AsNoted, agreed};
 
 // What is found of a record: it agrees, or what differs, or why there is nothing to compare.
 pub enum Verdict {
@@ -61,7 +61,7 @@ fn events_agree(noted: &[u8], events: &[u8]) -> bool
 
 pub fn compare(noted: &[u8], handed: u8, image: &[u8], answer: &[u8], events: &[u8]) -> Verdict
     requires { ⌜ length (now noted) ≡ 64 ⌝ }
-    ensures { λ r. ⌜ (agreed r ≡ true → Held (now (noted .entry)) handed (now (image .entry)) (now (answer .entry)) (now (events .entry))) ⌝ }
+    ensures { λ r. ⌜ (agreed r ≡ true → AsNoted (now (noted .entry)) handed (now (image .entry)) (now (answer .entry)) (now (events .entry))) ⌝ }
 {
     if handed != noted[1] {
         return Verdict::Number;

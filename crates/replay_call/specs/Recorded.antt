@@ -6,7 +6,7 @@ use Prim.Native.Nat.{ℕ}
 use lib.Dec.{eqb}
 use lib.ListN.{take, drop}
 use Rattle.rules.specs.Calls.{Request, reset, read, write, level, poll, drain, Outcome, leaves, outcome}
-use Rattle.records.specs.Records.{wordAt, kindOf, lentImage, lentAnswer, lentEvents, answerFill, eventFill, Held}
+use Rattle.records.specs.Records.{wordAt, kindOf, lentImage, lentAnswer, lentEvents, answerFill, eventFill, AsNoted}
 use Rattle.replay_call.specs.declared.Made.{Made}
 
 -- what a call's record asks, by its kind, with the event buffer that a drain is lent
@@ -37,4 +37,4 @@ ruled r i =
 -- the answer that was recorded is the one that 01's rules give; an image i became j
 pub record Recorded (r i j : List ℕ) : Type 0 where
   pub after : j ≡ ruled r i .image ++ drop (lentImage r) i
-  pub held : Held r (ruled r i .number) j (ruled r i .answer ++ drop (lentAnswer r) answerFill) (ruled r i .events ++ drop (lentEvents (kindOf r) r) eventFill)
+  pub held : AsNoted r (ruled r i .number) j (ruled r i .answer ++ drop (lentAnswer r) answerFill) (ruled r i .events ++ drop (lentEvents (kindOf r) r) eventFill)

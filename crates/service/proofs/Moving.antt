@@ -16,7 +16,7 @@ use Rattle.rules.proofs.laws.Bits.{test, put-is, without-is, without-these, on-
 use Rattle.rules.proofs.laws.Inputs.{inputs-ext, first-input, no-input, enter-ext, leave-ext, only-served}
 use Rattle.decide.specs.Sets.{waitingOf, servedOf}
 use Rattle.decide.proofs.Deciding.{inputs-of, none-served}
-use Rattle.inplace.specs.Held.{Holds, Reads, Becomes, Does, Offers, Moves, Writes, Returns, withLines, lost, dropped, given}
+use Rattle.inplace.specs.Held.{Holds, Reads, Becomes, Does, Offers, MovesIn, Writes, Returns, withLines, lost, dropped, given}
 use Rattle.inplace.proofs.Doing.{does-same, becomes-then, moves-acts}
 use Rattle.service.specs.Offered.{assertOf, deasserts}
 use Rattle.service.proofs.Turning.{afterTurn, moves-by, moves-then, entered-offered}
@@ -29,7 +29,7 @@ module _ (i : List ℕ) (x : ℕ) {irr mask isr : ℕ} (rirr : Reads i irr (λ d
   waiting : (d : Device) → Holds i d → inputs (on p) ≡ inputs (pendingIn (on x) (d .core .lines))
   waiting d h = inputs-of (waitingOf x irr mask isr) is ∙ (λ t. inputs (waitingOf x (rirr d h t) (rmask d h t) (risr d h t)))
 
-  pub enter-none : p ≡ 0 → Moves i i none given (λ vs. enter vs false (on x))
+  pub enter-none : p ≡ 0 → MovesIn i i none given (λ vs. enter vs false (on x))
   unfolding offers ringRun
   enter-none z =
       moves-by given (λ d. stay (d .core .lines)) (λ vs. enter vs false (on x)) (record { becomes = λ d h. h; gives = λ d h. refl })
@@ -39,7 +39,7 @@ module _ (i : List ℕ) (x : ℕ) {irr mask isr : ℕ} (rirr : Reads i irr (λ d
     abbrev lowest : ℕ
     lowest = trailingZeros 64 p
 
-    pub enter-some : {j : List ℕ} {v : ℕ} → Becomes i j (λ d. withLines d (withIsr (d .core .lines) (bitOr isr (1 * 2 ^ lowest % 2 ^ 64)))) → Reads j v (λ d. getD (d .core .vectors) lowest 0) → Moves i j (some v) given (λ vs. enter vs false (on x))
+    pub enter-some : {j : List ℕ} {v : ℕ} → Becomes i j (λ d. withLines d (withIsr (d .core .lines) (bitOr isr (1 * 2 ^ lowest % 2 ^ 64)))) → Reads j v (λ d. getD (d .core .vectors) lowest 0) → MovesIn i j (some v) given (λ vs. enter vs false (on x))
     unfolding offers ringRun
     enter-some {j} {v} s r =
         let stored : Does i j (some v) (λ d. withLines d (withIsr (d .core .lines) (bitOr isr (1 * 2 ^ lowest % 2 ^ 64)))) (λ d. some (getD (d .core .vectors) lowest 0)) = record { becomes = s; gives = λ d h. ap some (r _ (s d h)) } in
@@ -61,7 +61,7 @@ module _ (i : List ℕ) (x : ℕ) {isr : ℕ} (risr : Reads i isr (λ d. d .core
       let isr-stays = none-served x (d .core .lines .isr) (h .well .isr) (is ∙ ap (λ y. register (servedOf x y)) e) z in
       λ t. record { after = withIsr (d .core .lines) (isr-stays t); made = map (event (d .core .vectors) o false) ((sym (no-input p z) ∙ serving d h) t) }
 
-  pub leave-none : p ≡ 0 → Moves i i 0 dropped (λ vs. leave vs true (on x))
+  pub leave-none : p ≡ 0 → MovesIn i i 0 dropped (λ vs. leave vs true (on x))
   unfolding offers ringRun lost
   leave-none z = moves-by dropped (λ d. stay (d .core .lines)) (λ vs. leave vs true (on x)) (record { becomes = λ d h. h; gives = λ d h. refl }) (stays z true)
 
@@ -69,7 +69,7 @@ module _ (i : List ℕ) (x : ℕ) {isr : ℕ} (risr : Reads i isr (λ d. d .core
     loses : (d : Device) → Holds i d → bitAnd isr ((2 ^ 64 - 1) - x) ≡ without (d .core .lines .isr) (on x)
     loses d h = ap (λ y. bitAnd y ((2 ^ 64 - 1) - x)) (risr d h) ∙ without-is (d .core .lines .isr) x (h .well .isr) below
 
-    pub leave-done : {n : ℕ} {k : List ℕ} → Offers j k n (λ d. deasserts (d .core) p) → Moves i k n dropped (λ vs. leave vs true (on x))
+    pub leave-done : {n : ℕ} {k : List ℕ} → Offers j k n (λ d. deasserts (d .core) p) → MovesIn i k n dropped (λ vs. leave vs true (on x))
     leave-done o =
         does-same (becomes-then s o)
         (λ d h t. afterTurn d (record { after = withIsr (d .core .lines) (loses d h t); made = map (event (d .core .vectors) true false) (serving d h t) }))
@@ -83,7 +83,7 @@ module _ (i : List ℕ) (n : ℕ) (lt : n < 64) {isr : ℕ} (risr : Reads i isr 
   alone : (d : Device) → leave (d .core .vectors) false (on bit) (d .core .lines) ≡ leave (d .core .vectors) false (only n) (d .core .lines)
   alone d = leave-ext (d .core .vectors) false (on bit) (only n) (d .core .lines) (λ k l. on-bit n lt k)
 
-  pub leave-one-none : p ≡ 0 → Moves i i none given (λ vs. leave vs false (only n))
+  pub leave-one-none : p ≡ 0 → MovesIn i i none given (λ vs. leave vs false (only n))
   unfolding offers ringRun
   leave-one-none z = moves-by given (λ d. stay (d .core .lines)) (λ vs. leave vs false (only n)) (record { becomes = λ d h. h; gives = λ d h. refl }) (λ d h. stays i bit risr is z false d h ∙ alone d)
 
@@ -94,7 +94,7 @@ module _ (i : List ℕ) (n : ℕ) (lt : n < 64) {isr : ℕ} (risr : Reads i isr 
         let same = sym (first-input p below some-leave) ∙ serving i bit risr is d h ∙ inputs-ext _ (servedIn (only n) (d .core .lines)) (λ k l. rw (on-bit n lt k)) ∙ only-served n (d .core .lines) lt in
         sym (only-served n (d .core .lines) lt ∙ test (on (d .core .lines .isr) n) (λ t. ap (λ b. cond b (n ∷ []) []) t) (λ t. absurd (let e = same ∙ ap (λ b. cond b (n ∷ []) []) t in let z : _≡_ {A = ℕ} 0 1 = cc in omega arith)))
 
-    pub leave-one-done : {j : List ℕ} {v : ℕ} → Becomes i j (λ d. withLines d (withIsr (d .core .lines) (bitAnd isr ((2 ^ 64 - 1) - bit)))) → Reads j v (λ d. getD (d .core .vectors) n 0) → Moves i j (some v) given (λ vs. leave vs false (only n))
+    pub leave-one-done : {j : List ℕ} {v : ℕ} → Becomes i j (λ d. withLines d (withIsr (d .core .lines) (bitAnd isr ((2 ^ 64 - 1) - bit)))) → Reads j v (λ d. getD (d .core .vectors) n 0) → MovesIn i j (some v) given (λ vs. leave vs false (only n))
     unfolding offers ringRun
     leave-one-done {j} {v} s r =
         let stored : Does i j (some v) (λ d. withLines d (withIsr (d .core .lines) (bitAnd isr ((2 ^ 64 - 1) - bit)))) (λ d. some (getD (d .core .vectors) n 0)) = record { becomes = s; gives = λ d h. ap some (r _ (s d h)) } in
@@ -117,8 +117,8 @@ stages vs l new up down ups downs =
 
 module _ (i : List ℕ) (b : Bool) (v up down : ℕ) {old new : ℕ} (rold : Reads i old (λ d. d .core .lines .mask)) (is : new ≡ withHalf b old v)
     (ups : (n : ℕ) → n < 64 → on up n ≡ newlyUnmasked old (withHalf b old v) n) (downs : (n : ℕ) → n < 64 → on down n ≡ newlyMasked old (withHalf b old v) n) where
-  pub mask-done : {j k l m : List ℕ} {n o : ℕ} (a : Value) → Becomes i j (λ d. withLines d (withMask (d .core .lines) new)) → Moves j k a given (λ vs. enter vs false (on up)) → Offers k l n (λ d. assertOf a)
-      → Moves l m o dropped (λ vs. leave vs true (on down)) → Writes i m (n + o) (λ c. move (setMask b v) ∷ [])
+  pub mask-done : {j k l m : List ℕ} {n o : ℕ} (a : Value) → Becomes i j (λ d. withLines d (withMask (d .core .lines) new)) → MovesIn j k a given (λ vs. enter vs false (on up)) → Offers k l n (λ d. assertOf a)
+      → MovesIn l m o dropped (λ vs. leave vs true (on down)) → Writes i m (n + o) (λ c. move (setMask b v) ∷ [])
   unfolding moved
   mask-done a s p q r =
       let both = becomes-then s (moves-then (λ vs. enter vs true (on up)) (λ vs. leave vs true (on down)) (entered-offered a (on up) p q) r) in
@@ -130,7 +130,7 @@ module _ (i : List ℕ) (b : Bool) (v up down : ℕ) {old new : ℕ} (rold : Rea
       moves-acts dropped (setMask b v) (does-same both (λ d h. ap (afterTurn d) (turn d h)) (λ d h. ap (λ (t : Turn). dropped (d .ring) (t .made)) (turn d h)))
 
 module _ (i : List ℕ) {irr : ℕ} (rirr : Reads i irr (λ d. d .core .lines .irr)) where
-  pub clear-done : (x : ℕ) → x < 2 ^ 64 → {j k : List ℕ} {n : ℕ} → Becomes i j (λ d. withLines d (withIrr (d .core .lines) (bitAnd irr ((2 ^ 64 - 1) - x)))) → Moves j k n dropped (λ vs. leave vs true (on x)) → Writes i k n (λ c. move (clear x) ∷ [])
+  pub clear-done : (x : ℕ) → x < 2 ^ 64 → {j k : List ℕ} {n : ℕ} → Becomes i j (λ d. withLines d (withIrr (d .core .lines) (bitAnd irr ((2 ^ 64 - 1) - x)))) → MovesIn j k n dropped (λ vs. leave vs true (on x)) → Writes i k n (λ c. move (clear x) ∷ [])
   unfolding moved cleared
   clear-done x below s p =
       let turn : (d : Device) → Holds i d → bitAnd irr ((2 ^ 64 - 1) - x) ≡ without (d .core .lines .irr) (on x) = λ d h. ap (λ y. bitAnd y ((2 ^ 64 - 1) - x)) (rirr d h) ∙ without-is (d .core .lines .irr) x (h .well .irr) below in
@@ -144,7 +144,7 @@ module _ (i : List ℕ) {irr : ℕ} (rirr : Reads i irr (λ d. d .core .lines .i
     abbrev bitOf : ℕ
     bitOf = 1 * 2 ^ n % 2 ^ 64
 
-    pub raise-done : (v : Value) {j k : List ℕ} → Becomes i j (λ d. withLines d (withIrr (d .core .lines) (bitOr irr bitOf))) → Moves j k v given (λ vs. enter vs false (on bitOf)) → Returns i k v (raise n)
+    pub raise-done : (v : Value) {j k : List ℕ} → Becomes i j (λ d. withLines d (withIrr (d .core .lines) (bitOr irr bitOf))) → MovesIn j k v given (λ vs. enter vs false (on bitOf)) → Returns i k v (raise n)
     unfolding moved raised polled
     raise-done v s p =
         let turn : (d : Device) → Holds i d → enter (d .core .vectors) false (on bitOf) (withIrr (d .core .lines) (bitOr irr bitOf)) ≡ raised (d .core .vectors) (d .core .lines) n =
@@ -153,7 +153,7 @@ module _ (i : List ℕ) {irr : ℕ} (rirr : Reads i irr (λ d. d .core .lines .i
         in
         moves-acts given (raise n) (does-same (becomes-then s p) (λ d h. ap (afterTurn d) (turn d h)) (λ d h. ap (λ (t : Turn). given (d .ring) (t .made)) (turn d h)))
 
-    pub lower-done : (v : Value) {j k : List ℕ} → Becomes i j (λ d. withLines d (withIrr (d .core .lines) (bitAnd irr ((2 ^ 64 - 1) - bitOf)))) → Moves j k v given (λ vs. leave vs false (only n)) → Returns i k v (lower n)
+    pub lower-done : (v : Value) {j k : List ℕ} → Becomes i j (λ d. withLines d (withIrr (d .core .lines) (bitAnd irr ((2 ^ 64 - 1) - bitOf)))) → MovesIn j k v given (λ vs. leave vs false (only n)) → Returns i k v (lower n)
     unfolding moved lowered
     lower-done v s p =
         let turn : (d : Device) → Holds i d → bitAnd irr ((2 ^ 64 - 1) - bitOf) ≡ without (d .core .lines .irr) (only n) =
@@ -163,6 +163,6 @@ module _ (i : List ℕ) {irr : ℕ} (rirr : Reads i irr (λ d. d .core .lines .i
         (does-same (becomes-then s p) (λ d h. ap (λ y. afterTurn d (leave (d .core .vectors) false (only n) (withIrr (d .core .lines) y))) (turn d h))
         (λ d h. ap (λ y. given (d .ring) (leave (d .core .vectors) false (only n) (withIrr (d .core .lines) y) .made)) (turn d h)))
 
-pub poll-done : {i j : List ℕ} (n : ℕ) → n < 64 → (v : Value) → Moves i j v given (λ vs. enter vs false (on (1 * 2 ^ n % 2 ^ 64))) → Returns i j v (poll n)
+pub poll-done : {i j : List ℕ} (n : ℕ) → n < 64 → (v : Value) → MovesIn i j v given (λ vs. enter vs false (on (1 * 2 ^ n % 2 ^ 64))) → Returns i j v (poll n)
 unfolding moved polled
 poll-done n lt v p = moves-acts given (poll n) (moves-by given (λ d. enter (d .core .vectors) false (on (1 * 2 ^ n % 2 ^ 64)) (d .core .lines)) (λ vs l. polled vs l n) p (λ d h. enter-ext (d .core .vectors) false _ (only n) (d .core .lines) (λ m l. on-bit n lt m)))

@@ -9,7 +9,7 @@ use Rattle.rules.specs.Ring.{Ring, Drawn, ringStep, ringRun}
 use Rattle.rules.specs.Device.{Device, Value, offers, returned}
 use Rattle.rules.proofs.laws.Acts.{offers-append}
 use Rattle.rules.proofs.laws.Rings.{run-append}
-use Rattle.inplace.specs.Held.{Holds, Does, Offers, Moves, withLines, withRing, lost, dropped, given, turned}
+use Rattle.inplace.specs.Held.{Holds, Does, Offers, MovesIn, withLines, withRing, lost, dropped, given, turned}
 use Rattle.inplace.proofs.Doing.{does-same, does-then, lost-append}
 use Rattle.service.specs.Offered.{assertOf}
 
@@ -18,10 +18,10 @@ abbrev pub afterTurn : Device → Turn → Device
 afterTurn d t = withRing (withLines d (t .after)) (ringRun (d .ring) (offers (t .made)) .after)
 
 pub moves-by : {A : Type 0} {i j : List ℕ} {x : A} (w : Ring → List Made → A) (u : Device → Turn) (t : List ℕ → Lines → Turn) → Does i j x (λ d. afterTurn d (u d)) (λ d. w (d .ring) (u d .made))
-    → ((d : Device) → Holds i d → u d ≡ turned d t) → Moves i j x w t
+    → ((d : Device) → Holds i d → u d ≡ turned d t) → MovesIn i j x w t
 moves-by w u t p e = does-same p (λ d h. ap (afterTurn d) (e d h)) (λ d h. ap (λ (y : Turn). w (d .ring) (y .made)) (e d h))
 
-pub moves-then : {i j k : List ℕ} {n m : ℕ} (t u : List ℕ → Lines → Turn) → Moves i j n dropped t → Moves j k m dropped u → Moves i k (n + m) dropped (λ vs l. andThen (t vs l) (u vs))
+pub moves-then : {i j k : List ℕ} {n m : ℕ} (t u : List ℕ → Lines → Turn) → MovesIn i j n dropped t → MovesIn j k m dropped u → MovesIn i k (n + m) dropped (λ vs l. andThen (t vs l) (u vs))
 moves-then t u p q =
     does-same (does-then p q)
     (λ d h. let a = turned d t in
@@ -48,7 +48,7 @@ module _ (d : Device) where
   offered-lost [] = refl
   offered-lost (n ∷ ns) = refl
 
-pub entered-offered : {i j k : List ℕ} {n : ℕ} (v : Value) (f : ℕ → Bool) → Moves i j v given (λ vs. enter vs false f) → Offers j k n (λ d. assertOf v) → Moves i k n dropped (λ vs. enter vs true f)
+pub entered-offered : {i j k : List ℕ} {n : ℕ} (v : Value) (f : ℕ → Bool) → MovesIn i j v given (λ vs. enter vs false f) → Offers j k n (λ d. assertOf v) → MovesIn i k n dropped (λ vs. enter vs true f)
 entered-offered {k} v f p o = record {
   becomes = λ d h. let ns = inputs (pendingIn f (d .core .lines)) in
       subst (Holds k) (ap (λ y. withRing (afterTurn d (serving d false ns)) (ringRun (afterTurn d (serving d false ns) .ring) (assertOf y) .after)) (p .gives d h) ∙ offered-device d ns) (o .becomes _ (p .becomes d h));

@@ -17,13 +17,13 @@ ghost use Rattle.rules.specs.Lines as lines;
 ghost use Rattle.rules.specs.Core as core;
 ghost use Rattle.rules.specs.Image.{imageLength};
 ghost use Rattle.engine.specs.Moves.{answerValue};
-ghost use Rattle.inplace.specs.Held.{Moves, Writes, Returns, dropped, given};
+ghost use Rattle.inplace.specs.Held.{MovesIn, Writes, Returns, dropped, given};
 ghost use Rattle.service.specs.Offered.{levelMove};
 
 // The lowest of a set that waits goes into service; the answer is its vector.
 fn enter(image: &mut [u8], set: u64) -> Answer
     requires { ⌜ length (now image) ≡ imageLength ⌝ }
-    ensures { λ r. ⌜ Moves (now (image .entry)) (now (image .exit)) (answerValue r) given (λ vs. lines.enter vs false (on set)) ⌝ }
+    ensures { λ r. ⌜ MovesIn (now (image .entry)) (now (image .exit)) (answerValue r) given (λ vs. lines.enter vs false (on set)) ⌝ }
 {
     let isr = words::isr(image);
     let waiting = decide::pending(set, words::irr(image), words::mask(image), isr);
@@ -38,7 +38,7 @@ fn enter(image: &mut [u8], set: u64) -> Answer
 // An input that is in service leaves it; the answer is its vector.
 fn leave_one(image: &mut [u8], irq: usize) -> Answer
     requires { ⌜ (length (now image) ≡ imageLength) × (irq < 64) ⌝ }
-    ensures { λ r. ⌜ Moves (now (image .entry)) (now (image .exit)) (answerValue r) given (λ vs. lines.leave vs false (only irq)) ⌝ }
+    ensures { λ r. ⌜ MovesIn (now (image .entry)) (now (image .exit)) (answerValue r) given (λ vs. lines.leave vs false (only irq)) ⌝ }
 {
     let isr = words::isr(image);
     let bit = 1u64 << irq;
@@ -52,7 +52,7 @@ fn leave_one(image: &mut [u8], irq: usize) -> Answer
 // All of a set that are in service leave it, and their deasserts are offered; the answer is how many were dropped.
 fn leave(image: &mut [u8], set: u64) -> u32
     requires { ⌜ length (now image) ≡ imageLength ⌝ }
-    ensures { λ r. ⌜ (r ≤ 64) × Moves (now (image .entry)) (now (image .exit)) r dropped (λ vs. lines.leave vs true (on set)) ⌝ }
+    ensures { λ r. ⌜ (r ≤ 64) × MovesIn (now (image .entry)) (now (image .exit)) r dropped (λ vs. lines.leave vs true (on set)) ⌝ }
 {
     let isr = words::isr(image);
     let served = decide::served(set, isr);

@@ -3,12 +3,12 @@ use mathlib.Core.Path.{refl, ap}
 use Prim.Native.Nat.{_-_, _≤_}
 use native.Mathlib.Omega.{arith}
 use borrow.Author.Needs.{needs}
-use Rattle.pairs.proofs.Held.{Held, held-next, held-all}
+use Rattle.pairs.proofs.Slots.{SlotsFilled, held-next, held-all}
 use Rattle.pairs.proofs.ring_of.Statement.{statement}
 use Rattle.pairs.proofs.ring_of.Tie as tie
 
 abbrev Inv-loop : tie.InvT-loop
-Inv-loop pairs len drops vectors₀ asserted₀ i₀ vectors asserted i = (i ≤ 16) × Held pairs vectors asserted i
+Inv-loop pairs len drops vectors₀ asserted₀ i₀ vectors asserted i = (i ≤ 16) × SlotsFilled pairs vectors asserted i
 
 abbrev μ-loop : tie.MeasureT-loop
 μ-loop pairs len drops vectors₀ asserted₀ i₀ vectors asserted i = 16 - i

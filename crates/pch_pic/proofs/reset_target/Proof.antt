@@ -5,7 +5,7 @@ use lib.Dec.{eqb}
 use lib.ListN.{length}
 use Rattle.rules.specs.Form as form
 use Rattle.rules.specs.Image.{imageLength, ImageTest, accepted, wrongLength}
-use Rattle.image.specs.Shown.{knownView}
+use Rattle.image.specs.Shown.{formKnown}
 use borrow.Author.Needs.{needs}
 use Rattle.pch_pic.proofs.reset_target.Statement.{statement}
 use Rattle.pch_pic.proofs.reset_target.Tie as tie
@@ -27,6 +27,6 @@ reset-target-spec =
     (λ c. search needs)
     (λ c. search needs)
     (λ c. let f = c .before .before in
-    sym (ap (λ k. told (knownView k)) (c .enum-told .given .1)) ∙ ap told (f .form-of .ensures) ∙ told-by (eqb (length (f .before .before .args .image .now)) imageLength))
+    sym (ap (λ k. told (formKnown k)) (c .enum-told .given .1)) ∙ ap told (f .form-of .ensures) ∙ told-by (eqb (length (f .before .before .args .image .now)) imageLength))
     (λ c. let f = c .before .before in
-    sym (ap (λ k. told (knownView k)) (c .enum-told2 .given .1)) ∙ ap told (f .form-of .ensures) ∙ told-by (eqb (length (f .before .before .args .image .now)) imageLength)))
+    sym (ap (λ k. told (formKnown k)) (c .enum-told2 .given .1)) ∙ ap told (f .form-of .ensures) ∙ told-by (eqb (length (f .before .before .args .image .now)) imageLength)))

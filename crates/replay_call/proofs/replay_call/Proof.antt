@@ -8,7 +8,7 @@ use lib.ListN.{length, take, drop, length-append, length-drop}
 use lib.Seq.{length-take-le}
 use borrow.Author.Needs.{needs}
 use Rattle.rules.specs.Calls.{Outcome, leaves}
-use Rattle.records.specs.Records.{kindOf, lentImage, lentAnswer, lentEvents, answerFill, eventFill, checksumOf, Held}
+use Rattle.records.specs.Records.{kindOf, lentImage, lentAnswer, lentEvents, answerFill, eventFill, checksumOf, AsNoted}
 use Rattle.replay_call.specs.Recorded.{made, Makes, ruled, Recorded}
 use Rattle.replay_call.specs.declared.Made.{Made}
 use Rattle.replay_call.proofs.replay_call.Statement.{statement}
@@ -20,7 +20,7 @@ whole n l ys e h = simp (length-append, length-drop) (omega (arith, e, length-ta
 
 -- what the call left, held against the record, is what the rules give
 as-ruled : (x : Made) (r i : List ℕ) (n m k : ℕ) (j a : List ℕ) → n ≡ lentImage r → m ≡ lentAnswer r → k ≡ lentEvents (kindOf r) r
-    → Makes x r k (take n i) (take m answerFill) j a → Held r (x .number) (j ++ drop n i) (a ++ drop m answerFill) (x .events) → Recorded r i (j ++ drop n i)
+    → Makes x r k (take n i) (take m answerFill) j a → AsNoted r (x .number) (j ++ drop n i) (a ++ drop m answerFill) (x .events) → Recorded r i (j ++ drop n i)
 as-ruled x r i n m k j a en em ek p held =
     let q : leaves (x .number) j a (p .written) ≡ ruled r i = p .left ∙ (λ t. made r (take (en t) i) (take (em t) answerFill) (take (ek t) eventFill)) in
     record {

@@ -12,10 +12,10 @@ use Rattle.rules.specs.Form as rules-form
 use Rattle.rules.specs.Image.{Finding, clear, found, rules, firstFault, accepted, wrongLength, wrongContents, wrongBody, bodyTest, imageTest}
 use Rattle.rules.proofs.laws.Lists.{equal-same, same-equal}
 use Rattle.rules.proofs.laws.Tests.{form-known, test-known, test-contents, test-body}
-use Rattle.image.specs.Shown.{formView, knownView, headGood, isClear, bodiesGood}
+use Rattle.image.specs.Shown.{formView, formKnown, headGood, isClear, bodiesGood}
 use Rattle.image.specs.declared.form.Form.{Form}
-use Rattle.image.specs.declared.form.Known.{Known}
-use Rattle.image.specs.declared.form.Known.the-variants.{Unknown, As}
+use Rattle.image.specs.declared.form.KnownForm.{KnownForm}
+use Rattle.image.specs.declared.form.KnownForm.the-variants.{Unknown, As}
 use Rattle.image.proofs.check.check.Statement.{statement}
 use Rattle.image.proofs.check.check.Tie as tie
 
@@ -23,13 +23,13 @@ by-bodies : (x : Finding) → bodyTest x ≡ cond (isClear x) accepted wrongBody
 by-bodies clear = refl
 by-bodies (found k a) = refl
 
-module _ (l : List ℕ) (k : Known) (e : knownView k ≡ formOf (length l)) where
+module _ (l : List ℕ) (k : KnownForm) (e : formKnown k ≡ formOf (length l)) where
   no-form : k ≡ Unknown → wrongLength ≡ imageTest l
-  no-form h = sym (test-known l {k = unknown} (sym e ∙ ap knownView h))
+  no-form h = sym (test-known l {k = unknown} (sym e ∙ ap formKnown h))
 
   module _ (form : Form) (h : k ≡ As form) where
     told : formOf (length l) ≡ known (formView form)
-    told = sym e ∙ ap knownView h
+    told = sym e ∙ ap formKnown h
 
     sized : length l ≡ formLength (formView form)
     sized = form-known forms (length l) (formView form) told

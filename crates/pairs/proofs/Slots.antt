@@ -58,14 +58,14 @@ slots-hold es h (suc n) l k =
     ∙ ap (take (suc n)) (sym (next es h (ev 0 false) (omega arith)))
 
 -- sixteen slots of which the first i hold the first i events that the bytes l spell
-pub record Held (l vs : List ℕ) (fs : List Bool) (i : ℕ) : Type 0 where
+pub record SlotsFilled (l vs : List ℕ) (fs : List Bool) (i : ℕ) : Type 0 where
   pub slots : length vs ≡ 16
   pub flags : length fs ≡ 16
   pub vectorsHeld : take i vs ++ vectorsOf (eventsOf (16 - i) (drop (2 * i) l)) ≡ vectorsOf (eventsOf 16 l)
   pub flagsHeld : take i fs ++ flagsOf (eventsOf (16 - i) (drop (2 * i) l)) ≡ flagsOf (eventsOf 16 l)
 
-module _ {l vs : List ℕ} {fs : List Bool} {i : ℕ} (size : length l ≡ 32) (held : Held l vs fs i) where
-  pub held-next : i < 16 → Held l (set vs i (getD l (2 * i) 0)) (set fs i (eqb (getD l (2 * i + 1) 0) 1)) (i + 1)
+module _ {l vs : List ℕ} {fs : List Bool} {i : ℕ} (size : length l ≡ 32) (held : SlotsFilled l vs fs i) where
+  pub held-next : i < 16 → SlotsFilled l (set vs i (getD l (2 * i) 0)) (set fs i (eqb (getD l (2 * i + 1) 0) 1)) (i + 1)
   held-next h =
       let next = events-next l 16 i h (omega arith) in
       record {
