@@ -5,17 +5,16 @@ use Prim.Native.Nat.{ℕ, zero, suc, _+_, _-_, _*_, _/_, _<_, _≤_, min}
 use native.Mathlib.Numerals.{add-one}
 use native.Mathlib.Nat.{add-comm}
 use native.Mathlib.Omega.{arith}
-use lib.ListN.{length, take, drop, getD, set, replicate, length-append, length-take, length-drop, length-set, length-replicate, take-append-drop, drop-of-length-le, replicate-append-replicate}
+use lib.ListN.{length, take, drop, getD, set, replicate, length-append, length-take, length-drop, length-set, length-replicate, drop-of-length-le, replicate-append-replicate}
 use lib.Dec.{leb}
 use borrow.Author.Tests.{leb-true, leb-false}
 use Rattle.rules.proofs.laws.Bits.{test}
-use lib.Seq.{take-suc, take-suc-set, drop-set-lt, drop-drop, getD-drop, take-at, drop-at, take-all, set-at, take-append-le, drop-append-le}
+use lib.Seq.{take-suc, take-suc-set, drop-set-lt, drop-drop, getD-drop, take-at, drop-at, take-all, set-at, take-append-le}
 use borrow.Rule.Slice.PartMut.{putMid}
 use Rattle.rules.specs.Numbers.{bytesOf, part}
 use Rattle.rules.specs.Ring.{flag, Event, drawn, pairsOf}
 use Rattle.rules.specs.Device.{Device, WellFormed, drain}
 use Rattle.rules.specs.Image.{countAt, pairsAt, contents, registersBody, ringBody, encode, countOf}
-use Rattle.rules.proofs.laws.Lists.{length-part}
 use Rattle.rules.proofs.laws.Images.{length-pairsOf, unusedAfter, count-stands, encode-bodies}
 use Rattle.rules.proofs.laws.Steps.{drain-device}
 use Rattle.rules.proofs.laws.WellFormed.{step-well}
@@ -24,46 +23,46 @@ use Rattle.drains.specs.Drained.{Drains, Leaves}
 
 -- ---- moved to the front
 
--- the first i of n bytes from `by` on have been moved
-pub record Moving (l₀ l : List ℕ) (by i : ℕ) : Type 0 where
+-- the bytes past the first `taken`, and as many zeros
+abbrev shifted : List ℕ → ℕ → List ℕ
+shifted l taken = drop taken l ++ replicate taken 0
+
+-- past the end a list reads as the zeros behind it
+getD-zeros : (l : List ℕ) (n i : ℕ) → getD (l ++ replicate n 0) i 0 ≡ getD l i 0
+getD-zeros [] zero i = refl
+getD-zeros [] (suc n) zero = refl
+getD-zeros [] (suc n) (suc i) = getD-zeros [] n i
+getD-zeros (x ∷ l) n zero = refl
+getD-zeros (x ∷ l) n (suc i) = getD-zeros l n i
+
+-- the first i bytes have been written
+pub record Moving (l₀ l : List ℕ) (taken i : ℕ) : Type 0 where
   pub size : length l ≡ length l₀
-  pub front : take i l ≡ take i (drop by l₀)
+  pub front : take i l ≡ take i (shifted l₀ taken)
   pub rest : drop i l ≡ drop i l₀
 
-pub moving-starts : (l : List ℕ) (by : ℕ) → Moving l l by 0
-moving-starts l by = record { size = refl; front = refl; rest = refl }
+pub moving-starts : (l : List ℕ) (taken : ℕ) → Moving l l taken 0
+moving-starts l taken = record { size = refl; front = refl; rest = refl }
 
-module _ {l₀ l : List ℕ} {by i : ℕ} (m : Moving l₀ l by i) where
-  pub moving-next : by + i < length l₀ → Moving l₀ (set l i (getD l (by + i) 0)) by (i + 1)
-  moving-next h =
-      let v = getD l (by + i) 0 in
-      let same : v ≡ getD (drop by l₀) i 0 =
-      ap (λ k. getD l k 0) (add-comm by i) ∙ sym (getD-drop i l by 0) ∙ ap (λ k. getD k by 0) (m .rest) ∙ getD-drop i l₀ by 0 ∙ ap (λ k. getD l₀ k 0) (add-comm i by) ∙ sym (getD-drop by l₀ i 0)
+module _ {l₀ l : List ℕ} {taken i : ℕ} (m : Moving l₀ l taken i) (h : taken ≤ length l₀) where
+  length-shifted : length (shifted l₀ taken) ≡ length l₀
+  length-shifted = length-append (drop taken l₀) (replicate taken 0) ∙ (λ t. length-drop taken l₀ t + length-replicate {A = ℕ} taken 0 t) ∙ omega arith
+
+  pub moving-next : (v : ℕ) → i < length l → v ≡ getD l (taken + i) 0 → Moving l₀ (set l i v) taken (i + 1)
+  moving-next v here e =
+      let same : v ≡ getD (shifted l₀ taken) i 0 =
+      e ∙ ap (λ k. getD l k 0) (add-comm taken i) ∙ sym (getD-drop i l taken 0) ∙ ap (λ k. getD k taken 0) (m .rest) ∙ getD-drop i l₀ taken 0 ∙ ap (λ k. getD l₀ k 0) (add-comm i taken)
+      ∙ sym (getD-drop taken l₀ i 0) ∙ sym (getD-zeros (drop taken l₀) taken i)
       in
-      let here : i < length l = omega (arith, m .size) in
-      let there : i < length (drop by l₀) = simp length-drop (omega arith) in
+      let there : i < length (shifted l₀ taken) = omega (arith, m .size, length-shifted) in
       record {
         size = length-set l i v ∙ m .size;
-        front = ap (λ k. take k (set l i v)) (add-one i) ∙ take-suc-set l i v here ∙ (λ t. m .front t ++ (same t ∷ [])) ∙ sym (take-suc (drop by l₀) i 0 there) ∙ ap (λ k. take k (drop by l₀)) (sym (add-one i));
+        front = ap (λ k. take k (set l i v)) (add-one i) ∙ take-suc-set l i v here ∙ (λ t. m .front t ++ (same t ∷ [])) ∙ sym (take-suc (shifted l₀ taken) i 0 there) ∙ ap (λ k. take k (shifted l₀ taken)) (sym (add-one i));
         rest = drop-set-lt (i + 1) l i v (omega arith) ∙ sym (drop-drop 1 i l) ∙ ap (drop 1) (m .rest) ∙ drop-drop 1 i l₀;
       }
 
-  pub moving-done : l ≡ part by i l₀ ++ drop i l₀
-  moving-done = sym (take-append-drop i l) ∙ (λ t. m .front t ++ m .rest t)
-
--- moved, and zeros put behind
-pub zeros-behind : (l l₁ ys : List ℕ) (taken used : ℕ) → taken ≤ used → used ≤ length l → l₁ ≡ part taken (used - taken) l ++ drop (used - taken) l
-    → ys ≡ replicate (length (part (used - taken) (used - (used - taken)) l₁)) 0 → putMid (used - taken) (used - (used - taken)) l₁ ys ≡ part taken (used - taken) l ++ (replicate taken 0 ++ drop used l)
-zeros-behind l l₁ ys taken used h k e z =
-    let n = used - taken in
-    let size : length (part taken n l) ≡ n = length-part l taken n (omega arith) in
-    let back : used - n ≡ taken = omega arith in
-    let end : n + taken ≡ used = omega arith in
-    let tail : drop n l₁ ≡ drop n l = ap (drop n) e ∙ drop-at (part taken n l) (drop n l) n size in
-    let long : length (part n taken l) ≡ taken = length-part l n taken (omega arith) in
-    let zeros : ys ≡ replicate taken 0 = z ∙ (λ t. replicate (length (take (back t) (tail t))) 0) ∙ ap (λ j. replicate j 0) long in
-    (λ t. take n (e t) ++ (zeros t ++ drop (back t) (tail t)))
-    ∙ (λ t. take-at (part taken n l) (drop n l) n size t ++ (replicate taken 0 ++ drop-drop taken n l t)) ∙ ap (λ j. part taken n l ++ (replicate taken 0 ++ drop j l)) end
+  pub moving-done : length l ≤ i → l ≡ shifted l₀ taken
+  moving-done all = sym (take-all i l all) ∙ m .front ∙ take-all i (shifted l₀ taken) (omega (arith, m .size, length-shifted))
 
 -- ---- pairs
 
@@ -87,26 +86,20 @@ drop-pairs zero es = refl
 drop-pairs (suc n) [] = let s : 2 * suc n ≡ suc (suc (2 * n)) = omega arith in ap (λ k. drop k (pairsOf [])) s
 drop-pairs (suc n) (e ∷ es) = let s : 2 * suc n ≡ suc (suc (2 * n)) = omega arith in ap (λ k. drop k (pairsOf (e ∷ es))) s ∙ drop-pairs n es
 
--- the pairs that are left when n of m events go
-pairs-left : (es : List Event) (m n : ℕ) → length es ≡ m → n ≤ m → m ≤ 16
-    → (let p = pairsOf es ++ unusedAfter m in part (2 * n) (2 * m - 2 * n) p ++ (replicate (2 * n) 0 ++ drop (2 * m) p)) ≡ pairsOf (drop n es) ++ unusedAfter (m - n)
-pairs-left es m n e h k =
-    let size = length-pairsOf es in
-    let long : 2 * n ≤ length (pairsOf es) = omega arith in
-    let all : length (pairsOf (drop n es)) ≡ 2 * m - 2 * n = length-pairsOf (drop n es) ∙ ap (λ j. 2 * j) (length-drop n es) ∙ omega arith in
-    let zeros : 2 * n + (32 - 2 * m) ≡ 32 - 2 * (m - n) = omega arith in
-    let whole : length (pairsOf es) ≡ 2 * m = omega arith in
-    (λ t. take (2 * m - 2 * n) (drop-append-le (2 * n) (pairsOf es) (unusedAfter m) long t) ++ (replicate (2 * n) 0 ++ drop-at (pairsOf es) (unusedAfter m) (2 * m) whole t))
-    ∙ (λ t. take (2 * m - 2 * n) (drop-pairs n es t ++ unusedAfter m) ++ replicate-append-replicate (2 * n) (32 - 2 * m) 0 t)
-    ∙ (λ t. take-at (pairsOf (drop n es)) (unusedAfter m) (2 * m - 2 * n) all t ++ replicate (zeros t) 0)
-
 -- moved, or all zeros
-pub some-leave : (before after : List ℕ) (m n : ℕ) → n ≤ m → m ≤ 16 → after ≡ part (2 * n) (2 * m - 2 * n) before ++ (replicate (2 * n) 0 ++ drop (2 * m) before) → Leaves before after m n
-some-leave before after m n h k f es e b =
-    let many : m - n ≡ length (drop n es) = omega (arith, length-drop n es) in
-    f ∙ (λ t. part (2 * n) (2 * m - 2 * n) (b t) ++ (replicate (2 * n) 0 ++ drop (2 * m) (b t)))
-    ∙ (λ t. part (2 * n) (2 * m - 2 * n) (pairsOf es ++ unusedAfter (e t)) ++ (replicate (2 * n) 0 ++ drop (2 * m) (pairsOf es ++ unusedAfter (e t))))
-    ∙ pairs-left es m n e h k ∙ ap (λ j. pairsOf (drop n es) ++ unusedAfter j) many
+pub some-leave : (before ys : List ℕ) (m n : ℕ) → n ≤ m → m ≤ 16 → ys ≡ shifted (part 0 (2 * m - 0) before) (2 * n) → Leaves before (putMid 0 (2 * m - 0) before ys) m n
+some-leave before ys m n h k f es e b =
+    let whole : length (pairsOf es) ≡ 2 * m - 0 = omega (arith, length-pairsOf es) in
+    let unused = unusedAfter (length es) in
+    let there : take (2 * m - 0) before ≡ pairsOf es = ap (take (2 * m - 0)) b ∙ take-at (pairsOf es) unused (2 * m - 0) whole in
+    let behind : drop (2 * m - 0) before ≡ unused = ap (drop (2 * m - 0)) b ∙ drop-at (pairsOf es) unused (2 * m - 0) whole in
+    let zeros : 2 * n + (32 - 2 * length es) ≡ 32 - 2 * length (drop n es) = omega (arith, length-drop n es) in
+    (λ t. f t ++ behind t)
+    ∙ (λ t. (drop (2 * n) (there t) ++ replicate (2 * n) 0) ++ unused)
+    ∙ (λ t. (drop-pairs n es t ++ replicate (2 * n) 0) ++ unused)
+    ∙ append-assoc (pairsOf (drop n es)) (replicate (2 * n) 0) unused
+    ∙ (λ t. pairsOf (drop n es) ++ replicate-append-replicate (2 * n) (32 - 2 * length es) 0 t)
+    ∙ (λ t. pairsOf (drop n es) ++ replicate (zeros t) 0)
 
 pub none-leave : (before after : List ℕ) (m n : ℕ) → m ≤ n → length before ≡ 32 → after ≡ replicate (length before) 0 → Leaves before after m n
 none-leave before after m n h k f es e b =

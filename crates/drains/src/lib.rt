@@ -5,9 +5,8 @@ use image::form::Form;
 use image::form::places_of;
 ghost use mathlib.Core.Path.{_≡_};
 ghost use mathlib.Core.List.{_++_};
-ghost use Prim.Native.Nat.{_+_, _*_, _-_, _/_, _≤_, min};
+ghost use Prim.Native.Nat.{_/_, _≤_, min};
 ghost use lib.ListN.{length, drop, getD, replicate};
-ghost use Rattle.rules.specs.Numbers.{part};
 ghost use Rattle.rules.specs.Ring.{capacity};
 ghost use Rattle.rules.specs.Image.{imageLength, countAt, pairsAt, pairsLength, countOf};
 ghost use Rattle.drains.specs.Drained.{Drains, Leaves};
@@ -20,26 +19,23 @@ fn fitting(waiting: usize, bytes: usize) -> usize
     if waiting < pairs { waiting } else { pairs }
 }
 
-// The n bytes from a place on are moved to the front; from n on every byte stays.
-fn move_down(dst: &mut [u8], by: usize, n: usize)
-    requires { ⌜ by + n ≤ length (now dst) ⌝ }
-    ensures { λ _. ⌜ now (dst .exit) ≡ part by n (now (dst .entry)) ++ drop n (now (dst .entry)) ⌝ }
+// The byte at a place; past the end, zero.
+fn byte_or_zero(src: &[u8], at: usize) -> u8
+    ensures { λ r. ⌜ r ≡ getD (now (src .entry)) at 0 ⌝ }
 {
-    let mut i = 0;
-    while i < n {
-        dst[i] = dst[by + i];
-        i += 1;
-    }
+    if at < src.len() { src[at] } else { 0 }
 }
 
-// Of `used` bytes the first `taken` go.
-fn drop_front(dst: &mut [u8], taken: usize, used: usize)
-    requires { ⌜ (taken ≤ used) × (used ≤ length (now dst)) ⌝ }
-    ensures { λ _. ⌜ now (dst .exit) ≡ part taken (used - taken) (now (dst .entry)) ++ (replicate taken 0 ++ drop used (now (dst .entry))) ⌝ }
+// The first `taken` bytes go, and as many zeros follow the others. In one loop, since the compiler turns a loop of zeros into a call of memset.
+fn drop_front(dst: &mut [u8], taken: usize)
+    requires { ⌜ taken ≤ length (now dst) ⌝ }
+    ensures { λ _. ⌜ now (dst .exit) ≡ drop taken (now (dst .entry)) ++ replicate taken 0 ⌝ }
 {
-    let rest = used - taken;
-    move_down(dst, taken, rest);
-    put_zeros(&mut dst[rest..used]);
+    let mut i = 0;
+    while i < dst.len() {
+        dst[i] = byte_or_zero(dst, taken + i);
+        i += 1;
+    }
 }
 
 // Of `len` pairs the first n go. Where none is left nothing moves: the whole room becomes zeros, by stores of a fixed length.
@@ -48,7 +44,8 @@ fn leave(dst: &mut [u8], n: usize, len: usize)
     ensures { λ _. ⌜ Leaves (now (dst .entry)) (now (dst .exit)) len n ⌝ }
 {
     if n < len {
-        drop_front(dst, 2 * n, 2 * len);
+        let used = 2 * len;
+        drop_front(&mut dst[0..used], 2 * n);
     } else {
         put_zeros(dst);
     }
