@@ -127,7 +127,14 @@ fn write(words: &[String]) -> Result<(), String> {
     let mut device = Device::new();
     let (mut input, mut output) = (Vec::new(), String::new());
     for k in 0..count {
-        let line = if chance.percent(15) { nearly(&mut chance) } else { asking(&mut chance) };
+        // The last is a single byte, so that one is told from none.
+        let line = if k + 1 == count {
+            b"d".to_vec()
+        } else if chance.percent(15) {
+            nearly(&mut chance)
+        } else {
+            asking(&mut chance)
+        };
         let answer = request(&line).map_or("?".into(), |call| device.answer(&call));
         output.push_str(&answer);
         output.push('\n');
