@@ -1,11 +1,10 @@
 -- The four widths, from Bytes and Dwords.
 use mathlib.Core.Path.{_≡_, sym, ap, _∙_}
 use mathlib.Core.Bool.{true, false}
-use mathlib.Core.List.{List, _++_, append-nil}
-use Prim.Native.Nat.{ℕ, _+_, _-_, _^_, _<_, _≤_}
+use mathlib.Core.List.{List, _++_}
+use Prim.Native.Nat.{ℕ, _+_, _^_, _<_}
 use native.Mathlib.Omega.{arith}
 use lib.Bits.{bitAnd}
-use borrow.Author.Tests.{le-leb, lt-leb}
 use Rattle.rules.specs.Numbers.{byteOf, withByte}
 use Rattle.rules.specs.Inputs.{half}
 use Rattle.rules.specs.Core.{turns}
@@ -30,10 +29,6 @@ module _ (o v : ℕ) {i j : List ℕ} {n : ℕ} where
   unfolding writeActs
   word-written {b₀ = b₀} {b₁} e f p q = writes-same _ (λ c. writeActs c word o v) (writes-then (λ c. byteActs c o b₀) (λ c. byteActs c (o + 1) b₁) p q) (λ d h t. byteActs (d .core) o (e t) ++ byteActs (turns (d .core) (byteActs (d .core) o (e t)) .after) (o + 1) (f t))
 
-  pub qword-first : {w : ℕ} → 2 ^ 64 - 1 < o + 4 → w ≡ half false v → Writes i j n (λ c. dwordActs o w) → Writes i j n (λ c. writeActs c qword o v)
+  pub qword-both : {k : List ℕ} {m w x : ℕ} → w ≡ half false v → x ≡ half true v → Writes i j n (λ c. dwordActs o w) → Writes j k m (λ c. dwordActs (o + 4) x) → Writes i k (n + m) (λ c. writeActs c qword o v)
   unfolding writeActs
-  qword-first {w} h e p = writes-same (λ c. dwordActs o w) (λ c. writeActs c qword o v) p (λ d g. ap (dwordActs o) e ∙ rw (lt-leb (o + 4) (2 ^ 64 - 1) h, append-nil))
-
-  pub qword-second : {k : List ℕ} {m w x : ℕ} → o + 4 ≤ 2 ^ 64 - 1 → w ≡ half false v → x ≡ half true v → Writes i j n (λ c. dwordActs o w) → Writes j k m (λ c. dwordActs (o + 4) x) → Writes i k (n + m) (λ c. writeActs c qword o v)
-  unfolding writeActs
-  qword-second {w = w} {x} h e f p q = writes-same _ (λ c. writeActs c qword o v) (writes-then (λ c. dwordActs o w) (λ c. dwordActs (o + 4) x) p q) (λ d g. (λ t. dwordActs o (e t) ++ dwordActs (o + 4) (f t)) ∙ rw (le-leb (o + 4) (2 ^ 64 - 1) h))
+  qword-both {w = w} {x} e f p q = writes-same _ (λ c. writeActs c qword o v) (writes-then (λ c. dwordActs o w) (λ c. dwordActs (o + 4) x) p q) (λ d g t. dwordActs o (e t) ++ dwordActs (o + 4) (f t))

@@ -8,17 +8,14 @@ use cells::write_run;
 use map::Width;
 ghost use mathlib.Core.Path.{_≡_};
 ghost use mathlib.Core.Bool.{true};
-ghost use Prim.Native.Nat.{_-_, _^_, _≤_, _<_};
+ghost use Prim.Native.Nat.{_+_, _-_, _^_, _≤_};
 ghost use lib.ListN.{length};
 ghost use Rattle.rules.specs.Map.{inByteArea};
 ghost use Rattle.rules.specs.Access.{word, qword, readByte, readAt, byteActs, writeActs};
 ghost use Rattle.rules.specs.Image.{imageLength};
-ghost use Rattle.map.specs.Views.{widthView};
+ghost use Rattle.map.specs.Views.{widthView, bytesIn};
 ghost use Rattle.inplace.specs.Held.{Reads, Writes};
 ghost use Rattle.cells.specs.Runs.{Run};
-
-// The last offset from which a Qword's second Dword counts.
-const LAST_QWORD: usize = map::LAST_QWORD;
 
 // In 0x100..0x39f a Byte meets only route and vector bytes.
 fn in_byte_area(offset: usize) -> bool
@@ -68,7 +65,7 @@ fn write_byte(image: &mut [u8], offset: usize, val: u8) -> u32
 // ---- Word
 
 fn read_word(image: &[u8], offset: usize) -> u64
-    requires { ⌜ (length (now image) ≡ imageLength) × (offset < 2 ^ 64 - 1) ⌝ }
+    requires { ⌜ (length (now image) ≡ imageLength) × (offset + 2 ≤ 2 ^ 64 - 1) ⌝ }
     ensures { λ r. ⌜ Reads (now (image .entry)) r (λ d. readAt (d .core) word offset) ⌝ }
 {
     let low = read_byte(image, offset) as u64;
@@ -78,7 +75,7 @@ fn read_word(image: &[u8], offset: usize) -> u64
 
 // The second Byte meets what the first left.
 fn write_word(image: &mut [u8], offset: usize, low: u32) -> u32
-    requires { ⌜ (length (now image) ≡ imageLength) × (offset < 2 ^ 64 - 1) ⌝ }
+    requires { ⌜ (length (now image) ≡ imageLength) × (offset + 2 ≤ 2 ^ 64 - 1) ⌝ }
     ensures { λ r. ⌜ (r ≤ 130) × Writes (now (image .entry)) (now (image .exit)) r (λ c. writeActs c word offset low) ⌝ }
 {
     let first = write_byte(image, offset, bits::byte_of(low, 0));
@@ -88,21 +85,18 @@ fn write_word(image: &mut [u8], offset: usize, low: u32) -> u32
 // ---- Qword
 
 fn read_qword(image: &[u8], offset: usize) -> u64
-    requires { ⌜ length (now image) ≡ imageLength ⌝ }
+    requires { ⌜ (length (now image) ≡ imageLength) × (offset + 8 ≤ 2 ^ 64 - 1) ⌝ }
     ensures { λ r. ⌜ Reads (now (image .entry)) r (λ d. readAt (d .core) qword offset) ⌝ }
 {
     if eight_together(offset) {
         return read_run(image, offset, 8);
     }
     let low = read_dword(image, offset) as u64;
-    if LAST_QWORD < offset {
-        return low;
-    }
     low | ((read_dword(image, offset + 4) as u64) << 32)
 }
 
 fn write_qword(image: &mut [u8], offset: usize, value: u64) -> u32
-    requires { ⌜ length (now image) ≡ imageLength ⌝ }
+    requires { ⌜ (length (now image) ≡ imageLength) × (offset + 8 ≤ 2 ^ 64 - 1) ⌝ }
     ensures { λ r. ⌜ (r ≤ 130) × Writes (now (image .entry)) (now (image .exit)) r (λ c. writeActs c qword offset value) ⌝ }
 {
     if eight_together(offset) {
@@ -110,17 +104,14 @@ fn write_qword(image: &mut [u8], offset: usize, value: u64) -> u32
         return 0;
     }
     let first = write_dword(image, offset, bits::half(value, false));
-    if LAST_QWORD < offset {
-        return first;
-    }
     first + write_dword(image, offset + 4, bits::half(value, true))
 }
 
 // ---- any width
 
-// What an access reads. The window ends before 2^64 - 1, so an offset is smaller.
+// What an access reads. It lies wholly inside the window, which ends at 2^64 - 1 at most.
 pub fn read_access(image: &[u8], width: Width, offset: usize) -> u64
-    requires { ⌜ (length (now image) ≡ imageLength) × (offset < 2 ^ 64 - 1) ⌝ }
+    requires { ⌜ (length (now image) ≡ imageLength) × (offset + bytesIn (widthView width) ≤ 2 ^ 64 - 1) ⌝ }
     ensures { λ r. ⌜ Reads (now (image .entry)) r (λ d. readAt (d .core) (widthView width) offset) ⌝ }
 {
     match width {
@@ -133,7 +124,7 @@ pub fn read_access(image: &[u8], width: Width, offset: usize) -> u64
 
 // An access writes; the answer is how many events were dropped.
 pub fn write_access(image: &mut [u8], width: Width, offset: usize, value: u64) -> u32
-    requires { ⌜ (length (now image) ≡ imageLength) × (offset < 2 ^ 64 - 1) ⌝ }
+    requires { ⌜ (length (now image) ≡ imageLength) × (offset + bytesIn (widthView width) ≤ 2 ^ 64 - 1) ⌝ }
     ensures { λ r. ⌜ (r ≤ 130) × Writes (now (image .entry)) (now (image .exit)) r (λ c. writeActs c (widthView width) offset value) ⌝ }
 {
     let low = bits::half(value, false);

@@ -8,7 +8,7 @@ use native.Mathlib.Omega.{arith}
 use lib.Dec.{eqb}
 use lib.ListN.{length, take, drop, getD, set}
 use lib.Seq.{sets, sets-eq, drop-cons}
-use borrow.Author.Tests.{le-leb, eqb-true}
+use borrow.Author.Tests.{eqb-true}
 use Rattle.rules.specs.Numbers.{numberOf, bytesOf, byteOf, part}
 use Rattle.rules.specs.Core.{Core, CoreTurn, setRoute, withRoutes, turns, lineTurn}
 use Rattle.rules.specs.Map.{Row, Cell, bytes, nothing, table, lookup, within, routesAt, routesEnd, vectorsAt, vectorsEnd, inRoutes, inVectors, cellAt}
@@ -126,12 +126,11 @@ unfolding readAt
 eight-read i o run r d h =
     let c = d .core in
     let y : o + 0 ≡ o = omega arith in
-    let reach : o + 4 ≤ 2 ^ 64 - 1 = ⊎-elim (λ e. omega arith) (λ e. omega arith) (run .table) in
     let four : o + 1 + 1 + 1 + 1 ≡ o + 4 = omega arith in
     let low = four-cell c o ∙ dword-of c o (sym (rw y at (run-cell run 0 (omega arith)))) in
     let high = four-cell c (o + 4) ∙ dword-of c (o + 4) (sym (run-cell run 4 (omega arith))) in
     let both : numberOf (entriesOf c o 8) ≡ numberOf (entriesOf c o 4) + 2 ^ 32 * numberOf (entriesOf c (o + 1 + 1 + 1 + 1) 4) = omega arith in
-    r d h ∙ both ∙ ap (λ k. numberOf (entriesOf c o 4) + 2 ^ 32 * numberOf (entriesOf c k 4)) four ∙ (λ t. low t + 2 ^ 32 * high t) ∙ rw (le-leb (o + 4) (2 ^ 64 - 1) reach)
+    r d h ∙ both ∙ ap (λ k. numberOf (entriesOf c o 4) + 2 ^ 32 * numberOf (entriesOf c k 4)) four ∙ (λ t. low t + 2 ^ 32 * high t)
 
 -- ---- written
 
@@ -166,13 +165,12 @@ eight-acts : (c : Core) (o v : ℕ) → Run o 8 → entriesActs o 8 v ≡ writeA
 unfolding writeActs
 eight-acts c o v run =
     let y : o + 0 ≡ o = omega arith in
-    let reach : o + 4 ≤ 2 ^ 64 - 1 = ⊎-elim (λ e. omega arith) (λ e. omega arith) (run .table) in
     let p : o + 1 + 1 + 1 + 1 ≡ o + 4 = omega arith in
     let q : v / 256 / 256 / 256 / 256 ≡ v / 2 ^ 32 = omega arith in
     let both : entriesActs o 8 v ≡ entriesActs o 4 v ++ entriesActs (o + 1 + 1 + 1 + 1) 4 (v / 256 / 256 / 256 / 256) = simp append-assoc in
     let low = four-acts o v ∙ low-acts o v ∙ dword-acts-of o (v % 2 ^ 32) (sym (rw y at (run-cell run 0 (omega arith)))) in
     let high = four-acts (o + 4) (v / 2 ^ 32) ∙ dword-acts-of (o + 4) (v / 2 ^ 32) (sym (run-cell run 4 (omega arith))) in
-    both ∙ (λ t. entriesActs o 4 v ++ entriesActs (p t) 4 (q t)) ∙ (λ t. low t ++ high t) ∙ rw (le-leb (o + 4) (2 ^ 64 - 1) reach)
+    both ∙ (λ t. entriesActs o 4 v ++ entriesActs (p t) 4 (q t)) ∙ (λ t. low t ++ high t)
 
 -- no event is made
 entry-quiet : (c : Core) (o v : ℕ) → turns c (entryActs o v) .made ≡ []

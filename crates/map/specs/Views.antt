@@ -53,3 +53,10 @@ widthView width.Byte = access.byte
 widthView width.Word = access.word
 widthView width.Dword = access.dword
 widthView width.Qword = access.qword
+
+-- how many bytes an access of a width has
+abbrev pub bytesIn : access.Width → ℕ
+bytesIn access.byte = 1
+bytesIn access.word = 2
+bytesIn access.dword = 4
+bytesIn access.qword = 8

@@ -7,9 +7,6 @@ ghost use Prim.Native.Nat.{_≤_};
 ghost use Rattle.rules.specs.Map.{cellAt};
 ghost use Rattle.map.specs.Views.{byteIndex, irqIndex, cellView};
 
-// The last offset from which a Qword's second Dword counts: past it the Rust panics or wraps.
-pub const LAST_QWORD: usize = 0xffff_ffff_ffff_fffb;
-
 // An index, where there is one: the Rust's Option<usize>.
 pub enum Index {
     None,

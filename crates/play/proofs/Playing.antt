@@ -63,39 +63,25 @@ module _ (d : Device) (n : ℕ) where
 
 -- ---- accesses
 
--- an offset in the window
-pub offset-below : (address o : ℕ) → addressTest sessionBase sessionSize address ≡ pass o → o < 2 ^ 64 - 1
-offset-below a o e =
-    test (inside sessionBase sessionSize a)
-    (λ t.
-    let r = maps.inside-from 0 0x400 a t in
-    let f : pass (a - 0) ≡ pass o = rw t at e in
-    let g : a - 0 ≡ o = cc in
-    omega arith)
-    (λ t.
-    let f : refuse (outside a) ≡ pass o = rw t at e in
-    let z : _≡_ {A = ℕ} 0 1 = cc in
-    absurd (omega arith))
-
 module _ (d : Device) (width address : ℕ) (f : Width → ℕ → Call) where
   pub width-refusal : widthTest width ≡ refuse noWidth → refusedWith d 2 ≡ playedLine d (asks (accessCall sessionBase sessionSize address width f))
   width-refusal e = ap (λ (t : Tested Call). playedLine d (asks t)) (sym (width-refused sessionBase sessionSize address width f noWidth e))
 
-  pub address-refusal : (w : Width) → widthTest width ≡ pass w → addressTest sessionBase sessionSize address ≡ refuse (outside address)
+  pub address-refusal : (w : Width) → widthTest width ≡ pass w → addressTest sessionBase sessionSize address width ≡ refuse (outside address)
       → refusedWith d 1 ≡ playedLine d (asks (accessCall sessionBase sessionSize address width f))
   address-refusal w e g = ap (λ (t : Tested Call). playedLine d (asks t)) (sym (address-refused sessionBase sessionSize address width f w (outside address) e g))
 
-  access-done : (w : Width) (o : ℕ) → widthTest width ≡ pass w → addressTest sessionBase sessionSize address ≡ pass o
+  access-done : (w : Width) (o : ℕ) → widthTest width ≡ pass w → addressTest sessionBase sessionSize address width ≡ pass o
       → record { after = step d (f w o) .after; answer = said d (f w o) } ≡ playedLine d (asks (accessCall sessionBase sessionSize address width f))
   access-done w o e g = ap (λ (t : Tested Call). playedLine d (asks t)) (sym (access-passed sessionBase sessionSize address width f w o e g))
 
-pub read-done : (d : Device) (width address v : ℕ) (w : Width) (o : ℕ) → widthTest width ≡ pass w → addressTest sessionBase sessionSize address ≡ pass o → v ≡ readAt (d .core) w o
+pub read-done : (d : Device) (width address v : ℕ) (w : Width) (o : ℕ) → widthTest width ≡ pass w → addressTest sessionBase sessionSize address width ≡ pass o → v ≡ readAt (d .core) w o
     → record { after = d; answer = equals ∷ space ∷ digits 16 v } ≡ playedLine d (asks (accessCall sessionBase sessionSize address width read))
 unfolding said
 read-done d width address v w o e g q =
     (λ i. record { after = sym (read-device d w o) i; answer = equals ∷ space ∷ digits 16 (q i) }) ∙ access-done d width address read w o e g
 
-pub write-done : (d : Device) (width address v : ℕ) (w : Width) (o : ℕ) → widthTest width ≡ pass w → addressTest sessionBase sessionSize address ≡ pass o
+pub write-done : (d : Device) (width address v : ℕ) (w : Width) (o : ℕ) → widthTest width ≡ pass w → addressTest sessionBase sessionSize address width ≡ pass o
     → record { after = acted d (writeActs (d .core) w o v); answer = letter-o ∷ letter-k ∷ [] } ≡ playedLine d (asks (accessCall sessionBase sessionSize address width (λ w o. write w o v)))
 unfolding said
 write-done d width address v w o e g =

@@ -77,7 +77,7 @@ fn play_read(state: PchPicState, width: u64, address: u64, out: &mut [u8]) -> Pl
     let Known::As(bytes) = window::width_of(width) else {
         return refused(state, 2, out);
     };
-    let Located::At(offset) = window::locate(BASE, SIZE, address) else {
+    let Located::At(offset) = window::locate(BASE, SIZE, address, width) else {
         return refused(state, 1, out);
     };
     let value = readers::read_register(state, bytes, offset);
@@ -92,7 +92,7 @@ fn play_write(state: PchPicState, width: u64, address: u64, value: u64, out: &mu
     let Known::As(bytes) = window::width_of(width) else {
         return refused(state, 2, out);
     };
-    let Located::At(offset) = window::locate(BASE, SIZE, address) else {
+    let Located::At(offset) = window::locate(BASE, SIZE, address, width) else {
         return refused(state, 1, out);
     };
     let next = writers::write_register(state, bytes, offset, value);

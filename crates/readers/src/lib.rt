@@ -6,17 +6,17 @@ use map::Register;
 use map::Width;
 use state::PchPicState;
 ghost use mathlib.Core.Path.{_≡_};
-ghost use Prim.Native.Nat.{_-_, _^_, _<_};
+ghost use Prim.Native.Nat.{_+_, _-_, _^_, _≤_};
 ghost use Rattle.rules.specs.Core.{plain};
 ghost use Rattle.rules.specs.Access.{qword, entry, valueOf, readByte, readDword, readAt};
 ghost use Rattle.state.specs.View.{view};
-ghost use Rattle.map.specs.Views.{plainView, registerView, widthView};
+ghost use Rattle.map.specs.Views.{plainView, registerView, widthView, bytesIn};
 ghost use Rattle.readers.specs.Depths.{ByteDepth, SplitDepth, DwordDepth};
 ghost use Rattle.readers.specs.Bytes.{bytesRead};
 
-// What an access reads. The window ends before 2^64 - 1, so an offset is smaller.
+// What an access reads. It lies wholly inside the window, which ends at 2^64 - 1 at most.
 pub fn read_register(state: PchPicState, width: Width, offset: usize) -> u64
-    requires { ⌜ offset < 2 ^ 64 - 1 ⌝ }
+    requires { ⌜ offset + bytesIn (widthView width) ≤ 2 ^ 64 - 1 ⌝ }
     ensures { λ r. ⌜ r ≡ readAt (view state .core) (widthView width) offset ⌝ }
 {
     match width {
@@ -29,12 +29,10 @@ pub fn read_register(state: PchPicState, width: Width, offset: usize) -> u64
 
 // Dword and then Dword.
 fn read_qword(state: PchPicState, offset: usize) -> u64
+    requires { ⌜ offset + 8 ≤ 2 ^ 64 - 1 ⌝ }
     ensures { λ r. ⌜ r ≡ readAt (view state .core) qword offset ⌝ }
 {
     let low = read_dword(state, offset, 2) as u64;
-    if map::LAST_QWORD < offset {
-        return low;
-    }
     low | ((read_dword(state, offset + 4, 2) as u64) << 32)
 }
 

@@ -74,13 +74,13 @@ abbrev pub widthTest : ℕ → Tested Width
 widthTest w =
     cond (eqb w 1) (pass byte) (cond (eqb w 2) (pass word) (cond (eqb w 4) (pass dword) (cond (eqb w 8) (pass qword) (refuse noWidth))))
 
--- 1: an address inside the window, as an offset (01, Numbers handed back)
-abbrev pub addressTest : ℕ → ℕ → ℕ → Tested ℕ
-addressTest base size address = cond (inside base size address) (pass (offset base address)) (refuse (outside address))
+-- 1: an access inside the window, as an offset (01, Numbers handed back; 02, C-14)
+abbrev pub addressTest : ℕ → ℕ → ℕ → ℕ → Tested ℕ
+addressTest base size address width = cond (inside base size address width) (pass (offset base address)) (refuse (outside address))
 
 -- an access: 2 before 1 (01, Numbers handed back)
 abbrev pub accessCall : ℕ → ℕ → ℕ → ℕ → (Width → ℕ → Call) → Tested Call
-accessCall base size address width f = onPass (widthTest width) (λ w. onPass (addressTest base size address) (λ o. pass (f w o)))
+accessCall base size address width f = onPass (widthTest width) (λ w. onPass (addressTest base size address width) (λ o. pass (f w o)))
 
 -- ---- the calls
 

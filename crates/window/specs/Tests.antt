@@ -1,5 +1,5 @@
 -- The answers of the width's and the window's test as the rules see them.
-use Prim.Native.Nat.{ℕ}
+use Prim.Native.Nat.{ℕ, _+_, _-_, _^_, _≤_}
 use Rattle.rules.specs.Access.{Width}
 use Rattle.rules.specs.Calls.{Tested, pass, refuse, noWidth, outside}
 use Rattle.map.specs.Views.{widthView}
@@ -16,3 +16,8 @@ knownView Unknown = refuse noWidth
 abbrev pub locatedView : ℕ → Located → Tested ℕ
 locatedView address (At o) = pass o
 locatedView address Outside = refuse (outside address)
+
+-- the bytes of an access inside end at an offset of 2 ^ 64 - 1 at most
+abbrev pub Ends : Located → ℕ → Type 0
+Ends (At o) width = o + width ≤ 2 ^ 64 - 1
+Ends Outside width = Unit {0}

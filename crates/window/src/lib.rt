@@ -1,11 +1,9 @@
 // Which accesses are the device's: the width, and the address within the window.
 use map::Width;
 ghost use mathlib.Core.Path.{_≡_};
-ghost use mathlib.Core.Bool.{false};
 ghost use Prim.Native.Nat.{_+_, _-_, _^_, min};
-ghost use Rattle.rules.specs.Window.{inside};
 ghost use Rattle.rules.specs.Calls.{widthTest, addressTest};
-ghost use Rattle.window.specs.Tests.{knownView, locatedView};
+ghost use Rattle.window.specs.Tests.{knownView, locatedView, Ends};
 
 // A width that is known, or not.
 pub enum Known {
@@ -25,38 +23,27 @@ pub fn width_of(width: u64) -> Known
     }
 }
 
-// base + size, or the largest number where that does not fit.
-fn end_of(base: u64, size: u64) -> u64
-    ensures { λ r. ⌜ r ≡ min (base + size) (2 ^ 64 - 1) ⌝ }
+// How many bytes the window has: its size, or what there is from its base up to 2^64 - 1.
+fn bytes_in(base: u64, size: u64) -> u64
+    ensures { λ r. ⌜ base + r ≡ min (base + size) (2 ^ 64 - 1) ⌝ }
 {
     let most = 0xffff_ffff_ffff_ffff - base;
-    if size < most {
-        base + size
-    } else {
-        0xffff_ffff_ffff_ffff
-    }
+    if size < most { size } else { most }
 }
 
-pub fn contains(base: u64, size: u64, address: u64) -> bool
-    ensures { λ r. ⌜ r ≡ inside base size address ⌝ }
-{
-    if address < base {
-        return false;
-    }
-    address < end_of(base, size)
-}
-
-// An address inside the window as an offset, or outside.
+// An access inside the window as an offset, or outside.
 pub enum Located {
     At(usize),
     Outside,
 }
 
-pub fn locate(base: u64, size: u64, address: u64) -> Located
-    ensures { λ r. ⌜ locatedView address r ≡ addressTest base size address ⌝ }
+// All bytes of an access must be inside; so no offset within it passes 2^64 - 1. An address below the base wraps to an offset past every window's end.
+pub fn locate(base: u64, size: u64, address: u64, width: u64) -> Located
+    ensures { λ r. ⌜ (locatedView address r ≡ addressTest base size address width) × Ends r width ⌝ }
 {
-    if contains(base, size, address) {
-        let offset = address - base;
+    let bytes = bytes_in(base, size);
+    let offset = std::num::wrapping_sub_u64(address, base);
+    if width <= bytes && offset <= bytes - width {
         Located::At(offset as usize)
     } else {
         Located::Outside

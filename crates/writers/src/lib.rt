@@ -6,19 +6,19 @@ use map::Register;
 use map::Width;
 use state::PchPicState;
 ghost use mathlib.Core.List.{[], _∷_};
-ghost use Prim.Native.Nat.{_-_, _^_, _<_};
+ghost use Prim.Native.Nat.{_+_, _-_, _^_, _≤_};
 ghost use Rattle.rules.specs.Inputs.{asHalf};
 ghost use Rattle.rules.specs.Core.{move, clear, setMask, setIsr, store, setPlain};
 ghost use Rattle.rules.specs.Access.{qword, registerActs, entryActs, byteActs, dwordActs, writeActs};
 ghost use Rattle.rules.specs.Device.{acted};
 ghost use Rattle.state.specs.View.{view, Well, Is};
-ghost use Rattle.map.specs.Views.{plainView, registerView, widthView};
+ghost use Rattle.map.specs.Views.{plainView, registerView, widthView, bytesIn};
 ghost use Rattle.readers.specs.Depths.{ByteDepth, SplitDepth, DwordDepth};
 ghost use Rattle.writers.specs.Bytes.{bytesWritten};
 
 // What an access writes; a value loses its bits above the width.
 pub fn write_register(state: PchPicState, width: Width, offset: usize, val: u64) -> PchPicState
-    requires { ⌜ Well state × (offset < 2 ^ 64 - 1) ⌝ }
+    requires { ⌜ Well state × (offset + bytesIn (widthView width) ≤ 2 ^ 64 - 1) ⌝ }
     ensures { λ r. ⌜ Is r (acted (view state) (writeActs (view state .core) (widthView width) offset val)) ⌝ }
 {
     let low = bits::half(val, false);
@@ -32,13 +32,10 @@ pub fn write_register(state: PchPicState, width: Width, offset: usize, val: u64)
 
 // Dword and then Dword, which meets what the first left.
 fn write_qword(state: PchPicState, offset: usize, val: u64) -> PchPicState
-    requires { ⌜ Well state ⌝ }
+    requires { ⌜ Well state × (offset + 8 ≤ 2 ^ 64 - 1) ⌝ }
     ensures { λ r. ⌜ Is r (acted (view state) (writeActs (view state .core) qword offset val)) ⌝ }
 {
     let first = write_dword(state, offset, bits::half(val, false), 2);
-    if map::LAST_QWORD < offset {
-        return first;
-    }
     write_dword(first, offset + 4, bits::half(val, true), 2)
 }
 

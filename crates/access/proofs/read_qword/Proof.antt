@@ -1,7 +1,6 @@
--- `read_qword`: eight bytes of a run at once; and else a Dword, and the next one where there is one.
-use mathlib.Core.Path.{_∙_}
+-- `read_qword`: eight bytes of a run at once; and else a Dword, and the next one.
 use native.Mathlib.Omega.{arith}
-use Rattle.rules.proofs.laws.Widths.{qword-one, qword-both}
+use Rattle.rules.proofs.laws.Widths.{qword-both}
 use Rattle.cells.proofs.Entries.{eight-read}
 use borrow.Author.Needs.{needs}
 use Rattle.access.proofs.read_qword.Statement.{statement}
@@ -18,8 +17,7 @@ read-qword-spec =
     eight-read (a .image .now) (a .offset) (t .before .eight-together .ensures (t .if1 .taken)) (c .read-run .ensures))
     (λ c κs. search needs)
     (λ c. search needs)
-    (λ c d h. c .before .read-dword .ensures d h ∙ qword-one (d .core) _ (omega arith))
     (λ c. search needs)
     (λ c κs. search needs)
     (λ c. search needs)
-    (λ c d h. qword-both (d .core) _ _ _ (omega arith) (c .before .before .read-dword .ok) (c .read-dword2 .ok) (c .before .before .read-dword .ensures d h) (c .read-dword2 .ensures d h)))
+    (λ c d h. qword-both (d .core) _ _ _ (c .before .read-dword .ok) (c .read-dword2 .ok) (c .before .read-dword .ensures d h) (c .read-dword2 .ensures d h)))

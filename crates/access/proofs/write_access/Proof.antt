@@ -21,11 +21,11 @@ write-access-spec =
     (λ c κs. search needs)
     (λ c κs. search needs)
     (λ c. search needs)
-    (λ c κs. search needs)
+    (λ c κs. let s = c .before .before .before .before .before in (s .pre .0, rw (c .before .enum-told2 .given .1) at (s .pre .1)))
     (λ c. search needs)
     (λ c κs. search needs)
     (λ c. search needs)
-    (λ c κs. search needs)
+    (λ c κs. let s = c .before .before .before .before .before in (s .pre .0, rw (c .before .enum-told4 .given .1) at (s .pre .1)))
     (λ c. search needs)
     (λ c. let w = c .before .before .write-byte .ensures in
     let a = c .before .before .before .before .before .before .before .before .before .args in

@@ -1,7 +1,7 @@
--- `write_qword`: eight bytes of a run at once; and else a Dword, and the next one where there is one.
+-- `write_qword`: eight bytes of a run at once; and else a Dword, and the next one.
 use native.Mathlib.Omega.{arith}
 use Rattle.cells.proofs.Entries.{eight-together}
-use Rattle.access.proofs.Reaching.{qword-first, qword-second}
+use Rattle.access.proofs.Reaching.{qword-both}
 use borrow.Author.Needs.{needs}
 use Rattle.access.proofs.write_qword.Statement.{statement}
 use Rattle.access.proofs.write_qword.Tie as tie
@@ -20,15 +20,11 @@ write-qword-spec =
     (λ c κs. search needs)
     (λ c κs. search needs)
     (λ c. search needs)
-    (λ c. let p = c .before .before .before in
-    let a = p .before .before .before .before .before .before .args in
-    (omega (arith, p .write-dword .ensures .0), qword-first (a .offset) (a .value) (omega arith) (p .before .half .ensures) (p .write-dword .ensures .1)))
-    (λ c. search needs)
     (λ c κs. search needs)
     (λ c κs. search needs)
     (λ c. search needs)
     (λ c. search needs)
     (λ c. let q = c .before .before in
-    let p = q .before .before .before .before .before .before in
+    let p = q .before .before .before .before .before in
     let a = p .before .before .before .before .before .before .args in
-    (omega (arith, p .write-dword .ensures .0, q .write-dword2 .ensures .0), qword-second (a .offset) (a .value) (omega arith) (p .before .half .ensures) (q .before .half2 .ensures) (p .write-dword .ensures .1) (q .write-dword2 .ensures .1))))
+    (omega (arith, p .write-dword .ensures .0, q .write-dword2 .ensures .0), qword-both (a .offset) (a .value) (p .before .half .ensures) (q .before .half2 .ensures) (p .write-dword .ensures .1) (q .write-dword2 .ensures .1))))

@@ -8,7 +8,8 @@ use Rattle.rules.specs.Session.{sessionBase, sessionSize}
 use Rattle.state.specs.View.{view}
 use Rattle.map.specs.Views.{widthView}
 use Rattle.window.specs.Tests.{knownView, locatedView}
-use Rattle.play.proofs.Playing.{plays-as, offset-below, width-refusal, address-refusal, write-done}
+use Rattle.window.proofs.Bounds.{reach}
+use Rattle.play.proofs.Playing.{plays-as, width-refusal, address-refusal, write-done}
 use Rattle.play.proofs.play_write.Statement.{statement}
 use Rattle.play.proofs.play_write.Tie as tie
 
@@ -18,8 +19,8 @@ width c = sym (c .before .before .width-of .ensures) ∙ ap knownView (c .bytes 
 abbrev asked : tie.After-offset → ℕ
 asked c = c .before .before .before .before .before .before .before .before .args .address
 
-place : (c : tie.After-offset) → addressTest sessionBase sessionSize (asked c) ≡ pass (c .offset .given .0 .0)
-place c = sym (c .before .before .locate .ensures) ∙ ap (locatedView (asked c)) (c .offset .given .1)
+place : (c : tie.After-offset) → addressTest sessionBase sessionSize (asked c) (c .before .before .before .before .before .before .before .before .args .width) ≡ pass (c .offset .given .0 .0)
+place c = sym (c .before .before .locate .ensures .0) ∙ ap (locatedView (asked c)) (c .offset .given .1)
 
 returns : tie.Need-returns
 returns c =
@@ -35,7 +36,7 @@ returns-2 c =
     let s = b .before .before .before .before in
     plays-as (c .before .before .refused2 .ensures)
     (address-refusal (view (s .args .state)) (s .args .width) (s .args .address) (λ w o. write w o (s .args .value)) _ (width b)
-    (sym (e .before .before .locate .ensures) ∙ ap (locatedView (s .args .address)) (e .enum-told2 .given .1)))
+    (sym (e .before .before .locate .ensures .0) ∙ ap (locatedView (s .args .address)) (e .enum-told2 .given .1)))
 
 returns-3 : tie.Need-returns-3
 returns-3 c =
@@ -61,7 +62,7 @@ play-write-spec =
     (λ c κs. search needs)
     (λ c. search needs)
     returns-2
-    (λ c κs. (search needs, offset-below (asked (c .before)) _ (place (c .before))))
+    (λ c κs. (search needs, reach _ _ (c .before .before .before .locate .ensures .1) (c .before .offset .given .1) (width (c .before .before .before .before .before))))
     (λ c κs. search needs)
     (λ c. search needs)
     returns-3)

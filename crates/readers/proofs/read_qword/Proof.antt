@@ -1,8 +1,5 @@
--- `read_qword` is right since its test is whether the second Dword's offset fits.
-use mathlib.Core.Path.{_∙_}
-use native.Mathlib.Omega.{arith}
 use borrow.Author.Needs.{needs}
-use Rattle.rules.proofs.laws.Widths.{qword-one, qword-both}
+use Rattle.rules.proofs.laws.Widths.{qword-both}
 use Rattle.readers.proofs.read_qword.Statement.{statement}
 use Rattle.readers.proofs.read_qword.Tie as tie
 
@@ -12,8 +9,7 @@ read-qword-spec =
     (tie.spec
     (λ c κs. search needs)
     (λ c. search needs)
-    (λ c. c .before .read-dword .ensures ∙ qword-one _ _ (omega arith))
     (λ c. search needs)
     (λ c κs. search needs)
     (λ c. search needs)
-    (λ c. qword-both _ _ _ _ (omega arith) (c .before .before .read-dword .ok) (c .read-dword2 .ok) (c .before .before .read-dword .ensures) (c .read-dword2 .ensures)))
+    (λ c. qword-both _ _ _ _ (c .before .read-dword .ok) (c .read-dword2 .ok) (c .before .read-dword .ensures) (c .read-dword2 .ensures)))

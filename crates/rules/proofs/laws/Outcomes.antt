@@ -87,12 +87,12 @@ input-passed n c h = rw (lt-ltb n 64 h)
 
 module _ (base size address width : ℕ) (f : Width → ℕ → Call) where
   pub width-refused : (r : Refusal) → widthTest width ≡ refuse r → accessCall base size address width f ≡ refuse r
-  width-refused r e = ap (λ (t : Tested Width). onPass t (λ w. onPass (addressTest base size address) (λ o. pass (f w o)))) e
+  width-refused r e = ap (λ (t : Tested Width). onPass t (λ w. onPass (addressTest base size address width) (λ o. pass (f w o)))) e
 
-  pub address-refused : (w : Width) (r : Refusal) → widthTest width ≡ pass w → addressTest base size address ≡ refuse r → accessCall base size address width f ≡ refuse r
+  pub address-refused : (w : Width) (r : Refusal) → widthTest width ≡ pass w → addressTest base size address width ≡ refuse r → accessCall base size address width f ≡ refuse r
   address-refused w r e g =
-      ap (λ (t : Tested Width). onPass t (λ w. onPass (addressTest base size address) (λ o. pass (f w o)))) e ∙ ap (λ (t : Tested ℕ). onPass t (λ o. pass (f w o))) g
+      ap (λ (t : Tested Width). onPass t (λ w. onPass (addressTest base size address width) (λ o. pass (f w o)))) e ∙ ap (λ (t : Tested ℕ). onPass t (λ o. pass (f w o))) g
 
-  pub access-passed : (w : Width) (o : ℕ) → widthTest width ≡ pass w → addressTest base size address ≡ pass o → accessCall base size address width f ≡ pass (f w o)
+  pub access-passed : (w : Width) (o : ℕ) → widthTest width ≡ pass w → addressTest base size address width ≡ pass o → accessCall base size address width f ≡ pass (f w o)
   access-passed w o e g =
-      ap (λ (t : Tested Width). onPass t (λ w. onPass (addressTest base size address) (λ o. pass (f w o)))) e ∙ ap (λ (t : Tested ℕ). onPass t (λ o. pass (f w o))) g
+      ap (λ (t : Tested Width). onPass t (λ w. onPass (addressTest base size address width) (λ o. pass (f w o)))) e ∙ ap (λ (t : Tested ℕ). onPass t (λ o. pass (f w o))) g

@@ -16,7 +16,7 @@ use Rattle.rules.specs.Core.{Core, Plain, Move, poll, raise, lower, clea
 use Rattle.rules.specs.Map.{Register, Cell, halfOf, bytes, nothing, Row, table, lookup}
 use Rattle.rules.specs.Map.{routesAt, vectorsAt, inRoutes, inVectors, inByteArea, cellAt}
 use Rattle.rules.specs.Map as map
-use Rattle.rules.specs.Access.{Width, byte, word, dword, qword, reachable, registerActs, entryActs, cellActs, dwordActs, byteActs, writeActs}
+use Rattle.rules.specs.Access.{Width, byte, word, dword, qword, registerActs, entryActs, cellActs, dwordActs, byteActs, writeActs}
 use Rattle.rules.specs.Device.{Call, actsOf}
 use Rattle.rules.specs.Device as call
 use Rattle.rules.specs.History.{byteReaches, reaches, isIsr, writesIsr}
@@ -129,11 +129,7 @@ module _ (T : Act → Type 0) where
     write-has c word o v f =
         each-append (byte-has c o (byteOf v 0) (byte-below v 0) (f .0)) (byte-has _ (o + 1) (byteOf v 1) (byte-below v 1) (f .1))
     write-has c dword o v f = dwords o (half false v) f
-    write-has c qword o v f = each-append (dwords o (half false v) (f .0)) (second (reachable (o + 4)))
-      where
-        second : (b : Bool) → Each T (cond b (dwordActs (o + 4) (half true v)) [])
-        second true = dwords (o + 4) (half true v) (f .1)
-        second false = done
+    write-has c qword o v f = each-append (dwords o (half false v) (f .0)) (dwords (o + 4) (half true v) (f .1))
 
 -- a write, where T holds of whatever it meets
 pub any-write : (T : Act → Type 0) → ((r : Register) (h : Bool) (v : ℕ) → Each T (registerActs r h v))
@@ -254,13 +250,7 @@ isr-written c word o v e =
 isr-written c dword o v e = isr-dword o (half false v) e
 isr-written c qword o v e =
     some-append setsIsr (dwordActs o (half false v)) _
-    ∙ test (isIsr o) (λ t. rw (isr-dword o (half false v) t)) (λ t. rw (second (rw t at e)) (or-true (someAct setsIsr (dwordActs o (half false v)))))
-  where
-    near : isIsr (o + 4) ≡ true → reachable (o + 4) ≡ true
-    near u = test (eqb (o + 4) 0x3a0) (λ t. rw (eqb-true (o + 4) 0x3a0 t)) (λ t. rw (eqb-true (o + 4) 0x3a4 (rw t at u)))
-
-    second : isIsr (o + 4) ≡ true → someAct setsIsr (cond (reachable (o + 4)) (dwordActs (o + 4) (half true v)) []) ≡ true
-    second u = rw (near u) (isr-dword (o + 4) (half true v) u)
+    ∙ test (isIsr o) (λ t. rw (isr-dword o (half false v) t)) (λ t. rw (isr-dword (o + 4) (half true v) (rw t at e)) (or-true (someAct setsIsr (dwordActs o (half false v)))))
 
 pub isr-acts : (c : Core) (x : Call) → writesIsr x ≡ someAct setsIsr (actsOf c x)
 unfolding actsOf

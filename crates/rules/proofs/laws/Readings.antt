@@ -156,9 +156,9 @@ module _ (d : Device) (w : WellFormed d) where
   unfolding value step actsOf acted turns returnedIn
   reads-returned request.reset c a e = absurd (let z : _≡_ {A = ℕ} 0 1 = cc in omega arith)
   reads-returned (request.read base size address width) c a e =
-      rw (access-is (widthTest width) (addressTest base size address) device.read c (asked-is e) .2)
+      rw (access-is (widthTest width) (addressTest base size address width) device.read c (asked-is e) .2)
   reads-returned (request.write base size address width v) c a e =
-      let r = access-is (widthTest width) (addressTest base size address) (λ x o. device.write x o v) c (asked-is e) in
+      let r = access-is (widthTest width) (addressTest base size address width) (λ x o. device.write x o v) c (asked-is e) in
       rw (r .2) (sym (write-returns d (r .0) (r .1) v))
   reads-returned (request.level n v) c a e =
       let b = not (eqb v 0) in
@@ -178,9 +178,9 @@ module _ (d : Device) (w : WellFormed d) where
   unfolding value step ringRun
   reads-drained request.reset c a e h = absurd (let z : _≡_ {A = ℕ} 0 1 = cc in omega arith)
   reads-drained (request.read base size address width) c a e h =
-      rw (access-is (widthTest width) (addressTest base size address) device.read c (asked-is e) .2)
+      rw (access-is (widthTest width) (addressTest base size address width) device.read c (asked-is e) .2)
   reads-drained (request.write base size address width v) c a e h =
-      rw (access-is (widthTest width) (addressTest base size address) (λ x o. device.write x o v) c (asked-is e) .2)
+      rw (access-is (widthTest width) (addressTest base size address width) (λ x o. device.write x o v) c (asked-is e) .2)
   reads-drained (request.level n v) c a e h = rw (input-is n (device.level n (not (eqb v 0))) c (asked-is e) .1)
   reads-drained (request.poll n) c a e h = rw (input-is n (device.poll n) c (asked-is e) .1)
   reads-drained (request.drain buffer place) c a e h =

@@ -33,7 +33,7 @@ width-not-seven w =
 access-not-seven : (base size address width : ℕ) (f : Width → ℕ → Call) → NotSeven (accessCall base size address width f)
 access-not-seven base size address width f =
     handed-up (widthTest width) _ (width-not-seven width)
-    (λ w. handed-up (addressTest base size address) _ (test (inside base size address) (λ e. rw e tt) (λ e. rw e)) (λ o. tt))
+    (λ w. handed-up (addressTest base size address width) _ (test (inside base size address width) (λ e. rw e tt) (λ e. rw e)) (λ o. tt))
 
 input-not-seven : (n : ℕ) (c : Call) → NotSeven (inputCall n c)
 input-not-seven n c = test (ltb n 64) (λ e. rw e tt) (λ e. rw e)

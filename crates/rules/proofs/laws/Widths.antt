@@ -60,11 +60,7 @@ module _ (c : Core) (o : ℕ) where
       let a : (k : ℕ) → k < 4 → readByte c (o + k) ≡ entry c (o + k) = λ k l. byte-inside c (o + k) (four-inside o e k l) in
       sym (dword-of c o (sym e)) ∙ rw (rw add-zero at (a 0 (omega arith)), a 1 (omega arith), a 2 (omega arith), a 3 (omega arith))
 
-  -- a Qword is its first Dword where the second is out of reach, and else both, x | y << 32
-  pub qword-one : 2 ^ 64 - 1 < o + 4 → readDword c o ≡ readAt c qword o
+  -- a Qword is both its Dwords, x | y << 32
+  pub qword-both : (x y : ℕ) → x < 2 ^ 32 → y < 2 ^ 32 → x ≡ readDword c o → y ≡ readDword c (o + 4) → bitOr x (y * 2 ^ 32 % 2 ^ 64) ≡ readAt c qword o
   unfolding readAt
-  qword-one h = rw (lt-leb (o + 4) (2 ^ 64 - 1) h) (omega arith)
-
-  pub qword-both : (x y : ℕ) → o + 4 ≤ 2 ^ 64 - 1 → x < 2 ^ 32 → y < 2 ^ 32 → x ≡ readDword c o → y ≡ readDword c (o + 4) → bitOr x (y * 2 ^ 32 % 2 ^ 64) ≡ readAt c qword o
-  unfolding readAt
-  qword-both x y h hx hy p q = rw (le-leb (o + 4) (2 ^ 64 - 1) h, shl-exact 32 32 64 hy (omega arith), or-shifted-r y 32 x hx) (omega arith)
+  qword-both x y hx hy p q = rw (shl-exact 32 32 64 hy (omega arith), or-shifted-r y 32 x hx) (omega arith)

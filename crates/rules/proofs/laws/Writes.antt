@@ -81,12 +81,8 @@ dword-acts-four o v c e =
     let a : (k : ℕ) → k < 4 → byteActs (c k) (o + k) (byteOf v k) ≡ entryActs (o + k) (byteOf v k) = λ k l. byte-acts-inside (o + k) (byteOf v k) (c k) (four-inside o e k l) in
     sym (dword-acts-of o v (sym e)) ∙ rw (rw add-zero at (a 0 (omega arith)), a 1 (omega arith), a 2 (omega arith), a 3 (omega arith))
 
--- ---- a Qword: its first Dword where the second is out of reach, and else one after the other
+-- ---- a Qword: one Dword after the other
 module _ (d : Device) (o v : ℕ) where
-  pub qword-first : 2 ^ 64 - 1 < o + 4 → acted d (dwordActs o (half false v)) ≡ acted d (writeActs (d .core) qword o v)
+  pub qword-both : acted (acted d (dwordActs o (half false v))) (dwordActs (o + 4) (half true v)) ≡ acted d (writeActs (d .core) qword o v)
   unfolding writeActs
-  qword-first h = rw (lt-leb (o + 4) (2 ^ 64 - 1) h, append-nil)
-
-  pub qword-second : o + 4 ≤ 2 ^ 64 - 1 → acted (acted d (dwordActs o (half false v))) (dwordActs (o + 4) (half true v)) ≡ acted d (writeActs (d .core) qword o v)
-  unfolding writeActs
-  qword-second h = rw (le-leb (o + 4) (2 ^ 64 - 1) h) (sym (acted-append d (dwordActs o (half false v)) (dwordActs (o + 4) (half true v))))
+  qword-both = sym (acted-append d (dwordActs o (half false v)) (dwordActs (o + 4) (half true v)))

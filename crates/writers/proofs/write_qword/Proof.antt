@@ -1,7 +1,6 @@
--- `write_qword` is right since its test is whether the second Dword's offset fits, and the second Dword meets what the first left.
-use native.Mathlib.Omega.{arith}
+-- `write_qword` is right since the second Dword meets what the first left.
 use borrow.Author.Needs.{needs}
-use Rattle.rules.proofs.laws.Writes.{qword-first, qword-second}
+use Rattle.rules.proofs.laws.Writes.{qword-both}
 use Rattle.writers.proofs.Written.{is-as, is-then}
 use Rattle.writers.proofs.write_qword.Statement.{statement}
 use Rattle.writers.proofs.write_qword.Tie as tie
@@ -12,12 +11,11 @@ write-qword-spec =
     (tie.spec
     (λ c κs. search needs)
     (λ c κs. search needs)
-    (λ c. is-as (rw (c .before .before .half .ensures) at (c .before .write-dword .ensures)) (qword-first _ _ _ (omega arith)))
     (λ c. search needs)
     (λ c κs. search needs)
     (λ c κs. search needs)
     (λ c.
-    let f = c .before .before .before in
+    let f = c .before .before in
     let first = rw (f .before .half .ensures) at (f .write-dword .ensures) in
     let second = rw (c .before .half2 .ensures) at (c .write-dword2 .ensures) in
-    is-as (is-then _ first second) (qword-second _ _ _ (omega arith))))
+    is-as (is-then _ first second) (qword-both _ _ _)))

@@ -1,5 +1,6 @@
 -- `write_register` is right since each width has its writer, a depth of 2 is enough for any offset, and the low half keeps the low bytes.
 use mathlib.Core.Path.{_∙_}
+use native.Mathlib.Omega.{arith}
 use borrow.Author.Needs.{needs}
 use Rattle.rules.specs.Access.{writeActs}
 use Rattle.writers.proofs.Bytes.{low-bytes, word-written}
@@ -17,11 +18,11 @@ write-register-spec =
     (λ c κs. search needs)
     (λ c κs. search needs)
     (λ c. search needs)
-    (λ c κs. search needs)
+    (λ c κs. let s = c .before .before .before in (s .pre .0, record { few = omega arith; fits = omega (arith, rw (c .enum-told2 .given .1) at (s .pre .1)); one = omega arith; each = λ k l n. omega arith }))
     (λ c. search needs)
     (λ c κs. search needs)
     (λ c. search needs)
-    (λ c κs. search needs)
+    (λ c κs. let s = c .before .before .before in (s .pre .0, rw (c .enum-told4 .given .1) at (s .pre .1)))
     (λ c.
     let l = low-bytes _ _ (c .before .before .before .before .half .ensures) in
     rw (c .before .before .enum-told .given .1) (rw (c .before .byte-of .ensures ∙ l .0) at (c .write-byte .ensures)))
