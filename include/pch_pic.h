@@ -117,7 +117,7 @@ enum {
 /* The numbers handed back. A call tests for them in the order 7, 4, 5, 6, then 3, or 2 before 1, and hands back the first that holds. */
 enum pch_pic_number {
     PCH_PIC_DONE = 0,     /* the call was done */
-    PCH_PIC_OUTSIDE = 1,  /* the address is outside the window; the value is the address */
+    PCH_PIC_OUTSIDE = 1,  /* not all bytes of the access are inside the window; the value is the address */
     PCH_PIC_WIDTH = 2,    /* the width is not 1, 2, 4 or 8 */
     PCH_PIC_INPUT = 3,    /* the input is 64 or more */
     PCH_PIC_LENGTH = 4,   /* the image is not 259 bytes long */
@@ -131,7 +131,7 @@ static inline const char *pch_pic_why(int number)
 {
     switch (number) {
     case PCH_PIC_DONE: return "done";
-    case PCH_PIC_OUTSIDE: return "the address is outside the window";
+    case PCH_PIC_OUTSIDE: return "the access is not wholly inside the window";
     case PCH_PIC_WIDTH: return "the width is not 1, 2, 4 or 8";
     case PCH_PIC_INPUT: return "the input is 64 or more";
     case PCH_PIC_LENGTH: return "the image is not 259 bytes long";
@@ -163,8 +163,8 @@ enum {
 /* Makes image the device after reset, whatever its 259 bytes were. No value. Refusals: 7, 4. */
 uint8_t pch_pic_reset(uint8_t *image, size_t image_len, uint8_t *answer, size_t answer_len);
 
-/* The guest reads width bytes (1, 2, 4 or 8) at address. The window is the size bytes from base on, and ends before address 2^64 - 1; only the
- * first byte of an access has to lie inside. The value is what was read: 0 where no register stands. A read changes nothing in the image.
+/* The guest reads width bytes (1, 2, 4 or 8) at address. The window is the size bytes from base on, and ends before address 2^64 - 1; all
+ * bytes of an access have to lie inside. The value is what was read: 0 where no register stands. A read changes nothing in the image.
  * Refusals: 7, 4, 5, 6, 2, 1. */
 uint8_t pch_pic_read(const uint8_t *image, size_t image_len, uint64_t base, uint64_t size, uint64_t address, uint64_t width,
                      uint8_t *answer, size_t answer_len);

@@ -183,7 +183,7 @@ fn read_at(image: &Image, width: u64, offset: u64) -> u64 {
             if let Some((at, 8..)) = entry(offset) {
                 return word(image, at);
             }
-            let high = offset.checked_add(4).map_or(0, |offset| dword(image, offset));
+            let high = dword(image, offset + 4);
             u64::from(dword(image, offset)) | u64::from(high) << 32
         }
     }
@@ -278,9 +278,7 @@ fn write_at(image: &mut Image, width: u64, offset: u64, value: u64) {
                 return put(image, at, value);
             }
             write_dword(image, offset, value as u32);
-            if let Some(offset) = offset.checked_add(4) {
-                write_dword(image, offset, (value >> 32) as u32);
-            }
+            write_dword(image, offset + 4, (value >> 32) as u32);
         }
     }
 }
@@ -291,10 +289,12 @@ fn offset_of(base: u64, size: u64, address: u64, width: u64) -> Result<u64, Outc
     if !matches!(width, 1 | 2 | 4 | 8) {
         return Err((2, None));
     }
-    if address < base || address >= base.saturating_add(size) {
+    let bytes = size.min(u64::MAX - base);
+    let offset = address.wrapping_sub(base);
+    if width > bytes || offset > bytes - width {
         return Err((1, Some(address)));
     }
-    Ok(address - base)
+    Ok(offset)
 }
 
 /// An input that is latched, unmasked and not in service goes into service.

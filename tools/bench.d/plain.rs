@@ -232,7 +232,7 @@ impl State {
             Width::Word => u64::from(u16::from_le_bytes([self.byte(offset), self.byte(offset + 1)])),
             Width::Dword => u64::from(self.dword(offset)),
             Width::Qword => {
-                let high = offset.checked_add(4).map_or(0, |offset| self.dword(offset));
+                let high = self.dword(offset + 4);
                 u64::from(self.dword(offset)) | u64::from(high) << 32
             }
         }
@@ -284,9 +284,7 @@ impl State {
             Width::Dword => self.write_dword(offset, value as u32),
             Width::Qword => {
                 self.write_dword(offset, value as u32);
-                if let Some(offset) = offset.checked_add(4) {
-                    self.write_dword(offset, (value >> 32) as u32);
-                }
+                self.write_dword(offset + 4, (value >> 32) as u32);
             }
         }
     }
@@ -311,8 +309,10 @@ impl Width {
     }
 }
 
-fn offset_of(base: u64, size: u64, address: u64) -> Result<u64, Refusal> {
-    if (base..base.saturating_add(size)).contains(&address) { Ok(address - base) } else { Err(Refusal { number: 1, value: Some(address) }) }
+/// All bytes of an access lie inside the window, which ends at 2^64 - 1 at most.
+fn offset_of(base: u64, size: u64, address: u64, width: u64) -> Result<u64, Refusal> {
+    let inside = base <= address && address.checked_add(width).is_some_and(|end| end <= base.saturating_add(size));
+    if inside { Ok(address - base) } else { Err(Refusal { number: 1, value: Some(address) }) }
 }
 
 fn input_of(input: u64) -> Result<usize, Refusal> {
@@ -359,8 +359,8 @@ pub fn read(image: &[u8], base: u64, size: u64, address: u64, width: u64, answer
         let image = whole(image)?;
         check(image)?;
         let state = State::load(image);
-        let width = Width::of(width)?;
-        Ok(Some(state.read(width, offset_of(base, size, address)?)))
+        let known = Width::of(width)?;
+        Ok(Some(state.read(known, offset_of(base, size, address, width)?)))
     };
     told(answer, looked())
 }
@@ -369,8 +369,8 @@ pub fn read(image: &[u8], base: u64, size: u64, address: u64, width: u64, answer
 pub fn write(image: &mut [u8], base: u64, size: u64, address: u64, width: u64, value: u64, answer: &mut [u8]) -> u8 {
     let Some(answer) = answer.first_chunk_mut() else { return 7 };
     let outcome = changed(image, |state| {
-        let width = Width::of(width)?;
-        state.write(width, offset_of(base, size, address)?, value);
+        let known = Width::of(width)?;
+        state.write(known, offset_of(base, size, address, width)?, value);
         Ok(None)
     });
     told(answer, outcome)

@@ -1,7 +1,7 @@
 //! One call made on both sides, and everything compared: the number handed back, and every byte of image, answer area, event buffer and
 //! of the edges around them.
 
-use crate::boundary::{Boundary, LAST_COMPARED};
+use crate::boundary::{Boundary, straddles};
 use crate::call::Call;
 use crate::caught::caught;
 use crate::fixed::{History, Says};
@@ -29,8 +29,8 @@ pub struct Met {
     pub at_stop: u64,
     /// Calls on an image with masked bits in ISR.
     pub masked_isr: u64,
-    /// Qwords past offset 2^64 - 5, where 01's rule is expected and not the Rust.
-    pub far_end: u64,
+    /// Accesses over the window's end, where 02's rule is expected and not the Rust.
+    pub straddling: u64,
 }
 
 pub struct Bench {
@@ -244,6 +244,11 @@ impl Bench {
         };
         met.kinds[kind] += 1;
         met.numbers[number as usize] += 1;
+        if let Call::Read { base, size, address, width } | Call::Write { base, size, address, width, .. } = *call
+            && number == 1
+        {
+            met.straddling += u64::from(straddles(base, size, address, width));
+        }
         if number != 0 {
             return;
         }
@@ -252,9 +257,6 @@ impl Bench {
         match *call {
             Call::Level { .. } | Call::Poll { .. } => met.vectors_returned += u64::from(answer[1]),
             Call::Drain { .. } => met.events_drained += u64::from(answer[8]),
-            Call::Read { base, address, width: 8, .. } | Call::Write { base, address, width: 8, .. } => {
-                met.far_end += u64::from(address - base > LAST_COMPARED)
-            }
             _ => {}
         }
         if self.before.len() == image::LENGTH && self.before[image::COUNT] == 16 {

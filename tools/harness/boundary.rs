@@ -5,9 +5,6 @@ use crate::call::Call;
 use crate::image::{self, Image, LENGTH};
 use oracle::{AccessWidth, DeviceError, GuestPhysAddr, LoongArchPchPic, PchPicOutputEvent, PchPicOutputPort};
 
-/// Up to this offset the Rust decides a Qword; past it, it panics or wraps, and 01's rule stands in (01, The four widths).
-pub const LAST_COMPARED: u64 = u64::MAX - 4;
-
 pub struct Boundary {
     device: LoongArchPchPic,
     drops: u32,
@@ -82,14 +79,14 @@ impl Boundary {
     }
 
     fn read(&mut self, base: u64, size: u64, address: u64, width: AccessWidth) -> Result<u64, (u8, Option<u64>)> {
+        not_straddling(base, size, address, width)?;
         self.device.set_window(base as usize, size as usize);
-        let width = first_half_alone(base, address, width);
         inside(base, size, address, self.device.read_register(GuestPhysAddr::from_usize(address as usize), width)).map(|value| value as u64)
     }
 
     fn write(&mut self, base: u64, size: u64, address: u64, width: AccessWidth, value: u64) -> Result<(), (u8, Option<u64>)> {
+        not_straddling(base, size, address, width)?;
         self.device.set_window(base as usize, size as usize);
-        let width = first_half_alone(base, address, width);
         inside(base, size, address, self.device.write_register(GuestPhysAddr::from_usize(address as usize), width, value as usize))
     }
 
@@ -140,12 +137,24 @@ fn input_of(input: u64) -> Result<usize, (u8, Option<u64>)> {
     if input < 64 { Ok(input as usize) } else { Err((3, None)) }
 }
 
-/// 01's rule where a Qword's offset + 4 passes 2^64 - 1: the second half reads 0 and is ignored, so that a Dword is left.
-fn first_half_alone(base: u64, address: u64, width: AccessWidth) -> AccessWidth {
-    if width == AccessWidth::Qword && address >= base && address - base > LAST_COMPARED { AccessWidth::Dword } else { width }
+/// Whether the first byte of an access is inside the window and its last one is not.
+pub fn straddles(base: u64, size: u64, address: u64, width: u64) -> bool {
+    let end = (u128::from(base) + u128::from(size)).min(u128::from(u64::MAX));
+    base <= address && u128::from(address) < end && u128::from(address) + u128::from(width) > end
 }
 
-/// The Rust's own window test decides; 01's rule, in numbers that do not overflow, must agree with it.
+/// 02's rule, C-14, stands in for the Rust, which tests the first byte alone: an access over the window's end is outside.
+fn not_straddling(base: u64, size: u64, address: u64, width: AccessWidth) -> Result<(), (u8, Option<u64>)> {
+    let bytes = match width {
+        AccessWidth::Byte => 1,
+        AccessWidth::Word => 2,
+        AccessWidth::Dword => 4,
+        AccessWidth::Qword => 8,
+    };
+    if straddles(base, size, address, bytes) { Err((1, Some(address))) } else { Ok(()) }
+}
+
+/// Of all other accesses the Rust's own window test decides; 01's rule, in numbers that do not overflow, must agree with it.
 fn inside<T>(base: u64, size: u64, address: u64, answer: Result<T, DeviceError>) -> Result<T, (u8, Option<u64>)> {
     let end = (u128::from(base) + u128::from(size)).min(u128::from(u64::MAX));
     let ours = base <= address && u128::from(address) < end;

@@ -9,7 +9,7 @@ use crate::under_test;
 use oracle::{AccessWidth, GuestPhysAddr, LoongArchPchPic};
 
 pub fn show() {
-    far_end();
+    straddling();
     inputs_from_64();
     drops();
     draining();
@@ -52,30 +52,25 @@ impl Library {
     }
 }
 
-fn far_end() {
-    println!("Qwords near the far end, base 0, size 2^64 - 1, from reset:");
-    let (device, mut library) = (device(), Library::new());
-    let (reset, saved) = (device.plain(), library.0.image.bytes().to_vec());
-    for offset in usize::MAX - 5..usize::MAX {
-        let address = GuestPhysAddr::from_usize(offset);
-        let read = match caught(|| device.read_register(address, AccessWidth::Qword)) {
-            Ok(value) => format!("{:#x}", value.expect("an address inside")),
+fn straddling() {
+    println!("Accesses over the window's end, from reset:");
+    const ALL: usize = usize::MAX;
+    let accesses = [
+        (1, 0, AccessWidth::Word, 2),
+        (0x400, 0x3fc, AccessWidth::Qword, 8),
+        (ALL, ALL - 7, AccessWidth::Qword, 8),
+        (ALL, ALL - 3, AccessWidth::Qword, 8),
+    ];
+    for (size, address, width, bytes) in accesses {
+        let (mut device, mut library) = (device(), Library::new());
+        device.set_window(0, size);
+        let read = match caught(|| device.read_register(GuestPhysAddr::from_usize(address), width)) {
+            Ok(Ok(value)) => format!("{value:#x}"),
+            Ok(Err(_)) => "outside".into(),
             Err(words) => format!("panics, '{words}'"),
         };
-        let written = match caught(|| device.write_register(address, AccessWidth::Qword, usize::MAX)) {
-            Ok(_) if device.plain() == reset => "nothing changes".into(),
-            Ok(_) => "the state changes".into(),
-            Err(words) => format!("panics, '{words}'"),
-        };
-        device.reset();
-        let (base, size, address, width) = (0, u64::MAX, offset as u64, 8);
-        let ours = library.call(Call::Read { base, size, address, width });
-        library.call(Call::Write { base, size, address, width, value: u64::MAX });
-        let changes = if library.0.image.bytes() == saved { "nothing changes" } else { "the state changes" };
-        println!(
-            "  offset 2^64 - {}: Rust: read {read}, written: {written}; library: read {ours}, written: {changes}",
-            usize::MAX - offset + 1
-        );
+        let ours = library.call(Call::Read { base: 0, size: size as u64, address: address as u64, width: bytes });
+        println!("  base 0, size {size:#x}, {bytes} bytes at {address:#x}: Rust: {read}; library: {ours}");
     }
 }
 

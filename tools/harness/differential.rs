@@ -100,8 +100,8 @@ fn tell(bench: &Bench) {
     eprintln!("differential: numbers handed back {}", numbers.join(", "));
     eprintln!(
         "differential: vectors returned {}, events drained {}, calls on a full ring {}, calls that dropped {}, count at its stop {}, \
-         masked bits in ISR {}, Qwords past 2^64 - 5 {}",
-        met.vectors_returned, met.events_drained, met.full_ring, met.dropping, met.at_stop, met.masked_isr, met.far_end
+         masked bits in ISR {}, accesses over the window's end {}",
+        met.vectors_returned, met.events_drained, met.full_ring, met.dropping, met.at_stop, met.masked_isr, met.straddling
     );
 }
 

@@ -5,7 +5,7 @@ use core::fmt;
 
 /// The guest-physical addresses of a device: `size` bytes from `base` on.
 ///
-/// The window ends before address 2^64 - 1, and only the first byte of an access has to lie inside.
+/// The window ends before address 2^64 - 1, and all bytes of an access have to lie inside.
 #[derive(Clone, Copy, Debug, PartialEq, Eq, Hash)]
 pub struct Window {
     /// The first address.

@@ -67,11 +67,12 @@ impl PchPic {
     /// let (pic, window) = (PchPic::new(), Window::at(0x1000_0000));
     /// assert_eq!(pic.read(window, 0x1000_0000 + reg::MASK, Width::Dword), Ok(0xffff_ffff));
     /// assert_eq!(pic.read(window, 0x1000_0400, Width::Dword), Err(Error::Outside(0x1000_0400)));
+    /// assert_eq!(pic.read(window, 0x1000_03fc, Width::Qword), Err(Error::Outside(0x1000_03fc)));
     /// ```
     ///
     /// # Errors
     ///
-    /// [`Error::Outside`] where the address is outside the window.
+    /// [`Error::Outside`] where the access is not wholly inside the window.
     pub fn read(&self, window: Window, address: u64, width: Width) -> Result<u64, Error> {
         let value = ffi::read(&self.image, window, address, width.bytes())?;
         Ok(value.expect("a done read has a value"))
@@ -91,7 +92,7 @@ impl PchPic {
     ///
     /// # Errors
     ///
-    /// [`Error::Outside`] where the address is outside the window.
+    /// [`Error::Outside`] where the access is not wholly inside the window.
     pub fn write(&mut self, window: Window, address: u64, width: Width, value: u64) -> Result<(), Error> {
         ffi::write(&mut self.image, window, address, width.bytes(), value).map(|_| ())
     }

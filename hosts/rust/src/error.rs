@@ -16,7 +16,7 @@ use core::fmt;
 #[derive(Clone, Copy, Debug, PartialEq, Eq, Hash)]
 #[non_exhaustive]
 pub enum Error {
-    /// 1: this address is outside the window.
+    /// 1: an access at this address is not wholly inside the window.
     Outside(u64),
     /// 2: the width is not 1, 2, 4 or 8.
     Width,
@@ -72,7 +72,7 @@ impl Error {
 impl fmt::Display for Error {
     fn fmt(&self, f: &mut fmt::Formatter<'_>) -> fmt::Result {
         match self {
-            Error::Outside(address) => write!(f, "the address {address:#x} is outside the window"),
+            Error::Outside(address) => write!(f, "an access at address {address:#x} is not wholly inside the window"),
             Error::Width => f.write_str("the width is not 1, 2, 4 or 8"),
             Error::Input => f.write_str("the input is 64 or more"),
             Error::Length => f.write_str("the image is not 259 bytes long"),
