@@ -1,10 +1,10 @@
--- The ring: an offer by the room that it finds, and runs of offers and drains joined.
+-- The ring: an offer by the room that it finds, a drain, and runs of offers and drains joined.
 use mathlib.Core.Path.{_≡_, refl, sym, ap, _∙_}
 use mathlib.Core.List.{List, [], _∷_, _++_, append-assoc}
-use Prim.Native.Nat.{_+_, _<_, _≤_, min}
-use lib.ListN.{length}
+use Prim.Native.Nat.{ℕ, _+_, _<_, _≤_, min}
+use lib.ListN.{length, take-append-drop}
 use borrow.Author.Tests.{lt-ltb, le-ltb}
-use Rattle.rules.specs.Ring.{capacity, stop, Event, Ring, RingAct, Drawn, offered, ringStep, ringRun}
+use Rattle.rules.specs.Ring.{capacity, stop, Event, Ring, RingAct, Drawn, offered, drawn, ringStep, ringRun}
 
 -- an event that finds room waits behind the others
 pub offered-room : (r : Ring) (e : Event) → length (r .waiting) < capacity → offered r e ≡ record { waiting = r .waiting ++ (e ∷ []); drops = r .drops }
@@ -15,6 +15,11 @@ offered-room r e h = rw (lt-ltb (length (r .waiting)) capacity h)
 pub offered-full : (r : Ring) (e : Event) → capacity ≤ length (r .waiting) → offered r e ≡ record { waiting = r .waiting; drops = min (r .drops + 1) stop }
 unfolding offered
 offered-full r e h = rw (le-ltb (length (r .waiting)) capacity h)
+
+-- a drain takes the oldest: what it takes and what it leaves is what waited, in order
+pub drawn-in-order : (r : Ring) (k : ℕ) → drawn r k .drained ++ drawn r k .after .waiting ≡ r .waiting
+unfolding drawn
+drawn-in-order r k = take-append-drop k (r .waiting)
 
 -- a run of two parts is the second part's run after the first's
 pub run-append : (r : Ring) (xs ys : List RingAct)
