@@ -1,4 +1,4 @@
--- Exported calls: which of them are loads, the history that they carry on, what a host reads of them, and what each promises.
+-- Exported calls: which of them are loads, the history that they carry on, and what a host reads of them.
 use mathlib.Core.Bool.{Bool, true, false, cond, not, _&&_, _||_}
 use mathlib.Core.List.{List, [], _∷_, _++_}
 use mathlib.Core.Path.{_≡_}
