@@ -20,6 +20,7 @@ use Rattle.rules.specs.Device as call
 use Rattle.rules.specs.History.{history}
 use Rattle.histories.specs.Demands.{Each, asEvent}
 use Rattle.rules.proofs.laws.Bits.{test, put-lt, without-lt}
+use Rattle.rules.proofs.laws.Rings.{count-stops}
 use Rattle.rules.proofs.laws.Steps.{drain-well}
 use Rattle.histories.proofs.laws.Reach.{StoresBytes, byte-acts}
 use Rattle.histories.proofs.laws.Folds.{fold-acts}
@@ -203,13 +204,14 @@ record WellRing (r : Ring) : Type 0 where
 offered-well : (r : Ring) (e : Event) → e .vector < 256 → WellRing r → WellRing (offered r e)
 unfolding offered
 offered-well r e h w =
+    let drops = count-stops r e (w .drops) in
     test (ltb (length (r .waiting)) capacity)
     (λ t. rw t (record {
       eventBytes = bytes-map-append (λ (x : Event). x .vector) (r .waiting) (e ∷ []) (w .eventBytes) (elim [ zero ↦ h | suc i ↦ lit< tt ]);
       waiting = simp length-append (omega (arith, ltb-true (length (r .waiting)) capacity t));
-      drops = w .drops;
+      drops = rw t at drops;
     }))
-    (λ t. rw t (record { eventBytes = w .eventBytes; waiting = w .waiting; drops = omega arith }))
+    (λ t. rw t (record { eventBytes = w .eventBytes; waiting = w .waiting; drops = rw t at drops }))
 
 offers-well : (r : Ring) (ms : List Made) → ByteEvents ms → WellRing r → WellRing (ringRun r (offers ms) .after)
 unfolding offers ringRun ringStep
