@@ -15,7 +15,7 @@ use Rattle.rules.specs.Core.{Plain, Plain-discrete, htmsiEn, edge, pol, 
 use Rattle.rules.specs.Form.{Word, mask, irr, isr, copy, stored, Word-discrete, Field, word, routes, vectors, count, drops, pairs, Field-discrete}
 use Rattle.rules.specs.Form.{size, decided, is, listed, total, before, from, laid}
 use Rattle.rules.specs.Form.{Form, one, fields, has, contentsLength, formLength, place, contentsOf, read, image}
-pub use Rattle.rules.proofs.laws.Bits.{test}
+use Rattle.rules.proofs.laws.Bits.{test}
 use Rattle.rules.proofs.laws.Lists.{part-then}
 use Rattle.rules.proofs.laws.Parts.{put-there, put-before, put-behind, length-put}
 

@@ -1,4 +1,4 @@
--- A poll, and a raise, of an input that is unmasked and latched brings it into service, or leaves it there.
+-- A poll of an input that is latched and unmasked brings it into service, or finds it there; so does a raise of one that is unmasked.
 use mathlib.Core.Path.{_≡_, refl, _∙_}
 use mathlib.Core.Bool.{true, false, or-true}
 use mathlib.Core.List.{List}
@@ -9,17 +9,19 @@ use Rattle.rules.specs.Lines.{Lines, withIrr, polled, raised}
 use Rattle.rules.proofs.laws.Bits.{test, on-put}
 use Rattle.rules.proofs.laws.Inputs.{only-waiting}
 
-module _ (n : ℕ) (b : n < 64) (vs : List ℕ) (l : Lines) where
-  pub poll-serves : on (l .irr) n ≡ true → on (l .mask) n ≡ false → on (polled vs l n .after .isr) n ≡ true
+module _ (n : ℕ) (b : n < 64) where
+  on-put-self : (x : ℕ) → on (put x n) n ≡ true
+  on-put-self x = on-put x n n b ∙ rw (eq-eqb n n refl) (or-true (on x n))
+
+  pub poll-serves : (vs : List ℕ) (l : Lines) → on (l .irr) n ≡ true → on (l .mask) n ≡ false → on (polled vs l n .after .isr) n ≡ true
   unfolding polled
-  poll-serves latched unmasked =
-      rw (only-waiting n l b, latched, unmasked)
-      (test (on (l .isr) n) (λ e. rw e e) (λ e. rw e (on-put (l .isr) n n b ∙ rw (eq-eqb n n refl) (or-true (on (l .isr) n)))))
+  poll-serves vs l latched unmasked =
+      rw (only-waiting n l b, latched, unmasked) (test (on (l .isr) n) (λ e. rw e e) (λ e. rw e (on-put-self (l .isr))))
 
--- a raise latches it
-pub raise-latches : (n : ℕ) → n < 64 → (l : Lines) → on (put (l .irr) n) n ≡ true
-raise-latches n b l = on-put (l .irr) n n b ∙ rw (eq-eqb n n refl) (or-true (on (l .irr) n))
+  -- a raise latches it
+  pub raise-latches : (l : Lines) → on (put (l .irr) n) n ≡ true
+  raise-latches l = on-put-self (l .irr)
 
-pub raise-serves : (n : ℕ) → n < 64 → (vs : List ℕ) (l : Lines) → on (l .mask) n ≡ false → on (raised vs l n .after .isr) n ≡ true
-unfolding raised
-raise-serves n b vs l unmasked = poll-serves n b vs (withIrr l (put (l .irr) n)) (raise-latches n b l) unmasked
+  pub raise-serves : (vs : List ℕ) (l : Lines) → on (l .mask) n ≡ false → on (raised vs l n .after .isr) n ≡ true
+  unfolding raised
+  raise-serves vs l unmasked = poll-serves vs (withIrr l (put (l .irr) n)) (raise-latches l) unmasked
