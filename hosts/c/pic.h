@@ -77,8 +77,8 @@ int pic_line(struct pic *pic, struct pic_wires *wires, uint64_t input, bool high
 /* After a load: the lines are as high says, and the rest follows. wires->on says what the controller above has on: nothing where it is new. */
 int pic_resume(struct pic *pic, struct pic_wires *wires, uint64_t high);
 
-/* The device to a file and back (pic_file.c). The file has a magic, a length and a checksum, and is replaced whole or not at all. A load that
- * fails leaves pic as it was; after one that is done, pic_resume. */
+/* The device to a file and back (pic_file.c). The file has a magic, a length and a checksum, and is replaced whole or not at all. The window is not in
+ * it: pic_init sets that, before a load too. A load that fails leaves pic as it was; after one that is done, pic_resume. */
 int pic_save(const struct pic *pic, const char *path);
 int pic_load(struct pic *pic, const char *path);
 

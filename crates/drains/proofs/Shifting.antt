@@ -13,11 +13,10 @@ use lib.Seq.{take-suc, take-suc-set, drop-set-lt, drop-drop, getD-drop, take-at,
 use borrow.Rule.Slice.PartMut.{putMid}
 use Rattle.rules.specs.Numbers.{bytesOf, part}
 use Rattle.rules.specs.Ring.{flag, Event, drawn, pairsOf}
-use Rattle.rules.specs.Device.{Device, WellFormed, drain}
+use Rattle.rules.specs.Device.{Device}
 use Rattle.rules.specs.Image.{countAt, pairsAt, contents, registersBody, ringBody, encode, countOf}
 use Rattle.rules.proofs.laws.Images.{length-pairsOf, unusedAfter, count-stands, encode-bodies}
-use Rattle.rules.proofs.laws.Steps.{drain-device}
-use Rattle.rules.proofs.laws.WellFormed.{step-well}
+use Rattle.rules.proofs.laws.Steps.{drain-well}
 use Rattle.inplace.specs.Held.{Holds, withRing}
 use Rattle.drains.specs.Drained.{Drains, Leaves}
 
@@ -185,7 +184,7 @@ drains-here i entry ys ps m n c e g f =
     let whole : 2 * n - 0 ≡ 2 * n = omega arith in
     record {
       does = record {
-        becomes = λ d h. record { well = subst WellFormed (drain-device d k) (step-well d (drain k) (h .well)); image = drained-image h m n k ps c e f };
+        becomes = λ d h. record { well = drain-well d k (h .well); image = drained-image h m n k ps c e f };
         gives = λ d h. drained-count h m n k c e;
       };
       pairs = λ d h. λ t. (g ∙ ap (λ j. part 227 j i) width ∙ drained-pairs h m n k c e) t ++ drop (whole t) entry;

@@ -14,7 +14,8 @@ use Rattle.rules.specs.Form as rules-form
 use Rattle.rules.specs.Image.{registerAt, wordIn, countIn, rules, Finding, clear, found, firstFault}
 use Rattle.rules.proofs.laws.Lists.{part-add, part-part}
 use Rattle.rules.proofs.laws.Bytes.{part-known}
-use Rattle.rules.proofs.laws.Layout.{test, always, has-all, field-fits}
+use Rattle.rules.proofs.laws.Bits.{test}
+use Rattle.rules.proofs.laws.Layout.{always, has-all, field-fits}
 use Rattle.rules.proofs.laws.Tests.{clear-ruled, ruled-clear}
 use Rattle.image.specs.Shown.{formView, placeIn, PlacesOf, isClear, bodiesGood, pairsGood}
 use Rattle.image.specs.declared.form.Form.{Form}

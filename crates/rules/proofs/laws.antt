@@ -21,12 +21,6 @@ pub mod Refusals
 pub mod Maps
 pub mod Widths
 pub mod Writes
-pub mod Reach
-pub mod Folds
 pub mod Counts
-pub mod Latches
-pub mod Carriers
-pub mod Draining
-pub mod WellFormed
-pub mod Chains
-pub mod Readings
+pub mod Serving
+pub mod Answers

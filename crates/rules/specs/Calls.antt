@@ -1,10 +1,11 @@
 -- The six exported calls, on any bytes, numbers and lengths: the number handed back, and every byte of image, answer area and event buffer afterwards.
 use mathlib.Core.Bool.{Bool, cond, not, _&&_}
 use mathlib.Core.List.{List, [], _∷_, _++_}
+use mathlib.Core.Path.{_≡_}
 use Prim.Native.Nat.{ℕ, _+_, _-_, _*_, _/_}
 use lib.Dec.{eqb, leb, ltb}
-use lib.ListN.{length, take, drop}
-use Rattle.rules.specs.Numbers.{bytesOf}
+use lib.ListN.{length, take, drop, getD}
+use Rattle.rules.specs.Numbers.{bytesOf, numberOf, part}
 use Rattle.rules.specs.Ring.{Event, pairsOf}
 use Rattle.rules.specs.Access.{Width, byte, word, dword, qword}
 use Rattle.rules.specs.Device.{Device, Call, Value, none, some, step, value}
@@ -140,6 +141,13 @@ amount (some v) = v
 unfoldable pub answered : ℕ → Value → List ℕ → List ℕ
 answered number v a = (number ∷ present v ∷ 0 ∷ 0 ∷ 0 ∷ 0 ∷ 0 ∷ 0 ∷ bytesOf 8 (amount v)) ++ drop answerLength a
 
+-- what a host reads in an answer area: whether a value is present, and the value (01, The boundary)
+abbrev pub presentIn : List ℕ → Bool
+presentIn a = eqb (getD a 1 0) 1
+
+abbrev pub valueIn : List ℕ → ℕ
+valueIn a = numberOf (part 8 8 a)
+
 -- the event buffer of a request; of any but a drain there is none
 abbrev pub bufferOf : Request → List ℕ
 bufferOf reset = []
@@ -184,3 +192,13 @@ hasRoom q a = leb answerLength (length a) && leb (placeOf q) (length (bufferOf q
 -- what a request leaves of any image and answer area; refusal 7 comes first and leaves every byte (01, Numbers handed back; 00, demand 1)
 unfoldable pub outcome : Request → List ℕ → List ℕ → Outcome
 outcome q i a = cond (hasRoom q a) (settled q i a (performed (askedBy q) i)) (leaves (refusalNumber noRoom) i a (bufferOf q))
+
+-- ---- promises
+
+-- a call's promise: what it leaves of the image i and the answer area a, where q is asked, is `outcome` in its number and in every byte of image, answer
+-- area and event buffer (01, How tight the promises are)
+pub record Promised (q : Request) (i a : List ℕ) (x : Outcome) : Type 0 where
+  pub number : x .number ≡ outcome q i a .number
+  pub image : x .image ≡ outcome q i a .image
+  pub answer : x .answer ≡ outcome q i a .answer
+  pub events : x .events ≡ outcome q i a .events

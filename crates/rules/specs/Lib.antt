@@ -22,7 +22,6 @@ pub mod Form
 pub mod Image
 pub mod Calls
 pub mod History
-pub mod Demands
-pub mod Exported
+pub mod Account
 pub mod Session
 pub mod Dozen

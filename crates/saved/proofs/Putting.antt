@@ -14,7 +14,8 @@ use Rattle.rules.specs.Image.{fieldOf, encodeAs, registerAt}
 use Rattle.rules.proofs.laws.Lists.{length-part, part-add}
 use Rattle.rules.proofs.laws.Bytes.{length-bytesOf, part-number}
 use Rattle.rules.proofs.laws.Parts.{start}
-use Rattle.rules.proofs.laws.Layout.{test, is-sound, always, has-all, listed-append, image-known, length-contents, length-over, read-over, other-over, head-over}
+use Rattle.rules.proofs.laws.Bits.{test}
+use Rattle.rules.proofs.laws.Layout.{is-sound, always, has-all, listed-append, image-known, length-contents, length-over, read-over, other-over, head-over}
 use Rattle.rules.proofs.laws.Saved.{bytes-contents}
 use Rattle.image.specs.Shown.{placeIn, PlacesOf, ContentsOf}
 use Rattle.bytes.specs.Put.{withBytes}

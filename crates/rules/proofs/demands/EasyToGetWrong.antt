@@ -3,16 +3,10 @@ use mathlib.Core.Path.{_≡_, refl, ap, _∙_}
 use mathlib.Core.Bool.{Bool, true, false, not, _&&_, and-false}
 use mathlib.Core.List.{List, [], _∷_, _++_, map}
 use Prim.Native.Nat.{ℕ, zero, suc, _<_}
-use native.Mathlib.Omega.{arith}
 use lib.ListN.{getD}
-use Rattle.rules.specs.Inputs.{on, inputs, only, without}
+use Rattle.rules.specs.Inputs.{on, inputs, without}
 use Rattle.rules.specs.Lines.{Lines, Made, event, isPending, withMask, serve, pendingIn, servedIn, newlyUnmasked, newlyMasked, cleared, masked}
-use Rattle.rules.specs.Device.{Device, Call, step}
-use Rattle.rules.specs.History.{history, Along}
-use Rattle.rules.specs.Demands.{Clears, Unraised, assertsOf}
 use Rattle.rules.proofs.laws.Bits.{on-without}
-use Rattle.rules.proofs.laws.Latches.{quiet-until-raised, clear-silent, call-unlatches}
-use Rattle.rules.proofs.laws.Counts.{tally-append}
 
 abbrev assertFlags : List Made → List Bool
 assertFlags ms = map (λ (m : Made). m .asserted) ms
@@ -41,13 +35,3 @@ unfolding cleared
 cleared-needs-raise vs l b n h e =
     ap (λ (x : Bool). x && not (on (l .mask) n) && not (on (without (l .isr) (on b)) n))
     (on-without (l .irr) (on b) n h ∙ ap (λ (x : Bool). on (l .irr) n && not x) e ∙ and-false (on (l .irr) n))
-
--- and over any calls: c clears n (CLEAR is written with its bit), and none of the calls after it raises n. Then from c on no assert of n is made, whatever
--- is polled, unmasked or written
-pub no-assert-until-raised : (n : ℕ) → n < 64 → (d : Device) (c : Call) (later : List Call) → Clears n d c → Along (Unraised n) (step d c .after) later
-    → assertsOf n (history d (c ∷ later) .made) ≡ 0
-unfolding history
-no-assert-until-raised n b d c later s p =
-    let first = clear-silent n b d c s in
-    let rest = quiet-until-raised n b (step d c .after) later p (call-unlatches n b d c s) .silent in
-    omega (arith, tally-append (λ m. m .asserted && only n (m .input)) (step d c .made) (history (step d c .after) later .made), first, rest)

@@ -3,8 +3,7 @@
 use mathlib.Core.Path.{_≡_, refl, sym, ap, _∙_}
 use mathlib.Core.List.{List}
 use Prim.Native.Nat.{ℕ}
-use Rattle.rules.specs.Calls.{Request, reset, read, write, level, poll, drain, Outcome, leaves, outcome}
-use Rattle.rules.specs.Exported.{Promised}
+use Rattle.rules.specs.Calls.{Request, reset, read, write, level, poll, drain, Outcome, leaves, outcome, Promised}
 
 -- The contract of an exported call is one equation: x, the number and the bytes that it leaves, is `outcome` of what it is asked, the image and the answer
 -- area at entry. That is the promise, no more and no less.

@@ -10,11 +10,10 @@ use borrow.Author.Tests.{eqb-true}
 use Rattle.rules.specs.Inputs.{on, from, inputs, only, put, without, withHalf}
 use Rattle.rules.specs.Lines.{Lines, Made, Turn, stay, andThen, event, pendingIn, servedIn, serve, enter, leave, withIrr, withMask}
 use Rattle.rules.specs.Lines.{newlyUnmasked, newlyMasked, polled, raised, lowered, cleared, masked}
-use Rattle.rules.specs.Core.{Move, poll, raise, lower, clear, setMask, Act, move, setIsr, store, setVector, moved, lineTurn}
-use Rattle.rules.specs.Demands.{tally, assertsWith, deassertsWith, servedWith}
+use Rattle.rules.specs.Core.{Move, poll, raise, lower, clear, setMask, moved}
+use Rattle.rules.specs.Account.{tally, assertsWith, deassertsWith, servedWith, hasVector, carries, asserts, deasserts}
 use Rattle.rules.proofs.laws.Bits.{test, on-put, on-without}
 use Rattle.rules.proofs.laws.Inputs.{inputs-ext, only-input, first-has}
-use Rattle.rules.proofs.laws.Reach.{NotIsr}
 
 -- ---- how many inputs
 
@@ -105,7 +104,7 @@ others false false true h = refl
 others false p false h = refl
 
 module _ (vs : List ℕ) (p : ℕ → Bool) (q : Made → Bool) (h : (o a : Bool) (n : ℕ) → q (event vs o a n) ≡ p n) where
-  abbrev pub Balanced : Lines → Turn → Type 0
+  abbrev Balanced : Lines → Turn → Type 0
   Balanced l t = assertsWith q (t .made) + servedWith p l ≡ deassertsWith q (t .made) + servedWith p (t .after)
 
   balanced-stay : (l : Lines) → Balanced l (stay l)
@@ -168,10 +167,7 @@ module _ (vs : List ℕ) (p : ℕ → Bool) (q : Made → Bool) (h : (o a : Bool
       balanced-then (withMask l new) one (leave vs true (newlyMasked (l .mask) new)) (balanced-enter true (newlyUnmasked (l .mask) new) (withMask l new))
       (balanced-leave true (newlyMasked (l .mask) new) (one .after))
 
-  -- every act but a write of ISR
-  pub balanced : (l : Lines) (a : Act) → NotIsr a → Balanced l (lineTurn vs l a)
-  unfolding lineTurn
-  balanced l (move m) t = balanced-move l m
-  balanced l (setIsr g v) t = absurd t
-  balanced l (store s) t = balanced-stay l
-  balanced l (setVector n v) t = balanced-stay l
+-- of the events of one vector, and of the inputs that carry it: an event has the vector byte of the input that makes it
+pub vector-balanced : (v : ℕ) (vs : List ℕ) (l : Lines) (m : Move)
+    → asserts v (moved vs l m .made) + servedWith (carries v vs) l ≡ deasserts v (moved vs l m .made) + servedWith (carries v vs) (moved vs l m .after)
+vector-balanced v vs = balanced-move vs (carries v vs) (hasVector v) (λ o b n. refl)

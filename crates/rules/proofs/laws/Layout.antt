@@ -15,15 +15,11 @@ use Rattle.rules.specs.Core.{Plain, Plain-discrete, htmsiEn, edge, pol, 
 use Rattle.rules.specs.Form.{Word, mask, irr, isr, copy, stored, Word-discrete, Field, word, routes, vectors, count, drops, pairs, Field-discrete}
 use Rattle.rules.specs.Form.{size, decided, is, listed, total, before, from, laid}
 use Rattle.rules.specs.Form.{Form, one, fields, has, contentsLength, formLength, place, contentsOf, read, image}
+use Rattle.rules.proofs.laws.Bits.{test}
 use Rattle.rules.proofs.laws.Lists.{part-then}
 use Rattle.rules.proofs.laws.Parts.{put-there, put-before, put-behind, length-put}
 
 -- ---- fields
-
--- a case on a test
-pub test : {A : Type 0} (t : Bool) → (t ≡ true → A) → (t ≡ false → A) → A
-test true f g = f refl
-test false f g = g refl
 
 pub is-sound : (p q : Field) → is p q ≡ true → p ≡ q
 is-sound p q = go (Field-discrete (Word-discrete Plain-discrete) p q)

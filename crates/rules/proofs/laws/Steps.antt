@@ -2,14 +2,17 @@
 use mathlib.Core.Path.{_≡_, refl, ap, _∙_}
 use mathlib.Core.Bool.{Bool, true, false}
 use mathlib.Core.List.{List, [], _∷_, map, append-nil}
-use Prim.Native.Nat.{ℕ}
+use Prim.Native.Nat.{ℕ, zero, suc}
+use native.Mathlib.Omega.{arith}
+use lib.ListN.{drop, length-drop}
+use Rattle.rules.specs.Numbers.{Bytes}
 use Rattle.rules.specs.Inputs.{inputs, only, put, without}
 use Rattle.rules.specs.Lines.{Lines, Made, withIrr, event, serve, enter, leave, pendingIn, servedIn, polled, raised, lowered}
 pub use Rattle.rules.specs.Lines.{levelled}
-use Rattle.rules.specs.Ring.{RingAct, drawn, ringStep, ringRun}
+use Rattle.rules.specs.Ring.{Event, RingAct, drawn, ringStep, ringRun}
 use Rattle.rules.specs.Core.{Core, Act, move, Move, poll, raise, lower, CoreTurn, turn, turns, lineTurn, moved, vectorsAfter, storedAfter}
 use Rattle.rules.specs.Access.{Width, writeActs}
-use Rattle.rules.specs.Device.{Device, level, read, write, drain, actsOf, offers, acted, step, value, returned}
+use Rattle.rules.specs.Device.{Device, WellFormed, level, read, write, drain, actsOf, offers, acted, step, value, returned}
 pub use Rattle.rules.specs.Device.{withLines, withRing}
 use Rattle.rules.specs.Device as device
 use Rattle.rules.proofs.laws.Acts.{acted-none, step-acted}
@@ -90,6 +93,28 @@ drain-device d k = refl
 pub drain-drained : (d : Device) (k : ℕ) → step d (drain k) .drained ≡ drawn (d .ring) k .drained
 unfolding step actsOf acted turns offers ringRun ringStep
 drain-drained d k = append-nil (drawn (d .ring) k .drained)
+
+-- and leaves it well formed: fewer wait, and all else is as it was
+bytes-drop : {A : Type 0} (f : A → ℕ) (k : ℕ) (xs : List A) → Bytes (map f xs) → Bytes (map f (drop k xs))
+bytes-drop f zero xs b = b
+bytes-drop f (suc k) [] b = b
+bytes-drop f (suc k) (x ∷ xs) b = bytes-drop f k xs (λ i. b (suc i))
+
+pub drain-well : (d : Device) (k : ℕ) → WellFormed d → WellFormed (withRing d (drawn (d .ring) k .after))
+unfolding drawn
+drain-well d k w = record {
+  mask = w .mask;
+  irr = w .irr;
+  isr = w .isr;
+  plains = w .plains;
+  routeBytes = w .routeBytes;
+  routes = w .routes;
+  vectorBytes = w .vectorBytes;
+  vectors = w .vectors;
+  eventBytes = bytes-drop (λ (e : Event). e .vector) k (d .ring .waiting) (w .eventBytes);
+  waiting = simp length-drop (omega (arith, w .waiting));
+  drops = w .drops;
+}
 
 pub read-device : (d : Device) (w : Width) (o : ℕ) → step d (read w o) .after ≡ d
 unfolding actsOf

@@ -15,8 +15,9 @@ use Rattle.rules.specs.Ring.{capacity}
 use Rattle.rules.specs.Form.{Form, one, Field, word, copy, irr, count, pairs, has, size, place, formLength, contentsLength, contentsOf, read, Known, known, formAmong, formOf}
 use Rattle.rules.specs.Image.{wordIn, countIn, Fault, Finding, clear, found, Rule, copyRule, countRule, flagRule, unusedRule, rules}
 use Rattle.rules.specs.Image.{search, finding, orElse, firstFault, same, accepted, wrongLength, wrongContents, bodyTest, testAs, testKnown, imageTest}
+use Rattle.rules.proofs.laws.Bits.{test}
 use Rattle.rules.proofs.laws.Lists.{Each, length-part, equal-same, differ-same, same-equal}
-use Rattle.rules.proofs.laws.Layout.{test, has-all, field-fits}
+use Rattle.rules.proofs.laws.Layout.{has-all, field-fits}
 
 -- ---- the first bad byte
 

@@ -14,7 +14,8 @@ use Rattle.rules.specs.Numbers.{numberOf, part, Bytes}
 use Rattle.rules.specs.Form.{Form, formLength, contentsLength, contentsOf}
 use Rattle.rules.specs.Image.{registerAt}
 use Rattle.rules.proofs.laws.Lists.{part-part, equal-same, differ-same}
-use Rattle.rules.proofs.laws.Layout.{test, length-contents}
+use Rattle.rules.proofs.laws.Bits.{test}
+use Rattle.rules.proofs.laws.Layout.{length-contents}
 use Rattle.rules.proofs.laws.Saved.{bytes-contents}
 use Rattle.image.specs.Shown.{formView, headGood, ContentsOf}
 use Rattle.image.specs.declared.form.Contents.{Contents}

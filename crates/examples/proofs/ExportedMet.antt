@@ -1,0 +1,244 @@
+-- The premises of the theorems over exported calls can be met, and what they count is not nothing: requests, each given the image that the one before it
+-- left, with what they hand back computed.
+use mathlib.Core.Path.{_≡_, refl}
+use mathlib.Core.Bool.{Bool, true, false, not, _&&_, and-eq-true-iff}
+use mathlib.Core.List.{List, [], _∷_, _++_}
+use Prim.Native.Nat.{ℕ, _+_}
+use native.Mathlib.Omega.{arith}
+use lib.Dec.{lit<}
+use lib.ListN.{take, drop, getD, replicate}
+use borrow.Author.Tests.{not-true}
+use Rattle.rules.specs.Access.{dword}
+use Rattle.rules.specs.Device.{Device, Call, level, poll, write, drain, none, step, reset}
+use Rattle.rules.specs.Image.{encode, decode}
+use Rattle.rules.specs.Calls.{Request, askedBy, answered, outcome}
+use Rattle.rules.specs.Calls as request
+use Rattle.rules.specs.History.{history, fromReset}
+use Rattle.histories.specs.Premises.{Along, Admitted}
+use Rattle.rules.specs.Account.{tally, asserts, deasserts, carrying, assertsAmong, deassertsAmong}
+use Rattle.histories.specs.Demands.{inService, someAct, dropped, ringActs}
+use Rattle.histories.specs.Exported.{Exported, leftBy, isReset, isLoad, Underway, carriedOn, carriedThrough, NoLoads, HandedOn, doneCalls}
+use Rattle.histories.specs.Exported.{inImage, Faithful, afterReset, atLoad, returnedBy, drainedBy, Balances}
+use Rattle.rules.proofs.laws.Computing.{computing}
+use Rattle.histories.proofs.laws.WellFormed.{history-well}
+use Rattle.histories.proofs.laws.Chains.{faithful-after-reset, faithful-at-load}
+use Rattle.rules.proofs.demands.RoundTrip.{saved-is-bytes, saved-is-accepted, reset-can-be-saved}
+use Rattle.histories.proofs.demands.FromCalls.{handed-on-is-no-load}
+use Rattle.histories.proofs.demands.HandedBack.{account-from-load, drops-of-calls, service-of-calls, service-once-raised, account-since-load, account-under-way}
+use Rattle.histories.proofs.demands.ClearedCalls.{cleared-polled-in-vain, cleared-asserts-had-waited}
+use Rattle.rules.proofs.demands.Refused.{Unchanged, refused-changes-nothing}
+use Rattle.examples.proofs.PremisesMet.{all-admitted, all-spared, all-undisturbed, all-unraised, all-carried-alone, begun, seventeen}
+
+-- ---- exported calls
+
+-- requests with an answer area of zeros, each given the image that the one before it left
+abbrev handedOn : List ℕ → List Request → List Exported
+handedOn i [] = []
+handedOn i (q ∷ qs) =
+    let x : Exported = record { given = i; asked = q; answer = replicate 16 0 } in
+    x ∷ handedOn (leftBy x .image) qs
+
+abbrev noReset : List Request → Bool
+noReset [] = true
+noReset (q ∷ qs) = not (isReset (askedBy q)) && noReset qs
+
+handed-on : (i : List ℕ) (qs : List Request) → noReset qs ≡ true → HandedOn i (handedOn i qs)
+unfolding HandedOn
+handed-on i [] e = tt
+handed-on i (q ∷ qs) e =
+    let both = and-eq-true-iff (not (isReset (askedBy q))) (noReset qs) .0 e in
+    (refl, not-true (isReset (askedBy q)) (both .0), handed-on _ qs (both .1))
+
+-- raise 5, unmask it, a level call on input 64, lower 5, and drain into seven bytes from place 1 on
+abbrev asked : List Request
+asked = request.level 5 1 ∷ request.write 0 0x400 0x020 4 0xffffffdf ∷ request.level 64 1 ∷ request.level 5 0 ∷ request.drain (replicate 7 0xee) 1 ∷ []
+
+abbrev exported : List Exported
+exported = handedOn (encode reset) asked
+
+exported-carried-on : NoLoads afterReset exported
+exported-carried-on = handed-on-is-no-load afterReset exported (handed-on (encode reset) asked refl)
+
+-- the refused call is no call of the history
+exported-calls : doneCalls exported ≡ level 5 true ∷ write dword 0x020 0xffffffdf ∷ level 5 false ∷ drain 3 ∷ []
+unfolding computing doneCalls
+exported-calls = refl
+
+-- a deassert of 5 comes back in an answer area, its assert in the event buffer
+exported-returned : returnedBy exported ≡ record { vector = 5; asserted = false } ∷ []
+unfolding computing returnedBy
+exported-returned = refl
+
+exported-drained : drainedBy exported ≡ record { vector = 5; asserted = true } ∷ []
+unfolding computing drainedBy
+exported-drained = refl
+
+-- the history that an image of calls from reset begins
+abbrev imageOf : List Call → List ℕ
+imageOf cs = encode (fromReset cs .after)
+
+begins : (cs : List Call) → Faithful (atLoad (imageOf cs))
+begins cs =
+    let well = history-well reset cs reset-can-be-saved in
+    faithful-at-load (imageOf cs) (saved-is-bytes (fromReset cs .after) well) (saved-is-accepted (fromReset cs .after) well)
+
+-- ---- the account from a load
+
+-- a saved image in which 5 is in service and its assert waits
+abbrev savedCalls : List Call
+savedCalls = level 5 true ∷ write dword 0x020 0xffffffdf ∷ []
+
+abbrev savedDevice : Device
+savedDevice = fromReset savedCalls .after
+
+-- it is loaded after a reset by a call that lowers 5; then a drain
+abbrev loading : Exported
+loading = record { given = encode savedDevice; asked = request.level 5 0; answer = replicate 16 0 }
+
+abbrev thenDrained : List Exported
+thenDrained = handedOn (leftBy loading .image) (request.drain (replicate 7 0xee) 1 ∷ [])
+
+loading-loads : isLoad (afterReset .left) loading ≡ true
+unfolding computing
+loading-loads = refl
+
+drained-handed-on : NoLoads (carriedOn afterReset loading) thenDrained
+unfolding computing carriedOn
+drained-handed-on = handed-on-is-no-load (carriedOn afterReset loading) thenDrained (handed-on (leftBy loading .image) (request.drain (replicate 7 0xee) 1 ∷ []) refl)
+
+-- an assert is read that no call made, and a deassert of an input that no call put into service: both were loaded
+loaded-balances : Balances 5 (decode (encode savedDevice)) (loading ∷ thenDrained) [] (inImage (carriedThrough afterReset (loading ∷ thenDrained)))
+unfolding computing doneCalls dropped ringActs
+loaded-balances =
+    account-from-load 5 afterReset loading loading-loads refl (saved-is-bytes savedDevice (history-well reset savedCalls reset-can-be-saved)) thenDrained drained-handed-on
+    (all-admitted (decode (encode savedDevice)) (doneCalls (loading ∷ thenDrained)) refl) [] refl
+
+-- the same of the history that is under way once it is loaded, and of the events made since
+under-way-balances : Balances 5 (decode (encode savedDevice)) (loading ∷ thenDrained) [] (inImage (carriedThrough (atLoad (imageOf savedCalls)) (loading ∷ thenDrained)))
+unfolding computing doneCalls dropped ringActs NoLoads carriedOn
+under-way-balances =
+    account-under-way 5 (atLoad (imageOf savedCalls)) (begins savedCalls) (loading ∷ thenDrained) (refl, drained-handed-on)
+    (all-admitted (decode (encode savedDevice)) (doneCalls (loading ∷ thenDrained)) refl) [] refl
+
+abbrev once : Underway
+once = carriedThrough afterReset (loading ∷ [])
+
+once-admitted : Along Admitted (once .began) (once .calls)
+unfolding computing carriedThrough carriedOn
+once-admitted = all-admitted (once .began) (once .calls) refl
+
+since-load : asserts 5 (history (once .began) (once .calls) .made) + carrying 5 (once .began .core)
+    ≡ deasserts 5 (history (once .began) (once .calls) .made) + carrying 5 (inImage once .core)
+since-load =
+    account-since-load 5 afterReset (loading ∷ []) faithful-after-reset (saved-is-bytes savedDevice (history-well reset savedCalls reset-can-be-saved), tt)
+    once-admitted
+
+loaded-returned : deassertsAmong 5 (returnedBy (loading ∷ thenDrained)) ≡ 1
+unfolding computing returnedBy tally
+loaded-returned = refl
+
+loaded-drained : assertsAmong 5 (drainedBy (loading ∷ thenDrained)) ≡ 1
+unfolding computing drainedBy tally
+loaded-drained = refl
+
+loaded-waiting : assertsAmong 5 (decode (encode savedDevice) .ring .waiting) ≡ 1
+unfolding computing tally
+loaded-waiting = refl
+
+loaded-carrying : carrying 5 (decode (encode savedDevice) .core) ≡ 1
+unfolding computing
+loaded-carrying = refl
+
+-- ---- the drop count
+
+-- seventeen are in service: a MASK write offers seventeen deasserts, and a refused call nothing
+abbrev masking : List Exported
+masking = handedOn (imageOf seventeen) (request.write 0 0x400 0x020 4 0xffffffff ∷ request.poll 64 ∷ [])
+
+one-dropped : inImage (carriedThrough (atLoad (imageOf seventeen)) masking) .ring .drops ≡ 1
+unfolding computing doneCalls dropped ringActs
+one-dropped =
+    drops-of-calls (atLoad (imageOf seventeen)) (begins seventeen) masking
+    (handed-on-is-no-load (atLoad (imageOf seventeen)) masking (handed-on (imageOf seventeen) (request.write 0 0x400 0x020 4 0xffffffff ∷ request.poll 64 ∷ []) refl))
+
+-- ---- service
+
+-- in the image of begun 3 is in service and 5 is latched and unmasked: write 5 into ISR, lower 3, and write ISR empty; poll 5; clear 3
+abbrev polling : List Request
+polling =
+    request.write 0 0x400 0x3a0 4 0x28 ∷ request.level 3 0 ∷ request.write 0 0x400 0x3a0 4 0 ∷ request.poll 5 ∷ request.write 0 0x400 0x080 4 0x8 ∷ []
+
+abbrev pollingCalls : List Exported
+pollingCalls = handedOn (imageOf begun) polling
+
+abbrev thePoll : Exported
+thePoll = getD pollingCalls 3 loading
+
+abbrev fromBegun : Underway
+fromBegun = atLoad (imageOf begun)
+
+five-polled : inService 5 (inImage (carriedThrough fromBegun pollingCalls) .core .lines) ≡ true
+unfolding computing doneCalls
+five-polled =
+    service-of-calls fromBegun (begins begun) 5 (lit< tt) (record { latched = refl; unmasked = refl }) (take 3 pollingCalls) thePoll (drop 4 pollingCalls) (poll 5)
+    (handed-on-is-no-load fromBegun pollingCalls (handed-on (imageOf begun) polling refl)) (all-spared 5 (inImage fromBegun) (doneCalls (take 3 pollingCalls)) refl) refl refl
+    (all-undisturbed 5 (history (inImage fromBegun) (doneCalls (take 3 pollingCalls) ++ (poll 5 ∷ [])) .after) (doneCalls (drop 4 pollingCalls)) refl)
+
+-- 7 is unmasked there: raise it; clear 3
+abbrev raising : List Request
+raising = request.level 7 1 ∷ request.write 0 0x400 0x080 4 0x8 ∷ []
+
+abbrev raisingCalls : List Exported
+raisingCalls = handedOn (imageOf begun) raising
+
+seven-raised : inService 7 (inImage (carriedThrough fromBegun raisingCalls) .core .lines) ≡ true
+unfolding computing doneCalls
+seven-raised =
+    service-once-raised fromBegun (begins begun) 7 (lit< tt) refl (getD raisingCalls 0 loading) (drop 1 raisingCalls)
+    (handed-on-is-no-load fromBegun raisingCalls (handed-on (imageOf begun) raising refl)) refl
+    (all-undisturbed 7 (step (inImage fromBegun) (level 7 true) .after) (doneCalls (drop 1 raisingCalls)) refl)
+
+-- ---- a cleared input
+
+-- clear 3, whose line is high; poll it, mask it and unmask it; then poll it once more
+abbrev clearing : List Request
+clearing = request.write 0 0x400 0x080 4 0x8 ∷ request.poll 3 ∷ request.write 0 0x400 0x020 4 0x8 ∷ request.write 0 0x400 0x020 4 0 ∷ request.poll 3 ∷ []
+
+abbrev clearingCalls : List Exported
+clearingCalls = handedOn (imageOf begun) clearing
+
+abbrev clearing3 : Exported
+clearing3 = getD clearingCalls 0 loading
+
+abbrev after3 : List Exported
+after3 = take 3 (drop 1 clearingCalls)
+
+none-loads : NoLoads fromBegun (clearing3 ∷ after3)
+unfolding computing
+none-loads = handed-on-is-no-load fromBegun (take 4 clearingCalls) (handed-on (imageOf begun) (take 4 clearing) refl)
+
+three-polled-in-vain : leftBy (getD clearingCalls 4 loading) .answer ≡ answered 0 none (replicate 16 0)
+unfolding computing doneCalls someAct carriedThrough carriedOn
+three-polled-in-vain =
+    cleared-polled-in-vain fromBegun (begins begun) 3 (lit< tt) clearing3 after3 (write dword 0x080 0x8) none-loads refl refl
+    (all-unraised 3 (inImage (carriedOn fromBegun clearing3)) (doneCalls after3) refl) (getD clearingCalls 4 loading) refl refl refl
+
+-- its assert waited before the CLEAR, and is the only one that waits at last
+three-had-waited : assertsAmong 3 (inImage (carriedThrough fromBegun (clearing3 ∷ after3)) .ring .waiting) ≡ 1
+unfolding computing doneCalls someAct dropped ringActs returnedBy drainedBy tally carriedThrough carriedOn
+three-had-waited =
+    cleared-asserts-had-waited fromBegun (begins begun) 3 (lit< tt) clearing3 after3 (write dword 0x080 0x8) none-loads refl refl
+    (all-unraised 3 (inImage (carriedOn fromBegun clearing3)) (doneCalls after3) refl) 3
+    (all-carried-alone 3 3 (inImage fromBegun) (doneCalls (clearing3 ∷ after3)) refl) [] refl
+
+-- ---- refusals
+
+-- an answer area of 20 bytes, and one of 15
+input-refused : Unchanged (request.level 64 1) (imageOf begun) (replicate 20 0xaa)
+unfolding computing
+input-refused = refused-changes-nothing (request.level 64 1) (imageOf begun) (replicate 20 0xaa) (λ e. let z : _≡_ {A = ℕ} 3 0 = e in omega arith)
+
+room-refused : outcome (request.poll 5) (imageOf begun) (replicate 15 0xaa) .answer ≡ replicate 15 0xaa
+unfolding computing
+room-refused =
+    refused-changes-nothing (request.poll 5) (imageOf begun) (replicate 15 0xaa) (λ e. let z : _≡_ {A = ℕ} 7 0 = e in omega arith) .seven refl

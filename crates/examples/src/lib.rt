@@ -1,0 +1,1 @@
+// Examples have no code: see proofs/.

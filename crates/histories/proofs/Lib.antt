@@ -1,0 +1,3 @@
+-- What is proved of histories: laws, and the demands.
+pub mod laws
+pub mod demands

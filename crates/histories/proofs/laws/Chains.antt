@@ -1,0 +1,280 @@
+-- Exported calls and the history that they carry on: what a done call was asked and what it leaves, and that the history's device is always the one
+-- that the image last left holds. A refused call changes nothing; a load begins anew from what it was given.
+use mathlib.Core.Path.{_≡_, refl, sym, ap, _∙_}
+use mathlib.Core.Bool.{Bool, true, false, cond, not, true≢false, and-false, and-eq-true-iff, Bool·not-not}
+use mathlib.Core.List.{List, [], _∷_, _++_, append-nil, append-assoc}
+use Prim.Native.Nat.{ℕ, _≤_}
+use native.Mathlib.Omega.{arith}
+use lib.Dec.{eqb, leb}
+use lib.ListN.{length}
+use borrow.Author.Tests.{leb-true}
+use Rattle.rules.specs.Numbers.{Bytes}
+use Rattle.rules.specs.Device.{Device, Call, value, step, reset}
+use Rattle.rules.specs.Image.{imageLength, ImageTest, imageTest, same, encode, decode}
+use Rattle.rules.specs.Image as image
+use Rattle.rules.specs.Calls.{Refusal, outside, noWidth, noInput, wrongLength, wrongContents, wrongBody, noRoom, refusalNumber}
+use Rattle.rules.specs.Calls.{Tested, pass, refuse, Request, Asked, afresh, calls, askedBy, Done, doneOn, performed}
+use Rattle.rules.specs.Calls.{answered, bufferOf, placeOf, written, Outcome, leaves, settled, answerLength, hasRoom, outcome}
+use Rattle.rules.specs.History.{history}
+use Rattle.histories.specs.Exported.{Exported, leftBy, isDone, isReset, isLoad, callOf, Underway, carriedOn, doneCall, doneCalls, afterReset, atLoad, current, Faithful}
+use Rattle.rules.proofs.laws.Bits.{test}
+use Rattle.rules.proofs.laws.Lists.{same-self, same-equal}
+use Rattle.rules.proofs.laws.Images.{decode-encode, encode-decode, decode-well-formed, reset-well-formed}
+use Rattle.histories.proofs.laws.Folds.{history-append}
+use Rattle.histories.proofs.laws.WellFormed.{history-well}
+
+-- ---- a done call
+
+-- a refusal has a number that is not 0
+refused-not-done : (r : Refusal) → eqb (refusalNumber r) 0 ≡ false
+refused-not-done (outside address) = refl
+refused-not-done noWidth = refl
+refused-not-done noInput = refl
+refused-not-done wrongLength = refl
+refused-not-done wrongContents = refl
+refused-not-done wrongBody = refl
+refused-not-done noRoom = refl
+
+-- its tests passed, and it left what it gives
+record DidPass (x : Exported) : Type 0 where
+  room : hasRoom (x .asked) (x .answer) ≡ true
+  gives : Done
+  passed : performed (askedBy (x .asked)) (x .given) ≡ pass gives
+  left : leftBy x ≡ settled (x .asked) (x .given) (x .answer) (pass gives)
+
+place-fits : (q : Request) (a : List ℕ) → hasRoom q a ≡ true → placeOf q ≤ length (bufferOf q)
+place-fits q a t =
+    leb-true (placeOf q) (length (bufferOf q)) (and-eq-true-iff (leb answerLength (length a)) (leb (placeOf q) (length (bufferOf q))) .0 t .1)
+
+did-pass : (x : Exported) → isDone x ≡ true → DidPass x
+unfolding outcome
+did-pass x e =
+    test (hasRoom (x .asked) (x .answer)) (λ t. go t (performed (askedBy (x .asked)) (x .given)) refl)
+    (λ t. absurd (true≢false (sym e ∙ rw t)))
+  where
+    go : hasRoom (x .asked) (x .answer) ≡ true → (p : Tested Done) → performed (askedBy (x .asked)) (x .given) ≡ p → DidPass x
+    go t (pass y) f = record { room = t; gives = y; passed = f; left = rw (t, f) }
+    go t (refuse r) f = absurd (true≢false (sym e ∙ rw (t, f) (refused-not-done r)))
+
+-- a refused call leaves the image as it was given
+pub refused-leaves : (x : Exported) → isDone x ≡ false → leftBy x .image ≡ x .given
+unfolding outcome
+refused-leaves x e = test (hasRoom (x .asked) (x .answer)) (λ t. go t (performed (askedBy (x .asked)) (x .given)) refl) (λ t. rw t)
+  where
+    go : hasRoom (x .asked) (x .answer) ≡ true → (p : Tested Done) → performed (askedBy (x .asked)) (x .given) ≡ p → leftBy x .image ≡ x .given
+    go t (pass y) f = absurd (true≢false (sym (rw (t, f)) ∙ e))
+    go t (refuse r) f = rw (t, f)
+
+-- a done call of the device: its image was accepted, and it gives what the call does to the device there
+record DidCall (t : Tested Call) (i : List ℕ) (y : Done) : Type 0 where
+  call : Call
+  passes : t ≡ pass call
+  accepted : imageTest i ≡ image.accepted
+  gives : y ≡ doneOn (decode i) call
+
+-- the tests' answers: a refusal is no pass, and a pass gives one thing
+pub never : {A B : Type 0} (r : Refusal) (y : A) → refuse r ≡ pass y → B
+never r y e = absurd (let z : _≡_ {A = ℕ} 0 1 = cc in omega arith)
+
+pub passed : {A : Type 0} {x y : A} → pass x ≡ pass y → x ≡ y
+passed e = cc
+
+did-call : (t : Tested Call) (i : List ℕ) (y : Done) → performed (calls t) i ≡ pass y → DidCall t i y
+unfolding performed
+did-call t i y e = go (imageTest i) refl t refl
+  where
+    go : (r : ImageTest) → imageTest i ≡ r → (u : Tested Call) → t ≡ u → DidCall t i y
+    go image.accepted f (pass c) g = record { call = c; passes = g; accepted = f; gives = sym (passed (rw (f, g) at e)) }
+    go image.accepted f (refuse r) g = never r y (rw (f, g) at e)
+    go image.wrongLength f u g = never wrongLength y (rw f at e)
+    go image.wrongContents f u g = never wrongContents y (rw f at e)
+    go image.wrongBody f u g = never wrongBody y (rw f at e)
+
+did-reset : (i : List ℕ) (y : Done) → performed afresh i ≡ pass y → y .device ≡ reset
+unfolding performed
+did-reset i y e =
+    test (eqb (length i) imageLength) (λ t. ap (λ (z : Done). z .device) (sym (passed (rw t at e)))) (λ t. never wrongLength y (rw t at e))
+
+-- a done reset leaves the image of the reset device
+pub reset-leaves : (x : Exported) → isDone x ≡ true → askedBy (x .asked) ≡ afresh → leftBy x .image ≡ encode reset
+reset-leaves x t e =
+    let p = did-pass x t in
+    ap (λ (o : Outcome). o .image) (p .left) ∙ ap encode (did-reset (x .given) (p .gives) (rw e at (p .passed)))
+
+-- ---- loads
+
+module _ (left : List ℕ) (x : Exported) (t : isDone x ≡ true) where
+  -- a done reset is a load
+  reset-loads : askedBy (x .asked) ≡ afresh → isLoad left x ≡ true
+  reset-loads e = rw (t, e)
+
+  -- a done call that is no reset and no load is given the image left last
+  given-left : (u : Tested Call) → askedBy (x .asked) ≡ calls u → isLoad left x ≡ false → left ≡ x .given
+  given-left u e n = same-equal left (x .given) (sym (Bool·not-not (same left (x .given))) ∙ ap not (rw (t, e) at n))
+
+-- ---- one exported call more
+
+-- carriedOn, by whether the call is done, whether it is a load and whether it is a reset, and the calls of the device that it is
+abbrev continued : (done load reset : Bool) → List Call → Underway → Exported → Underway
+continued d n r cs h x =
+    cond d (record { began = cond n (cond r reset (decode (x .given))) (h .began); calls = cond n [] (h .calls) ++ cs; left = leftBy x .image }) h
+
+pub faithful-after-reset : Faithful afterReset
+unfolding history
+faithful-after-reset = record { began = reset-well-formed; left = refl }
+
+pub faithful-at-load : (i : List ℕ) → Bytes i → imageTest i ≡ image.accepted → Faithful (atLoad i)
+unfolding history
+faithful-at-load i b e = record { began = decode-well-formed i b e; left = sym (encode-decode i b e) }
+
+history-snoc : (d : Device) (cs : List Call) (c : Call) → history d (cs ++ (c ∷ [])) .after ≡ step (history d cs .after) c .after
+unfolding history
+history-snoc d cs c = ap (λ s. s .after) (history-append d cs (c ∷ []))
+
+module _ (h : Underway) (x : Exported) where
+  carried-refused : isDone x ≡ false → carriedOn h x ≡ h
+  unfolding carriedOn
+  carried-refused t i = continued (t i) (isLoad (h .left) x) (isReset (askedBy (x .asked))) (callOf (askedBy (x .asked))) h x
+
+  carried-done : isDone x ≡ true → {n : Bool} → isLoad (h .left) x ≡ n → {k : Asked} → askedBy (x .asked) ≡ k
+      → carriedOn h x ≡ continued true n (isReset k) (callOf k) h x
+  unfolding carriedOn
+  carried-done t n k i = continued (t i) (n i) (isReset (k i)) (callOf (k i)) h x
+
+  -- given the image left last, it leaves the one left last now
+  pub left-last : x .given ≡ h .left → carriedOn h x .left ≡ leftBy x .image
+  left-last g =
+      test (isDone x) (λ t. ap (λ (u : Underway). u .left) (carried-done t refl refl))
+      (λ t. ap (λ (u : Underway). u .left) (carried-refused t) ∙ sym g ∙ sym (refused-leaves x t))
+
+  pub reset-begins : isDone x ≡ true → askedBy (x .asked) ≡ afresh → carriedOn h x ≡ afterReset
+  reset-begins t e = carried-done t (reset-loads (h .left) x t e) e ∙ (λ i. record { began = reset; calls = []; left = reset-leaves x t e i })
+
+  -- a done call that is no reset: what it asks of the device, and what it leaves
+  record Did : Type 0 where
+    call : Call
+    passes : askedBy (x .asked) ≡ calls (pass call)
+    accepted : imageTest (x .given) ≡ image.accepted
+    left : leftBy x ≡ settled (x .asked) (x .given) (x .answer) (pass (doneOn (decode (x .given)) call))
+
+  did : isDone x ≡ true → (u : Tested Call) → askedBy (x .asked) ≡ calls u → Did
+  did t u e =
+      let p = did-pass x t in
+      let c = did-call u (x .given) (p .gives) (rw e at (p .passed)) in
+      record {
+        call = c .call;
+        passes = e ∙ ap calls (c .passes);
+        accepted = c .accepted;
+        left = p .left ∙ ap (λ y. settled (x .asked) (x .given) (x .answer) (pass y)) (c .gives);
+      }
+
+  -- a done call that is no reset: its image was accepted; and if it is a load, it begins the history from what it was given
+  module _ (t : isDone x ≡ true) (no : isReset (askedBy (x .asked)) ≡ false) where
+    done-call : Did
+    done-call = go (askedBy (x .asked)) refl
+      where
+        go : (k : Asked) → askedBy (x .asked) ≡ k → Did
+        go afresh e = absurd (true≢false (sym (ap isReset e) ∙ no))
+        go (calls u) e = did t u e
+
+    pub done-accepted : imageTest (x .given) ≡ image.accepted
+    done-accepted = done-call .accepted
+
+  -- given the image that the history left, it meets the history's device
+  meets : Faithful h → h .left ≡ x .given → decode (x .given) ≡ current h
+  meets f e = ap decode (sym e ∙ f .left) ∙ decode-encode (current h) (history-well (h .began) (h .calls) (f .began))
+
+  faithful-call : Faithful h → (isLoad (h .left) x ≡ true → Bytes (x .given)) → isDone x ≡ true → Did → Faithful (carriedOn h x)
+  unfolding history
+  faithful-call f b t r =
+      let c = r .call in
+      let image-is : leftBy x .image ≡ encode (step (decode (x .given)) c .after) = ap (λ (o : Outcome). o .image) (r .left) in
+      test (isLoad (h .left) x)
+      (λ n. rw (carried-done t n (r .passes)) (record { began = decode-well-formed (x .given) (b n) (r .accepted); left = image-is }))
+      (λ n. rw (carried-done t n (r .passes)) (record {
+        began = f .began;
+        left =
+            let met = meets f (given-left (h .left) x t (pass c) (r .passes) n) in
+            image-is ∙ ap (λ d. encode (step d c .after)) met ∙ ap encode (sym (history-snoc (h .began) (h .calls) c));
+      }))
+
+  -- any exported call, refused, a load or neither; only a load has to be given bytes
+  pub faithful-on : Faithful h → (isLoad (h .left) x ≡ true → Bytes (x .given)) → Faithful (carriedOn h x)
+  faithful-on f b = test (isDone x) (λ t. go t (askedBy (x .asked)) refl) (λ t. rw (carried-refused t) f)
+    where
+      go : isDone x ≡ true → (k : Asked) → askedBy (x .asked) ≡ k → Faithful (carriedOn h x)
+      go t afresh e = rw (reset-begins t e) faithful-after-reset
+      go t (calls u) e = faithful-call f b t (did t u e)
+
+  -- a done call that is no load: it is given the history's image, is one call more of it, and hands back what that call's step gives
+  pub record Handed : Type 0 where
+    pub call : Call
+    pub passes : askedBy (x .asked) ≡ calls (pass call)
+    pub left : leftBy x ≡ leaves 0 (encode (step (current h) call .after)) (answered 0 (value (current h) call) (x .answer))
+        (written (bufferOf (x .asked)) (placeOf (x .asked)) (step (current h) call .drained))
+    pub fits : placeOf (x .asked) ≤ length (bufferOf (x .asked))
+    pub carried : carriedOn h x ≡ record { began = h .began; calls = h .calls ++ (call ∷ []); left = leftBy x .image }
+
+  pub handed : Faithful h → isDone x ≡ true → isLoad (h .left) x ≡ false → Handed
+  handed f t n = go (askedBy (x .asked)) refl
+    where
+      go : (k : Asked) → askedBy (x .asked) ≡ k → Handed
+      go afresh e = absurd (true≢false (sym (reset-loads (h .left) x t e) ∙ n))
+      go (calls u) e =
+          let r = did t u e in
+          let met = meets f (given-left (h .left) x t u e n) in
+          record {
+            call = r .call;
+            passes = r .passes;
+            left = r .left ∙ ap (λ d. settled (x .asked) (x .given) (x .answer) (pass (doneOn d (r .call)))) met;
+            fits = place-fits (x .asked) (x .answer) (did-pass x t .room);
+            carried = carried-done t n (r .passes);
+          }
+
+  -- so an exported call that is no load carries the history on by the calls that it is, none or one
+  pub record CarriedOn : Type 0 where
+    pub began : carriedOn h x .began ≡ h .began
+    pub calls : carriedOn h x .calls ≡ h .calls ++ doneCall x
+    pub current : current (carriedOn h x) ≡ history (current h) (doneCall x) .after
+
+  pub carried-on : Faithful h → isLoad (h .left) x ≡ false → CarriedOn
+  unfolding history
+  carried-on f n =
+      test (isDone x)
+      (λ t.
+      let r = handed f t n in
+      let one : doneCall x ≡ r .call ∷ [] = (λ i. cond (t i) (callOf (r .passes i)) []) in
+      record {
+        began = ap (λ (u : Underway). u .began) (r .carried);
+        calls = rw one (ap (λ (u : Underway). u .calls) (r .carried));
+        current = rw one (ap current (r .carried) ∙ history-snoc (h .began) (h .calls) (r .call));
+      })
+      (λ t.
+      let none : doneCall x ≡ [] = (λ i. cond (t i) (callOf (askedBy (x .asked))) []) in
+      record {
+        began = ap (λ (u : Underway). u .began) (carried-refused t);
+        calls = rw none (ap (λ (u : Underway). u .calls) (carried-refused t) ∙ sym (append-nil (h .calls)));
+        current = rw none (ap current (carried-refused t));
+      })
+
+-- ---- a load
+
+module _ (x : Exported) (t : isDone x ≡ true) (no : isReset (askedBy (x .asked)) ≡ false) where
+  -- given the image that it is given, it is no load
+  pub own-image : isLoad (x .given) x ≡ false
+  own-image = rw (no, same-self (x .given)) (and-false (isDone x))
+
+  -- whatever was under way, it begins the history from that image
+  pub load-begins : (h : Underway) → isLoad (h .left) x ≡ true → carriedOn h x ≡ carriedOn (atLoad (x .given)) x
+  load-begins h n =
+      let e = done-call h x t no .passes in
+      carried-done h x t n e ∙ sym (carried-done (atLoad (x .given)) x t own-image e)
+
+-- ---- the calls of the device in a list of exported calls
+
+pub calls-split : (before : List Exported) (x : Exported) (later : List Exported) (c : Call) → doneCall x ≡ c ∷ []
+    → doneCalls (before ++ (x ∷ later)) ≡ doneCalls before ++ (c ∷ doneCalls later)
+unfolding doneCalls
+calls-split [] x later c e = ap (λ cs. cs ++ doneCalls later) e
+calls-split (y ∷ before) x later c e =
+    ap (λ cs. doneCall y ++ cs) (calls-split before x later c e) ∙ sym (append-assoc (doneCall y) (doneCalls before) (c ∷ doneCalls later))

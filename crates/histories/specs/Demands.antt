@@ -1,0 +1,146 @@
+-- What demand 3 asks of a history beside Premises' `Admitted` and the counts of the rules' Account. Each stands here once, for the theorems of proofs/demands.
+use mathlib.Core.Bool.{Bool, true, false, cond, _||_}
+use mathlib.Core.List.{List, [], _∷_, _++_}
+use mathlib.Core.Path.{_≡_}
+use Prim.Native.Nat.{ℕ, _<_}
+use lib.Dec.{ltb}
+use lib.ListN.{length}
+use Rattle.rules.specs.Inputs.{on, only, asHalf}
+use Rattle.rules.specs.Lines.{Lines, Made}
+use Rattle.rules.specs.Core.{Act, move, poll, raise, lower, clear, setMask, setIsr, store, setVector}
+use Rattle.rules.specs.Ring.{Event, Ring, RingAct, offer, draw, ringStep, ringRun}
+use Rattle.rules.specs.Device.{Device, Call, actsOf, offers, draws, step}
+use Rattle.rules.specs.Device as call
+use Rattle.rules.specs.Account.{carries, assertsWith}
+use Rattle.histories.specs.Premises.{writesIsr}
+
+-- ---- service
+
+-- each act of a list has T
+pub data Each (T : Act → Type 0) : List Act → Type 0 where
+  done : Each T []
+  also : {a : Act} {xs : List Act} → T a → Each T xs → Each T (a ∷ xs)
+
+-- some act of a list has t
+unfoldable pub someAct : (Act → Bool) → List Act → Bool
+someAct t [] = false
+someAct t (a ∷ xs) = t a || someAct t xs
+
+-- the input n is in service: its stored ISR bit is on, masked or not
+abbrev pub inService : ℕ → Lines → Bool
+inService n l = on (l .isr) n
+
+-- the input n is latched and unmasked (00, demand 3)
+pub record Eligible (n : ℕ) (l : Lines) : Type 0 where
+  pub latched : on (l .irr) n ≡ true
+  pub unmasked : on (l .mask) n ≡ false
+
+-- an act lowers n, clears it (CLEAR has its bit), or masks it (a half of MASK brings a 1 to its place) (00, demand 3)
+abbrev pub disturbs : ℕ → Act → Bool
+disturbs n (move (poll m)) = false
+disturbs n (move (raise m)) = false
+disturbs n (move (lower m)) = only m n
+disturbs n (move (clear b)) = on b n
+disturbs n (move (setMask h v)) = on (asHalf h v) n
+disturbs n (setIsr h v) = false
+disturbs n (store s) = false
+disturbs n (setVector m v) = false
+
+-- a call by which n is not lowered, cleared or masked (00, demand 3)
+abbrev pub Spared : ℕ → Device → Call → Type 0
+Spared n d c = Each (λ a. disturbs n a ≡ false) (actsOf (d .core) c)
+
+-- and which is no write that reaches the ISR registers
+pub record Undisturbed (n : ℕ) (d : Device) (c : Call) : Type 0 where
+  pub noIsrWrite : writesIsr c ≡ false
+  pub notDisturbed : Spared n d c
+
+-- an act writes ISR (01, Window and register map)
+abbrev pub setsIsr : Act → Bool
+setsIsr (move m) = false
+setsIsr (setIsr h v) = true
+setsIsr (store s) = false
+setsIsr (setVector n v) = false
+
+-- a call is a poll or a raise of n (00, demand 3)
+abbrev pub pollsOrRaises : ℕ → Call → Bool
+pollsOrRaises n (call.level m true) = only n m
+pollsOrRaises n (call.level m false) = false
+pollsOrRaises n (call.poll m) = only n m
+pollsOrRaises n (call.read w o) = false
+pollsOrRaises n (call.write w o v) = false
+pollsOrRaises n (call.drain k) = false
+
+-- ---- a cleared input
+
+-- an act clears n: CLEAR is written with its bit (01, Inputs: CLEAR with bits B)
+abbrev pub clears : ℕ → Act → Bool
+clears n (move (poll m)) = false
+clears n (move (raise m)) = false
+clears n (move (lower m)) = false
+clears n (move (clear b)) = on b n
+clears n (move (setMask h v)) = false
+clears n (setIsr h v) = false
+clears n (store s) = false
+clears n (setVector m v) = false
+
+-- a call of d clears n: one of its acts does
+abbrev pub Clears : ℕ → Device → Call → Type 0
+Clears n d c = someAct (clears n) (actsOf (d .core) c) ≡ true
+
+-- a call is a raise of n, and a call that is none
+abbrev pub isRaise : ℕ → Call → Bool
+isRaise n (call.level m true) = only m n
+isRaise n (call.level m false) = false
+isRaise n (call.poll m) = false
+isRaise n (call.read w o) = false
+isRaise n (call.write w o v) = false
+isRaise n (call.drain k) = false
+
+abbrev pub Unraised : ℕ → Device → Call → Type 0
+Unraised n d c = isRaise n c ≡ false
+
+-- how many asserts of the input n there are among events
+abbrev pub assertsOf : ℕ → List Made → ℕ
+assertsOf n = assertsWith (λ m. only n (m .input))
+
+-- where a call meets d, no other input than n carries the vector v
+abbrev pub CarriedAlone : ℕ → ℕ → Device → Call → Type 0
+CarriedAlone n v d c = (m : ℕ) → m < 64 → carries v (d .core .vectors) m ≡ true → m ≡ n
+
+-- ---- order
+
+-- an event as the ring holds it
+abbrev pub asEvent : Made → Event
+asEvent m = record { vector = m .vector; asserted = m .asserted }
+
+-- the ring that an event finds: those that its call made before it have been offered (01, Inputs: in the order of making)
+abbrev pub foundBy : Device → List Made → Ring
+foundBy d earlier = ringRun (d .ring) (offers earlier) .after
+
+-- all that calls do to the ring, in order: what each call offers, then what it draws
+unfoldable pub ringActs : Device → List Call → List RingAct
+ringActs d [] = []
+ringActs d (c ∷ cs) = offers (step d c .made) ++ (draws c ++ ringActs (step d c .after) cs)
+
+-- of the events that are offered: those that find fewer than 16 waiting are kept, the others dropped (01, The ring)
+abbrev pub keptBy : Ring → RingAct → List Event
+keptBy r (offer e) = cond (ltb (length (r .waiting)) 16) (e ∷ []) []
+keptBy r (draw k) = []
+
+abbrev pub droppedBy : Ring → RingAct → List Event
+droppedBy r (offer e) = cond (ltb (length (r .waiting)) 16) [] (e ∷ [])
+droppedBy r (draw k) = []
+
+unfoldable pub kept : Ring → List RingAct → List Event
+kept r [] = []
+kept r (a ∷ xs) = keptBy r a ++ kept (ringStep r a .after) xs
+
+unfoldable pub dropped : Ring → List RingAct → List Event
+dropped r [] = []
+dropped r (a ∷ xs) = droppedBy r a ++ dropped (ringStep r a .after) xs
+
+-- those of the events that are returned and not offered, in the order of making (01, Inputs)
+unfoldable pub returnedIn : List Made → List Event
+returnedIn [] = []
+returnedIn (m ∷ ms) = cond (m .offered) (returnedIn ms) (asEvent m ∷ returnedIn ms)
