@@ -9,6 +9,7 @@ use lib.Dec.{lit<}
 use lib.ListN.{take, drop, getD, replicate}
 use borrow.Author.Tests.{not-true}
 use Rattle.rules.specs.Access.{dword}
+use Rattle.rules.specs.Ring.{dropped}
 use Rattle.rules.specs.Device.{Device, Call, level, poll, write, drain, none, step, reset}
 use Rattle.rules.specs.Image.{encode, decode}
 use Rattle.rules.specs.Calls.{Request, askedBy, answered, outcome}
@@ -16,7 +17,7 @@ use Rattle.rules.specs.Calls as request
 use Rattle.rules.specs.History.{history, fromReset}
 use Rattle.histories.specs.Premises.{Along, Admitted}
 use Rattle.rules.specs.Account.{tally, asserts, deasserts, carrying, assertsAmong, deassertsAmong}
-use Rattle.histories.specs.Demands.{inService, someAct, dropped, ringActs}
+use Rattle.histories.specs.Demands.{inService, someAct, ringActs}
 use Rattle.histories.specs.Exported.{Exported, leftBy, isReset, isLoad, Underway, carriedOn, carriedThrough, NoLoads, HandedOn, doneCalls}
 use Rattle.histories.specs.Exported.{inImage, Faithful, afterReset, atLoad, returnedBy, drainedBy, Balances}
 use Rattle.rules.proofs.laws.Computing.{computing}

@@ -3,12 +3,10 @@ use mathlib.Core.Bool.{Bool, true, false, cond, _||_}
 use mathlib.Core.List.{List, [], _∷_, _++_}
 use mathlib.Core.Path.{_≡_}
 use Prim.Native.Nat.{ℕ, _<_}
-use lib.Dec.{ltb}
-use lib.ListN.{length}
 use Rattle.rules.specs.Inputs.{on, only, asHalf}
 use Rattle.rules.specs.Lines.{Lines, Made}
 use Rattle.rules.specs.Core.{Act, move, poll, raise, lower, clear, setMask, setIsr, store, setVector}
-use Rattle.rules.specs.Ring.{Event, Ring, RingAct, offer, draw, ringStep, ringRun}
+use Rattle.rules.specs.Ring.{Event, Ring, RingAct, ringRun}
 use Rattle.rules.specs.Device.{Device, Call, actsOf, offers, draws, step}
 use Rattle.rules.specs.Device as call
 use Rattle.rules.specs.Account.{carries, assertsWith}
@@ -122,23 +120,6 @@ foundBy d earlier = ringRun (d .ring) (offers earlier) .after
 unfoldable pub ringActs : Device → List Call → List RingAct
 ringActs d [] = []
 ringActs d (c ∷ cs) = offers (step d c .made) ++ (draws c ++ ringActs (step d c .after) cs)
-
--- of the events that are offered: those that find fewer than 16 waiting are kept, the others dropped (01, The ring)
-abbrev pub keptBy : Ring → RingAct → List Event
-keptBy r (offer e) = cond (ltb (length (r .waiting)) 16) (e ∷ []) []
-keptBy r (draw k) = []
-
-abbrev pub droppedBy : Ring → RingAct → List Event
-droppedBy r (offer e) = cond (ltb (length (r .waiting)) 16) [] (e ∷ [])
-droppedBy r (draw k) = []
-
-unfoldable pub kept : Ring → List RingAct → List Event
-kept r [] = []
-kept r (a ∷ xs) = keptBy r a ++ kept (ringStep r a .after) xs
-
-unfoldable pub dropped : Ring → List RingAct → List Event
-dropped r [] = []
-dropped r (a ∷ xs) = droppedBy r a ++ dropped (ringStep r a .after) xs
 
 -- those of the events that are returned and not offered, in the order of making (01, Inputs)
 unfoldable pub returnedIn : List Made → List Event

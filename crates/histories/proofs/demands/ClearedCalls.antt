@@ -6,14 +6,14 @@ use Prim.Native.Nat.{ℕ, _+_, _<_}
 use native.Mathlib.Omega.{arith}
 use lib.Dec.{eqb}
 use Rattle.rules.specs.Inputs.{on}
-use Rattle.rules.specs.Ring.{Event}
+use Rattle.rules.specs.Ring.{Event, dropped}
 use Rattle.rules.specs.Device.{Call, none, step, value}
 use Rattle.rules.specs.Device as device
 use Rattle.rules.specs.Calls.{poll, askedBy, answered, Outcome}
 use Rattle.rules.specs.History.{history}
 use Rattle.histories.specs.Premises.{Along}
 use Rattle.rules.specs.Account.{assertsAmong}
-use Rattle.histories.specs.Demands.{Clears, Unraised, assertsOf, CarriedAlone, ringActs, dropped}
+use Rattle.histories.specs.Demands.{Clears, Unraised, assertsOf, CarriedAlone, ringActs}
 use Rattle.histories.specs.Exported.{Exported, leftBy, isDone, isLoad, Underway, carriedOn, carriedThrough, NoLoads, doneCall, doneCalls}
 use Rattle.histories.specs.Exported.{current, inImage, Faithful, returnedBy, drainedBy}
 use Rattle.histories.proofs.laws.Draining.{all-accounted}

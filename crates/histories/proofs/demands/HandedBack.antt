@@ -10,14 +10,14 @@ use lib.ListN.{length, getD}
 use Rattle.rules.specs.Numbers.{Bytes}
 use Rattle.rules.specs.Inputs.{on}
 use Rattle.rules.specs.Lines.{Made}
-use Rattle.rules.specs.Ring.{Event}
+use Rattle.rules.specs.Ring.{Event, dropped}
 use Rattle.rules.specs.Device.{Device, Call, level, step, reset}
 use Rattle.rules.specs.Image.{decode}
 use Rattle.rules.specs.Calls.{askedBy}
 use Rattle.rules.specs.History.{history}
 use Rattle.histories.specs.Premises.{Along, Admitted}
 use Rattle.rules.specs.Account.{carrying}
-use Rattle.histories.specs.Demands.{inService, Eligible, Spared, Undisturbed, pollsOrRaises, asEvent, foundBy, ringActs, dropped, returnedIn}
+use Rattle.histories.specs.Demands.{inService, Eligible, Spared, Undisturbed, pollsOrRaises, asEvent, foundBy, ringActs, returnedIn}
 use Rattle.rules.specs.Account.{asserts, deasserts, assertsAmong, deassertsAmong}
 use Rattle.histories.specs.Exported.{Exported, isReset, isLoad, Underway, carriedOn, carriedThrough, NoLoads, doneCall, doneCalls}
 use Rattle.histories.specs.Exported.{GivenBytes, current, inImage, Faithful, afterReset, atLoad, returnedBy, drainedBy, Balances}

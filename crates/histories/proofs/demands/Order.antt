@@ -7,10 +7,10 @@ use mathlib.Core.List.{List, [], _∷_, _++_, append-assoc}
 use Prim.Native.Nat.{ℕ, _+_, _<_, _≤_, min}
 use lib.ListN.{length, getD}
 use Rattle.rules.specs.Lines.{Made}
-use Rattle.rules.specs.Ring.{Event, RingAct, Drawn, offer, offered, ringStep, ringRun}
+use Rattle.rules.specs.Ring.{Event, RingAct, Drawn, offer, offered, ringStep, ringRun, kept, dropped}
 use Rattle.rules.specs.Device.{Device, Call, offers, draws, step}
 use Rattle.rules.specs.History.{history}
-use Rattle.histories.specs.Demands.{asEvent, foundBy, ringActs, kept, dropped}
+use Rattle.histories.specs.Demands.{asEvent, foundBy, ringActs}
 use Rattle.rules.proofs.laws.Rings.{offered-full, run-append}
 use Rattle.rules.proofs.laws.Acts.{offers-append}
 use Rattle.histories.proofs.laws.Draining.{offers-drain, fifo, kept-place, drops-run, history-ring}

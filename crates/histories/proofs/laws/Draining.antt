@@ -9,12 +9,12 @@ use lib.Dec.{ltb}
 use lib.ListN.{length, getD, length-append, List·getD-append}
 use lib.Seq.{getD-append-seam}
 use Rattle.rules.specs.Lines.{Made}
-use Rattle.rules.specs.Ring.{stop, Event, Ring, RingAct, Drawn, offer, draw, offered, drawn, ringStep, ringRun}
+use Rattle.rules.specs.Ring.{stop, Event, Ring, RingAct, Drawn, offer, draw, offered, drawn, ringStep, ringRun, keptBy, droppedBy, kept, dropped}
 use Rattle.rules.specs.Device.{Device, Call, offers, draws, acted, step}
 use Rattle.rules.specs.Device as call
 use Rattle.rules.specs.History.{history}
 use Rattle.rules.specs.Account.{tally}
-use Rattle.histories.specs.Demands.{asEvent, foundBy, ringActs, keptBy, droppedBy, kept, dropped, returnedIn}
+use Rattle.histories.specs.Demands.{asEvent, foundBy, ringActs, returnedIn}
 use Rattle.rules.proofs.laws.Bits.{test}
 use Rattle.rules.proofs.laws.Rings.{offered-room, drawn-in-order, run-append}
 use Rattle.rules.proofs.laws.Counts.{tally-append}
