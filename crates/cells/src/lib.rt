@@ -1,16 +1,15 @@
 // What stands at an offset, read and written in place: halves of registers, route and vector bytes, and a Dword of either.
-use inplace::entries::put_routes;
-use inplace::entries::put_vectors;
-use inplace::entries::route;
-use inplace::entries::routes;
-use inplace::entries::vector;
-use inplace::entries::vectors;
-use inplace::words;
+use entries::put_routes;
+use entries::put_vectors;
+use entries::route;
+use entries::routes;
+use entries::vector;
+use entries::vectors;
 use map::Cell;
 use map::Plain;
 use map::Register;
-use service::write_clear;
-use service::write_mask;
+use masking::write_clear;
+use masking::write_mask;
 ghost use mathlib.Core.Path.{_≡_};
 ghost use mathlib.Core.List.{[], _∷_};
 ghost use Prim.Native.Nat.{_≤_};
