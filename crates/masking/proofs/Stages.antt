@@ -16,7 +16,7 @@ use Rattle.inplace.specs.Held.{Holds, Reads, Becomes, Offers, MovesIn, Writes, 
 use Rattle.inplace.proofs.Doing.{does-same, becomes-then, moves-acts}
 use Rattle.inplace.proofs.Turning.{afterTurn, moves-by, moves-then}
 use Rattle.service.proofs.Moving.{serving, stays}
-use Rattle.masking.specs.Offered.{assertOf, deasserts}
+use Rattle.events.specs.Offered.{assertOf, deasserts}
 
 -- ---- the event of an input that entered is returned to us, and then offered
 

@@ -1,8 +1,6 @@
 // Writes to MASK and CLEAR, in place on an image: what enters service and what leaves it, and the events of that, offered to the ring.
-mod events;
-
-use crate::events::offer_each;
-use crate::events::offer_entered;
+use events::offer_each;
+use events::offer_entered;
 use service::enter;
 ghost use mathlib.Core.Path.{_≡_};
 ghost use mathlib.Core.Bool.{true};

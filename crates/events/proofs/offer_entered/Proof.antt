@@ -2,8 +2,8 @@
 use native.Mathlib.Omega.{arith}
 use Rattle.inplace.proofs.Doing.{offers-none}
 use borrow.Author.Needs.{needs}
-use Rattle.masking.proofs.events.offer_entered.Statement.{statement}
-use Rattle.masking.proofs.events.offer_entered.Tie as tie
+use Rattle.events.proofs.offer_entered.Statement.{statement}
+use Rattle.events.proofs.offer_entered.Tie as tie
 
 pub offer-entered-spec : {M : Type 1} → statement M
 offer-entered-spec =

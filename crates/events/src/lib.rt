@@ -8,7 +8,7 @@ ghost use lib.ListN.{length};
 ghost use Rattle.rules.specs.Image.{imageLength};
 ghost use Rattle.engine.specs.Moves.{answerValue};
 ghost use Rattle.inplace.specs.Held.{Offers};
-ghost use Rattle.masking.specs.Offered.{assertOf, deasserts};
+ghost use Rattle.events.specs.Offered.{assertOf, deasserts};
 
 // The assert of the input that entered, if one did.
 pub fn offer_entered(image: &mut [u8], entered: Answer) -> u32

@@ -19,7 +19,7 @@ use Rattle.rules.proofs.laws.Inputs.{first-input, lowest-dropped, no-input}
 use Rattle.inplace.specs.Held.{Reads, Offers}
 use Rattle.ring.specs.Fields.{offering}
 use Rattle.inplace.proofs.Doing.{offers-none, offers-then, offers-same}
-use Rattle.masking.specs.Offered.{deasserts}
+use Rattle.events.specs.Offered.{deasserts}
 
 from-short : (n k : ℕ) (f : ℕ → Bool) → length (from n k f) ≤ k
 unfolding from

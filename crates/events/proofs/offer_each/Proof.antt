@@ -7,10 +7,10 @@ use lib.Count.{trailingZeros, trailing-le}
 use lib.ListN.{length}
 use Rattle.rules.specs.Inputs.{on, inputs}
 use Rattle.rules.proofs.laws.Inputs.{first-below}
-use Rattle.masking.proofs.Offering.{Offering, offering-starts, offering-done, offering-next, less}
+use Rattle.events.proofs.Offering.{Offering, offering-starts, offering-done, offering-next, less}
 use borrow.Author.Needs.{needs}
-use Rattle.masking.proofs.events.offer_each.Statement.{statement}
-use Rattle.masking.proofs.events.offer_each.Tie as tie
+use Rattle.events.proofs.offer_each.Statement.{statement}
+use Rattle.events.proofs.offer_each.Tie as tie
 
 abbrev Inv-loop : tie.InvT-loop
 Inv-loop image₀ set left₀ dropped₀ image left dropped = Offering image₀ image dropped set left
