@@ -1,6 +1,7 @@
 // The ring as it stands in an image: the count, the drops, and sixteen pairs of which the oldest is first.
 use bytes::number;
 use bytes::put_bytes;
+use image::form;
 use image::form::Form;
 use image::form::places_of;
 ghost use mathlib.Core.Path.{_≡_};
@@ -33,16 +34,16 @@ fn offer_to(body: &mut [u8], vector: u8, asserted: bool) -> u32
     requires { ⌜ length (now body) ≡ ringLength ⌝ }
     ensures { λ r. ⌜ (r ≤ 1) × RingOffered (now (body .entry)) (now (body .exit)) r (event vector asserted) ⌝ }
 {
-    let len = body[0] as usize;
-    if 16 <= len {
-        let drops = number(&body[1..5]);
-        put_bytes(body, 1, 4, counted(drops));
+    let len = body[form::COUNT] as usize;
+    if form::CAPACITY <= len {
+        let drops = number(&body[form::DROPS..form::PAIRS]);
+        put_bytes(body, form::DROPS, form::DROPS_LENGTH, counted(drops));
         return 1;
     }
-    let at = 5 + 2 * len;
+    let at = form::PAIRS + form::PAIR * len;
     body[at] = vector;
-    body[at + 1] = flag_of(asserted);
-    body[0] = (len + 1) as u8;
+    body[at + form::FLAG] = flag_of(asserted);
+    body[form::COUNT] = (len + 1) as u8;
     0
 }
 
@@ -53,6 +54,6 @@ pub fn offer(image: &mut [u8], vector: u8, asserted: bool) -> u32
 {
     let p = places_of(Form::One);
     let at = p.count;
-    let end = at + 37;
+    let end = at + form::RING_LENGTH;
     offer_to(&mut image[at..end], vector, asserted)
 }
