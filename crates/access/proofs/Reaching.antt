@@ -1,34 +1,11 @@
--- The four widths, from Bytes and Dwords.
-use mathlib.Core.Path.{_≡_, sym, ap, _∙_}
-use mathlib.Core.Bool.{true, false}
-use mathlib.Core.List.{List, _++_}
-use Prim.Native.Nat.{ℕ, _+_, _^_, _<_}
+-- A value that loses its high half.
+use mathlib.Core.Path.{_≡_}
+use mathlib.Core.Bool.{false}
+use Prim.Native.Nat.{ℕ}
 use native.Mathlib.Omega.{arith}
-use lib.Bits.{bitAnd}
-use Rattle.rules.specs.Numbers.{byteOf, withByte}
+use Rattle.rules.specs.Numbers.{byteOf}
 use Rattle.rules.specs.Inputs.{half}
-use Rattle.rules.specs.Core.{turns}
-use Rattle.rules.specs.Map.{inByteArea}
-use Rattle.rules.specs.Access.{word, qword, readDword, byteActs, dwordActs, writeActs}
-use Rattle.rules.proofs.laws.Writes.{byte-acts-outside}
-use Rattle.inplace.specs.Held.{Reads, Writes}
-use Rattle.inplace.proofs.Doing.{writes-same, writes-then}
 
 -- the low half keeps the low bytes
 pub low-bytes : (v w : ℕ) → w ≡ half false v → (byteOf w 0 ≡ byteOf v 0) × (byteOf w 1 ≡ byteOf v 1)
 low-bytes v w e = (omega arith, omega arith)
-
--- a Byte outside 0x100..0x39f: the Dword as read, with the byte replaced, is written
-pub outside-written : (o v : ℕ) {i j : List ℕ} {n old : ℕ} {new : ℕ} → o < 2 ^ 64 → inByteArea o ≡ false → Reads i old (λ d. readDword (d .core) (bitAnd o 0xffff_ffff_ffff_fffc)) → new ≡ withByte old (bitAnd o 0x3) v
-    → Writes i j n (λ c. dwordActs (bitAnd o 0xffff_ffff_ffff_fffc) new) → Writes i j n (λ c. byteActs c o v)
-outside-written o v {new} l n r g p =
-    writes-same (λ c. dwordActs (bitAnd o 0xffff_ffff_ffff_fffc) new) (λ c. byteActs c o v) p (λ d h. ap (dwordActs (bitAnd o 0xffff_ffff_ffff_fffc)) (g ∙ ap (λ x. withByte x (bitAnd o 0x3) v) (r d h)) ∙ sym (byte-acts-outside o v (d .core) l n))
-
-module _ (o v : ℕ) {i j : List ℕ} {n : ℕ} where
-  pub word-written : {k : List ℕ} {m b₀ b₁ : ℕ} → b₀ ≡ byteOf v 0 → b₁ ≡ byteOf v 1 → Writes i j n (λ c. byteActs c o b₀) → Writes j k m (λ c. byteActs c (o + 1) b₁) → Writes i k (n + m) (λ c. writeActs c word o v)
-  unfolding writeActs
-  word-written {b₀ = b₀} {b₁} e f p q = writes-same _ (λ c. writeActs c word o v) (writes-then (λ c. byteActs c o b₀) (λ c. byteActs c (o + 1) b₁) p q) (λ d h t. byteActs (d .core) o (e t) ++ byteActs (turns (d .core) (byteActs (d .core) o (e t)) .after) (o + 1) (f t))
-
-  pub qword-both : {k : List ℕ} {m w x : ℕ} → w ≡ half false v → x ≡ half true v → Writes i j n (λ c. dwordActs o w) → Writes j k m (λ c. dwordActs (o + 4) x) → Writes i k (n + m) (λ c. writeActs c qword o v)
-  unfolding writeActs
-  qword-both {w = w} {x} e f p q = writes-same _ (λ c. writeActs c qword o v) (writes-then (λ c. dwordActs o w) (λ c. dwordActs (o + 4) x) p q) (λ d g t. dwordActs o (e t) ++ dwordActs (o + 4) (f t))

@@ -1,1 +1,1 @@
--- The contracts cite the definitions of rules, inplace and cells alone.
+-- The contracts cite the definitions of rules, map and inplace alone.

@@ -1,3 +1,2 @@
--- The laws that the proofs of this crate cite.
+-- The laws that the proofs of this crate cite, and of those that rest on it.
 pub mod Entries
-pub mod Halves

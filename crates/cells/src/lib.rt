@@ -1,83 +1,22 @@
-// What stands at an offset, read and written in place: halves of registers, route and vector bytes, and a Dword of either.
-use inplace::entries::put_routes;
-use inplace::entries::put_vectors;
-use inplace::entries::route;
-use inplace::entries::routes;
-use inplace::entries::vector;
-use inplace::entries::vectors;
-use inplace::words;
+// What stands at an offset, read and written in place: route and vector bytes, and a Dword of them or of a register.
+use entries::put_routes;
+use entries::put_vectors;
+use entries::route;
+use entries::routes;
+use entries::vector;
+use entries::vectors;
+use halves::value_of;
+use halves::write_half;
 use map::Cell;
-use map::Plain;
-use map::Register;
-use service::write_clear;
-use service::write_mask;
 ghost use mathlib.Core.Path.{_≡_};
-ghost use mathlib.Core.List.{[], _∷_};
 ghost use Prim.Native.Nat.{_≤_};
 ghost use lib.ListN.{length};
 ghost use Rattle.rules.specs.Numbers.{numberOf};
-ghost use Rattle.rules.specs.Core.{setIsr, store, setPlain};
 ghost use Rattle.rules.specs.Map.{bytes, cellAt};
-ghost use Rattle.rules.specs.Access.{entry, valueOf, readCell, readDword, registerActs, entryActs, cellActs, dwordActs};
+ghost use Rattle.rules.specs.Access.{entry, readCell, readDword, entryActs, cellActs, dwordActs};
 ghost use Rattle.rules.specs.Image.{imageLength};
-ghost use Rattle.map.specs.Views.{plainView, registerView};
 ghost use Rattle.inplace.specs.Held.{Reads, Writes};
 ghost use Rattle.cells.specs.Runs.{Run, entriesOf, entriesActs};
-
-// ---- registers
-
-// A register as it reads: CLEAR as 0, ISR without the masked bits.
-fn value_of(image: &[u8], register: Register) -> u64
-    requires { ⌜ length (now image) ≡ imageLength ⌝ }
-    ensures { λ r. ⌜ Reads (now (image .entry)) r (λ d. valueOf (d .core) (registerView register)) ⌝ }
-{
-    match register {
-        Register::Id => 0x003f_0001_0700_0000,
-        Register::Mask => words::mask(image),
-        Register::Clear => 0,
-        Register::Irr => words::irr(image),
-        Register::Isr => words::isr(image) & !words::mask(image),
-        Register::Plain(plain) => words::plain(image, plain),
-    }
-}
-
-// It replaces the stored half and makes no event.
-fn write_isr(image: &mut [u8], val: u32, high: bool)
-    requires { ⌜ length (now image) ≡ imageLength ⌝ }
-    ensures { λ _. ⌜ Writes (now (image .entry)) (now (image .exit)) 0 (λ c. setIsr high val ∷ []) ⌝ }
-{
-    let old = words::isr(image);
-    words::put_isr(image, bits::replace_u32(old, val, high));
-}
-
-fn write_plain(image: &mut [u8], plain: Plain, val: u32, high: bool)
-    requires { ⌜ length (now image) ≡ imageLength ⌝ }
-    ensures { λ _. ⌜ Writes (now (image .entry)) (now (image .exit)) 0 (λ c. store (setPlain (plainView plain) high val) ∷ []) ⌝ }
-{
-    let old = words::plain(image, plain);
-    words::put_plain(image, plain, bits::replace_u32(old, val, high));
-}
-
-// ID and IRR ignore it.
-fn write_half(image: &mut [u8], register: Register, val: u32, high: bool) -> u32
-    requires { ⌜ length (now image) ≡ imageLength ⌝ }
-    ensures { λ r. ⌜ (r ≤ 65) × Writes (now (image .entry)) (now (image .exit)) r (λ c. registerActs (registerView register) high val) ⌝ }
-{
-    match register {
-        Register::Id => 0,
-        Register::Mask => write_mask(image, val, high),
-        Register::Clear => write_clear(image, bits::in_half(val, high)),
-        Register::Irr => 0,
-        Register::Isr => {
-            write_isr(image, val, high);
-            0
-        }
-        Register::Plain(plain) => {
-            write_plain(image, plain, val, high);
-            0
-        }
-    }
-}
 
 // ---- route and vector bytes: 64 each, from offsets that 64 divides
 

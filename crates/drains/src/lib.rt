@@ -1,6 +1,7 @@
 // A drain in place: the oldest pairs are copied out, the others move to the front, and zeros follow them.
 use bytes::copy;
 use bytes::put_zeros;
+use image::form;
 use image::form::Form;
 use image::form::places_of;
 ghost use mathlib.Core.Path.{_≡_};
@@ -15,7 +16,7 @@ ghost use Rattle.drains.specs.Drained.{Drains, Leaves};
 fn fitting(waiting: usize, bytes: usize) -> usize
     ensures { λ r. ⌜ r ≡ min waiting (bytes / 2) ⌝ }
 {
-    let pairs = bytes / 2;
+    let pairs = bytes / form::PAIR;
     if waiting < pairs { waiting } else { pairs }
 }
 
@@ -44,8 +45,8 @@ fn leave(dst: &mut [u8], n: usize, len: usize)
     ensures { λ _. ⌜ Leaves (now (dst .entry)) (now (dst .exit)) len n ⌝ }
 {
     if n < len {
-        let used = 2 * len;
-        drop_front(&mut dst[0..used], 2 * n);
+        let used = form::PAIR * len;
+        drop_front(&mut dst[0..used], form::PAIR * n);
     } else {
         put_zeros(dst);
     }
@@ -56,7 +57,7 @@ fn copy_out(dst: &mut [u8], src: &[u8])
     requires { ⌜ length (now dst) ≡ length (now src) ⌝ }
     ensures { λ _. ⌜ now (dst .exit) ≡ now (src .entry) ⌝ }
 {
-    if src.len() == 2 {
+    if src.len() == form::PAIR {
         dst[0] = src[0];
         dst[1] = src[1];
     } else {
@@ -71,10 +72,10 @@ fn drain_from(image: &mut [u8], out: &mut [u8], count: usize, at: usize) -> usiz
 {
     let len = image[count] as usize;
     let n = fitting(len, out.len());
-    let taken = 2 * n;
+    let taken = form::PAIR * n;
     let end = at + taken;
     copy_out(&mut out[0..taken], &image[at..end]);
-    let last = at + 32;
+    let last = at + form::PAIRS_LENGTH;
     leave(&mut image[at..last], n, len);
     image[count] = (len - n) as u8;
     n

@@ -1,7 +1,9 @@
 // Whether an image may be loaded. Bytes are compared as numbers, eight at a time. Of the ring's pairs the bits are gathered that any has:
 // they settle the commonest ring, and all flags at once.
+use crate::form::CAPACITY;
 use crate::form::Form;
 use crate::form::KnownForm;
+use crate::form::PAIRS_LENGTH;
 use crate::form::contents_of;
 use crate::form::form_of;
 use crate::form::places_of;
@@ -41,7 +43,7 @@ fn unused_zero(count: usize, pairs: &[u8]) -> bool
     requires { ⌜ (length (now pairs) ≡ 2 * capacity) × (count ≤ capacity) ⌝ }
     ensures { λ r. ⌜ r ≡ allZero (drop (2 * count) (now (pairs .entry))) ⌝ }
 {
-    if count == 16 {
+    if count == CAPACITY {
         return true;
     }
     let first = count / 4;
@@ -96,11 +98,11 @@ fn body_good(image: &[u8], form: Form) -> bool
     }
     let place = p.count;
     let count = image[place] as usize;
-    if count > 16 {
+    if count > CAPACITY {
         return false;
     }
     let at = p.pairs;
-    let end = at + 32;
+    let end = at + PAIRS_LENGTH;
     pairs_good(count, &image[at..end])
 }
 

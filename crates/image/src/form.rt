@@ -62,6 +62,25 @@ pub fn places_of(form: Form) -> Places
     }
 }
 
+// Within the ring's body, in any form: the count, the drops, and the pairs with two bytes each, the vector and the flag.
+pub const COUNT: usize = 0;
+
+pub const DROPS: usize = 1;
+
+pub const DROPS_LENGTH: usize = 4;
+
+pub const PAIRS: usize = 5;
+
+pub const PAIRS_LENGTH: usize = 32;
+
+pub const PAIR: usize = 2;
+
+pub const FLAG: usize = 1;
+
+pub const RING_LENGTH: usize = 37;
+
+pub const CAPACITY: usize = 16;
+
 // The contents as numbers of eight bytes: from byte 0, from byte 8, and the last eight, some of which the second has too.
 pub struct Contents {
     pub first: u64,

@@ -2,6 +2,7 @@
 use bytes::copy;
 use bytes::number;
 use bytes::word_at;
+use image::form;
 use image::form::Form;
 use image::form::places_of;
 use pairs::ring_of;
@@ -81,7 +82,7 @@ fn drops_at(image: &[u8], at: usize) -> u32
     requires { ⌜ at + 4 ≤ length (now image) ⌝ }
     ensures { λ r. ⌜ r ≡ numberOf (part at 4 (now (image .entry))) ⌝ }
 {
-    let end = at + 4;
+    let end = at + form::DROPS_LENGTH;
     number(&image[at..end]) as u32
 }
 
@@ -94,7 +95,7 @@ pub fn load_ring(image: &[u8], form: Form) -> Ring
     let len = image[place] as usize;
     let drops = drops_at(image, p.drops);
     let at = p.pairs;
-    let end = at + 32;
+    let end = at + form::PAIRS_LENGTH;
     ring_of(&image[at..end], len, drops)
 }
 

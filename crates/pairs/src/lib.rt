@@ -1,5 +1,7 @@
 // The ring's events as sixteen pairs of bytes, read and written: the oldest first, the unused ones zero.
 use bytes::put_zeros;
+use image::form::FLAG;
+use image::form::PAIR;
 use state::Ring;
 ghost use mathlib.Core.Path.{_≡_};
 ghost use mathlib.Core.List.{_++_};
@@ -18,8 +20,8 @@ pub fn ring_of(pairs: &[u8], len: usize, drops: u32) -> Ring
     let mut output_asserted = [false; 16];
     let mut i = 0;
     while i < 16 {
-        output_vectors[i] = pairs[2 * i];
-        output_asserted[i] = pairs[2 * i + 1] == 1;
+        output_vectors[i] = pairs[PAIR * i];
+        output_asserted[i] = pairs[PAIR * i + FLAG] == 1;
         i += 1;
     }
     Ring {
@@ -45,8 +47,8 @@ fn put_events(dst: &mut [u8], ring: Ring, n: usize)
     let mut i = 0;
     while i < n {
         let at = (ring.output_head + i) % 16;
-        dst[2 * i] = ring.output_vectors[at];
-        dst[2 * i + 1] = flag_byte(ring.output_asserted[at]);
+        dst[PAIR * i] = ring.output_vectors[at];
+        dst[PAIR * i + FLAG] = flag_byte(ring.output_asserted[at]);
         i += 1;
     }
 }

@@ -2,6 +2,7 @@
 use bytes::copy;
 use bytes::put_bytes;
 use bytes::put_word;
+use image::form;
 use image::form::Form;
 use image::form::contents_of;
 use image::form::places_of;
@@ -72,9 +73,9 @@ pub fn save_ring(image: &mut [u8], form: Form, ring: Ring)
 {
     let p = places_of(form);
     put_bytes(image, p.count, 1, ring.output_len as u64);
-    put_bytes(image, p.drops, 4, ring.output_drops as u64);
+    put_bytes(image, p.drops, form::DROPS_LENGTH, ring.output_drops as u64);
     let at = p.pairs;
-    let end = at + 32;
+    let end = at + form::PAIRS_LENGTH;
     put_pairs(&mut image[at..end], ring);
 }
 

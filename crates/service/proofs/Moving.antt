@@ -1,25 +1,24 @@
--- What enters and what leaves, done in place: the stores to the registers and the offers come to the rules' steps.
+-- What enters and what leaves, done in place: the stores to the registers come to the rules' steps.
 use mathlib.Core.Path.{_≡_, refl, sym, ap, _∙_}
 use mathlib.Core.Bool.{Bool, true, false, cond}
 use mathlib.Core.List.{List, [], _∷_, map}
-use Prim.Native.Nat.{ℕ, _+_, _-_, _*_, _%_, _^_, _<_}
+use Prim.Native.Nat.{ℕ, _-_, _*_, _%_, _^_, _<_}
 use native.Mathlib.Omega.{arith}
 use lib.Bits.{bitAnd, bitOr}
 use lib.Count.{trailingZeros}
 use lib.ListN.{getD}
-use Rattle.rules.specs.Inputs.{on, inputs, only, put, register, without, withHalf}
-use Rattle.rules.specs.Lines.{Lines, Turn, stay, withMask, withIrr, withIsr, event, andThen, servedIn, pendingIn, serve, enter, leave, newlyUnmasked, newlyMasked, polled, raised, lowered, cleared, masked}
-use Rattle.rules.specs.Core.{move, moved, poll, raise, lower, clear, setMask}
+use Rattle.rules.specs.Inputs.{on, inputs, only, put, register, without}
+use Rattle.rules.specs.Lines.{Turn, stay, withIrr, withIsr, event, servedIn, pendingIn, serve, enter, leave, polled, raised, lowered}
+use Rattle.rules.specs.Core.{moved, poll, raise, lower}
 use Rattle.rules.specs.Ring.{ringRun}
 use Rattle.rules.specs.Device.{Device, Value, none, some, offers}
-use Rattle.rules.proofs.laws.Bits.{test, put-is, without-is, without-these, on-bit, bit-lt}
+use Rattle.rules.proofs.laws.Bits.{test, put-is, without-these, on-bit, bit-lt}
 use Rattle.rules.proofs.laws.Inputs.{inputs-ext, first-input, no-input, enter-ext, leave-ext, only-served}
 use Rattle.decide.specs.Sets.{waitingOf, servedOf}
 use Rattle.decide.proofs.Deciding.{inputs-of, none-served}
-use Rattle.inplace.specs.Held.{Holds, Reads, Becomes, Does, Offers, MovesIn, Writes, Returns, withLines, lost, dropped, given}
+use Rattle.inplace.specs.Held.{Holds, Reads, Becomes, Does, MovesIn, Returns, withLines, given}
 use Rattle.inplace.proofs.Doing.{does-same, becomes-then, moves-acts}
-use Rattle.service.specs.Offered.{assertOf, deasserts}
-use Rattle.service.proofs.Turning.{afterTurn, moves-by, moves-then, entered-offered}
+use Rattle.inplace.proofs.Turning.{afterTurn, moves-by}
 
 -- ---- enter
 
@@ -51,29 +50,15 @@ module _ (i : List ℕ) (x : ℕ) {irr mask isr : ℕ} (rirr : Reads i irr (λ d
 
 module _ (i : List ℕ) (x : ℕ) {isr : ℕ} (risr : Reads i isr (λ d. d .core .lines .isr)) {p : ℕ} (is : p ≡ register (servedOf x isr)) where
   -- the inputs that are in service, by what was read
-  serving : (d : Device) → Holds i d → inputs (on p) ≡ inputs (servedIn (on x) (d .core .lines))
+  pub serving : (d : Device) → Holds i d → inputs (on p) ≡ inputs (servedIn (on x) (d .core .lines))
   serving d h = inputs-of (servedOf x isr) is ∙ (λ t. inputs (servedOf x (risr d h t)))
 
   -- with none in service the lines stay
-  stays : p ≡ 0 → (o : Bool) (d : Device) → Holds i d → stay (d .core .lines) ≡ leave (d .core .vectors) o (on x) (d .core .lines)
+  pub stays : p ≡ 0 → (o : Bool) (d : Device) → Holds i d → stay (d .core .lines) ≡ leave (d .core .vectors) o (on x) (d .core .lines)
   stays z o d h =
       let e = risr d h in
       let isr-stays = none-served x (d .core .lines .isr) (h .well .isr) (is ∙ ap (λ y. register (servedOf x y)) e) z in
       λ t. record { after = withIsr (d .core .lines) (isr-stays t); made = map (event (d .core .vectors) o false) ((sym (no-input p z) ∙ serving d h) t) }
-
-  pub leave-none : p ≡ 0 → MovesIn i i 0 dropped (λ vs. leave vs true (on x))
-  unfolding offers ringRun lost
-  leave-none z = moves-by dropped (λ d. stay (d .core .lines)) (λ vs. leave vs true (on x)) (record { becomes = λ d h. h; gives = λ d h. refl }) (stays z true)
-
-  module _ (below : x < 2 ^ 64) {j : List ℕ} (s : Becomes i j (λ d. withLines d (withIsr (d .core .lines) (bitAnd isr ((2 ^ 64 - 1) - x))))) where
-    loses : (d : Device) → Holds i d → bitAnd isr ((2 ^ 64 - 1) - x) ≡ without (d .core .lines .isr) (on x)
-    loses d h = ap (λ y. bitAnd y ((2 ^ 64 - 1) - x)) (risr d h) ∙ without-is (d .core .lines .isr) x (h .well .isr) below
-
-    pub leave-done : {n : ℕ} {k : List ℕ} → Offers j k n (λ d. deasserts (d .core) p) → MovesIn i k n dropped (λ vs. leave vs true (on x))
-    leave-done o =
-        does-same (becomes-then s o)
-        (λ d h t. afterTurn d (record { after = withIsr (d .core .lines) (loses d h t); made = map (event (d .core .vectors) true false) (serving d h t) }))
-        (λ d h. ap (λ ns. lost (d .ring) (offers (map (event (d .core .vectors) true false) ns))) (serving d h))
 
 -- one input, whose event is returned
 module _ (i : List ℕ) (n : ℕ) (lt : n < 64) {isr : ℕ} (risr : Reads i isr (λ d. d .core .lines .isr)) {p : ℕ} (is : p ≡ register (servedOf (1 * 2 ^ n % 2 ^ 64) isr)) where
@@ -104,42 +89,9 @@ module _ (i : List ℕ) (n : ℕ) (lt : n < 64) {isr : ℕ} (risr : Reads i isr 
         (λ d h. refl))
         (λ d h. ap (λ ns. record { after = withIsr (d .core .lines) (without (d .core .lines .isr) (only n)); made = map (event (d .core .vectors) false false) ns }) (its d h))
 
--- ---- MASK and CLEAR
-
--- the two stages, by sets that are the newly unmasked and the newly masked
-stages : (vs : List ℕ) (l : Lines) (new up down : ℕ) → ((i : ℕ) → i < 64 → on up i ≡ newlyUnmasked (l .mask) new i) → ((i : ℕ) → i < 64 → on down i ≡ newlyMasked (l .mask) new i)
-    → andThen (enter vs true (on up) (withMask l new)) (leave vs true (on down)) ≡ masked vs l new
-unfolding masked
-stages vs l new up down ups downs =
-    let first = enter-ext vs true (on up) (newlyUnmasked (l .mask) new) (withMask l new) ups in
-    let second : (m : Lines) → leave vs true (on down) m ≡ leave vs true (newlyMasked (l .mask) new) m = λ m. leave-ext vs true (on down) (newlyMasked (l .mask) new) m downs in
-    (λ t. andThen (first t) (λ m. second m t))
-
-module _ (i : List ℕ) (b : Bool) (v up down : ℕ) {old new : ℕ} (rold : Reads i old (λ d. d .core .lines .mask)) (is : new ≡ withHalf b old v)
-    (ups : (n : ℕ) → n < 64 → on up n ≡ newlyUnmasked old (withHalf b old v) n) (downs : (n : ℕ) → n < 64 → on down n ≡ newlyMasked old (withHalf b old v) n) where
-  pub mask-done : {j k l m : List ℕ} {n o : ℕ} (a : Value) → Becomes i j (λ d. withLines d (withMask (d .core .lines) new)) → MovesIn j k a given (λ vs. enter vs false (on up)) → Offers k l n (λ d. assertOf a)
-      → MovesIn l m o dropped (λ vs. leave vs true (on down)) → Writes i m (n + o) (λ c. move (setMask b v) ∷ [])
-  unfolding moved
-  mask-done a s p q r =
-      let both = becomes-then s (moves-then (λ vs. enter vs true (on up)) (λ vs. leave vs true (on down)) (entered-offered a (on up) p q) r) in
-      let turn : (d : Device) → Holds i d → andThen (enter (d .core .vectors) true (on up) (withMask (d .core .lines) new)) (leave (d .core .vectors) true (on down)) ≡ masked (d .core .vectors) (d .core .lines) (withHalf b (d .core .lines .mask) v) =
-      λ d h. let e = rold d h in
-      ap (λ y. andThen (enter (d .core .vectors) true (on up) (withMask (d .core .lines) y)) (leave (d .core .vectors) true (on down))) (is ∙ ap (λ y. withHalf b y v) e)
-      ∙ stages (d .core .vectors) (d .core .lines) (withHalf b (d .core .lines .mask) v) up down (λ n lt. ups n lt ∙ ap (λ y. newlyUnmasked y (withHalf b y v) n) e) (λ n lt. downs n lt ∙ ap (λ y. newlyMasked y (withHalf b y v) n) e)
-      in
-      moves-acts dropped (setMask b v) (does-same both (λ d h. ap (afterTurn d) (turn d h)) (λ d h. ap (λ (t : Turn). dropped (d .ring) (t .made)) (turn d h)))
+-- ---- the calls on an input
 
 module _ (i : List ℕ) {irr : ℕ} (rirr : Reads i irr (λ d. d .core .lines .irr)) where
-  pub clear-done : (x : ℕ) → x < 2 ^ 64 → {j k : List ℕ} {n : ℕ} → Becomes i j (λ d. withLines d (withIrr (d .core .lines) (bitAnd irr ((2 ^ 64 - 1) - x)))) → MovesIn j k n dropped (λ vs. leave vs true (on x)) → Writes i k n (λ c. move (clear x) ∷ [])
-  unfolding moved cleared
-  clear-done x below s p =
-      let turn : (d : Device) → Holds i d → bitAnd irr ((2 ^ 64 - 1) - x) ≡ without (d .core .lines .irr) (on x) = λ d h. ap (λ y. bitAnd y ((2 ^ 64 - 1) - x)) (rirr d h) ∙ without-is (d .core .lines .irr) x (h .well .irr) below in
-      moves-acts dropped (clear x)
-      (does-same (becomes-then s p) (λ d h. ap (λ y. afterTurn d (leave (d .core .vectors) true (on x) (withIrr (d .core .lines) y))) (turn d h))
-      (λ d h. ap (λ y. dropped (d .ring) (leave (d .core .vectors) true (on x) (withIrr (d .core .lines) y) .made)) (turn d h)))
-
-  -- ---- the calls on an input
-
   module _ (n : ℕ) (lt : n < 64) where
     abbrev bitOf : ℕ
     bitOf = 1 * 2 ^ n % 2 ^ 64

@@ -1,0 +1,21 @@
+-- `put_vectors`: the bytes from the input's place on are replaced.
+use mathlib.Core.Path.{refl}
+use native.Mathlib.Omega.{arith}
+use Rattle.rules.specs.Form.{vectors}
+use Rattle.entries.proofs.Tables.{vectors-stored}
+use borrow.Author.Needs.{needs}
+use Rattle.entries.proofs.put_vectors.Statement.{statement}
+use Rattle.entries.proofs.put_vectors.Tie as tie
+
+pub put-vectors-spec : {M : Type 1} → statement M
+put-vectors-spec =
+    tie.close
+    (tie.spec
+    (λ c κs. search needs)
+    (λ c. omega (arith, c .before .before .places-of .ensures .fields vectors refl))
+    (λ c κs. omega (arith, c .before .before .places-of .ensures .fields vectors refl))
+    (λ c. search needs)
+    (λ c. let q = c .before .before in
+    let p = q .before .before .before in
+    let s = p .before .before in
+    vectors-stored (s .args .image .now) (s .args .input) (s .args .n) (s .args .x) (s .pre .1) (q .put-bytes .ensures) (p .places-of .ensures .fields vectors refl)))

@@ -1,0 +1,30 @@
+-- Turns of the lines done in place: by another name, and one after another.
+use mathlib.Core.Path.{_≡_, sym, ap, _∙_}
+use mathlib.Core.List.{List}
+use Prim.Native.Nat.{ℕ, _+_}
+use Rattle.rules.specs.Lines.{Lines, Made, Turn, andThen}
+use Rattle.rules.specs.Ring.{Ring, Drawn, ringRun}
+use Rattle.rules.specs.Device.{Device, offers}
+use Rattle.rules.proofs.laws.Acts.{offers-append}
+use Rattle.rules.proofs.laws.Rings.{run-append}
+use Rattle.inplace.specs.Held.{Holds, Does, MovesIn, withLines, withRing, lost, dropped, turned}
+use Rattle.inplace.proofs.Doing.{does-same, does-then, lost-append}
+
+-- a device after a turn
+abbrev pub afterTurn : Device → Turn → Device
+afterTurn d t = withRing (withLines d (t .after)) (ringRun (d .ring) (offers (t .made)) .after)
+
+pub moves-by : {A : Type 0} {i j : List ℕ} {x : A} (w : Ring → List Made → A) (u : Device → Turn) (t : List ℕ → Lines → Turn) → Does i j x (λ d. afterTurn d (u d)) (λ d. w (d .ring) (u d .made))
+    → ((d : Device) → Holds i d → u d ≡ turned d t) → MovesIn i j x w t
+moves-by w u t p e = does-same p (λ d h. ap (afterTurn d) (e d h)) (λ d h. ap (λ (y : Turn). w (d .ring) (y .made)) (e d h))
+
+pub moves-then : {i j k : List ℕ} {n m : ℕ} (t u : List ℕ → Lines → Turn) → MovesIn i j n dropped t → MovesIn j k m dropped u → MovesIn i k (n + m) dropped (λ vs l. andThen (t vs l) (u vs))
+moves-then t u p q =
+    does-same (does-then p q)
+    (λ d h. let a = turned d t in
+    let b = u (d .core .vectors) (a .after) in
+    ap (λ (x : Drawn). withRing (withLines d (b .after)) (x .after)) (sym (run-append (d .ring) (offers (a .made)) (offers (b .made))))
+    ∙ ap (λ l. withRing (withLines d (b .after)) (ringRun (d .ring) l .after)) (sym (offers-append (a .made) (b .made))))
+    (λ d h. let a = turned d t in
+    let b = u (d .core .vectors) (a .after) in
+    sym (lost-append (d .ring) (offers (a .made)) (offers (b .made))) ∙ ap (lost (d .ring)) (sym (offers-append (a .made) (b .made))))

@@ -1,0 +1,50 @@
+// Writes to MASK and CLEAR, in place on an image: what enters service and what leaves it, and the events of that, offered to the ring.
+use events::offer_each;
+use events::offer_entered;
+use service::enter;
+ghost use mathlib.Core.Path.{_≡_};
+ghost use mathlib.Core.Bool.{true};
+ghost use mathlib.Core.List.{[], _∷_};
+ghost use Prim.Native.Nat.{_≤_};
+ghost use lib.ListN.{length};
+ghost use Rattle.rules.specs.Inputs.{on};
+ghost use Rattle.rules.specs.Lines as lines;
+ghost use Rattle.rules.specs.Core as core;
+ghost use Rattle.rules.specs.Image.{imageLength};
+ghost use Rattle.inplace.specs.Held.{MovesIn, Writes, dropped};
+
+// All of a set that are in service leave it, and their deasserts are offered; the answer is how many were dropped.
+fn leave(image: &mut [u8], set: u64) -> u32
+    requires { ⌜ length (now image) ≡ imageLength ⌝ }
+    ensures { λ r. ⌜ (r ≤ 64) × MovesIn (now (image .entry)) (now (image .exit)) r dropped (λ vs. lines.leave vs true (on set)) ⌝ }
+{
+    let isr = words::isr(image);
+    let served = decide::served(set, isr);
+    if served == 0 {
+        return 0;
+    }
+    words::put_isr(image, isr & !set);
+    offer_each(image, served)
+}
+
+// MASK: a half is replaced; the lowest newly unmasked input that waits enters, and then the newly masked ones leave.
+pub fn write_mask(image: &mut [u8], val: u32, high: bool) -> u32
+    requires { ⌜ length (now image) ≡ imageLength ⌝ }
+    ensures { λ r. ⌜ (r ≤ 65) × Writes (now (image .entry)) (now (image .exit)) r (λ c. core.move (core.setMask high val) ∷ []) ⌝ }
+{
+    let old = words::mask(image);
+    words::put_mask(image, bits::replace_u32(old, val, high));
+    let entered = enter(image, decide::newly_unmasked(old, val, high));
+    let first = offer_entered(image, entered);
+    first + leave(image, decide::newly_masked(old, val, high))
+}
+
+// CLEAR: latches and service lose the bits.
+pub fn write_clear(image: &mut [u8], bits: u64) -> u32
+    requires { ⌜ length (now image) ≡ imageLength ⌝ }
+    ensures { λ r. ⌜ (r ≤ 65) × Writes (now (image .entry)) (now (image .exit)) r (λ c. core.move (core.clear bits) ∷ []) ⌝ }
+{
+    let irr = words::irr(image);
+    words::put_irr(image, irr & !bits);
+    leave(image, bits)
+}

@@ -1,0 +1,28 @@
+-- `write_byte`: inside 0x100..0x39f one byte, and elsewhere the Dword that it lies in.
+use mathlib.Core.Path.{sym, _∙_}
+use native.Mathlib.Omega.{arith}
+use lib.Bits.{mask-lt}
+use Rattle.rules.specs.Access.{entryActs, byteActs}
+use Rattle.rules.proofs.laws.Writes.{byte-acts-inside}
+use Rattle.inplace.proofs.Doing.{writes-same}
+use Rattle.narrow.proofs.Bytes.{outside-written}
+use borrow.Author.Needs.{needs}
+use Rattle.narrow.proofs.write_byte.Statement.{statement}
+use Rattle.narrow.proofs.write_byte.Tie as tie
+
+pub write-byte-spec : {M : Type 1} → statement M
+write-byte-spec =
+    tie.close
+    (tie.spec
+    (λ c κs. search needs)
+    (λ c κs. search needs)
+    (λ c. search needs)
+    (λ c. let a = c .before .before .before .before .before .before .before .args in
+    (omega arith, writes-same (λ k. entryActs (a .offset) (a .val)) (λ k. byteActs k (a .offset) (a .val)) (c .before .before .write-entry .ensures) (λ d h. sym (byte-acts-inside (a .offset) (a .val) (d .core) (sym (c .before .before .before .before .before .in-byte-area .ensures) ∙ c .before .before .before .before .if1 .taken)))))
+    (λ c κs. search needs)
+    (λ c κs. mask-lt (c .before .before .before .before .before .before .args .offset) 2)
+    (λ c κs. search needs)
+    (λ c. search needs)
+    (λ c. let w = c .before .before .write-dword .ensures in
+    let a = c .before .before .before .before .before .before .before .before .before .before .args in
+    (w .0, outside-written (a .offset) (a .val) (search needs) (sym (c .before .before .before .before .before .before .before .before .in-byte-area .ensures) ∙ c .before .before .before .before .before .before .before .if1 .left) (c .before .before .before .before .before .read-dword .ensures) (c .before .before .before .with-byte .ensures) (w .1))))

@@ -1,0 +1,141 @@
+-- Body 4 as bytes: an event stored behind those that wait, or counted as dropped.
+use mathlib.Core.Path.{_≡_, refl, sym, ap, _∙_}
+use mathlib.Core.Bool.{Bool}
+use mathlib.Core.List.{List, [], _∷_, _++_, map, append-assoc}
+use Prim.Native.Nat.{ℕ, zero, suc, _+_, _-_, _*_, _<_, _≤_, min}
+use native.Mathlib.Nat.{add-zero}
+use native.Mathlib.Omega.{arith}
+use lib.Dec.{ltb, lit<}
+use lib.ListN.{length, take, getD, set, replicate, length-append}
+use lib.Seq.{take-all, drop-at}
+use borrow.Author.Tests.{lt-ltb, le-ltb, ltb-true}
+use borrow.Rule.Slice.PartMut.{putMid}
+use Rattle.rules.specs.Numbers.{numberOf, bytesOf, part, Bytes}
+use Rattle.rules.specs.Ring.{capacity, stop, flag, pairsOf, Event, Ring, offer, offered, ringStep, ringRun}
+use Rattle.rules.specs.Device.{Device, WellFormed, reset}
+use Rattle.rules.specs.Form.{one}
+use Rattle.rules.specs.Image.{fieldOf, ringAt, ringLength, contents, registersBody, ringBody, encode}
+use Rattle.rules.proofs.laws.Bytes.{numberOf-bytesOf}
+use Rattle.rules.proofs.laws.Bits.{test}
+use Rattle.rules.proofs.laws.Images.{encode-bodies, length-registersBody, length-ringBody}
+use Rattle.rules.proofs.laws.Saved.{fields-sized}
+use Rattle.rules.proofs.laws.InPlace.{ringPart, part-written, ring-apart}
+use Rattle.rules.proofs.laws.Rings.{offered-room, offered-full}
+use Rattle.bytes.specs.Put.{withBytes}
+use Rattle.inplace.specs.Held.{Holds, Offers, withRing, lostBy, lost}
+use Rattle.ring.specs.Fields.{RingOffered, event, offering}
+
+-- a pair is stored over two bytes behind the pairs that wait
+pair-stored : (es : List Event) (x y v : ℕ) (a : Bool) (l : List ℕ)
+    → set (set (pairsOf es ++ (x ∷ y ∷ l)) (2 * length es) v) (suc (2 * length es)) (flag a) ≡ pairsOf (es ++ (event v a ∷ [])) ++ l
+pair-stored [] x y v a l = refl
+pair-stored (e ∷ es) x y v a l =
+    let s : 2 * suc (length es) ≡ suc (suc (2 * length es)) = omega arith in
+    rw s (ap (λ m. e .vector ∷ flag (e .asserted) ∷ m) (pair-stored es x y v a l))
+
+module _ (r : Ring) (v : ℕ) (a : Bool) {i : List ℕ} (n : ℕ) (e : i ≡ ringBody (withRing reset r)) (c : n ≡ getD i 0 0) where
+  count-is : n ≡ length (r .waiting)
+  unfolding ringBody
+  count-is = c ∙ ap (λ m. getD m 0 0) e
+
+  -- there is room
+  pub ring-kept : {f : ℕ} → n < 16 → f ≡ flag a → (set (set (set i (5 + 2 * n) v) (5 + 2 * n + 1) f) 0 (n + 1) ≡ ringBody (withRing reset (offered r (event v a)))) × (0 ≡ lostBy r (offer (event v a)))
+  unfolding ringBody
+  ring-kept {f} h g =
+      let es = r .waiting in
+      let m = length es in
+      let room : m < capacity = omega (arith, count-is) in
+      let first : 5 + 2 * m ≡ suc (suc (suc (suc (suc (2 * m))))) = omega arith in
+      let second : 5 + 2 * m + 1 ≡ suc (suc (suc (suc (suc (suc (2 * m)))))) = omega arith in
+      let left : 32 - 2 * m ≡ suc (suc (32 - 2 * (m + 1))) = omega arith in
+      let more : length (es ++ (event v a ∷ [])) ≡ m + 1 = length-append es (event v a ∷ []) in (
+        (λ t. set (set (set (e t) (5 + 2 * count-is t) v) (5 + 2 * count-is t + 1) (g t)) 0 (count-is t + 1))
+            ∙ (λ t. set (set (set (m ∷ (bytesOf 4 (r .drops) ++ (pairsOf es ++ replicate (left t) 0))) (first t) v) (second t) (flag a)) 0 (m + 1))
+            ∙ ap (λ l. (m + 1) ∷ (bytesOf 4 (r .drops) ++ l)) (pair-stored es 0 0 v a (replicate (32 - 2 * (m + 1)) 0))
+            ∙ (λ t. sym more t ∷ (bytesOf 4 (r .drops) ++ (pairsOf (es ++ (event v a ∷ [])) ++ replicate (32 - 2 * sym more t) 0)))
+            ∙ ap (λ q. ringBody (withRing reset q)) (sym (offered-room r (event v a) room)),
+        rw (lt-ltb m capacity room) refl,
+      )
+
+  -- there is none
+  pub ring-full : {x y : ℕ} → 16 ≤ n → r .drops ≤ stop → x ≡ numberOf (part 1 4 i) → y ≡ min (x + 1) stop → (withBytes 1 4 y i ≡ ringBody (withRing reset (offered r (event v a)))) × (1 ≡ lostBy r (offer (event v a)))
+  unfolding ringBody
+  ring-full {x} {y} h k f g =
+      let full : capacity ≤ length (r .waiting) = omega (arith, count-is) in
+      let drops : x ≡ r .drops = f ∙ ap (λ m. numberOf (part 1 4 m)) e ∙ numberOf-bytesOf 4 (r .drops) (omega arith) in (
+        (λ t. withBytes 1 4 ((g ∙ ap (λ z. min (z + 1) stop) drops) t) (e t)) ∙ ap (λ q. ringBody (withRing reset q)) (sym (offered-full r (event v a) full)),
+        rw (le-ltb (length (r .waiting)) capacity full) refl,
+      )
+
+-- ---- body 4 in an image
+
+module _ (d : Device) (w : WellFormed d) where
+  -- everything before it
+  abbrev ahead : List ℕ
+  ahead = contents ++ (registersBody d ++ (d .core .stored .routes ++ d .core .vectors))
+
+  length-ahead : length ahead ≡ ringAt
+  length-ahead = simp length-append (omega (arith, length-registersBody d, w .routes, w .vectors))
+
+  -- it comes last
+  ring-last : (r : Ring) → encode (withRing d r) ≡ ahead ++ ringBody (withRing d r)
+  unfolding registersBody
+  ring-last r = encode-bodies (withRing d r) ∙ simp append-assoc
+
+  pub ring-part : part ringAt ringLength (encode d) ≡ ringBody d
+  ring-part =
+      let short : length (ringBody d) ≤ ringLength = omega (arith, length-ringBody d (w .waiting)) in
+      ap (part ringAt ringLength) (ring-last (d .ring)) ∙ ap (take ringLength) (drop-at ahead (ringBody d) ringAt length-ahead) ∙ take-all ringLength (ringBody d) short
+
+  pub ring-put : (r : Ring) → putMid ringAt ringLength (encode d) (ringBody (withRing d r)) ≡ encode (withRing d r)
+  unfolding encode ringBody
+  ring-put r = part-written one (fieldOf d) (fieldOf (withRing d r)) (fields-sized d w) ringPart refl (ring-apart one d r)
+
+-- a device stays well formed with another ring of its sizes
+pub ring-well : {d : Device} → WellFormed d → (r : Ring) → Bytes (map (λ e. e .vector) (r .waiting)) → length (r .waiting) ≤ capacity → r .drops ≤ stop → WellFormed (withRing d r)
+ring-well w r h k m = record {
+  mask = w .mask;
+  irr = w .irr;
+  isr = w .isr;
+  plains = w .plains;
+  routeBytes = w .routeBytes;
+  routes = w .routes;
+  vectorBytes = w .vectorBytes;
+  vectors = w .vectors;
+  eventBytes = h;
+  waiting = k;
+  drops = m;
+}
+
+-- ---- an event offered
+
+bytes-snoc : (xs : List Event) (e : Event) → Bytes (map (λ x. x .vector) xs) → e .vector < 256 → Bytes (map (λ x. x .vector) (xs ++ (e ∷ [])))
+bytes-snoc [] e b h zero = h
+bytes-snoc [] e b h (suc i) = lit< tt
+bytes-snoc (x ∷ xs) e b h zero = b 0
+bytes-snoc (x ∷ xs) e b h (suc i) = bytes-snoc xs e (λ k. b (suc k)) h i
+
+offered-well : {d : Device} (e : Event) → e .vector < 256 → WellFormed d → WellFormed (withRing d (offered (d .ring) e))
+unfolding offered
+offered-well {d} e h w =
+    let r = d .ring in
+    test (ltb (length (r .waiting)) capacity)
+    (λ t. rw t (ring-well w _ (bytes-snoc (r .waiting) e (w .eventBytes) h) (simp length-append (omega (arith, ltb-true (length (r .waiting)) capacity t))) (w .drops)))
+    (λ t. rw t (ring-well w _ (w .eventBytes) (w .waiting) (omega arith)))
+
+-- to body 4, lent from its place on
+pub ring-offered : (i ys : List ℕ) (at n v : ℕ) (a : Bool) → at ≡ ringAt → v < 256 → RingOffered (part at (at + 37 - at) i) ys n (event v a) → Offers i (putMid at (at + 37 - at) i ys) n (λ d. offering v a)
+unfolding lost ringRun ringStep ringBody
+ring-offered i ys at n v a e h f = record {
+  becomes = λ d k. record {
+    well = offered-well (event v a) h (k .well);
+    image = (λ t. putMid (e t) (long t) (k .image t) (f (d .ring) (k .well .waiting) (k .well .drops) (spells d k) .0 t)) ∙ ring-put d (k .well) (offered (d .ring) (event v a));
+  };
+  gives = λ d k. f (d .ring) (k .well .waiting) (k .well .drops) (spells d k) .1 ∙ sym (add-zero _);
+}
+  where
+    long : at + 37 - at ≡ ringLength
+    long = omega arith
+
+    spells : (d : Device) → Holds i d → part at (at + 37 - at) i ≡ ringBody (withRing reset (d .ring))
+    spells d k = (λ t. part (e t) (long t) (k .image t)) ∙ ring-part d (k .well)

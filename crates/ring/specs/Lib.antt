@@ -1,0 +1,2 @@
+-- An event, and what it is to offer one.
+pub mod Fields
