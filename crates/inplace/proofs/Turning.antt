@@ -3,12 +3,12 @@ use mathlib.Core.Path.{_≡_, sym, ap, _∙_}
 use mathlib.Core.List.{List}
 use Prim.Native.Nat.{ℕ, _+_}
 use Rattle.rules.specs.Lines.{Lines, Made, Turn, andThen}
-use Rattle.rules.specs.Ring.{Ring, Drawn, ringRun}
-use Rattle.rules.specs.Device.{Device, offers}
+use Rattle.rules.specs.Ring.{Ring, Drawn, ringRun, lostOf}
+use Rattle.rules.specs.Device.{Device, offers, lost}
 use Rattle.rules.proofs.laws.Acts.{offers-append}
-use Rattle.rules.proofs.laws.Rings.{run-append}
-use Rattle.inplace.specs.Held.{Holds, Does, MovesIn, withLines, withRing, lost, dropped, turned}
-use Rattle.inplace.proofs.Doing.{does-same, does-then, lost-append}
+use Rattle.rules.proofs.laws.Rings.{run-append, lost-append}
+use Rattle.inplace.specs.Held.{Holds, Does, MovesIn, withLines, withRing, turned}
+use Rattle.inplace.proofs.Doing.{does-same, does-then}
 
 -- a device after a turn
 abbrev pub afterTurn : Device → Turn → Device
@@ -18,7 +18,7 @@ pub moves-by : {A : Type 0} {i j : List ℕ} {x : A} (w : Ring → List Made →
     → ((d : Device) → Holds i d → u d ≡ turned d t) → MovesIn i j x w t
 moves-by w u t p e = does-same p (λ d h. ap (afterTurn d) (e d h)) (λ d h. ap (λ (y : Turn). w (d .ring) (y .made)) (e d h))
 
-pub moves-then : {i j k : List ℕ} {n m : ℕ} (t u : List ℕ → Lines → Turn) → MovesIn i j n dropped t → MovesIn j k m dropped u → MovesIn i k (n + m) dropped (λ vs l. andThen (t vs l) (u vs))
+pub moves-then : {i j k : List ℕ} {n m : ℕ} (t u : List ℕ → Lines → Turn) → MovesIn i j n lost t → MovesIn j k m lost u → MovesIn i k (n + m) lost (λ vs l. andThen (t vs l) (u vs))
 moves-then t u p q =
     does-same (does-then p q)
     (λ d h. let a = turned d t in
@@ -27,4 +27,4 @@ moves-then t u p q =
     ∙ ap (λ l. withRing (withLines d (b .after)) (ringRun (d .ring) l .after)) (sym (offers-append (a .made) (b .made))))
     (λ d h. let a = turned d t in
     let b = u (d .core .vectors) (a .after) in
-    sym (lost-append (d .ring) (offers (a .made)) (offers (b .made))) ∙ ap (lost (d .ring)) (sym (offers-append (a .made) (b .made))))
+    sym (lost-append (d .ring) (offers (a .made)) (offers (b .made))) ∙ ap (lostOf (d .ring)) (sym (offers-append (a .made) (b .made))))

@@ -10,13 +10,14 @@ ghost use lib.ListN.{length};
 ghost use Rattle.rules.specs.Inputs.{on};
 ghost use Rattle.rules.specs.Lines as lines;
 ghost use Rattle.rules.specs.Core as core;
+ghost use Rattle.rules.specs.Device.{lost};
 ghost use Rattle.rules.specs.Image.{imageLength};
-ghost use Rattle.inplace.specs.Held.{MovesIn, Writes, dropped};
+ghost use Rattle.inplace.specs.Held.{MovesIn, Writes};
 
-// All of a set that are in service leave it, and their deasserts are offered; the answer is how many were dropped.
+// All of a set that are in service leave it, and their deasserts are offered; the answer is how many were lost.
 fn leave(image: &mut [u8], set: u64) -> u32
     requires { ⌜ length (now image) ≡ imageLength ⌝ }
-    ensures { λ r. ⌜ (r ≤ 64) × MovesIn (now (image .entry)) (now (image .exit)) r dropped (λ vs. lines.leave vs true (on set)) ⌝ }
+    ensures { λ r. ⌜ (r ≤ 64) × MovesIn (now (image .entry)) (now (image .exit)) r lost (λ vs. lines.leave vs true (on set)) ⌝ }
 {
     let isr = words::isr(image);
     let served = decide::served(set, isr);

@@ -1,9 +1,8 @@
--- Body 4 as bytes: an event stored behind those that wait, or counted as dropped.
+-- Body 4 as bytes: an event stored behind those that wait, or counted as lost.
 use mathlib.Core.Path.{_≡_, refl, sym, ap, _∙_}
 use mathlib.Core.Bool.{Bool}
-use mathlib.Core.List.{List, [], _∷_, _++_, map, append-assoc}
+use mathlib.Core.List.{List, [], _∷_, _++_, map, append-assoc, append-nil}
 use Prim.Native.Nat.{ℕ, zero, suc, _+_, _-_, _*_, _<_, _≤_, min}
-use native.Mathlib.Nat.{add-zero}
 use native.Mathlib.Omega.{arith}
 use lib.Dec.{ltb, lit<}
 use lib.ListN.{length, take, getD, set, replicate, length-append}
@@ -11,7 +10,7 @@ use lib.Seq.{take-all, drop-at}
 use borrow.Author.Tests.{lt-ltb, le-ltb, ltb-true}
 use borrow.Rule.Slice.PartMut.{putMid}
 use Rattle.rules.specs.Numbers.{numberOf, bytesOf, part, Bytes}
-use Rattle.rules.specs.Ring.{capacity, stop, flag, pairsOf, Event, Ring, offer, offered, ringStep, ringRun}
+use Rattle.rules.specs.Ring.{capacity, stop, flag, pairsOf, Event, Ring, offer, offered, ringStep, ringRun, droppedBy, dropped, lostOf}
 use Rattle.rules.specs.Device.{Device, WellFormed, reset}
 use Rattle.rules.specs.Form.{one}
 use Rattle.rules.specs.Image.{fieldOf, ringAt, ringLength, contents, registersBody, ringBody, encode}
@@ -22,7 +21,7 @@ use Rattle.rules.proofs.laws.Saved.{fields-sized}
 use Rattle.rules.proofs.laws.InPlace.{ringPart, part-written, ring-apart}
 use Rattle.rules.proofs.laws.Rings.{offered-room, offered-full}
 use Rattle.bytes.specs.Put.{withBytes}
-use Rattle.inplace.specs.Held.{Holds, Offers, withRing, lostBy, lost}
+use Rattle.inplace.specs.Held.{Holds, Offers, withRing}
 use Rattle.ring.specs.Fields.{RingOffered, event, offering}
 
 -- a pair is stored over two bytes behind the pairs that wait
@@ -39,7 +38,7 @@ module _ (r : Ring) (v : ℕ) (a : Bool) {i : List ℕ} (n : ℕ) (e : i ≡ rin
   count-is = c ∙ ap (λ m. getD m 0 0) e
 
   -- there is room
-  pub ring-kept : {f : ℕ} → n < 16 → f ≡ flag a → (set (set (set i (5 + 2 * n) v) (5 + 2 * n + 1) f) 0 (n + 1) ≡ ringBody (withRing reset (offered r (event v a)))) × (0 ≡ lostBy r (offer (event v a)))
+  pub ring-kept : {f : ℕ} → n < 16 → f ≡ flag a → (set (set (set i (5 + 2 * n) v) (5 + 2 * n + 1) f) 0 (n + 1) ≡ ringBody (withRing reset (offered r (event v a)))) × (0 ≡ length (droppedBy r (offer (event v a))))
   unfolding ringBody
   ring-kept {f} h g =
       let es = r .waiting in
@@ -58,7 +57,7 @@ module _ (r : Ring) (v : ℕ) (a : Bool) {i : List ℕ} (n : ℕ) (e : i ≡ rin
       )
 
   -- there is none
-  pub ring-full : {x y : ℕ} → 16 ≤ n → r .drops ≤ stop → x ≡ numberOf (part 1 4 i) → y ≡ min (x + 1) stop → (withBytes 1 4 y i ≡ ringBody (withRing reset (offered r (event v a)))) × (1 ≡ lostBy r (offer (event v a)))
+  pub ring-full : {x y : ℕ} → 16 ≤ n → r .drops ≤ stop → x ≡ numberOf (part 1 4 i) → y ≡ min (x + 1) stop → (withBytes 1 4 y i ≡ ringBody (withRing reset (offered r (event v a)))) × (1 ≡ length (droppedBy r (offer (event v a))))
   unfolding ringBody
   ring-full {x} {y} h k f g =
       let full : capacity ≤ length (r .waiting) = omega (arith, count-is) in
@@ -125,13 +124,13 @@ offered-well {d} e h w =
 
 -- to body 4, lent from its place on
 pub ring-offered : (i ys : List ℕ) (at n v : ℕ) (a : Bool) → at ≡ ringAt → v < 256 → RingOffered (part at (at + 37 - at) i) ys n (event v a) → Offers i (putMid at (at + 37 - at) i ys) n (λ d. offering v a)
-unfolding lost ringRun ringStep ringBody
+unfolding dropped ringRun ringStep ringBody
 ring-offered i ys at n v a e h f = record {
   becomes = λ d k. record {
     well = offered-well (event v a) h (k .well);
     image = (λ t. putMid (e t) (long t) (k .image t) (f (d .ring) (k .well .waiting) (k .well .drops) (spells d k) .0 t)) ∙ ring-put d (k .well) (offered (d .ring) (event v a));
   };
-  gives = λ d k. f (d .ring) (k .well .waiting) (k .well .drops) (spells d k) .1 ∙ sym (add-zero _);
+  gives = λ d k. f (d .ring) (k .well .waiting) (k .well .drops) (spells d k) .1 ∙ sym (ap length (append-nil (droppedBy (d .ring) (offer (event v a)))));
 }
   where
     long : at + 37 - at ≡ ringLength

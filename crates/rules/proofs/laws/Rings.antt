@@ -4,9 +4,9 @@ use mathlib.Core.List.{List, [], _∷_, _++_, append-assoc}
 use Prim.Native.Nat.{ℕ, _+_, _<_, _≤_, min}
 use native.Mathlib.Omega.{arith}
 use lib.Dec.{ltb}
-use lib.ListN.{length, take-append-drop}
+use lib.ListN.{length, length-append, take-append-drop}
 use borrow.Author.Tests.{lt-ltb, le-ltb}
-use Rattle.rules.specs.Ring.{capacity, stop, Event, Ring, RingAct, Drawn, offered, drawn, ringStep, ringRun}
+use Rattle.rules.specs.Ring.{capacity, stop, Event, Ring, RingAct, Drawn, offered, drawn, ringStep, ringRun, droppedBy, dropped, lostOf}
 use Rattle.rules.proofs.laws.Bits.{test}
 
 -- an event that finds room waits behind the others
@@ -41,3 +41,15 @@ run-append r (a ∷ xs) ys =
     ap (λ (t : Drawn). record { after = t .after; drained = ringStep r a .drained ++ t .drained }) (run-append (ringStep r a .after) xs ys)
     ∙ ap (λ (es : List Event). record { after = ringRun (ringRun (ringStep r a .after) xs .after) ys .after; drained = es })
     (sym (append-assoc (ringStep r a .drained) (ringRun (ringStep r a .after) xs .drained) (ringRun (ringRun (ringStep r a .after) xs .after) ys .drained)))
+
+-- ---- what is dropped, one run after another
+
+pub dropped-append : (r : Ring) (xs ys : List RingAct) → dropped r (xs ++ ys) ≡ dropped r xs ++ dropped (ringRun r xs .after) ys
+unfolding dropped ringRun
+dropped-append r [] ys = refl
+dropped-append r (a ∷ xs) ys =
+    let s = ringStep r a .after in
+    ap (λ es. droppedBy r a ++ es) (dropped-append s xs ys) ∙ sym (append-assoc (droppedBy r a) (dropped s xs) (dropped (ringRun s xs .after) ys))
+
+pub lost-append : (r : Ring) (xs ys : List RingAct) → lostOf r (xs ++ ys) ≡ lostOf r xs + lostOf (ringRun r xs .after) ys
+lost-append r xs ys = ap length (dropped-append r xs ys) ∙ length-append (dropped r xs) (dropped (ringRun r xs .after) ys)
