@@ -13,6 +13,12 @@ pub enum Value {
     Present(u64),
 }
 
+// How a call ends: the number that it hands back, 0 where it is done, and its value.
+pub struct Told {
+    pub number: u8,
+    pub value: Value,
+}
+
 fn present_byte(value: Value) -> u64
     ensures { λ r. ⌜ r ≡ present (valueView value) ⌝ }
 {
@@ -39,4 +45,14 @@ pub fn put_answer(answer: &mut [u8], number: u8, value: Value)
     let head = wide(number) + 256 * present_byte(value);
     put_word(answer, 0, head);
     put_word(answer, 8, amount_of(value));
+}
+
+// What a call tells goes into the answer area, and its number is handed back.
+pub fn tell(answer: &mut [u8], told: Told) -> u8
+    requires { ⌜ answerLength ≤ length (now answer) ⌝ }
+    ensures { λ r. ⌜ (r ≡ told .number) × (now (answer .exit) ≡ answered (told .number) (valueView (told .value)) (now (answer .entry))) ⌝ }
+{
+    let value = told.value;
+    put_answer(answer, told.number, value);
+    told.number
 }
