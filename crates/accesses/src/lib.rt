@@ -1,9 +1,12 @@
 // Reads and writes through the window, on the image alone: what they tell is handed back. The order of the tests is 01's: 4, 5, 6 by the image, then 2 before 1.
 use answer::Told;
 use answer::Value;
+use answer::done;
 use image::check::Checked;
 use image::check::check;
+use refusals::no_width;
 use refusals::of_image;
+use refusals::outside;
 use window::Known;
 use window::Located;
 ghost use mathlib.Core.Path.{_≡_};
@@ -20,22 +23,13 @@ pub fn read(image: &[u8], base: u64, size: u64, address: u64, width: u64) -> Tol
         return of_image(checked);
     };
     let Known::As(known) = window::width_of(width) else {
-        return Told {
-            number: 2,
-            value: Value::Absent,
-        };
+        return no_width();
     };
     let Located::At(offset) = window::locate(base, size, address) else {
-        return Told {
-            number: 1,
-            value: Value::Present(address),
-        };
+        return outside(address);
     };
     let value = access::read_access(image, known, offset);
-    Told {
-        number: 0,
-        value: Value::Present(value),
-    }
+    done(Value::Present(value))
 }
 
 pub fn write(image: &mut [u8], base: u64, size: u64, address: u64, width: u64, value: u64) -> Told
@@ -46,20 +40,11 @@ pub fn write(image: &mut [u8], base: u64, size: u64, address: u64, width: u64, v
         return of_image(checked);
     };
     let Known::As(known) = window::width_of(width) else {
-        return Told {
-            number: 2,
-            value: Value::Absent,
-        };
+        return no_width();
     };
     let Located::At(offset) = window::locate(base, size, address) else {
-        return Told {
-            number: 1,
-            value: Value::Present(address),
-        };
+        return outside(address);
     };
     let _dropped = access::write_access(image, known, offset, value);
-    Told {
-        number: 0,
-        value: Value::Absent,
-    }
+    done(Value::Absent)
 }

@@ -1,4 +1,5 @@
 -- What a call tells, as the rules see it.
+use mathlib.Core.Path.{_≡_}
 use mathlib.Core.List.{List}
 use Prim.Native.Nat.{ℕ}
 use Rattle.rules.specs.Device as device
@@ -10,6 +11,10 @@ use Rattle.answer.specs.declared.Told.{Told}
 abbrev pub valueView : Value → device.Value
 valueView Absent = device.none
 valueView (Present v) = device.some v
+
+-- what is told is a number and a value
+abbrev pub Tells : Told → ℕ → device.Value → Type 0
+Tells t number value = (t .number ≡ number) × (valueView (t .value) ≡ value)
 
 -- an ending: what is told, the image, and the event buffer
 abbrev pub ends : Told → List ℕ → List ℕ → Ending

@@ -1,8 +1,10 @@
 // The calls on an input, on the image alone: what they tell is handed back. The order of the tests is 01's: 4, 5, 6 by the image, then 3.
 use answer::Told;
 use answer::Value;
+use answer::done;
 use image::check::Checked;
 use image::check::check;
+use refusals::no_input;
 use refusals::of_image;
 ghost use mathlib.Core.Path.{_≡_};
 ghost use mathlib.Core.List.{[]};
@@ -29,16 +31,10 @@ pub fn level(image: &mut [u8], input: u64, level: u64) -> Told
         return of_image(checked);
     };
     if 64 <= input {
-        return Told {
-            number: 3,
-            value: Value::Absent,
-        };
+        return no_input();
     }
     let returned = service::set_level(image, input as usize, level != 0);
-    Told {
-        number: 0,
-        value: vector_value(returned),
-    }
+    done(vector_value(returned))
 }
 
 pub fn poll(image: &mut [u8], input: u64) -> Told
@@ -49,14 +45,8 @@ pub fn poll(image: &mut [u8], input: u64) -> Told
         return of_image(checked);
     };
     if 64 <= input {
-        return Told {
-            number: 3,
-            value: Value::Absent,
-        };
+        return no_input();
     }
     let returned = service::poll(image, input as usize);
-    Told {
-        number: 0,
-        value: vector_value(returned),
-    }
+    done(vector_value(returned))
 }

@@ -8,9 +8,9 @@ use types.Run.{OneOf}
 use denote.Enum.Declared.{tagOf}
 use lib.ListN.{length}
 use Rattle.rules.specs.Numbers.{Bytes}
-use Rattle.rules.specs.Device.{Call, none}
+use Rattle.rules.specs.Device.{Call, Value, none}
 use Rattle.rules.specs.Image.{imageTest, accepted, decode, countOf}
-use Rattle.rules.specs.Calls.{imageNumber, Tested, Request, calls, askedBy, bufferOf, ending}
+use Rattle.rules.specs.Calls.{imageNumber, Tested, Request, calls, askedBy, bufferOf, Ending, ending}
 use Rattle.rules.proofs.laws.Images.{accepted-has}
 use Rattle.rules.proofs.laws.Outcomes.{image-refused}
 use Rattle.inplace.specs.Held.{Holds}
@@ -19,8 +19,12 @@ use Rattle.image.specs.Shown.{checkedView}
 use Rattle.image.specs.declared.check.Checked.{Checked}
 use Rattle.image.specs.declared.check.Checked.the-variants.{Accepted, WrongLength, WrongContents, WrongBody}
 use Rattle.image.proofs.check.Checked.{the-type}
-use Rattle.answer.specs.Given.{valueView, ends}
+use Rattle.answer.specs.Given.{Tells, ends}
 use Rattle.answer.specs.declared.Told.{Told}
+
+-- an ending with the number and the value that are told
+pub tells : (t : Told) {n : ℕ} {v : Value} → Tells t n v → {j e : List ℕ} {x : Ending} → record { number = n; value = v; image = j; events = e } ≡ x → ends t j e ≡ x
+tells t p {j} {e} d = (λ s. record { number = p .0 s; value = p .1 s; image = j; events = e }) ∙ d
 
 -- ---- the answer of the image's test
 
@@ -40,9 +44,8 @@ failed WrongBody h e = let z : _≡_ {A = ℕ} 0 1 = cc in omega arith
 
 -- 4, 5, 6: what is told of an image that is not accepted is how a call on it ends
 pub by-image : (q : Request) {i : List ℕ} {x : Tested Call} → askedBy q ≡ calls x → (k : Checked) → OneOf (1 ∷ 2 ∷ 3 ∷ []) (tagOf the-type k) → checkedView k ≡ imageTest i
-    → (t : Told) → (t .number ≡ imageNumber (checkedView k)) × (valueView (t .value) ≡ none) → ends t i (bufferOf q) ≡ ending q i
-by-image q {i} {x} asks k h e t p =
-    (λ s. record { number = p .0 s; value = p .1 s; image = i; events = bufferOf q }) ∙ sym (image-refused q i x asks (checkedView k) (sym e) (failed k h))
+    → (t : Told) → Tells t (imageNumber (checkedView k)) none → ends t i (bufferOf q) ≡ ending q i
+by-image q {i} {x} asks k h e t p = tells t p (sym (image-refused q i x asks (checkedView k) (sym e) (failed k h)))
 
 -- ---- the image was accepted
 

@@ -1,6 +1,7 @@
 // The calls on the device as a whole, on the image alone: what they tell is handed back.
 use answer::Told;
 use answer::Value;
+use answer::done;
 use image::check::Checked;
 use image::check::check;
 use image::form::KnownForm;
@@ -17,17 +18,12 @@ ghost use Rattle.answer.specs.Given.{ends};
 pub fn reset(image: &mut [u8]) -> Told
     ensures { λ r. ⌜ ends r (now (image .exit)) [] ≡ ending asked.reset (now (image .entry)) ⌝ }
 {
-    let KnownForm::As(_) = form_of(image.len()) else {
-        return Told {
-            number: 4,
-            value: Value::Absent,
-        };
+    let length = image.len();
+    let KnownForm::As(_) = form_of(length) else {
+        return of_image(Checked::WrongLength);
     };
     saved::save(image, PchPicState::reset());
-    Told {
-        number: 0,
-        value: Value::Absent,
-    }
+    done(Value::Absent)
 }
 
 // The events go to the front of the buffer.
@@ -39,8 +35,5 @@ pub fn drain(image: &mut [u8], events: &mut [u8]) -> Told
         return of_image(checked);
     };
     let count = drains::drain(image, events);
-    Told {
-        number: 0,
-        value: Value::Present(count as u64),
-    }
+    done(Value::Present(count as u64))
 }

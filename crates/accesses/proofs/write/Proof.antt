@@ -2,7 +2,7 @@
 use mathlib.Core.Path.{refl}
 use Rattle.rules.specs.Device as device
 use Rattle.rules.specs.Calls as asked
-use Rattle.refusals.proofs.Ends.{Passed, goes-on, long, by-image}
+use Rattle.refusals.proofs.Ends.{Passed, goes-on, long, tells, by-image}
 use Rattle.accesses.proofs.Aims.{offset-fits, no-width, no-place, write-done}
 use borrow.Author.Needs.{needs}
 use Rattle.accesses.proofs.write.Statement.{statement}
@@ -28,32 +28,40 @@ write-spec =
     (λ c κs. search needs)
     (λ c. search needs)
     (λ c. search needs)
+    (λ c κs. search needs)
     (λ c. search needs)
-    (λ c. let w = c .before .before in
+    (λ c. let u = c .before in
+    let w = u .before .before in
     let m = w .before .before in
     let a = m .before .before .before .before .args in
-    no-width (on m) (a .base) (a .size) (a .address) (a .width) (w .width-of .ensures) (asked.write (a .base) (a .size) (a .address) (a .width) (a .value)) (λ w o. device.write w o (a .value)) refl (c .enum-told2 .given .1))
+    tells (c .no-width .result) (c .no-width .ensures)
+    (no-width (on m) (a .base) (a .size) (a .address) (a .width) (w .width-of .ensures) (asked.write (a .base) (a .size) (a .address) (a .width) (a .value)) (λ w o. device.write w o (a .value)) refl (u .enum-told2 .given .1)))
     (λ c κs. search needs)
     (λ c. search needs)
     (λ c. search needs)
+    (λ c κs. search needs)
     (λ c. search needs)
-    (λ c. let l = c .before .before in
+    (λ c. let u = c .before in
+    let l = u .before .before in
     let e = l .before .before in
     let w = e .before .before in
     let m = w .before .before in
     let a = m .before .before .before .before .args in
-    no-place (on m) (a .base) (a .size) (a .address) (a .width) (w .width-of .ensures) (asked.write (a .base) (a .size) (a .address) (a .width) (a .value)) (λ w o. device.write w o (a .value)) refl (e .known .given .1) (l .locate .ensures) (c .enum-told3 .given .1))
+    tells (c .outside .result) (c .outside .ensures)
+    (no-place (on m) (a .base) (a .size) (a .address) (a .width) (w .width-of .ensures) (asked.write (a .base) (a .size) (a .address) (a .width) (a .value)) (λ w o. device.write w o (a .value)) refl (e .known .given .1) (l .locate .ensures) (u .enum-told3 .given .1)))
     (λ c κs. let o = c .before .before in
     let l = o .before .before in
     let m = l .before .before .before .before .before .before in
     let a = m .before .before .before .before .args in
     (long (on m), offset-fits (a .base) (a .size) (a .address) (l .locate .ensures) (o .offset .given .1)))
+    (λ c κs. search needs)
     (λ c. search needs)
-    (λ c. let g = c .before .before in
+    (λ c. let g = c .before .before .before in
     let o = g .before .before .before in
     let l = o .before .before in
     let e = l .before .before in
     let w = e .before .before in
     let m = w .before .before in
     let a = m .before .before .before .before .args in
-    write-done (on m) (a .base) (a .size) (a .address) (a .width) (w .width-of .ensures) (e .known .given .1) (l .locate .ensures) (o .offset .given .1) (a .value) (g .write-access .ensures .1)))
+    tells (c .done .result) (c .done .ensures)
+    (write-done (on m) (a .base) (a .size) (a .address) (a .width) (w .width-of .ensures) (e .known .given .1) (l .locate .ensures) (o .offset .given .1) (a .value) (g .write-access .ensures .1))))

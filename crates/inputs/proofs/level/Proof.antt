@@ -4,7 +4,7 @@ use mathlib.Core.Bool.{not}
 use lib.Dec.{eqb}
 use Rattle.rules.specs.Device as device
 use Rattle.rules.specs.Calls as asked
-use Rattle.refusals.proofs.Ends.{Passed, goes-on, long, by-image}
+use Rattle.refusals.proofs.Ends.{Passed, goes-on, long, tells, by-image}
 use Rattle.inputs.proofs.Lines.{no-input, level-done}
 use borrow.Author.Needs.{needs}
 use Rattle.inputs.proofs.level.Statement.{statement}
@@ -23,22 +23,23 @@ level-spec =
     (λ c. search needs)
     (λ c κs. search needs)
     (λ c. search needs)
-    (λ c. let o = c in
-    let m = o .before in
+    (λ c. let m = c .before in
     let k = m .before in
     let a = k .before .before .before .args in
-    by-image (asked.level (a .input) (a .level)) refl (k .check .result) (m .match .keys2) (k .check .ensures) (o .of-image .result) (o .of-image .ensures))
-    (λ c. search needs)
-    (λ c. let h = c in
-    let m = h .before .before in
-    let a = m .before .before .before .before .args in
-    no-input (on m) (a .input) (asked.level (a .input) (a .level)) (device.level (a .input) (not (eqb (a .level) 0))) refl (h .if1 .taken))
-    (λ c κs. (long (on (c .before .before .before)), search needs))
+    by-image (asked.level (a .input) (a .level)) refl (k .check .result) (m .match .keys2) (k .check .ensures) (c .of-image .result) (c .of-image .ensures))
     (λ c κs. search needs)
     (λ c. search needs)
-    (λ c. let v = c in
+    (λ c. let h = c .before in
+    let m = h .before .before in
+    let a = m .before .before .before .before .args in
+    tells (c .no-input .result) (c .no-input .ensures) (no-input (on m) (a .input) (asked.level (a .input) (a .level)) (device.level (a .input) (not (eqb (a .level) 0))) refl (h .if1 .taken)))
+    (λ c κs. (long (on (c .before .before .before)), search needs))
+    (λ c κs. search needs)
+    (λ c κs. search needs)
+    (λ c. search needs)
+    (λ c. let v = c .before in
     let r = v .before .before .before in
     let h = r .before .before in
     let m = h .before .before in
     let a = m .before .before .before .before .args in
-    level-done (on m) (a .input) (h .if1 .left) (v .vector-value .ensures) (a .level) (r .set-level .ensures)))
+    tells (c .done .result) (c .done .ensures) (level-done (on m) (a .input) (h .if1 .left) (v .vector-value .ensures) (a .level) (r .set-level .ensures))))

@@ -2,7 +2,7 @@
 use mathlib.Core.Path.{refl}
 use Rattle.rules.specs.Device as device
 use Rattle.rules.specs.Calls as asked
-use Rattle.refusals.proofs.Ends.{Passed, goes-on, long, by-image}
+use Rattle.refusals.proofs.Ends.{Passed, goes-on, long, tells, by-image}
 use Rattle.inputs.proofs.Lines.{no-input, poll-done}
 use borrow.Author.Needs.{needs}
 use Rattle.inputs.proofs.poll.Statement.{statement}
@@ -21,22 +21,23 @@ poll-spec =
     (λ c. search needs)
     (λ c κs. search needs)
     (λ c. search needs)
-    (λ c. let o = c in
-    let m = o .before in
+    (λ c. let m = c .before in
     let k = m .before in
     let a = k .before .before .before .args in
-    by-image (asked.poll (a .input)) refl (k .check .result) (m .match .keys2) (k .check .ensures) (o .of-image .result) (o .of-image .ensures))
-    (λ c. search needs)
-    (λ c. let h = c in
-    let m = h .before .before in
-    let a = m .before .before .before .before .args in
-    no-input (on m) (a .input) (asked.poll (a .input)) (device.poll (a .input)) refl (h .if1 .taken))
-    (λ c κs. (long (on (c .before .before .before)), search needs))
+    by-image (asked.poll (a .input)) refl (k .check .result) (m .match .keys2) (k .check .ensures) (c .of-image .result) (c .of-image .ensures))
     (λ c κs. search needs)
     (λ c. search needs)
-    (λ c. let v = c in
+    (λ c. let h = c .before in
+    let m = h .before .before in
+    let a = m .before .before .before .before .args in
+    tells (c .no-input .result) (c .no-input .ensures) (no-input (on m) (a .input) (asked.poll (a .input)) (device.poll (a .input)) refl (h .if1 .taken)))
+    (λ c κs. (long (on (c .before .before .before)), search needs))
+    (λ c κs. search needs)
+    (λ c κs. search needs)
+    (λ c. search needs)
+    (λ c. let v = c .before in
     let r = v .before .before .before in
     let h = r .before .before in
     let m = h .before .before in
     let a = m .before .before .before .before .args in
-    poll-done (on m) (a .input) (h .if1 .left) (v .vector-value .ensures) (r .poll .ensures)))
+    tells (c .done .result) (c .done .ensures) (poll-done (on m) (a .input) (h .if1 .left) (v .vector-value .ensures) (r .poll .ensures))))

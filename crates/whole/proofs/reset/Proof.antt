@@ -6,6 +6,7 @@ use Rattle.rules.specs.Device.{none}
 use Rattle.rules.specs.Image.{encode}
 use Rattle.rules.proofs.laws.Outcomes.{reset-refused, reset-done}
 use Rattle.image.specs.Shown.{formKnown}
+use Rattle.refusals.proofs.Ends.{tells}
 use Rattle.whole.proofs.Whole.{right-length, wrong-length}
 use borrow.Author.Needs.{needs}
 use Rattle.whole.proofs.reset.Statement.{statement}
@@ -22,13 +23,17 @@ reset-spec =
     (λ c κs. search needs)
     (λ c. search needs)
     (λ c. search needs)
-    (λ c. let f = c .before .before in
+    (λ c κs. search needs)
+    (λ c. let u = c .before in
+    let f = u .before .before in
     let i = f .before .before .args .image .now in
-    sym (reset-refused i (wrong-length (length i) (sym (ap formKnown (c .enum-told2 .given .1)) ∙ f .form-of .ensures))))
+    tells (c .of-image .result) (c .of-image .ensures) (sym (reset-refused i (wrong-length (length i) (sym (ap formKnown (u .enum-told2 .given .1)) ∙ f .form-of .ensures)))))
     (λ c κs. search needs)
     (λ c κs. (long (c .before .before), search needs))
+    (λ c κs. search needs)
     (λ c. search needs)
-    (λ c. let s = c .before .before in
+    (λ c. let s = c .before .before .before in
     let t = s .before .before .before in
-    (λ k. record { number = 0; value = none; image = (s .save .ensures ∙ ap encode (s .before .reset .ensures .shows)) k; events = [] })
-    ∙ sym (reset-done (t .before .before .before .before .args .image .now) (long t))))
+    tells (c .done .result) (c .done .ensures)
+    ((λ k. record { number = 0; value = none; image = (s .save .ensures ∙ ap encode (s .before .reset .ensures .shows)) k; events = [] })
+    ∙ sym (reset-done (t .before .before .before .before .args .image .now) (long t)))))
