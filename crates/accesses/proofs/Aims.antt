@@ -1,14 +1,13 @@
 -- How a read or a write on an accepted image ends, by the answers of its width's and its address's test: refused, or done.
 use mathlib.Core.Path.{_≡_, refl, sym, ap, _∙_}
 use mathlib.Core.List.{List, []}
-use Prim.Native.Nat.{ℕ, _-_, _<_, _^_}
+use Prim.Native.Nat.{ℕ}
 use Rattle.rules.specs.Access.{Width, readAt, writeActs}
 use Rattle.rules.specs.Device.{Call, none, some, acted, value}
 use Rattle.rules.specs.Device as device
 use Rattle.rules.specs.Image.{decode}
 use Rattle.rules.specs.Calls.{noWidth, outside, pass, widthTest, addressTest, accessCall, Request, calls, askedBy, bufferOf, ending}
 use Rattle.rules.specs.Calls as asked
-use Rattle.rules.proofs.laws.Outcomes as outcomes
 use Rattle.rules.proofs.laws.Outcomes.{call-refused, call-done, no-events, width-refused, address-refused, access-passed}
 use Rattle.rules.proofs.laws.Steps.{read-device, write-device}
 use Rattle.window.specs.Tests.{knownView, locatedView}
@@ -21,9 +20,6 @@ use Rattle.map.specs.declared.Width as code
 use Rattle.inplace.specs.Held.{Reads, Writes}
 use Rattle.refusals.proofs.Ends.{Passed, here}
 
-pub offset-fits : (base size address : ℕ) {l : Located} → locatedView address l ≡ addressTest base size address → {o : ℕ} → l ≡ At o → o < 2 ^ 64 - 1
-offset-fits base size address f {o} at = outcomes.offset-fits base size address o (sym f ∙ ap (locatedView address) at)
-
 module _ {i : List ℕ} (p : Passed i) (base size address width : ℕ) {k : Known} (e : knownView k ≡ widthTest width) where
   -- ---- refused
 
@@ -31,7 +27,7 @@ module _ {i : List ℕ} (p : Passed i) (base size address width : ℕ) {k : Know
     pub no-width : k ≡ Unknown → record { number = 2; value = none; image = i; events = bufferOf q } ≡ ending q i
     no-width u = sym (call-refused q i _ asks (p .good) noWidth (width-refused base size address width f noWidth (sym e ∙ ap knownView u)))
 
-    pub no-place : {w : code.Width} → k ≡ As w → {l : Located} → locatedView address l ≡ addressTest base size address → l ≡ Outside
+    pub no-place : {w : code.Width} → k ≡ As w → {l : Located} → locatedView address l ≡ addressTest base size address width → l ≡ Outside
         → record { number = 1; value = some address; image = i; events = bufferOf q } ≡ ending q i
     no-place {w} wide g u =
         sym (call-refused q i _ asks (p .good) (outside address)
@@ -39,7 +35,7 @@ module _ {i : List ℕ} (p : Passed i) (base size address width : ℕ) {k : Know
 
   -- ---- done
 
-  module _ {w : code.Width} (wide : k ≡ As w) {l : Located} (g : locatedView address l ≡ addressTest base size address) {o : ℕ} (at : l ≡ At o) where
+  module _ {w : code.Width} (wide : k ≡ As w) {l : Located} (g : locatedView address l ≡ addressTest base size address width) {o : ℕ} (at : l ≡ At o) where
     aimed : (f : Width → ℕ → Call) → accessCall base size address width f ≡ pass (f (widthView w) o)
     aimed f = access-passed base size address width f (widthView w) o (sym e ∙ ap knownView wide) (sym g ∙ ap (locatedView address) at)
 

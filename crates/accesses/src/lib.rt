@@ -25,7 +25,7 @@ pub fn read(image: &[u8], base: u64, size: u64, address: u64, width: u64) -> Tol
     let Known::As(known) = window::width_of(width) else {
         return no_width();
     };
-    let Located::At(offset) = window::locate(base, size, address) else {
+    let Located::At(offset) = window::locate(base, size, address, width) else {
         return outside(address);
     };
     let value = access::read_access(image, known, offset);
@@ -42,7 +42,7 @@ pub fn write(image: &mut [u8], base: u64, size: u64, address: u64, width: u64, v
     let Known::As(known) = window::width_of(width) else {
         return no_width();
     };
-    let Located::At(offset) = window::locate(base, size, address) else {
+    let Located::At(offset) = window::locate(base, size, address, width) else {
         return outside(address);
     };
     let _dropped = access::write_access(image, known, offset, value);

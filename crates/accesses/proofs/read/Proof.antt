@@ -1,9 +1,11 @@
 -- `read`: each refusal leaves where 01's order puts it; done, the image stays and what the registers read is told.
-use mathlib.Core.Path.{refl}
+use mathlib.Core.Path.{refl, sym, ap, _∙_}
 use Rattle.rules.specs.Device as device
 use Rattle.rules.specs.Calls as asked
+use Rattle.window.specs.Tests.{knownView}
+use Rattle.window.proofs.Bounds.{reach}
 use Rattle.refusals.proofs.Ends.{Passed, goes-on, long, tells, by-image}
-use Rattle.accesses.proofs.Aims.{offset-fits, no-width, no-place, read-done}
+use Rattle.accesses.proofs.Aims.{no-width, no-place, read-done}
 use borrow.Author.Needs.{needs}
 use Rattle.accesses.proofs.read.Statement.{statement}
 use Rattle.accesses.proofs.read.Tie as tie
@@ -45,12 +47,13 @@ read-spec =
     let m = w .before .before in
     let a = m .before .before .before .args in
     tells (c .outside .result) (c .outside .ensures)
-    (no-place (on m) (a .base) (a .size) (a .address) (a .width) (w .width-of .ensures) (asked.read (a .base) (a .size) (a .address) (a .width)) device.read refl (e .known .given .1) (l .locate .ensures) (u .enum-told3 .given .1)))
+    (no-place (on m) (a .base) (a .size) (a .address) (a .width) (w .width-of .ensures) (asked.read (a .base) (a .size) (a .address) (a .width)) device.read refl (e .known .given .1) (l .locate .ensures .0) (u .enum-told3 .given .1)))
     (λ c κs. let o = c .before in
     let l = o .before .before in
-    let m = l .before .before .before .before .before .before in
-    let a = m .before .before .before .args in
-    (long (on m), offset-fits (a .base) (a .size) (a .address) (l .locate .ensures) (o .offset .given .1)))
+    let e = l .before .before in
+    let w = e .before .before in
+    let m = w .before .before in
+    (long (on m), reach _ _ (l .locate .ensures .1) (o .offset .given .1) (sym (w .width-of .ensures) ∙ ap knownView (e .known .given .1))))
     (λ c κs. search needs)
     (λ c. let g = c .before in
     let o = g .before .before in
@@ -60,4 +63,4 @@ read-spec =
     let m = w .before .before in
     let a = m .before .before .before .args in
     tells (c .done .result) (c .done .ensures)
-    (read-done (on m) (a .base) (a .size) (a .address) (a .width) (w .width-of .ensures) (e .known .given .1) (l .locate .ensures) (o .offset .given .1) (g .read-access .result) (g .read-access .ensures))))
+    (read-done (on m) (a .base) (a .size) (a .address) (a .width) (w .width-of .ensures) (e .known .given .1) (l .locate .ensures .0) (o .offset .given .1) (g .read-access .result) (g .read-access .ensures))))

@@ -12,7 +12,6 @@ use Rattle.rules.specs.Ring.{Event, pairsOf, RingAct, ringRun}
 use Rattle.rules.specs.Access.{Width}
 use Rattle.rules.specs.Device.{Device, Call, Value, none, actsOf, draws, acted, step, value, reset}
 use Rattle.rules.specs.Device as device
-use Rattle.rules.specs.Window.{inside, offset}
 use Rattle.rules.specs.Image.{imageLength, ImageTest, imageTest, encode, decode}
 use Rattle.rules.specs.Image as image
 use Rattle.rules.specs.Calls.{Refusal, outside, refusalNumber, refusalValue, wrongLength, wrongContents, wrongBody, noInput, noRoom, Tested, pass, refuse, onPass, imageAnswer, imageNumber, inputCall, widthTest, addressTest, accessCall, Request, drain, Asked, calls, askedBy, Done, doneOn, performed, answerLength, answered, bufferOf, placeOf, written, Outcome, leaves, Ending, ended, ending, outcome}
