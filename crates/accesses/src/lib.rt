@@ -1,4 +1,4 @@
-// Reads and writes through the window, on the image alone: what they tell is handed back. The order of the tests is 01's: 4, 5, 6 by the image, then 2 before 1.
+// Reads and writes through the window, on the image alone: what they tell is handed back. The order of the tests is 4, 5, 6 by the image, then 2 before 1.
 use answer::Told;
 use answer::Value;
 use answer::done;

@@ -17,29 +17,15 @@ pub tell-spec : {M : Type 1} → statement M
 tell-spec =
     tie.close
     (tie.spec
-    (λ c. search needs)
-    (λ c κs. search needs)
-    (λ c. search needs)
-    (λ c. let p = c .before .before in
-    let w = p .before .before in
-    let a = w .before .before .before .before .args in
+    (λ c. search needs) (λ c κs. search needs) (λ c. search needs)
+    (λ c. let p = c .before .before in let w = p .before .before in let a = w .before .before .before .before .args in
     as-told (a .told) (a .answer .now) (sym (w .if1 .taken)) (w .before .enum-told .given .1) (p .put-answer .ensures))
-    (λ c κs. search needs)
-    (λ c. search needs)
-    (λ c κs. search needs)
-    (λ c. search needs)
-    (λ c. let p = c .before .before in
-    let w = p .before .before in
-    let a = w .before .before .before .before .before .args in
+    (λ c κs. search needs) (λ c. search needs) (λ c κs. search needs) (λ c. search needs)
+    (λ c. let p = c .before .before in let w = p .before .before in let a = w .before .before .before .before .before .args in
     as-told (a .told) (a .answer .now) (sym (w .if2 .taken)) (w .before .before .value .given .1) (p .put-answer3 .ensures))
-    (λ c κs. search needs)
-    (λ c. search needs)
-    (λ c. let p = c .before .before in
-    let w = p .before .before in
-    let a = w .before .before .before .before .args in
+    (λ c κs. search needs) (λ c. search needs)
+    (λ c. let p = c .before .before in let w = p .before .before in let a = w .before .before .before .before .args in
     as-told (a .told) (a .answer .now) refl (w .before .enum-told .given .1) (p .put-answer2 .ensures))
     (λ c. search needs)
-    (λ c. let p = c .before .before in
-    let w = p .before .before in
-    let a = w .before .before .before .before .before .args in
+    (λ c. let p = c .before .before in let w = p .before .before in let a = w .before .before .before .before .before .args in
     as-told (a .told) (a .answer .now) refl (w .before .before .value .given .1) (p .put-answer4 .ensures)))

@@ -17,27 +17,14 @@ unfolding on
 poll-spec =
     tie.close
     (tie.spec
-    (λ c κs. search needs)
-    (λ c. search needs)
-    (λ c κs. search needs)
-    (λ c. search needs)
-    (λ c. let m = c .before in
-    let k = m .before in
-    let a = k .before .before .before .args in
+    (λ c κs. search needs) (λ c. search needs) (λ c κs. search needs) (λ c. search needs)
+    (λ c. let m = c .before in let k = m .before in let a = k .before .before .before .args in
     by-image (asked.poll (a .input)) refl (k .check .result) (m .match .keys2) (k .check .ensures) (c .of-image .result) (c .of-image .ensures))
-    (λ c κs. search needs)
-    (λ c. search needs)
-    (λ c. let h = c .before in
-    let m = h .before .before in
-    let a = m .before .before .before .before .args in
+    (λ c κs. search needs) (λ c. search needs)
+    (λ c. let h = c .before in let m = h .before .before in let a = m .before .before .before .before .args in
     tells (c .no-input .result) (c .no-input .ensures) (no-input (on m) (a .input) (asked.poll (a .input)) (device.poll (a .input)) refl (h .if1 .taken)))
     (λ c κs. (long (on (c .before .before .before)), search needs))
-    (λ c κs. search needs)
-    (λ c κs. search needs)
-    (λ c. search needs)
-    (λ c. let v = c .before in
-    let r = v .before .before .before in
-    let h = r .before .before in
-    let m = h .before .before in
+    (λ c κs. search needs) (λ c κs. search needs) (λ c. search needs)
+    (λ c. let v = c .before in let r = v .before .before .before in let h = r .before .before in let m = h .before .before in
     let a = m .before .before .before .before .args in
     tells (c .done .result) (c .done .ensures) (poll-done (on m) (a .input) (h .if1 .left) (v .vector-value .ensures) (r .poll .ensures))))

@@ -16,17 +16,10 @@ unfolding on
 drain-spec =
     tie.close
     (tie.spec
-    (λ c κs. search needs)
-    (λ c. search needs)
-    (λ c κs. search needs)
-    (λ c. search needs)
-    (λ c. let m = c .before in
-    let k = m .before in
+    (λ c κs. search needs) (λ c. search needs) (λ c κs. search needs) (λ c. search needs)
+    (λ c. let m = c .before in let k = m .before in
     by-image (asked.drain (k .before .before .before .before .args .events .now) 0) refl (k .check .result) (m .match .keys2) (k .check .ensures) (c .of-image .result) (c .of-image .ensures))
     (λ c κs. let p = on (c .before .before .before) in (long p, few p))
-    (λ c κs. search needs)
-    (λ c. search needs)
-    (λ c. search needs)
-    (λ c. let d = c .before .before .before .before .before in
-    let m = d .before .before .before .before in
+    (λ c κs. search needs) (λ c. search needs) (λ c. search needs)
+    (λ c. let d = c .before .before .before .before .before in let m = d .before .before .before .before in
     tells (c .done .result) (c .done .ensures) (drain-done (on m) (m .before .before .before .before .before .args .events .now) (d .drain .ensures))))

@@ -20,20 +20,12 @@ pub reset-spec : {M : Type 1} → statement M
 reset-spec =
     tie.close
     (tie.spec
-    (λ c κs. search needs)
-    (λ c. search needs)
-    (λ c. search needs)
-    (λ c κs. search needs)
-    (λ c. let u = c .before in
-    let f = u .before .before in
-    let i = f .before .before .args .image .now in
+    (λ c κs. search needs) (λ c. search needs) (λ c. search needs) (λ c κs. search needs)
+    (λ c. let u = c .before in let f = u .before .before in let i = f .before .before .args .image .now in
     tells (c .of-image .result) (c .of-image .ensures) (sym (reset-refused i (wrong-length (length i) (sym (ap formKnown (u .enum-told2 .given .1)) ∙ f .form-of .ensures)))))
     (λ c κs. search needs)
     (λ c κs. (long (c .before .before), search needs))
-    (λ c κs. search needs)
-    (λ c. search needs)
-    (λ c. let s = c .before .before .before in
-    let t = s .before .before .before in
-    tells (c .done .result) (c .done .ensures)
+    (λ c κs. search needs) (λ c. search needs)
+    (λ c. let s = c .before .before .before in let t = s .before .before .before in tells (c .done .result) (c .done .ensures)
     ((λ k. record { number = 0; value = none; image = (s .save .ensures ∙ ap encode (s .before .reset .ensures .shows)) k; events = [] })
     ∙ sym (reset-done (t .before .before .before .before .args .image .now) (long t)))))
