@@ -72,9 +72,9 @@
 
 /* The version of the header and of what it says about the library. */
 #define PCH_PIC_VERSION_MAJOR 0
-#define PCH_PIC_VERSION_MINOR 2
+#define PCH_PIC_VERSION_MINOR 3
 #define PCH_PIC_VERSION_PATCH 0
-#define PCH_PIC_VERSION "0.2.0"
+#define PCH_PIC_VERSION "0.3.0"
 
 #ifdef __cplusplus
 extern "C" {

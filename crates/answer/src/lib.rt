@@ -5,12 +5,24 @@ ghost use mathlib.Core.Path.{_≡_};
 ghost use Prim.Native.Nat.{_≤_};
 ghost use lib.ListN.{length};
 ghost use Rattle.rules.specs.Calls.{answerLength, present, amount, answered};
-ghost use Rattle.answer.specs.Given.{valueView};
+ghost use Rattle.answer.specs.Given.{valueView, Tells};
 
 // What a call gives, if it gives something.
 pub enum Value {
     Absent,
     Present(u64),
+}
+
+// How a call ends: the number that it hands back, 0 where it is done, and its value.
+pub struct Told {
+    pub number: u8,
+    pub value: Value,
+}
+
+pub fn done(value: Value) -> Told
+    ensures { λ r. ⌜ Tells r 0 (valueView value) ⌝ }
+{
+    Told { number: 0, value }
 }
 
 fn present_byte(value: Value) -> u64
@@ -39,4 +51,31 @@ pub fn put_answer(answer: &mut [u8], number: u8, value: Value)
     let head = wide(number) + 256 * present_byte(value);
     put_word(answer, 0, head);
     put_word(answer, 8, amount_of(value));
+}
+
+// What a call tells goes into the answer area, and its number is handed back. Four ways, so that each has its own stores, of constants where it can:
+// with one store for all of them a call takes up to seven instructions more.
+pub fn tell(answer: &mut [u8], told: Told) -> u8
+    requires { ⌜ answerLength ≤ length (now answer) ⌝ }
+    ensures { λ r. ⌜ (r ≡ told .number) × (now (answer .exit) ≡ answered (told .number) (valueView (told .value)) (now (answer .entry))) ⌝ }
+{
+    let number = told.number;
+    let value = told.value;
+    match value {
+        Value::Absent => {
+            if number == 0 {
+                put_answer(answer, 0, Value::Absent);
+                return 0;
+            }
+            put_answer(answer, number, Value::Absent);
+        }
+        Value::Present(v) => {
+            if number == 0 {
+                put_answer(answer, 0, Value::Present(v));
+                return 0;
+            }
+            put_answer(answer, number, Value::Present(v));
+        }
+    }
+    number
 }

@@ -1,5 +1,6 @@
 -- What was asked for in prose, as theorems over the definitions alone.
 pub mod Dozen
+pub mod WhollyInside
 pub mod WorkedSession
 pub mod RoundTrip
 pub mod EasyToGetWrong

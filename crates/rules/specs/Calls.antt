@@ -180,10 +180,24 @@ pub record Outcome : Type 0 where
 abbrev pub leaves : ℕ → List ℕ → List ℕ → List ℕ → Outcome
 leaves n i a e = record { number = n; image = i; answer = a; events = e }
 
--- done: image, answer area and the drained pairs are written; refused: only the answer area (01, Numbers handed back)
-abbrev pub settled : Request → List ℕ → List ℕ → Tested Done → Outcome
-settled q i a (pass x) = leaves 0 (encode (x .device)) (answered 0 (x .value) a) (written (bufferOf q) (placeOf q) (x .drained))
-settled q i a (refuse r) = leaves (refusalNumber r) i (answered (refusalNumber r) (refusalValue r) a) (bufferOf q)
+-- how a call ends that has room: the number and the value of its answer, and the bytes of image and event buffer
+pub record Ending : Type 0 where
+  pub number : ℕ
+  pub value : Value
+  pub image : List ℕ
+  pub events : List ℕ
+
+-- done: the image and the drained pairs are written; refused: neither (01, Numbers handed back)
+abbrev pub ended : Request → List ℕ → Tested Done → Ending
+ended q i (pass x) = record { number = 0; value = x .value; image = encode (x .device); events = written (bufferOf q) (placeOf q) (x .drained) }
+ended q i (refuse r) = record { number = refusalNumber r; value = refusalValue r; image = i; events = bufferOf q }
+
+abbrev pub ending : Request → List ℕ → Ending
+ending q i = ended q i (performed (askedBy q) i)
+
+-- either way its number and its value go into the answer area (01, The boundary)
+abbrev pub settled : List ℕ → Ending → Outcome
+settled a e = leaves (e .number) (e .image) (answered (e .number) (e .value) a) (e .events)
 
 -- 7: the answer area has its 16 bytes, and a drain's place is not past the end of its buffer (01, Numbers handed back)
 abbrev pub hasRoom : Request → List ℕ → Bool
@@ -191,7 +205,7 @@ hasRoom q a = leb answerLength (length a) && leb (placeOf q) (length (bufferOf q
 
 -- what a request leaves of any image and answer area; refusal 7 comes first and leaves every byte (01, Numbers handed back; 00, demand 1)
 unfoldable pub outcome : Request → List ℕ → List ℕ → Outcome
-outcome q i a = cond (hasRoom q a) (settled q i a (performed (askedBy q) i)) (leaves (refusalNumber noRoom) i a (bufferOf q))
+outcome q i a = cond (hasRoom q a) (settled a (ending q i)) (leaves (refusalNumber noRoom) i a (bufferOf q))
 
 -- ---- promises
 

@@ -29,20 +29,26 @@ width-known n w e = go (eqb n 1) (eqb n 2) (eqb n 4) (eqb n 8) refl refl refl re
 pub reach : (width : ℕ) {o : ℕ} {w : Width} (l : Located) → Ends l width → l ≡ At o → widthTest width ≡ pass w → o + bytesIn w ≤ 2 ^ 64 - 1
 reach width {o} {w} l e at known = let h : o + width ≤ 2 ^ 64 - 1 = subst (λ k. Ends k width) at e in omega (arith, width-known width w known)
 
-module _ (base size address width bytes o : ℕ) (ends : base + bytes ≡ min (base + size) (2 ^ 64 - 1)) (wraps : (o + base) % 2 ^ 64 ≡ address) where
-  pub fits : width ≤ bytes → o ≤ bytes - width → (pass o ≡ addressTest base size address width) × (o + width ≤ 2 ^ 64 - 1)
-  fits h k =
-      let sum : o + base ≡ address = omega arith in
-      let e : inside base size address width ≡ true = rw (le-leb base address (omega arith), le-leb (address + width) (min (base + size) (2 ^ 64 - 1)) (omega arith)) in
-      let d : address - base ≡ o = omega arith in
-      (rw (e, d), omega arith)
-
-  pub fits-not : base < 2 ^ 64 → o < 2 ^ 64 → (width ≤ bytes → o ≤ bytes - width → ⊥) → refuse (outside address) ≡ addressTest base size address width
-  fits-not b l n =
+module _ (base size address width bytes : ℕ) where
+  -- refused, where an access that is inside would be absurd
+  outside-if : ((base ≤ address) → (address + width ≤ min (base + size) (2 ^ 64 - 1)) → ⊥) → refuse (outside address) ≡ addressTest base size address width
+  outside-if n =
       test (inside base size address width)
       (λ e.
       let h = and-eq-true-iff (leb base address) (leb (address + width) (min (base + size) (2 ^ 64 - 1))) .0 e in
-      let p = leb-true base address (h .0) in
-      let q = leb-true (address + width) (min (base + size) (2 ^ 64 - 1)) (h .1) in
-      absurd (n (omega arith) (omega arith)))
+      absurd (n (leb-true base address (h .0)) (leb-true (address + width) (min (base + size) (2 ^ 64 - 1)) (h .1))))
       (λ e. rw e)
+
+  module _ (o : ℕ) (ends : base + bytes ≡ min (base + size) (2 ^ 64 - 1)) (wraps : (o + base) % 2 ^ 64 ≡ address) where
+    pub fits : width ≤ bytes → o ≤ bytes - width → (pass o ≡ addressTest base size address width) × (o + width ≤ 2 ^ 64 - 1)
+    fits h k =
+        let sum : o + base ≡ address = omega arith in
+        let e : inside base size address width ≡ true = rw (le-leb base address (omega arith), le-leb (address + width) (min (base + size) (2 ^ 64 - 1)) (omega arith)) in
+        let d : address - base ≡ o = omega arith in
+        (rw (e, d), omega arith)
+
+    pub past-the-end : base < 2 ^ 64 → o < 2 ^ 64 → bytes < o + width → refuse (outside address) ≡ addressTest base size address width
+    past-the-end b l n = outside-if (λ p q. omega arith)
+
+  pub too-wide : base + bytes ≡ min (base + size) (2 ^ 64 - 1) → bytes < width → refuse (outside address) ≡ addressTest base size address width
+  too-wide ends n = outside-if (λ p q. omega arith)

@@ -42,10 +42,11 @@ pub fn locate(base: u64, size: u64, address: u64, width: u64) -> Located
     ensures { λ r. ⌜ (locatedView address r ≡ addressTest base size address width) × Ends r width ⌝ }
 {
     let bytes = bytes_in(base, size);
-    let offset = std::num::wrapping_sub_u64(address, base);
-    if width <= bytes && offset <= bytes - width {
-        Located::At(offset as usize)
-    } else {
-        Located::Outside
+    if width <= bytes {
+        let offset = std::num::wrapping_sub_u64(address, base);
+        if offset <= bytes - width {
+            return Located::At(offset as usize);
+        }
     }
+    Located::Outside
 }

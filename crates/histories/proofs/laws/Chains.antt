@@ -14,7 +14,7 @@ use Rattle.rules.specs.Image.{imageLength, ImageTest, imageTest, same, encode, 
 use Rattle.rules.specs.Image as image
 use Rattle.rules.specs.Calls.{Refusal, outside, noWidth, noInput, wrongLength, wrongContents, wrongBody, noRoom, refusalNumber}
 use Rattle.rules.specs.Calls.{Tested, pass, refuse, Request, Asked, afresh, calls, askedBy, Done, doneOn, performed}
-use Rattle.rules.specs.Calls.{answered, bufferOf, placeOf, written, Outcome, leaves, settled, answerLength, hasRoom, outcome}
+use Rattle.rules.specs.Calls.{answered, bufferOf, placeOf, written, Outcome, leaves, ended, settled, answerLength, hasRoom, outcome}
 use Rattle.rules.specs.History.{history}
 use Rattle.histories.specs.Exported.{Exported, leftBy, isDone, isReset, isLoad, callOf, Underway, carriedOn, doneCall, doneCalls, afterReset, atLoad, current, Faithful}
 use Rattle.rules.proofs.laws.Bits.{test}
@@ -40,7 +40,7 @@ record DidPass (x : Exported) : Type 0 where
   room : hasRoom (x .asked) (x .answer) ≡ true
   gives : Done
   passed : performed (askedBy (x .asked)) (x .given) ≡ pass gives
-  left : leftBy x ≡ settled (x .asked) (x .given) (x .answer) (pass gives)
+  left : leftBy x ≡ settled (x .answer) (ended (x .asked) (x .given) (pass gives))
 
 place-fits : (q : Request) (a : List ℕ) → hasRoom q a ≡ true → placeOf q ≤ length (bufferOf q)
 place-fits q a t =
@@ -155,7 +155,7 @@ module _ (h : Underway) (x : Exported) where
     call : Call
     passes : askedBy (x .asked) ≡ calls (pass call)
     accepted : imageTest (x .given) ≡ image.accepted
-    left : leftBy x ≡ settled (x .asked) (x .given) (x .answer) (pass (doneOn (decode (x .given)) call))
+    left : leftBy x ≡ settled (x .answer) (ended (x .asked) (x .given) (pass (doneOn (decode (x .given)) call)))
 
   did : isDone x ≡ true → (u : Tested Call) → askedBy (x .asked) ≡ calls u → Did
   did t u e =
@@ -165,7 +165,7 @@ module _ (h : Underway) (x : Exported) where
         call = c .call;
         passes = e ∙ ap calls (c .passes);
         accepted = c .accepted;
-        left = p .left ∙ ap (λ y. settled (x .asked) (x .given) (x .answer) (pass y)) (c .gives);
+        left = p .left ∙ ap (λ y. settled (x .answer) (ended (x .asked) (x .given) (pass y))) (c .gives);
       }
 
   -- a done call that is no reset: its image was accepted; and if it is a load, it begins the history from what it was given
@@ -226,7 +226,7 @@ module _ (h : Underway) (x : Exported) where
           record {
             call = r .call;
             passes = r .passes;
-            left = r .left ∙ ap (λ d. settled (x .asked) (x .given) (x .answer) (pass (doneOn d (r .call)))) met;
+            left = r .left ∙ ap (λ d. settled (x .answer) (ended (x .asked) (x .given) (pass (doneOn d (r .call))))) met;
             fits = place-fits (x .asked) (x .answer) (did-pass x t .room);
             carried = carried-done t n (r .passes);
           }

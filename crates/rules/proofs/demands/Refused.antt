@@ -1,11 +1,11 @@
 -- Demand 1, what a refusal changes: 'A refused call changes no state and no lent byte but the answer area, and refusal 7 not even that.' The state is the
 -- image. Over every request, with its numbers and a drain's event buffer, every image and every answer area.
-use mathlib.Core.Path.{_≡_, refl}
+use mathlib.Core.Path.{_≡_, refl, sym, ap, _∙_}
 use mathlib.Core.Bool.{true}
 use mathlib.Core.List.{List}
 use Prim.Native.Nat.{ℕ}
 use lib.ListN.{drop}
-use Rattle.rules.specs.Calls.{Tested, pass, refuse, Request, askedBy, Done, performed, answerLength, answered, bufferOf, hasRoom, outcome}
+use Rattle.rules.specs.Calls.{Tested, pass, refuse, Request, askedBy, Done, performed, answerLength, answered, bufferOf, hasRoom, Outcome, ended, settled, outcome}
 use Rattle.rules.proofs.laws.Bits.{test}
 use Rattle.rules.proofs.laws.Refusals.{refused-not-seven}
 
@@ -26,4 +26,10 @@ refused-changes-nothing q i a n =
     go : hasRoom q a ≡ true → (p : Tested Done) → performed (askedBy q) i ≡ p → Unchanged q i a
     go t (pass y) e = absurd (n (rw (t, e)))
     go t (refuse r) e =
-        record { image = rw (t, e); events = rw (t, e); past = rw (t, e); seven = λ z. absurd (refused-not-seven q i r e (rw (t, e) at z)) }
+        let left : outcome q i a ≡ settled a (ended q i (refuse r)) = rw (t, e) in
+        record {
+          image = ap (λ (o : Outcome). o .image) left;
+          events = ap (λ (o : Outcome). o .events) left;
+          past = ap (λ (o : Outcome). drop answerLength (o .answer)) left;
+          seven = λ z. absurd (refused-not-seven q i r e (sym (ap (λ (o : Outcome). o .number) left) ∙ z));
+        }

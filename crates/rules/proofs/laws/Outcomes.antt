@@ -1,18 +1,23 @@
--- The outcome of an exported call, by the test that decides it: one law for each way that a call can end.
-use mathlib.Core.Path.{_≡_, refl, ap, _∙_}
-use mathlib.Core.Bool.{and-false}
-use mathlib.Core.List.{List, []}
-use Prim.Native.Nat.{ℕ, _<_, _≤_}
-use native.Mathlib.Nat.{le-refl}
-use lib.ListN.{length}
-use borrow.Author.Tests.{lt-ltb, le-ltb, le-leb, lt-leb, eq-eqb, ne-eqb}
+-- How an exported call ends, by the test that decides it: one law for each way that a call can end; and the outcome of a call that has ended.
+use mathlib.Core.Path.{_≡_, refl, sym, ap, _∙_}
+use mathlib.Core.Bool.{Bool, true, false, cond, and-false, and-eq-true-iff}
+use mathlib.Core.List.{List, [], _++_}
+use Prim.Native.Nat.{ℕ, _+_, _-_, _*_, _/_, _^_, _<_, _≤_, min}
+use native.Mathlib.Omega.{arith}
+use lib.ListN.{length, take, drop, length-drop, take-append-drop}
+use lib.Seq.{drop-drop}
+use lib.Dec.{leb, ltb}
+use borrow.Author.Tests.{ltb-true, lt-ltb, le-ltb, le-leb, lt-leb, eq-eqb, ne-eqb}
+use Rattle.rules.specs.Ring.{Event, pairsOf, RingAct, ringRun}
 use Rattle.rules.specs.Access.{Width}
-use Rattle.rules.specs.Device.{Call, none, step, value, reset}
+use Rattle.rules.specs.Device.{Device, Call, Value, none, actsOf, draws, acted, step, value, reset}
+use Rattle.rules.specs.Device as device
 use Rattle.rules.specs.Image.{imageLength, ImageTest, imageTest, encode, decode}
 use Rattle.rules.specs.Image as image
-use Rattle.rules.specs.Calls.{Refusal, refusalNumber, refusalValue, wrongLength, wrongContents, wrongBody, noInput, noRoom, Tested, pass, refuse, onPass, imageAnswer, imageNumber, inputCall, widthTest, addressTest, accessCall, Request, Asked, calls, askedBy, doneOn, performed, answerLength, answered, bufferOf, placeOf, written, Outcome, leaves, settled, outcome}
+use Rattle.rules.specs.Calls.{Refusal, outside, refusalNumber, refusalValue, wrongLength, wrongContents, wrongBody, noInput, noRoom, Tested, pass, refuse, onPass, imageAnswer, imageNumber, inputCall, widthTest, addressTest, accessCall, Request, drain, Asked, calls, askedBy, Done, doneOn, performed, answerLength, answered, bufferOf, placeOf, written, Outcome, leaves, Ending, ended, ending, outcome}
+use Rattle.rules.specs.Calls as asked
 
--- ---- 7
+-- ---- 7, or how it ends
 
 module _ (q : Request) (i a : List ℕ) where
   abbrev undone : Outcome
@@ -26,56 +31,82 @@ module _ (q : Request) (i a : List ℕ) where
   unfolding outcome
   place-past h = rw (lt-leb (placeOf q) (length (bufferOf q)) h, and-false)
 
-  -- with room, the rest decides
-  module _ (roomy : answerLength ≤ length a) (inside : placeOf q ≤ length (bufferOf q)) where
-    pub room : outcome q i a ≡ settled q i a (performed (askedBy q) i)
-    unfolding outcome
-    room = rw (le-leb answerLength (length a) roomy, le-leb (placeOf q) (length (bufferOf q)) inside)
+  -- with room, the answer area has the number and the value with which it ends
+  pub room : answerLength ≤ length a → placeOf q ≤ length (bufferOf q) → (x : Ending) → x ≡ ending q i → {b : List ℕ} → b ≡ answered (x .number) (x .value) a
+      → leaves (x .number) (x .image) b (x .events) ≡ outcome q i a
+  unfolding outcome
+  room roomy inside x e {b} f =
+      (λ t. leaves (x .number) (x .image) (f t) (x .events)) ∙ (λ t. leaves (e t .number) (e t .image) (answered (e t .number) (e t .value) a) (e t .events))
+      ∙ rw (le-leb answerLength (length a) roomy, le-leb (placeOf q) (length (bufferOf q)) inside)
 
-    -- ---- 4, 5, 6
+-- ---- a call of the device: 4, 5, 6
 
-    pub image-refused : (t : ImageTest) (x : Tested Call) → imageTest i ≡ t → (t ≡ image.accepted → ⊥) → askedBy q ≡ calls x
-        → outcome q i a ≡ leaves (imageNumber t) i (answered (imageNumber t) none a) (bufferOf q)
-    unfolding performed
-    image-refused t x e n c =
-        room ∙ ap (λ (y : Asked). settled q i a (performed y i)) c ∙ ap (λ (u : ImageTest). settled q i a (onPass (imageAnswer u (decode i)) (λ d. onPass x (λ c. pass (doneOn d c))))) e ∙ go t n
-      where
-        go : (t : ImageTest) → (t ≡ image.accepted → ⊥)
-            → settled q i a (onPass (imageAnswer t (decode i)) (λ d. onPass x (λ c. pass (doneOn d c)))) ≡ leaves (imageNumber t) i (answered (imageNumber t) none a) (bufferOf q)
-        go image.accepted n = absurd (n refl)
-        go image.wrongLength n = refl
-        go image.wrongContents n = refl
-        go image.wrongBody n = refl
+module _ (q : Request) (i : List ℕ) (x : Tested Call) (asks : askedBy q ≡ calls x) where
+  tested : (t : ImageTest) → imageTest i ≡ t → ending q i ≡ ended q i (onPass (imageAnswer t (decode i)) (λ d. onPass x (λ c. pass (doneOn d c))))
+  unfolding performed
+  tested t e =
+      ap (λ (y : Asked). ended q i (performed y i)) asks
+      ∙ ap (λ (u : ImageTest). ended q i (onPass (imageAnswer u (decode i)) (λ d. onPass x (λ c. pass (doneOn d c))))) e
 
-    -- ---- the image is accepted: 3, 2, 1, or done
+  pub image-refused : (t : ImageTest) → imageTest i ≡ t → (t ≡ image.accepted → ⊥) → ending q i ≡ record { number = imageNumber t; value = none; image = i; events = bufferOf q }
+  image-refused image.accepted e n = absurd (n refl)
+  image-refused image.wrongLength e n = tested image.wrongLength e
+  image-refused image.wrongContents e n = tested image.wrongContents e
+  image-refused image.wrongBody e n = tested image.wrongBody e
 
-    module _ (e : imageTest i ≡ image.accepted) (x : Tested Call) (asked : askedBy q ≡ calls x) where
-      accepted : outcome q i a ≡ settled q i a (onPass x (λ c. pass (doneOn (decode i) c)))
-      unfolding performed
-      accepted =
-          room ∙ ap (λ (y : Asked). settled q i a (performed y i)) asked
-          ∙ ap (λ (u : ImageTest). settled q i a (onPass (imageAnswer u (decode i)) (λ d. onPass x (λ c. pass (doneOn d c))))) e
+  -- ---- the image is accepted: 3, 2, 1, or done
 
-      pub call-refused : (r : Refusal) → x ≡ refuse r → outcome q i a ≡ leaves (refusalNumber r) i (answered (refusalNumber r) (refusalValue r) a) (bufferOf q)
-      call-refused r f = accepted ∙ ap (λ (y : Tested Call). settled q i a (onPass y (λ c. pass (doneOn (decode i) c)))) f
+  module _ (e : imageTest i ≡ image.accepted) where
+    pub call-refused : (r : Refusal) → x ≡ refuse r → ending q i ≡ ended q i (refuse r)
+    call-refused r f = tested image.accepted e ∙ ap (λ (y : Tested Call). ended q i (onPass y (λ c. pass (doneOn (decode i) c)))) f
 
-      pub call-done : (c : Call) → x ≡ pass c
-          → outcome q i a ≡ leaves 0 (encode (step (decode i) c .after)) (answered 0 (value (decode i) c) a) (written (bufferOf q) (placeOf q) (step (decode i) c .drained))
-      call-done c f = accepted ∙ ap (λ (y : Tested Call). settled q i a (onPass y (λ c. pass (doneOn (decode i) c)))) f
+    -- from an image that holds the device after the call, the call's value, and the events that it drained
+    pub call-done : (c : Call) → x ≡ pass c → (d : Device) (v : Value) (j o : List ℕ) → j ≡ encode d → d ≡ step (decode i) c .after → v ≡ value (decode i) c
+        → o ≡ written (bufferOf q) (placeOf q) (step (decode i) c .drained) → record { number = 0; value = v; image = j; events = o } ≡ ending q i
+    call-done c f d v j o g h k l =
+        (λ t. record { number = 0; value = k t; image = (g ∙ ap encode h) t; events = l t })
+        ∙ sym (tested image.accepted e ∙ ap (λ (y : Tested Call). ended q i (onPass y (λ c. pass (doneOn (decode i) c)))) f)
+
+-- a call that draws nothing leaves an event buffer that is none
+pub no-events : (d : Device) (c : Call) → draws c ≡ [] → [] ≡ written [] 0 (step d c .drained)
+unfolding written step ringRun
+no-events d c e = ap (λ (xs : List RingAct). written [] 0 (ringRun (acted d (actsOf (d .core) c) .ring) xs .drained)) (sym e)
 
 -- ---- reset
 
-module _ (i a : List ℕ) (roomy : answerLength ≤ length a) where
-  abbrev resetRequest : Request
-  resetRequest = Rattle.rules.specs.Calls.reset
-
-  pub reset-refused : (length i ≡ imageLength → ⊥) → outcome resetRequest i a ≡ leaves (refusalNumber wrongLength) i (answered (refusalNumber wrongLength) none a) []
+module _ (i : List ℕ) where
+  pub reset-refused : (length i ≡ imageLength → ⊥) → ending asked.reset i ≡ ended asked.reset i (refuse wrongLength)
   unfolding performed
-  reset-refused n = room resetRequest i a roomy (le-refl 0) ∙ rw (ne-eqb (length i) imageLength n)
+  reset-refused n = rw (ne-eqb (length i) imageLength n)
 
-  pub reset-done : length i ≡ imageLength → outcome resetRequest i a ≡ leaves 0 (encode reset) (answered 0 none a) []
+  pub reset-done : length i ≡ imageLength → ending asked.reset i ≡ record { number = 0; value = none; image = encode reset; events = [] }
   unfolding performed written
-  reset-done e = room resetRequest i a roomy (le-refl 0) ∙ rw (eq-eqb (length i) imageLength e)
+  reset-done e = rw (eq-eqb (length i) imageLength e)
+
+-- ---- a drain from a place on is a drain into the bytes from there
+
+-- an ending of a call that was lent the bytes behind some others
+abbrev pub behind : List ℕ → Ending → Ending
+behind l x = record { number = x .number; value = x .value; image = x .image; events = l ++ x .events }
+
+module _ (events : List ℕ) (place : ℕ) where
+  written-behind : (es : List Event) → written events place es ≡ take place events ++ written (drop place events) 0 es
+  unfolding written
+  written-behind es =
+      let n : 2 * length es ≡ 0 + 2 * length es = omega arith in
+      ap (λ (l : List ℕ). take place events ++ (pairsOf es ++ l)) (sym (drop-drop (2 * length es) place events) ∙ ap (λ (k : ℕ). drop k (drop place events)) n)
+
+  room-behind : length events - place ≡ length (drop place events) - 0
+  room-behind = simp length-drop (omega arith)
+
+  pub drain-behind : (i : List ℕ) → ending (drain events place) i ≡ behind (take place events) (ending (drain (drop place events) 0) i)
+  drain-behind i =
+      go (performed (askedBy (drain events place)) i)
+      ∙ ap (λ (k : ℕ). behind (take place events) (ended (drain (drop place events) 0) i (performed (calls (pass (device.drain (k / 2)))) i))) room-behind
+    where
+      go : (t : Tested Done) → ended (drain events place) i t ≡ behind (take place events) (ended (drain (drop place events) 0) i t)
+      go (pass x) = ap (λ (l : List ℕ). record { number = 0; value = x .value; image = encode (x .device); events = l }) (written-behind (x .drained))
+      go (refuse r) = ap (λ (l : List ℕ). record { number = refusalNumber r; value = refusalValue r; image = i; events = l }) (sym (take-append-drop place events))
 
 -- ---- what a call asks
 

@@ -1,0 +1,54 @@
+-- How a read or a write on an accepted image ends, by the answers of its width's and its address's test: refused, or done.
+use mathlib.Core.Path.{_≡_, refl, sym, ap, _∙_}
+use mathlib.Core.List.{List, []}
+use Prim.Native.Nat.{ℕ}
+use Rattle.rules.specs.Access.{Width, readAt, writeActs}
+use Rattle.rules.specs.Device.{Call, none, some, acted, value}
+use Rattle.rules.specs.Device as device
+use Rattle.rules.specs.Image.{decode}
+use Rattle.rules.specs.Calls.{noWidth, outside, pass, widthTest, addressTest, accessCall, Request, calls, askedBy, bufferOf, ending}
+use Rattle.rules.specs.Calls as asked
+use Rattle.rules.proofs.laws.Outcomes.{call-refused, call-done, no-events, width-refused, address-refused, access-passed}
+use Rattle.rules.proofs.laws.Steps.{read-device, write-device}
+use Rattle.window.specs.Tests.{knownView, locatedView}
+use Rattle.window.specs.declared.Known.{Known}
+use Rattle.window.specs.declared.Known.the-variants.{As, Unknown}
+use Rattle.window.specs.declared.Located.{Located}
+use Rattle.window.specs.declared.Located.the-variants.{At, Outside}
+use Rattle.map.specs.Views.{widthView}
+use Rattle.map.specs.declared.Width as code
+use Rattle.inplace.specs.Held.{Reads, Writes}
+use Rattle.refusals.proofs.Ends.{Passed, here}
+
+module _ {i : List ℕ} (p : Passed i) (base size address width : ℕ) {k : Known} (e : knownView k ≡ widthTest width) where
+  -- ---- refused
+
+  module _ (q : Request) (f : Width → ℕ → Call) (asks : askedBy q ≡ calls (accessCall base size address width f)) where
+    pub no-width : k ≡ Unknown → record { number = 2; value = none; image = i; events = bufferOf q } ≡ ending q i
+    no-width u = sym (call-refused q i _ asks (p .good) noWidth (width-refused base size address width f noWidth (sym e ∙ ap knownView u)))
+
+    pub no-place : {w : code.Width} → k ≡ As w → {l : Located} → locatedView address l ≡ addressTest base size address width → l ≡ Outside
+        → record { number = 1; value = some address; image = i; events = bufferOf q } ≡ ending q i
+    no-place {w} wide g u =
+        sym (call-refused q i _ asks (p .good) (outside address)
+        (address-refused base size address width f (widthView w) (outside address) (sym e ∙ ap knownView wide) (sym g ∙ ap (locatedView address) u)))
+
+  -- ---- done
+
+  module _ {w : code.Width} (wide : k ≡ As w) {l : Located} (g : locatedView address l ≡ addressTest base size address width) {o : ℕ} (at : l ≡ At o) where
+    aimed : (f : Width → ℕ → Call) → accessCall base size address width f ≡ pass (f (widthView w) o)
+    aimed f = access-passed base size address width f (widthView w) o (sym e ∙ ap knownView wide) (sym g ∙ ap (locatedView address) at)
+
+    pub read-done : (v : ℕ) → Reads i v (λ d. readAt (d .core) (widthView w) o) → record { number = 0; value = some v; image = i; events = [] } ≡ ending (asked.read base size address width) i
+    unfolding value
+    read-done v r =
+        let c = device.read (widthView w) o in
+        call-done (asked.read base size address width) i _ refl (p .good) c (aimed device.read) (decode i) (some v) i []
+        (here p .image) (sym (read-device (decode i) (widthView w) o)) (ap some (r (decode i) (here p))) (no-events (decode i) c refl)
+
+    pub write-done : (v : ℕ) {n : ℕ} {j : List ℕ} → Writes i j n (λ c. writeActs c (widthView w) o v) → record { number = 0; value = none; image = j; events = [] } ≡ ending (asked.write base size address width v) i
+    unfolding value
+    write-done v {j = j} r =
+        let c = device.write (widthView w) o v in
+        call-done (asked.write base size address width v) i _ refl (p .good) c (aimed (λ w o. device.write w o v)) (acted (decode i) (writeActs (decode i .core) (widthView w) o v)) none j []
+        (r .becomes (decode i) (here p) .image) (sym (write-device (decode i) (widthView w) o v)) refl (no-events (decode i) c refl)

@@ -1,0 +1,30 @@
+-- `poll`: each refusal leaves where 01's order puts it; done, only the lines moved, and the vector returned is told.
+use mathlib.Core.Path.{refl}
+use Rattle.rules.specs.Device as device
+use Rattle.rules.specs.Calls as asked
+use Rattle.refusals.proofs.Ends.{Passed, goes-on, long, tells, by-image}
+use Rattle.inputs.proofs.Lines.{no-input, poll-done}
+use borrow.Author.Needs.{needs}
+use Rattle.inputs.proofs.poll.Statement.{statement}
+use Rattle.inputs.proofs.poll.Tie as tie
+
+-- the image was accepted
+on : (m : tie.At-match-keys1) → Passed (m .before .before .before .before .args .image .now)
+on m = let k = m .before in goes-on (λ n. k .before .before .slice-known .given n .fits) (k .check .result) (m .match .keys1) (k .check .ensures)
+
+pub poll-spec : {M : Type 1} → statement M
+unfolding on
+poll-spec =
+    tie.close
+    (tie.spec
+    (λ c κs. search needs) (λ c. search needs) (λ c κs. search needs) (λ c. search needs)
+    (λ c. let m = c .before in let k = m .before in let a = k .before .before .before .args in
+    by-image (asked.poll (a .input)) refl (k .check .result) (m .match .keys2) (k .check .ensures) (c .of-image .result) (c .of-image .ensures))
+    (λ c κs. search needs) (λ c. search needs)
+    (λ c. let h = c .before in let m = h .before .before in let a = m .before .before .before .before .args in
+    tells (c .no-input .result) (c .no-input .ensures) (no-input (on m) (a .input) (asked.poll (a .input)) (device.poll (a .input)) refl (h .if1 .taken)))
+    (λ c κs. (long (on (c .before .before .before)), search needs))
+    (λ c κs. search needs) (λ c κs. search needs) (λ c. search needs)
+    (λ c. let v = c .before in let r = v .before .before .before in let h = r .before .before in let m = h .before .before in
+    let a = m .before .before .before .before .args in
+    tells (c .done .result) (c .done .ensures) (poll-done (on m) (a .input) (h .if1 .left) (v .vector-value .ensures) (r .poll .ensures))))

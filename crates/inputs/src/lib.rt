@@ -1,0 +1,52 @@
+// The calls on an input, on the image alone: what they tell is handed back. The order of the tests is 01's: 4, 5, 6 by the image, then 3.
+use answer::Told;
+use answer::Value;
+use answer::done;
+use image::check::Checked;
+use image::check::check;
+use refusals::no_input;
+use refusals::of_image;
+ghost use mathlib.Core.Path.{_≡_};
+ghost use mathlib.Core.List.{[]};
+ghost use Rattle.rules.specs.Calls.{ending};
+ghost use Rattle.rules.specs.Calls as asked;
+ghost use Rattle.engine.specs.Moves.{answerValue};
+ghost use Rattle.answer.specs.Given.{valueView, ends};
+
+// The vector that a call on an input returns, as a value.
+fn vector_value(answer: engine::Answer) -> Value
+    ensures { λ r. ⌜ valueView r ≡ answerValue answer ⌝ }
+{
+    match answer {
+        engine::Answer::Vector(vector) => Value::Present(vector as u64),
+        engine::Answer::None => Value::Absent,
+    }
+}
+
+pub fn level(image: &mut [u8], input: u64, level: u64) -> Told
+    ensures { λ r. ⌜ ends r (now (image .exit)) [] ≡ ending (asked.level input level) (now (image .entry)) ⌝ }
+{
+    let checked = check(image);
+    let Checked::Accepted = checked else {
+        return of_image(checked);
+    };
+    if 64 <= input {
+        return no_input();
+    }
+    let returned = service::set_level(image, input as usize, level != 0);
+    done(vector_value(returned))
+}
+
+pub fn poll(image: &mut [u8], input: u64) -> Told
+    ensures { λ r. ⌜ ends r (now (image .exit)) [] ≡ ending (asked.poll input) (now (image .entry)) ⌝ }
+{
+    let checked = check(image);
+    let Checked::Accepted = checked else {
+        return of_image(checked);
+    };
+    if 64 <= input {
+        return no_input();
+    }
+    let returned = service::poll(image, input as usize);
+    done(vector_value(returned))
+}

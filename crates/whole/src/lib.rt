@@ -1,0 +1,39 @@
+// The calls on the device as a whole, on the image alone: what they tell is handed back.
+use answer::Told;
+use answer::Value;
+use answer::done;
+use image::check::Checked;
+use image::check::check;
+use image::form::KnownForm;
+use image::form::form_of;
+use refusals::of_image;
+use state::PchPicState;
+ghost use mathlib.Core.Path.{_≡_};
+ghost use mathlib.Core.List.{[]};
+ghost use Rattle.rules.specs.Calls.{ending};
+ghost use Rattle.rules.specs.Calls as asked;
+ghost use Rattle.answer.specs.Given.{ends};
+
+// Any bytes will do that have the length of an image.
+pub fn reset(image: &mut [u8]) -> Told
+    ensures { λ r. ⌜ ends r (now (image .exit)) [] ≡ ending asked.reset (now (image .entry)) ⌝ }
+{
+    let length = image.len();
+    let KnownForm::As(_) = form_of(length) else {
+        return of_image(Checked::WrongLength);
+    };
+    saved::save(image, PchPicState::reset());
+    done(Value::Absent)
+}
+
+// The events go to the front of the buffer.
+pub fn drain(image: &mut [u8], events: &mut [u8]) -> Told
+    ensures { λ r. ⌜ ends r (now (image .exit)) (now (events .exit)) ≡ ending (asked.drain (now (events .entry)) 0) (now (image .entry)) ⌝ }
+{
+    let checked = check(image);
+    let Checked::Accepted = checked else {
+        return of_image(checked);
+    };
+    let count = drains::drain(image, events);
+    done(Value::Present(count as u64))
+}
