@@ -19,7 +19,7 @@ use Rattle.rules.specs.Map as map
 use Rattle.rules.specs.Access.{Width, byte, word, dword, qword, registerActs, entryActs, cellActs, dwordActs, byteActs, writeActs, readDword}
 use Rattle.rules.specs.Device.{Device, Call, value, lost, actsOf, acted, offers, draws, step}
 use Rattle.rules.specs.Device as device
-use Rattle.rules.specs.Calls.{widthTest, addressTest, pass, Request, calls, askedBy, amount, answered, presentIn, valueIn, Outcome}
+use Rattle.rules.specs.Calls.{widthTest, addressTest, pass, Request, calls, askedBy, answered, presentIn, valueIn, Outcome}
 use Rattle.rules.specs.Calls as request
 use Rattle.rules.specs.History.{history}
 use Rattle.histories.specs.Demands.{asEvent, ringActs, lossOf, lossesIn}
