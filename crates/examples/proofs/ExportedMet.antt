@@ -3,14 +3,14 @@
 use mathlib.Core.Path.{_≡_, refl}
 use mathlib.Core.Bool.{Bool, true, false, not, _&&_, and-eq-true-iff}
 use mathlib.Core.List.{List, [], _∷_, _++_}
-use Prim.Native.Nat.{ℕ, _+_}
+use Prim.Native.Nat.{ℕ, _+_, _-_}
 use native.Mathlib.Omega.{arith}
-use lib.Dec.{lit<}
+use lib.Dec.{lit<, lit≤}
 use lib.ListN.{take, drop, getD, replicate}
 use borrow.Author.Tests.{not-true}
 use Rattle.rules.specs.Access.{dword}
 use Rattle.rules.specs.Ring.{dropped}
-use Rattle.rules.specs.Device.{Device, Call, level, poll, write, drain, none, step, reset}
+use Rattle.rules.specs.Device.{Device, WellFormed, Call, level, poll, write, drain, none, step, reset, withRing}
 use Rattle.rules.specs.Image.{encode, decode}
 use Rattle.rules.specs.Calls.{Request, askedBy, answered, outcome}
 use Rattle.rules.specs.Calls as request
@@ -19,13 +19,14 @@ use Rattle.histories.specs.Premises.{Along, Admitted}
 use Rattle.rules.specs.Account.{tally, asserts, deasserts, carrying, assertsAmong, deassertsAmong}
 use Rattle.histories.specs.Demands.{inService, someAct, ringActs}
 use Rattle.histories.specs.Exported.{Exported, leftBy, isReset, isLoad, Underway, carriedOn, carriedThrough, NoLoads, HandedOn, doneCalls}
-use Rattle.histories.specs.Exported.{inImage, Faithful, afterReset, atLoad, returnedBy, drainedBy, Balances}
+use Rattle.histories.specs.Exported.{inImage, Faithful, afterReset, atLoad, returnedBy, drainedBy, lossesRead, Balances}
 use Rattle.rules.proofs.laws.Computing.{computing}
 use Rattle.histories.proofs.laws.WellFormed.{history-well}
 use Rattle.histories.proofs.laws.Chains.{faithful-after-reset, faithful-at-load}
 use Rattle.rules.proofs.demands.RoundTrip.{saved-is-bytes, saved-is-accepted, reset-can-be-saved}
 use Rattle.histories.proofs.demands.FromCalls.{handed-on-is-no-load}
 use Rattle.histories.proofs.demands.HandedBack.{account-from-load, drops-of-calls, service-of-calls, service-once-raised, account-since-load, account-under-way}
+use Rattle.histories.proofs.demands.Losses.{losses-of-calls, losses-below-the-stop, losses-up-to-the-stop, losses-from-load}
 use Rattle.histories.proofs.demands.ClearedCalls.{cleared-polled-in-vain, cleared-asserts-had-waited}
 use Rattle.rules.proofs.demands.Refused.{Unchanged, refused-changes-nothing}
 use Rattle.examples.proofs.PremisesMet.{all-admitted, all-spared, all-undisturbed, all-unraised, all-carried-alone, begun, seventeen}
@@ -161,6 +162,84 @@ unfolding computing doneCalls dropped ringActs
 one-dropped =
     drops-of-calls (atLoad (imageOf seventeen)) (begins seventeen) masking
     (handed-on-is-no-load (atLoad (imageOf seventeen)) masking (handed-on (imageOf seventeen) (request.write 0 0x400 0x020 4 0xffffffff ∷ request.poll 64 ∷ []) refl))
+
+-- ---- what writes say that they dropped
+
+-- masked, the seventeenth deassert is dropped; a refused call; unmasked, the assert of 0; 1 and 2 are polled into service, and with 0 cleared
+abbrev losing : List Request
+losing =
+    request.write 0 0x400 0x020 4 0xffffffff ∷ request.poll 64 ∷ request.write 0 0x400 0x020 4 0 ∷ request.poll 1 ∷ request.poll 2 ∷
+    request.write 0 0x400 0x080 4 7 ∷ []
+
+abbrev losingCalls : List Exported
+losingCalls = handedOn (imageOf seventeen) losing
+
+-- the three writes say 1, 1 and 3, and that is the rise
+five-told : lossesRead losingCalls ≡ 5
+unfolding computing dropped lossesRead
+five-told = refl
+
+losing-handed-on : NoLoads (atLoad (imageOf seventeen)) losingCalls
+losing-handed-on = handed-on-is-no-load (atLoad (imageOf seventeen)) losingCalls (handed-on (imageOf seventeen) losing refl)
+
+five-dropped : inImage (carriedThrough (atLoad (imageOf seventeen)) losingCalls) .ring .drops ≡ 5
+unfolding computing dropped lossesRead
+five-dropped = losses-of-calls (atLoad (imageOf seventeen)) (begins seventeen) losingCalls losing-handed-on
+
+told-is-the-rise : inImage (atLoad (imageOf seventeen)) .ring .drops + lossesRead losingCalls
+    ≡ inImage (carriedThrough (atLoad (imageOf seventeen)) losingCalls) .ring .drops
+told-is-the-rise = losses-below-the-stop (atLoad (imageOf seventeen)) (begins seventeen) losingCalls losing-handed-on (rw five-dropped (lit< tt))
+
+-- the same device with its count one below the stop, loaded after a reset by the first of these calls: they say 5 again, and the count rises by 1
+abbrev nearStop : Device
+nearStop = withRing (fromReset seventeen .after) (record { waiting = fromReset seventeen .after .ring .waiting; drops = 4294967294 })
+
+near-stop-well : WellFormed nearStop
+near-stop-well =
+    let w = history-well reset seventeen reset-can-be-saved in
+    record {
+      mask = w .mask;
+      irr = w .irr;
+      isr = w .isr;
+      plains = w .plains;
+      routeBytes = w .routeBytes;
+      routes = w .routes;
+      vectorBytes = w .vectorBytes;
+      vectors = w .vectors;
+      eventBytes = w .eventBytes;
+      waiting = w .waiting;
+      drops = lit≤ tt;
+    }
+
+abbrev stopping : Exported
+stopping = record { given = encode nearStop; asked = request.write 0 0x400 0x020 4 0xffffffff; answer = replicate 16 0 }
+
+abbrev afterStopping : List Exported
+afterStopping = handedOn (leftBy stopping .image) (drop 1 losing)
+
+stopping-loads : isLoad (afterReset .left) stopping ≡ true
+unfolding computing
+stopping-loads = refl
+
+stopping-handed-on : NoLoads (carriedOn afterReset stopping) afterStopping
+unfolding computing carriedOn
+stopping-handed-on = handed-on-is-no-load (carriedOn afterReset stopping) afterStopping (handed-on (leftBy stopping .image) (drop 1 losing) refl)
+
+five-told-at-the-stop : lossesRead (stopping ∷ afterStopping) ≡ 5
+unfolding computing dropped lossesRead
+five-told-at-the-stop = refl
+
+one-counted : inImage (carriedThrough afterReset (stopping ∷ afterStopping)) .ring .drops ≡ 4294967295
+unfolding computing dropped lossesRead
+one-counted =
+    losses-from-load afterReset stopping stopping-loads refl (saved-is-bytes nearStop near-stop-well) afterStopping stopping-handed-on
+
+rise-fits : inImage (atLoad (encode nearStop)) .ring .drops + (4294967295 - inImage (atLoad (encode nearStop)) .ring .drops)
+    ≡ inImage (carriedThrough (atLoad (encode nearStop)) (handedOn (encode nearStop) losing)) .ring .drops
+unfolding computing dropped lossesRead
+rise-fits =
+    losses-up-to-the-stop (atLoad (encode nearStop)) (faithful-at-load (encode nearStop) (saved-is-bytes nearStop near-stop-well) (saved-is-accepted nearStop near-stop-well))
+    (handedOn (encode nearStop) losing) (handed-on-is-no-load (atLoad (encode nearStop)) (handedOn (encode nearStop) losing) (handed-on (encode nearStop) losing refl)) (lit≤ tt)
 
 -- ---- service
 

@@ -6,3 +6,4 @@ pub mod Order
 pub mod FromCalls
 pub mod HandedBack
 pub mod ClearedCalls
+pub mod Losses

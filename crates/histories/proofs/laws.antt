@@ -7,3 +7,4 @@ pub mod Draining
 pub mod WellFormed
 pub mod Chains
 pub mod Readings
+pub mod Dropping

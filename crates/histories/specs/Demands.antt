@@ -2,13 +2,14 @@
 use mathlib.Core.Bool.{Bool, true, false, cond, _||_}
 use mathlib.Core.List.{List, [], _∷_, _++_}
 use mathlib.Core.Path.{_≡_}
-use Prim.Native.Nat.{ℕ, _<_}
+use Prim.Native.Nat.{ℕ, _+_, _<_}
 use Rattle.rules.specs.Inputs.{on, only, asHalf}
 use Rattle.rules.specs.Lines.{Lines, Made}
 use Rattle.rules.specs.Core.{Act, move, poll, raise, lower, clear, setMask, setIsr, store, setVector}
 use Rattle.rules.specs.Ring.{Event, Ring, RingAct, ringRun}
-use Rattle.rules.specs.Device.{Device, Call, actsOf, offers, draws, step}
+use Rattle.rules.specs.Device.{Device, Call, actsOf, offers, draws, step, value}
 use Rattle.rules.specs.Device as call
+use Rattle.rules.specs.Calls.{amount}
 use Rattle.rules.specs.Account.{carries, assertsWith}
 use Rattle.histories.specs.Premises.{writesIsr}
 
@@ -125,3 +126,18 @@ ringActs d (c ∷ cs) = offers (step d c .made) ++ (draws c ++ ringActs (step d 
 unfoldable pub returnedIn : List Made → List Event
 returnedIn [] = []
 returnedIn (m ∷ ms) = cond (m .offered) (returnedIn ms) (asEvent m ∷ returnedIn ms)
+
+-- ---- losses
+
+-- how many events a call says that it dropped: the value of a write; any other call says nothing of it (02, C-15)
+abbrev pub lossOf : Device → Call → ℕ
+lossOf d (call.level n b) = 0
+lossOf d (call.poll n) = 0
+lossOf d (call.read w o) = 0
+lossOf d (call.write w o v) = amount (value d (call.write w o v))
+lossOf d (call.drain k) = 0
+
+-- the values of the writes among calls, each at the device that it meets, added up (02, C-15: the sum over a history)
+unfoldable pub lossesIn : Device → List Call → ℕ
+lossesIn d [] = 0
+lossesIn d (c ∷ cs) = lossOf d c + lossesIn (step d c .after) cs

@@ -157,6 +157,20 @@ unfoldable pub drainedBy : List Exported → List Event
 drainedBy [] = []
 drainedBy (x ∷ xs) = cond (isDone x) (drainedTo (x .asked) (leftBy x .answer) (leftBy x .events)) [] ++ drainedBy xs
 
+-- how many events a request says that it dropped: a write by the value in its answer area (02, C-15)
+abbrev pub lostTo : Request → List ℕ → ℕ
+lostTo request.reset a = 0
+lostTo (request.read base size address width) a = 0
+lostTo (request.write base size address width v) a = cond (presentIn a) (valueIn a) 0
+lostTo (request.level n v) a = 0
+lostTo (request.poll n) a = 0
+lostTo (request.drain buffer place) a = 0
+
+-- what the done writes among exported calls say in their answer areas, added up; a refused call says nothing
+unfoldable pub lossesRead : List Exported → ℕ
+lossesRead [] = 0
+lossesRead (x ∷ xs) = cond (isDone x) (lostTo (x .asked) (leftBy x .answer)) 0 + lossesRead xs
+
 -- the account of a vector v between two devices, of exported calls by which the one comes to the other: asserts read in answer areas and in event
 -- buffers, asserts that wait at last and asserts that were lost, with the deasserts that waited at first and the inputs then in service with v, come to
 -- the same of deasserts, with the asserts that waited at first and the inputs in service with v at last (00, demand 3; 01, Saved image)

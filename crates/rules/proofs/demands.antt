@@ -6,3 +6,4 @@ pub mod RoundTrip
 pub mod EasyToGetWrong
 pub mod OneOutcome
 pub mod Refused
+pub mod Losses

@@ -11,9 +11,9 @@ use Rattle.rules.specs.Ring.{Event, RingAct, Drawn, offer, offered, ringStep, r
 use Rattle.rules.specs.Device.{Device, Call, offers, draws, step}
 use Rattle.rules.specs.History.{history}
 use Rattle.histories.specs.Demands.{asEvent, foundBy, ringActs}
-use Rattle.rules.proofs.laws.Rings.{offered-full, run-append}
+use Rattle.rules.proofs.laws.Rings.{offered-full, run-append, fifo, drops-run}
 use Rattle.rules.proofs.laws.Acts.{offers-append}
-use Rattle.histories.proofs.laws.Draining.{offers-drain, fifo, kept-place, drops-run, history-ring}
+use Rattle.histories.proofs.laws.Draining.{offers-drain, kept-place, history-ring}
 
 -- ---- one event
 

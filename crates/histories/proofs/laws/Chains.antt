@@ -151,11 +151,11 @@ module _ (h : Underway) (x : Exported) where
   reset-begins t e = carried-done t (reset-loads (h .left) x t e) e ∙ (λ i. record { began = reset; calls = []; left = reset-leaves x t e i })
 
   -- a done call that is no reset: what it asks of the device, and what it leaves
-  record Did : Type 0 where
-    call : Call
-    passes : askedBy (x .asked) ≡ calls (pass call)
-    accepted : imageTest (x .given) ≡ image.accepted
-    left : leftBy x ≡ settled (x .answer) (ended (x .asked) (x .given) (pass (doneOn (decode (x .given)) call)))
+  pub record Did : Type 0 where
+    pub call : Call
+    pub passes : askedBy (x .asked) ≡ calls (pass call)
+    pub accepted : imageTest (x .given) ≡ image.accepted
+    pub left : leftBy x ≡ settled (x .answer) (ended (x .asked) (x .given) (pass (doneOn (decode (x .given)) call)))
 
   did : isDone x ≡ true → (u : Tested Call) → askedBy (x .asked) ≡ calls u → Did
   did t u e =
@@ -170,7 +170,7 @@ module _ (h : Underway) (x : Exported) where
 
   -- a done call that is no reset: its image was accepted; and if it is a load, it begins the history from what it was given
   module _ (t : isDone x ≡ true) (no : isReset (askedBy (x .asked)) ≡ false) where
-    done-call : Did
+    pub done-call : Did
     done-call = go (askedBy (x .asked)) refl
       where
         go : (k : Asked) → askedBy (x .asked) ≡ k → Did

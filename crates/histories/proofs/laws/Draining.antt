@@ -1,22 +1,22 @@
--- The ring over runs and histories: what waited and what was kept since is what was drained since and what waits (fifo); each offered event is kept or
--- dropped, and the count is of those dropped. A history does to its ring what its calls offer and draw (history-ring).
+-- The ring over histories: a history does to its ring what its calls offer and draw (history-ring); each event that is made was returned, drained, waits
+-- or was dropped (all-accounted).
 use mathlib.Core.Path.{_≡_, refl, sym, ap, _∙_}
 use mathlib.Core.Bool.{Bool}
-use mathlib.Core.List.{List, [], _∷_, _++_, append-assoc, append-nil}
-use Prim.Native.Nat.{_+_, _<_, _≤_, min}
+use mathlib.Core.List.{List, [], _∷_, _++_, append-assoc}
+use Prim.Native.Nat.{_+_, _<_}
 use native.Mathlib.Omega.{arith}
 use lib.Dec.{ltb}
-use lib.ListN.{length, getD, length-append, List·getD-append}
+use lib.ListN.{length, getD, List·getD-append}
 use lib.Seq.{getD-append-seam}
 use Rattle.rules.specs.Lines.{Made}
-use Rattle.rules.specs.Ring.{stop, Event, Ring, RingAct, Drawn, offer, draw, offered, drawn, ringStep, ringRun, keptBy, droppedBy, kept, dropped}
+use Rattle.rules.specs.Ring.{Event, Ring, RingAct, Drawn, offer, draw, offered, ringStep, ringRun, kept, dropped}
 use Rattle.rules.specs.Device.{Device, Call, offers, draws, acted, step}
 use Rattle.rules.specs.Device as call
 use Rattle.rules.specs.History.{history}
 use Rattle.rules.specs.Account.{tally}
 use Rattle.histories.specs.Demands.{asEvent, foundBy, ringActs, returnedIn}
 use Rattle.rules.proofs.laws.Bits.{test}
-use Rattle.rules.proofs.laws.Rings.{offered-room, drawn-in-order, run-append}
+use Rattle.rules.proofs.laws.Rings.{offered-room, run-append, fifo}
 use Rattle.rules.proofs.laws.Counts.{tally-append}
 
 -- ---- a run of offers and drains
@@ -27,21 +27,6 @@ unfolding ringRun ringStep offers
 offers-drain r [] = refl
 offers-drain r (m ∷ ms) = test (m .offered) (λ e. rw e (offers-drain (offered r (asEvent m)) ms)) (λ e. rw e (offers-drain r ms))
 
-fifo-step : (r : Ring) (a : RingAct) → r .waiting ++ keptBy r a ≡ ringStep r a .drained ++ ringStep r a .after .waiting
-unfolding ringStep offered drawn
-fifo-step r (offer e) = test (ltb (length (r .waiting)) 16) (λ t. rw t) (λ t. rw t (append-nil (r .waiting)))
-fifo-step r (draw k) = append-nil (r .waiting) ∙ sym (drawn-in-order r k)
-
-pub fifo : (r : Ring) (xs : List RingAct) → r .waiting ++ kept r xs ≡ ringRun r xs .drained ++ ringRun r xs .after .waiting
-unfolding ringRun kept
-fifo r [] = append-nil (r .waiting)
-fifo r (a ∷ xs) =
-    let s = ringStep r a in
-    let t = ringRun (s .after) xs in
-    sym (append-assoc (r .waiting) (keptBy r a) (kept (s .after) xs)) ∙ ap (λ es. es ++ kept (s .after) xs) (fifo-step r a)
-    ∙ append-assoc (s .drained) (s .after .waiting) (kept (s .after) xs) ∙ ap (λ es. s .drained ++ es) (fifo (s .after) xs)
-    ∙ sym (append-assoc (s .drained) (t .drained) (t .after .waiting))
-
 -- an event that finds room: as many are drained before it as wait
 pub kept-place : (r : Ring) (e : Event) (xs : List RingAct) (x : Event) → length (r .waiting) < 16
     → length (r .waiting) < length (ringRun (offered r e) xs .drained) → getD (ringRun (offered r e) xs .drained) (length (r .waiting)) x ≡ e
@@ -51,19 +36,6 @@ kept-place r e xs x h k =
     let all = sym (fifo (offered r e) xs) ∙ ap (λ s. s .waiting ++ later) (offered-room r e h) ∙ append-assoc (r .waiting) (e ∷ []) later in
     sym (List·getD-append (t .drained) (t .after .waiting) x (length (r .waiting)) k) ∙ ap (λ es. getD es (length (r .waiting)) x) all
     ∙ getD-append-seam (r .waiting) e later x
-
-drops-step : (r : Ring) (a : RingAct) → r .drops ≤ stop → ringStep r a .after .drops ≡ min (r .drops + length (droppedBy r a)) stop
-unfolding ringStep offered drawn
-drops-step r (offer e) h = test (ltb (length (r .waiting)) 16) (λ t. rw t (omega arith)) (λ t. rw t)
-drops-step r (draw k) h = omega arith
-
-pub drops-run : (r : Ring) (xs : List RingAct) → r .drops ≤ stop → ringRun r xs .after .drops ≡ min (r .drops + length (dropped r xs)) stop
-unfolding ringRun dropped
-drops-run r [] h = omega arith
-drops-run r (a ∷ xs) h =
-    let s = ringStep r a .after in
-    let e = drops-step r a h in
-    omega (arith, e, drops-run s xs (omega (arith, e)), length-append (droppedBy r a) (dropped s xs))
 
 -- ---- the run of a history
 

@@ -122,7 +122,7 @@ write-returns d w o v =
 -- ---- the call that a request asks
 
 -- an access that passed its tests
-access-is : (t : Tested Width) (u : Tested ℕ) (f : Width → ℕ → Call) (c : Call) → onPass t (λ w. onPass u (λ o. pass (f w o))) ≡ pass c
+pub access-is : (t : Tested Width) (u : Tested ℕ) (f : Width → ℕ → Call) (c : Call) → onPass t (λ w. onPass u (λ o. pass (f w o))) ≡ pass c
     → (w : Width) × (o : ℕ) × (c ≡ f w o)
 access-is (pass w) (pass o) f c e = (w, o, sym (passed e))
 access-is (pass w) (refuse r) f c e = never r c e

@@ -1,12 +1,13 @@
--- The ring: an offer by the room that it finds, a drain, and runs of offers and drains joined.
+-- The ring: an offer by the room that it finds, a drain, and runs of offers and drains joined. What waited and what was kept since is what was drained
+-- since and what waits (fifo), and the count is of those dropped, up to the stop (drops-run).
 use mathlib.Core.Path.{_≡_, refl, sym, ap, _∙_}
-use mathlib.Core.List.{List, [], _∷_, _++_, append-assoc}
+use mathlib.Core.List.{List, [], _∷_, _++_, append-assoc, append-nil}
 use Prim.Native.Nat.{ℕ, _+_, _<_, _≤_, min}
 use native.Mathlib.Omega.{arith}
 use lib.Dec.{ltb}
 use lib.ListN.{length, length-append, take-append-drop}
 use borrow.Author.Tests.{lt-ltb, le-ltb}
-use Rattle.rules.specs.Ring.{capacity, stop, Event, Ring, RingAct, Drawn, offered, drawn, ringStep, ringRun, droppedBy, dropped, lostOf}
+use Rattle.rules.specs.Ring.{capacity, stop, Event, Ring, RingAct, Drawn, offer, draw, offered, drawn, ringStep, ringRun, keptBy, droppedBy, kept, dropped, lostOf}
 use Rattle.rules.proofs.laws.Bits.{test}
 
 -- an event that finds room waits behind the others
@@ -42,10 +43,9 @@ run-append r (a ∷ xs) ys =
     ∙ ap (λ (es : List Event). record { after = ringRun (ringRun (ringStep r a .after) xs .after) ys .after; drained = es })
     (sym (append-assoc (ringStep r a .drained) (ringRun (ringStep r a .after) xs .drained) (ringRun (ringRun (ringStep r a .after) xs .after) ys .drained)))
 
--- ---- what is dropped, one run after another
-
+-- a run of two parts drops what the first drops, and then what the second does
 pub dropped-append : (r : Ring) (xs ys : List RingAct) → dropped r (xs ++ ys) ≡ dropped r xs ++ dropped (ringRun r xs .after) ys
-unfolding dropped ringRun
+unfolding ringRun dropped
 dropped-append r [] ys = refl
 dropped-append r (a ∷ xs) ys =
     let s = ringStep r a .after in
@@ -53,3 +53,33 @@ dropped-append r (a ∷ xs) ys =
 
 pub lost-append : (r : Ring) (xs ys : List RingAct) → lostOf r (xs ++ ys) ≡ lostOf r xs + lostOf (ringRun r xs .after) ys
 lost-append r xs ys = ap length (dropped-append r xs ys) ∙ length-append (dropped r xs) (dropped (ringRun r xs .after) ys)
+
+-- ---- what is kept, and what is dropped
+
+fifo-step : (r : Ring) (a : RingAct) → r .waiting ++ keptBy r a ≡ ringStep r a .drained ++ ringStep r a .after .waiting
+unfolding ringStep offered drawn
+fifo-step r (offer e) = test (ltb (length (r .waiting)) 16) (λ t. rw t) (λ t. rw t (append-nil (r .waiting)))
+fifo-step r (draw k) = append-nil (r .waiting) ∙ sym (drawn-in-order r k)
+
+pub fifo : (r : Ring) (xs : List RingAct) → r .waiting ++ kept r xs ≡ ringRun r xs .drained ++ ringRun r xs .after .waiting
+unfolding ringRun kept
+fifo r [] = append-nil (r .waiting)
+fifo r (a ∷ xs) =
+    let s = ringStep r a in
+    let t = ringRun (s .after) xs in
+    sym (append-assoc (r .waiting) (keptBy r a) (kept (s .after) xs)) ∙ ap (λ es. es ++ kept (s .after) xs) (fifo-step r a)
+    ∙ append-assoc (s .drained) (s .after .waiting) (kept (s .after) xs) ∙ ap (λ es. s .drained ++ es) (fifo (s .after) xs)
+    ∙ sym (append-assoc (s .drained) (t .drained) (t .after .waiting))
+
+drops-step : (r : Ring) (a : RingAct) → r .drops ≤ stop → ringStep r a .after .drops ≡ min (r .drops + length (droppedBy r a)) stop
+unfolding ringStep offered drawn
+drops-step r (offer e) h = test (ltb (length (r .waiting)) 16) (λ t. rw t (omega arith)) (λ t. rw t)
+drops-step r (draw k) h = omega arith
+
+pub drops-run : (r : Ring) (xs : List RingAct) → r .drops ≤ stop → ringRun r xs .after .drops ≡ min (r .drops + length (dropped r xs)) stop
+unfolding ringRun dropped
+drops-run r [] h = omega arith
+drops-run r (a ∷ xs) h =
+    let s = ringStep r a .after in
+    let e = drops-step r a h in
+    omega (arith, e, drops-run s xs (omega (arith, e)), length-append (droppedBy r a) (dropped s xs))

@@ -76,6 +76,15 @@ module _ (d : Device) (n : ℕ) where
   level-value true = ap returned (moved-made d (raise n) (levelled-offers (d .core .vectors) (d .core .lines) n true))
   level-value false = ap returned (moved-made d (lower n) (levelled-offers (d .core .vectors) (d .core .lines) n false))
 
+  pub level-offers : (b : Bool) → offers (step d (level n b) .made) ≡ []
+  unfolding step actsOf moved
+  level-offers true =
+      let none = levelled-offers (d .core .vectors) (d .core .lines) n true in
+      ap offers (moved-made d (raise n) none) ∙ none
+  level-offers false =
+      let none = levelled-offers (d .core .vectors) (d .core .lines) n false in
+      ap offers (moved-made d (lower n) none) ∙ none
+
   pub poll-device : step d (device.poll n) .after ≡ withLines d (polled (d .core .vectors) (d .core .lines) n .after)
   unfolding actsOf moved
   poll-device = step-acted d (device.poll n) refl ∙ moved-device d (poll n) (polled-offers (d .core .vectors) (d .core .lines) n)
@@ -83,6 +92,12 @@ module _ (d : Device) (n : ℕ) where
   pub poll-value : value d (device.poll n) ≡ returned (polled (d .core .vectors) (d .core .lines) n .made)
   unfolding value step actsOf moved
   poll-value = ap returned (moved-made d (poll n) (polled-offers (d .core .vectors) (d .core .lines) n))
+
+  pub poll-offers : offers (step d (device.poll n) .made) ≡ []
+  unfolding step actsOf moved
+  poll-offers =
+      let none = polled-offers (d .core .vectors) (d .core .lines) n in
+      ap offers (moved-made d (poll n) none) ∙ none
 
 -- ---- the others
 
