@@ -1,4 +1,4 @@
--- The ring: an offer by the room that it finds, a drain, and runs of offers and drains joined.
+-- The ring: an offer by the room that it finds, a drain, runs of offers and drains joined, and what these drop.
 use mathlib.Core.Path.{_≡_, refl, sym, ap, _∙_}
 use mathlib.Core.List.{List, [], _∷_, _++_, append-assoc}
 use Prim.Native.Nat.{ℕ, _+_, _<_, _≤_, min}
@@ -6,7 +6,7 @@ use native.Mathlib.Omega.{arith}
 use lib.Dec.{ltb}
 use lib.ListN.{length, take-append-drop}
 use borrow.Author.Tests.{lt-ltb, le-ltb}
-use Rattle.rules.specs.Ring.{capacity, stop, Event, Ring, RingAct, Drawn, offered, drawn, ringStep, ringRun}
+use Rattle.rules.specs.Ring.{capacity, stop, Event, Ring, RingAct, Drawn, offered, drawn, ringStep, ringRun, droppedBy, dropped}
 use Rattle.rules.proofs.laws.Bits.{test}
 
 -- an event that finds room waits behind the others
@@ -41,3 +41,11 @@ run-append r (a ∷ xs) ys =
     ap (λ (t : Drawn). record { after = t .after; drained = ringStep r a .drained ++ t .drained }) (run-append (ringStep r a .after) xs ys)
     ∙ ap (λ (es : List Event). record { after = ringRun (ringRun (ringStep r a .after) xs .after) ys .after; drained = es })
     (sym (append-assoc (ringStep r a .drained) (ringRun (ringStep r a .after) xs .drained) (ringRun (ringRun (ringStep r a .after) xs .after) ys .drained)))
+
+-- and what it drops is what the first part drops, and then what the second does after it
+pub dropped-append : (r : Ring) (xs ys : List RingAct) → dropped r (xs ++ ys) ≡ dropped r xs ++ dropped (ringRun r xs .after) ys
+unfolding dropped ringRun
+dropped-append r [] ys = refl
+dropped-append r (a ∷ xs) ys =
+    ap (λ (es : List Event). droppedBy r a ++ es) (dropped-append (ringStep r a .after) xs ys)
+    ∙ sym (append-assoc (droppedBy r a) (dropped (ringStep r a .after) xs) (dropped (ringRun (ringStep r a .after) xs .after) ys))
