@@ -11,7 +11,7 @@ use Rattle.rules.specs.Inputs.{on, from, inputs, only, put, without, wit
 use Rattle.rules.specs.Lines.{Lines, Made, withMask, withIrr, event, pendingIn, servedIn, serve, enter, leave, newlyUnmasked, newlyMasked}
 use Rattle.rules.specs.Lines.{polled, raised, lowered, cleared, masked}
 use Rattle.rules.specs.Ring.{capacity, Ring, RingAct, offer, draw, droppedBy, dropped, ringStep, ringRun}
-use Rattle.rules.specs.Core.{Core, CoreTurn, Move, Act, poll, raise, lower, clear, setMask, move, setIsr, store, setVector, moved, lineTurn, turn, turns}
+use Rattle.rules.specs.Core.{Core, CoreTurn, Move, Store, Act, poll, raise, lower, clear, setMask, move, setIsr, store, setVector, moved, lineTurn, turn, turns}
 use Rattle.rules.specs.Map as registers
 use Rattle.rules.specs.Map.{Register, Cell, inByteArea, inRoutes, inVectors, cellAt}
 use Rattle.rules.specs.Access.{readDword, registerActs, entryActs, cellActs, dwordActs, byteActs}
@@ -107,6 +107,19 @@ acts-few c (a ∷ xs) = omega (arith, length-append (turn c a .made) (turns (tur
 
 pub lost-acts-few : (d : Device) (xs : List Act) → losses d xs ≤ 65 * length xs
 lost-acts-few d xs = omega (arith, lost-few (d .ring) (turns (d .core) xs .made), acts-few (d .core) xs)
+
+-- a route or vector byte, a half of ISR or of a plain register makes none
+pub entry-quiet : (c : Core) (o v : ℕ) → turns c (entryActs o v) .made ≡ []
+unfolding entryActs turns lineTurn
+entry-quiet c o v = test (inRoutes o) (λ t. rw t) (λ t. rw t (test (inVectors o) (λ u. rw u) (λ u. rw u)))
+
+pub isr-quiet : (c : Core) (h : Bool) (v : ℕ) → turns c (setIsr h v ∷ []) .made ≡ []
+unfolding turns lineTurn
+isr-quiet c h v = refl
+
+pub store-quiet : (c : Core) (s : Store) → turns c (store s ∷ []) .made ≡ []
+unfolding turns lineTurn
+store-quiet c s = refl
 
 -- ---- a Dword or a Byte has four acts at most
 
