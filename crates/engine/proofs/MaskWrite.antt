@@ -2,7 +2,7 @@
 use mathlib.Core.Path.{_≡_, sym, ap, subst⁻¹, _∙_}
 use mathlib.Core.Bool.{Bool, true, false, cond, _&&_, and-false}
 use mathlib.Core.List.{List, _++_, map, append-nil}
-use Prim.Native.Nat.{ℕ, _+_, _<_, _-_, _^_}
+use Prim.Native.Nat.{ℕ, _+_, _<_, _≤_, _-_, _^_}
 use native.Mathlib.Omega.{arith}
 use lib.Bits.{bitAnd}
 use Rattle.rules.specs.Inputs.{on, inputs, register}
@@ -11,7 +11,7 @@ use Rattle.rules.specs.Lines.{Made, Turn, withMask, withIsr, event, enter, leav
 use Rattle.rules.specs.Device.{offers, returned}
 use Rattle.rules.proofs.laws.Bits.{without-common-is, on-none}
 use Rattle.rules.proofs.laws.Inputs.{enter-ext, leave-ext}
-use Rattle.rules.proofs.laws.Losses.{lost-few, enter-few, events-few}
+use Rattle.rules.proofs.laws.Losses.{lost-few, enter-few}
 use Rattle.state.specs.View.{WellLines, WellRing, Pushes, linesView, ringView}
 use Rattle.state.specs.declared.Lines.{Lines}
 use Rattle.state.specs.declared.Ring.{Ring}
@@ -37,6 +37,10 @@ module _ (vs : List ℕ) (l : Lines) (r : Ring) (new up : ℕ) (ups : (i : ℕ) 
     pub well : WellLines out
     pub lines : linesView out ≡ first .after
     pub offers : Offers q n (ringView r) (first .made)
+
+  -- one input enters, so that one event at most is dropped
+  pub entered-few : {out : Lines} {q : Ring} {n : ℕ} → Entered out q n → n ≤ 1
+  entered-few e = omega (arith, e .offers .dropped, lost-few (ringView r) (first .made), enter-few vs true (newlyUnmasked (l .«int_mask») new) begun)
 
   -- the input that entered and was returned to us is the one that the rules offer
   same : enter vs false (on up) begun ≡ enter vs false (newlyUnmasked (l .«int_mask») new) begun
@@ -97,27 +101,14 @@ module _ (vs : List ℕ) (l : Lines) (r : Ring) (new up : ℕ) (ups : (i : ℕ) 
     abbrev retracted : ℕ → Lines
     retracted active = record { «int_mask» = out .«int_mask»; «last_intirr» = out .«last_intirr»; intirr = out .intirr; intisr = bitAnd (out .intisr) ((2 ^ 64 - 1) - active) }
 
-    module _ (active : ℕ) (s : Ring) (k : ℕ) (pushed : Offers s k (ringView q) (eventsOf vs active false)) where
-      -- both counts together are 65 at most
-      pub both-fit : n + k < 2 ^ 32
-      both-fit =
-          omega (
-            arith,
-            entered .offers .dropped,
-            pushed .dropped,
-            lost-few (ringView r) (first .made),
-            lost-few (ringView q) (eventsOf vs active false),
-            enter-few vs true (newlyUnmasked (l .«int_mask») new) begun,
-            events-few (event vs true false) (on active),
-          )
-
-      pub left-some : active ≡ register (servedOf down (out .intisr)) → Moves (record { lines = retracted active; ring = s; dropped = n + k }) (ringView r) (masked vs (linesView l) new)
-      left-some e = record {
-        well = entered .well;
-        lines = lines-then
-            (ap (withIsr (linesView out)) (ap (λ (x : ℕ). bitAnd (out .intisr) ((2 ^ 64 - 1) - x)) (e ∙ sym (served-is down (out .intisr) isr-lt)) ∙ without-common-is (out .intisr) down isr-lt) ∙ ap (λ (t : Turn). t .after) leaves);
-        offers = offers-both s k _ pushed (ap (map (event vs true false)) (inputs-of (servedOf down (out .intisr)) e) ∙ ap (λ (t : Turn). t .made) leaves);
-      }
+    pub left-some : (active : ℕ) (s : Ring) (k : ℕ) → active ≡ register (servedOf down (out .intisr)) → Offers s k (ringView q) (eventsOf vs active false)
+        → Moves (record { lines = retracted active; ring = s; dropped = n + k }) (ringView r) (masked vs (linesView l) new)
+    left-some active s k e pushed = record {
+      well = entered .well;
+      lines = lines-then
+          (ap (withIsr (linesView out)) (ap (λ (x : ℕ). bitAnd (out .intisr) ((2 ^ 64 - 1) - x)) (e ∙ sym (served-is down (out .intisr) isr-lt)) ∙ without-common-is (out .intisr) down isr-lt) ∙ ap (λ (t : Turn). t .after) leaves);
+      offers = offers-both s k _ pushed (ap (map (event vs true false)) (inputs-of (servedOf down (out .intisr)) e) ∙ ap (λ (t : Turn). t .made) leaves);
+    }
 
     pub left-none : down ≡ 0 → Moves (record { lines = out; ring = q; dropped = n }) (ringView r) (masked vs (linesView l) new)
     unfolding offers masked

@@ -6,17 +6,18 @@ use Prim.Native.Nat.{ℕ, _+_, _≤_}
 use native.Mathlib.Omega.{arith}
 use lib.Dec.{ltb}
 use lib.ListN.{length}
-use Rattle.rules.specs.Lines.{Made}
+use Rattle.rules.specs.Inputs.{on}
+use Rattle.rules.specs.Lines.{Made, event}
 use Rattle.rules.specs.Ring as ring
 use Rattle.rules.specs.Ring.{capacity, Event, RingAct, Drawn, offer, dropped, ringStep, ringRun}
 use Rattle.rules.specs.Device.{offers, lost}
 use Rattle.rules.proofs.laws.Acts.{offers-append}
 use Rattle.rules.proofs.laws.Rings.{run-append}
-use Rattle.rules.proofs.laws.Losses.{lost-append}
+use Rattle.rules.proofs.laws.Losses.{lost-append, lost-few, events-few}
 use Rattle.state.specs.View.{WellRing, Pushes, ringView}
 use Rattle.state.specs.declared.Ring.{Ring}
 use Rattle.state.specs.declared.Pushed.{Pushed}
-use Rattle.engine.specs.Moves.{Offers}
+use Rattle.engine.specs.Moves.{Offers, eventsOf}
 
 pub offers-as : {r : Ring} {n : ℕ} {before : ring.Ring} {ms ns : List Made} → ms ≡ ns → Offers r n before ms → Offers r n before ns
 offers-as {r} {n} {before} e o = subst (Offers r n before) e o
@@ -47,6 +48,10 @@ one-offered p before n e ms pushes q f = record {
     counted : (b : Bool) → cond b 0 1 ≡ length (cond b [] (e ∷ []) ++ [])
     counted true = refl
     counted false = refl
+
+-- of the events of inputs at most 64 are dropped
+pub events-lost : {r : Ring} {n : ℕ} {before : ring.Ring} (vs : List ℕ) (m : ℕ) (a : Bool) → Offers r n before (eventsOf vs m a) → n ≤ 64
+events-lost {before = before} vs m a o = omega (arith, o .dropped, lost-few before (eventsOf vs m a), events-few (event vs true a) (on m))
 
 -- some events and then others: the losses add up
 pub offered-then : {r s : Ring} {n k : ℕ} {before : ring.Ring} (ms ns : List Made) → Offers r n before ms → Offers s k (ringView r) ns → Offers s (n + k) before (ms ++ ns)

@@ -3,12 +3,14 @@ use mathlib.Core.Path.{ap, subst}
 use mathlib.Core.Logic.{⊎-elim}
 use mathlib.Core.Bool.{false}
 use Prim.Native.Nat.{ℕ, _<_, _^_}
+use native.Mathlib.Omega.{arith}
 use Rattle.rules.specs.Inputs.{on, withHalf}
 use Rattle.rules.specs.Lines.{withMask, enter}
 use Rattle.state.specs.View.{linesView}
 use Rattle.engine.specs.Moves.{Answers}
 use Rattle.engine.specs.declared.Routed.{Routed}
-use Rattle.engine.proofs.MaskWrite.{Entered, entered-one, entered-none, entered-skip, both-fit, left-some, left-none}
+use Rattle.engine.proofs.MaskWrite.{Entered, entered-one, entered-none, entered-skip, entered-few, left-some, left-none}
+use Rattle.engine.proofs.Offering.{events-lost}
 use borrow.Author.Needs.{needs}
 use Rattle.engine.proofs.update_int_mask.Statement.{statement}
 use Rattle.engine.proofs.update_int_mask.Tie as tie
@@ -54,16 +56,19 @@ update-int-mask-spec =
     let q = c .before .before .before in
     let m = q .before .before .before .before in
     let j = m .before in
-    let a = j .before .before .before .args in
-    record {
-      fits = both-fit (a .vectors .now) (a .lines) (a .ring) _ _ _ _ (m .newly-masked .result) (m .newly-masked .ensures) (j .if1 .out) (j .if1 .queue) (j .if1 .dropped) (entered j) (q .before .before .served .result) _ _ (q .queue-events-for-mask .ensures);
-    })
+    let s = j .before .before .before in
+    let a = s .args in
+    omega (
+      arith,
+      entered-few (a .vectors .now) (a .lines) (a .ring) _ (j .before .newly-unmasked .result) (j .before .newly-unmasked .ensures) (isr-fits s) (entered j),
+      events-lost (a .vectors .now) (q .before .before .served .result) false (q .queue-events-for-mask .ensures),
+    ))
     (λ c.
     let q = c .before .before .before in
     let m = q .before .before .before .before in
     let j = m .before in
     let a = j .before .before .before .args in
-    left-some (a .vectors .now) (a .lines) (a .ring) _ _ _ _ (m .newly-masked .result) (m .newly-masked .ensures) (j .if1 .out) (j .if1 .queue) (j .if1 .dropped) (entered j) _ _ _ (q .queue-events-for-mask .ensures) (q .before .before .served .ensures))
+    left-some (a .vectors .now) (a .lines) (a .ring) _ _ _ _ (m .newly-masked .result) (m .newly-masked .ensures) (j .if1 .out) (j .if1 .queue) (j .if1 .dropped) (entered j) _ _ _ (q .before .before .served .ensures) (q .queue-events-for-mask .ensures))
     (λ c.
     let m = c .before in
     let j = m .before in
