@@ -1,25 +1,28 @@
 -- What `update_int_mask` comes to, in its two stages: the lowest newly unmasked input that waits enters, then the newly masked ones leave.
-use mathlib.Core.Path.{_≡_, refl, sym, ap, subst⁻¹, _∙_}
-use mathlib.Core.Bool.{Bool, true, false, _&&_, and-false}
-use mathlib.Core.List.{List, [], map}
-use Prim.Native.Nat.{ℕ, _<_, _-_, _^_}
+use mathlib.Core.Path.{_≡_, sym, ap, subst⁻¹, _∙_}
+use mathlib.Core.Bool.{Bool, true, false, cond, _&&_, and-false}
+use mathlib.Core.List.{List, _++_, map, append-nil}
+use Prim.Native.Nat.{ℕ, _+_, _<_, _≤_, _-_, _^_}
+use native.Mathlib.Omega.{arith}
 use lib.Bits.{bitAnd}
 use Rattle.rules.specs.Inputs.{on, inputs, register}
 use Rattle.rules.specs.Lines as lines
-use Rattle.rules.specs.Lines.{Turn, withMask, withIsr, event, enter, leave, pendingIn, newlyUnmasked, newlyMasked, masked}
-use Rattle.rules.specs.Ring.{RingAct, offered, ringStep, ringRun}
+use Rattle.rules.specs.Lines.{Made, Turn, withMask, withIsr, event, enter, leave, pendingIn, newlyUnmasked, newlyMasked, masked}
 use Rattle.rules.specs.Device.{offers, returned}
 use Rattle.rules.proofs.laws.Bits.{without-common-is, on-none}
 use Rattle.rules.proofs.laws.Inputs.{enter-ext, leave-ext}
-use Rattle.state.specs.View.{WellLines, WellRing, IsRing, linesView, ringView}
+use Rattle.rules.proofs.laws.Losses.{lost-few, enter-few}
+use Rattle.state.specs.View.{WellLines, WellRing, Pushes, linesView, ringView}
 use Rattle.state.specs.declared.Lines.{Lines}
 use Rattle.state.specs.declared.Ring.{Ring}
+use Rattle.state.specs.declared.Pushed.{Pushed}
 use Rattle.decide.specs.Sets.{servedOf}
-use Rattle.engine.specs.Moves.{Answers, Moves, queued, answerValue}
+use Rattle.engine.specs.Moves.{Answers, Offers, Moves, eventsOf, answerValue}
 use Rattle.engine.specs.declared.Answer.the-variants.{None, Vector}
 use Rattle.engine.specs.declared.Routed.{Routed}
 use Rattle.decide.proofs.Deciding.{served-is, inputs-of}
-use Rattle.engine.proofs.Turns.{serve-after, serve-isr, offers-one, offers-none, enter-none, leave-none, then-ring}
+use Rattle.engine.proofs.Turns.{serve-after, serve-isr, offers-one, offers-none, enter-none, leave-none}
+use Rattle.engine.proofs.Offering.{offers-as, none-offered, one-offered, offered-then}
 
 module _ (vs : List ℕ) (l : Lines) (r : Ring) (new up : ℕ) (ups : (i : ℕ) → i < 64 → on up i ≡ newlyUnmasked (l .«int_mask») new i)
     (hisr : l .intisr < 2 ^ 64) where
@@ -30,11 +33,14 @@ module _ (vs : List ℕ) (l : Lines) (r : Ring) (new up : ℕ) (ups : (i : ℕ) 
   first = enter vs true (newlyUnmasked (l .«int_mask») new) begun
 
   -- after the first stage
-  pub record Entered (out : Lines) (q : Ring) : Type 0 where
-    pub wellLines : WellLines out
-    pub wellRing : WellRing q
+  pub record Entered (out : Lines) (q : Ring) (n : ℕ) : Type 0 where
+    pub well : WellLines out
     pub lines : linesView out ≡ first .after
-    pub ring : ringView q ≡ ringRun (ringView r) (offers (first .made)) .after
+    pub offers : Offers q n (ringView r) (first .made)
+
+  -- one input enters, so that one event at most is dropped
+  pub entered-few : {out : Lines} {q : Ring} {n : ℕ} → Entered out q n → n ≤ 1
+  entered-few e = omega (arith, e .offers .dropped, lost-few (ringView r) (first .made), enter-few vs true (newlyUnmasked (l .«int_mask») new) begun)
 
   -- the input that entered and was returned to us is the one that the rules offer
   same : enter vs false (on up) begun ≡ enter vs false (newlyUnmasked (l .«int_mask») new) begun
@@ -44,55 +50,46 @@ module _ (vs : List ℕ) (l : Lines) (r : Ring) (new up : ℕ) (ups : (i : ℕ) 
   after-same e = e ∙ ap (λ (t : Turn). t .after) same ∙ sym (serve-after vs begun (inputs (pendingIn (newlyUnmasked (l .«int_mask») new) begun)))
 
   module _ (a : Routed) (answers : Answers a (enter vs false (on up) begun)) where
-    pub entered-one : (v : ℕ) (q : Ring) → a .answer ≡ Vector v → IsRing q (offered (ringView r) (record { vector = v; asserted = true })) → Entered (a .lines) q
-    unfolding ringRun ringStep
-    entered-one v q e pushed = record {
-      wellLines = answers .well;
-      wellRing = pushed .well;
+    abbrev gave : returned (enter vs false (newlyUnmasked (l .«int_mask») new) begun .made) ≡ answerValue (a .answer)
+    gave = sym (answers .gives ∙ ap (λ (t : Turn). returned (t .made)) same)
+
+    pub entered-one : (v : ℕ) (p : Pushed) (n : ℕ) → a .answer ≡ Vector v → Pushes p (ringView r) (record { vector = v; asserted = true }) → n ≡ cond (p .kept) 0 1 → Entered (a .lines) (p .ring) n
+    entered-one v p n e pushes lost = record {
+      well = answers .well;
       lines = after-same (answers .after);
-      ring =
-          pushed .shows
-          ∙ sym (ap (λ (xs : List RingAct). ringRun (ringView r) xs .after)
-          (offers-one vs begun (inputs (pendingIn (newlyUnmasked (l .«int_mask») new) begun)) v (sym (ap answerValue e) ∙ answers .gives ∙ ap (λ (t : Turn). returned (t .made)) same)));
+      offers = one-offered p (ringView r) n _ (first .made) pushes lost (offers-one vs begun (inputs (pendingIn (newlyUnmasked (l .«int_mask») new) begun)) v (sym (gave ∙ ap answerValue e)));
     }
 
-    pub entered-none : a .answer ≡ None → WellRing r → Entered (a .lines) r
-    unfolding ringRun
+    pub entered-none : a .answer ≡ None → WellRing r → Entered (a .lines) r 0
     entered-none e well = record {
-      wellLines = answers .well;
-      wellRing = well;
+      well = answers .well;
       lines = after-same (answers .after);
-      ring = sym (ap (λ (xs : List RingAct). ringRun (ringView r) xs .after)
-          (offers-none vs begun (inputs (pendingIn (newlyUnmasked (l .«int_mask») new) begun)) (sym (ap answerValue e) ∙ answers .gives ∙ ap (λ (t : Turn). returned (t .made)) same)));
+      offers = none-offered r (first .made) well (offers-none vs begun (inputs (pendingIn (newlyUnmasked (l .«int_mask») new) begun)) (sym (gave ∙ ap answerValue e)));
     }
 
   -- no input is newly unmasked
-  pub entered-skip : (out : Lines) → up ≡ 0 → WellLines out → WellRing r → linesView out ≡ begun → Entered out r
-  unfolding offers ringRun
+  pub entered-skip : (out : Lines) → up ≡ 0 → WellLines out → WellRing r → linesView out ≡ begun → Entered out r 0
+  unfolding offers
   entered-skip out e wellOut well shows =
       let stays = enter-none vs true (newlyUnmasked (l .«int_mask») new) begun (λ i h. sym (ups i h) ∙ ap (λ (x : ℕ). on x i) e ∙ on-none i) in
       record {
-        wellLines = wellOut;
-        wellRing = well;
+        well = wellOut;
         lines = shows ∙ sym (ap (λ (t : Turn). t .after) stays);
-        ring = sym (ap (λ (t : Turn). ringRun (ringView r) (offers (t .made)) .after) stays);
+        offers = none-offered r (first .made) well (ap (λ (t : Turn). offers (t .made)) stays);
       }
 
   -- the second stage
-  module _ (down : ℕ) (downs : (i : ℕ) → i < 64 → on down i ≡ newlyMasked (l .«int_mask») new i) (out : Lines) (q : Ring) (entered : Entered out q) where
+  module _ (down : ℕ) (downs : (i : ℕ) → i < 64 → on down i ≡ newlyMasked (l .«int_mask») new i) (out : Lines) (q : Ring) (n : ℕ) (entered : Entered out q n) where
     isr-lt : out .intisr < 2 ^ 64
     isr-lt = subst⁻¹ (λ (k : lines.Lines). k .isr < 2 ^ 64) (entered .lines) (serve-isr vs true begun (inputs (pendingIn (newlyUnmasked (l .«int_mask») new) begun)) hisr)
 
     abbrev last : lines.Lines → Turn
     last = leave vs true (newlyMasked (l .«int_mask») new)
 
-    -- the ring, once what leaves is known on the lines as they are
-    ring-then : (s : Ring) (made : List RingAct) → ringView s ≡ ringRun (ringView q) made .after → made ≡ offers (last (linesView out) .made)
-        → ringView s ≡ ringRun (ringView r) (offers (masked vs (linesView l) new .made)) .after
+    -- the events of both stages, once what leaves is known on the lines as they are
+    offers-both : (s : Ring) (k : ℕ) (made : List Made) → Offers s k (ringView q) made → made ≡ last (linesView out) .made → Offers s (n + k) (ringView r) (masked vs (linesView l) new .made)
     unfolding masked
-    ring-then s made e f =
-        e ∙ (λ t. ringRun (entered .ring t) ((f ∙ ap (λ (k : lines.Lines). offers (last k .made)) (entered .lines)) t) .after)
-        ∙ sym (then-ring (ringView r) first last)
+    offers-both s k made o e = offered-then (first .made) (last (first .after) .made) (entered .offers) (offers-as (e ∙ ap (λ (k : lines.Lines). last k .made) (entered .lines)) o)
 
     lines-then : {k : lines.Lines} → k ≡ last (linesView out) .after → k ≡ masked vs (linesView l) new .after
     unfolding masked
@@ -104,24 +101,23 @@ module _ (vs : List ℕ) (l : Lines) (r : Ring) (new up : ℕ) (ups : (i : ℕ) 
     abbrev retracted : ℕ → Lines
     retracted active = record { «int_mask» = out .«int_mask»; «last_intirr» = out .«last_intirr»; intirr = out .intirr; intisr = bitAnd (out .intisr) ((2 ^ 64 - 1) - active) }
 
-    pub left-some : (active : ℕ) (s : Ring) → active ≡ register (servedOf down (out .intisr)) → IsRing s (queued vs (ringView q) active false)
-        → Moves (record { lines = retracted active; ring = s }) (ringView r) (masked vs (linesView l) new)
-    left-some active s e pushed = record {
-      wellLines = entered .wellLines;
-      wellRing = pushed .well;
+    pub left-some : (active : ℕ) (s : Ring) (k : ℕ) → active ≡ register (servedOf down (out .intisr)) → Offers s k (ringView q) (eventsOf vs active false)
+        → Moves (record { lines = retracted active; ring = s; dropped = n + k }) (ringView r) (masked vs (linesView l) new)
+    left-some active s k e pushed = record {
+      well = entered .well;
       lines = lines-then
           (ap (withIsr (linesView out)) (ap (λ (x : ℕ). bitAnd (out .intisr) ((2 ^ 64 - 1) - x)) (e ∙ sym (served-is down (out .intisr) isr-lt)) ∙ without-common-is (out .intisr) down isr-lt) ∙ ap (λ (t : Turn). t .after) leaves);
-      ring = ring-then s _ (pushed .shows)
-          (ap (λ (ns : List ℕ). offers (map (event vs true false) ns)) (inputs-of (servedOf down (out .intisr)) e) ∙ ap (λ (t : Turn). offers (t .made)) leaves);
+      offers = offers-both s k _ pushed (ap (map (event vs true false)) (inputs-of (servedOf down (out .intisr)) e) ∙ ap (λ (t : Turn). t .made) leaves);
     }
 
-    pub left-none : down ≡ 0 → Moves (record { lines = out; ring = q }) (ringView r) (masked vs (linesView l) new)
-    unfolding offers ringRun
+    pub left-none : down ≡ 0 → Moves (record { lines = out; ring = q; dropped = n }) (ringView r) (masked vs (linesView l) new)
+    unfolding offers masked
     left-none e =
         let stays = leave-none vs true (newlyMasked (l .«int_mask») new) (linesView out) isr-lt (λ i h. ap (λ (b : Bool). on (out .intisr) i && b) (sym (downs i h) ∙ ap (λ (x : ℕ). on x i) e ∙ on-none i) ∙ and-false (on (out .intisr) i)) in
         record {
-          wellLines = entered .wellLines;
-          wellRing = entered .wellRing;
+          well = entered .well;
           lines = lines-then (sym (ap (λ (t : Turn). t .after) stays));
-          ring = ring-then q [] refl (sym (ap (λ (t : Turn). offers (t .made)) stays));
+          offers = offers-as
+              (sym (append-nil (first .made)) ∙ ap (λ (ms : List Made). first .made ++ ms) (sym (ap (λ (t : Turn). t .made) stays) ∙ ap (λ (k : lines.Lines). last k .made) (entered .lines)))
+              (entered .offers);
         }

@@ -6,13 +6,11 @@ use Prim.Native.Nat.{ℕ, _*_, _%_, _^_, _<_}
 use lib.Dec.{eqb}
 use borrow.Author.Tests.{eq-eqb, eqb-true}
 use Rattle.rules.specs.Inputs.{on, inputs, only, put, without}
-use Rattle.rules.specs.Lines.{Lines, Turn, stay, withIsr, withIrr, event, serve, enter, leave, andThen, pendingIn, servedIn, unlatchedIn, raised, lowered, polled}
-use Rattle.rules.specs.Ring.{Ring, RingAct, Drawn, offer, ringRun}
+use Rattle.rules.specs.Lines.{Lines, stay, withIsr, withIrr, event, serve, enter, leave, pendingIn, servedIn, unlatchedIn, raised, lowered, polled}
+use Rattle.rules.specs.Ring.{offer}
 use Rattle.rules.specs.Device.{none, some, offers, returned}
 use Rattle.rules.proofs.laws.Bits.{test, is-number, put-lt, on-bit, on-without}
 use Rattle.rules.proofs.laws.Inputs.{inputs-ext, no-inputs, only-served, only-unlatched, enter-ext}
-use Rattle.rules.proofs.laws.Acts.{offers-append}
-use Rattle.rules.proofs.laws.Rings.{run-append}
 use Rattle.engine.specs.Moves.{retire, updated}
 
 -- ---- returned, or offered
@@ -92,11 +90,3 @@ module _ (vs : List ℕ) (n : ℕ) (h : n < 64) where
       ap (λ (p : Lines). updated vs p (bit n) false) e
       ∙ ap (retire vs (withIrr l (without (l .irr) (only n)))) (inputs-ext _ _ (λ i q. rw (on-bit n h i)))
       ∙ retire-only vs (withIrr l (without (l .irr) (only n))) n h k (on-without (l .irr) (only n) n h ∙ rw (eq-eqb n n refl) (and-false (on (l .irr) n)))
-
--- ---- what enters, and then what leaves
-
--- the ring is offered what was made first, and then the rest
-pub then-ring : (r : Ring) (t : Turn) (f : Lines → Turn) → ringRun r (offers (andThen t f .made)) .after ≡ ringRun (ringRun r (offers (t .made)) .after) (offers (f (t .after) .made)) .after
-then-ring r t f =
-    ap (λ (xs : List RingAct). ringRun r xs .after) (offers-append (t .made) (f (t .after) .made))
-    ∙ ap (λ (d : Drawn). d .after) (run-append r (offers (t .made)) (offers (f (t .after) .made)))

@@ -1,4 +1,4 @@
--- What the engine's functions promise, in the rules' terms: the lines after, what is handed back, and the ring after the offers.
+-- What the engine's functions promise, in the rules' terms: the lines after, what is handed back, the ring after the offers, and how many it dropped.
 use mathlib.Core.Path.{_≡_}
 use mathlib.Core.Bool.{Bool, true, false}
 use mathlib.Core.List.{List, [], _∷_, _++_, map}
@@ -6,10 +6,11 @@ use Prim.Native.Nat.{ℕ, _+_, _*_, _/_}
 use lib.ListN.{length, drop, set}
 use Rattle.rules.specs.Inputs.{on, inputs, only, without}
 use Rattle.rules.specs.Lines as lines
-use Rattle.rules.specs.Lines.{Turn, stay, withIsr, event, enter, unlatchedIn}
+use Rattle.rules.specs.Lines.{Made, Turn, stay, withIsr, event, enter, unlatchedIn}
 use Rattle.rules.specs.Ring as ring
 use Rattle.rules.specs.Ring.{ringRun, drawn, flag, pairsOf}
-use Rattle.rules.specs.Device.{Value, none, some, offers, returned}
+use Rattle.rules.specs.Device.{Value, none, some, offers, returned, lost}
+use Rattle.state.specs.declared.Ring.{Ring}
 use Rattle.state.specs.declared.Taken.{Taken}
 use Rattle.state.specs.declared.Taken.the-variants.{Nothing, One}
 use Rattle.state.specs.View.{WellLines, WellRing, linesView, ringView}
@@ -33,9 +34,9 @@ abbrev pub updated : List ℕ → lines.Lines → ℕ → Bool → Turn
 updated vs l m true = enter vs false (on m) l
 updated vs l m false = retire vs l (inputs (unlatchedIn (on m) l))
 
--- the ring after the offer of an event for each input in m
-abbrev pub queued : List ℕ → ring.Ring → ℕ → Bool → ring.Ring
-queued vs r m asserted = ringRun r (offers (map (event vs true asserted) (inputs (on m)))) .after
+-- the events that are made for the inputs in m
+abbrev pub eventsOf : List ℕ → ℕ → Bool → List Made
+eventsOf vs m asserted = map (event vs true asserted) (inputs (on m))
 
 -- a move that returns its event
 pub record Answers (r : Routed) (t : Turn) : Type 0 where
@@ -43,12 +44,17 @@ pub record Answers (r : Routed) (t : Turn) : Type 0 where
   pub after : linesView (r .lines) ≡ t .after
   pub gives : answerValue (r .answer) ≡ returned (t .made)
 
+-- events made are offered to a ring, and n of them are dropped
+pub record Offers (r : Ring) (n : ℕ) (before : ring.Ring) (ms : List Made) : Type 0 where
+  pub well : WellRing r
+  pub ring : ringView r ≡ ringRun before (offers ms) .after
+  pub dropped : n ≡ lost before ms
+
 -- a move that offers its events
 pub record Moves (m : Moved) (before : ring.Ring) (t : Turn) : Type 0 where
-  pub wellLines : WellLines (m .lines)
-  pub wellRing : WellRing (m .ring)
+  pub well : WellLines (m .lines)
   pub lines : linesView (m .lines) ≡ t .after
-  pub ring : ringView (m .ring) ≡ ringRun before (offers (t .made)) .after
+  pub offers : Offers (m .ring) (m .dropped) before (t .made)
 
 -- an event as a pair at its place; nothing where there is none
 abbrev pub pairPut : List ℕ → ℕ → Taken → List ℕ

@@ -7,12 +7,13 @@ use state::PchPicState;
 use state::Ring;
 use state::Taken;
 ghost use mathlib.Core.Path.{_≡_};
+ghost use mathlib.Core.Bool.{cond};
 ghost use Prim.Native.Nat.{_+_, _*_, _/_, _<_, min};
 ghost use lib.ListN.{length};
 ghost use Rattle.rules.specs.Inputs.{withHalf};
 ghost use Rattle.rules.specs.Lines.{polled, levelled, cleared, masked};
-ghost use Rattle.state.specs.View.{WellLines, WellRing, IsRing, linesView, ringView};
-ghost use Rattle.engine.specs.Moves.{Answers, Moves, Drains, updated, queued, pairPut};
+ghost use Rattle.state.specs.View.{WellLines, WellRing, linesView, ringView};
+ghost use Rattle.engine.specs.Moves.{Answers, Offers, Moves, Drains, updated, eventsOf, pairPut};
 
 // What update_irq hands back: the vector of the input that went into service or left it, if one did.
 pub enum Answer {
@@ -25,10 +26,17 @@ pub struct Routed {
     pub answer: Answer,
 }
 
-// The lines and the ring after a register write that moves them.
+// The ring after events were offered to it, and how many of them it dropped.
+pub struct Queued {
+    pub ring: Ring,
+    pub dropped: u32,
+}
+
+// The lines and the ring after a register write that moves them, and how many of its events were dropped.
 pub struct Moved {
     pub lines: Lines,
     pub ring: Ring,
+    pub dropped: u32,
 }
 
 // Raise (level true) or lower input irq.
@@ -160,9 +168,11 @@ pub fn clear_irq(
     out.last_intirr &= !mask;
     out.intisr &= !mask;
     let queue = queue_events_for_mask(ring, vectors, active, false);
+    let left = queue.ring;
     Moved {
         lines: out,
-        ring: queue,
+        ring: left,
+        dropped: queue.dropped,
     }
 }
 
@@ -179,6 +189,7 @@ pub fn update_int_mask(
 {
     let mut out = lines;
     let mut queue = ring;
+    let mut dropped = 0;
     let old = out.int_mask;
     out.int_mask = bits::replace_u32(old, val, high);
     let newly_unmasked = decide::newly_unmasked(old, val, high);
@@ -195,6 +206,7 @@ pub fn update_int_mask(
                 },
             );
             queue = pushed.ring;
+            dropped = lost(pushed.kept);
         }
     }
     let newly_masked = decide::newly_masked(old, val, high);
@@ -202,12 +214,22 @@ pub fn update_int_mask(
         // Masking takes an input out of service though its line may stay high; its latch is kept, so that a later unmask can assert it again.
         let active = decide::served(newly_masked, out.intisr);
         out.intisr &= !active;
-        queue = queue_events_for_mask(queue, vectors, active, false);
+        let queued = queue_events_for_mask(queue, vectors, active, false);
+        queue = queued.ring;
+        dropped += queued.dropped;
     }
     Moved {
         lines: out,
         ring: queue,
+        dropped,
     }
+}
+
+// How many events a push dropped: one, unless it was kept.
+fn lost(kept: bool) -> u32
+    ensures { λ r. ⌜ r ≡ cond kept 0 1 ⌝ }
+{
+    if kept { 0 } else { 1 }
 }
 
 // An event for each input in mask is offered to the ring, lowest first.
@@ -216,18 +238,20 @@ pub fn queue_events_for_mask(
     vectors: &[u8; PchPicState::IRQ_COUNT],
     mask: u64,
     asserted: bool,
-) -> Ring
+) -> Queued
     requires { ⌜ WellRing ring ⌝ }
-    ensures { λ r. ⌜ IsRing r (queued (now (vectors .entry)) (ringView ring) mask asserted) ⌝ }
+    ensures { λ r. ⌜ Offers (r .ring) (r .dropped) (ringView ring) (eventsOf (now (vectors .entry)) mask asserted) ⌝ }
 {
     let mut out = ring;
+    let mut dropped = 0;
     let mut left = mask;
     while left != 0 {
         let irq = u64::trailing_zeros(left) as usize;
         let vector = vectors[irq];
         let pushed = state::push_output_event(out, PchPicOutputEvent { vector, asserted });
         out = pushed.ring;
+        dropped += lost(pushed.kept);
         left &= !(1u64 << irq);
     }
-    out
+    Queued { ring: out, dropped }
 }

@@ -95,7 +95,9 @@ fn play_write(state: PchPicState, width: u64, address: u64, value: u64, out: &mu
     let Located::At(offset) = window::locate(BASE, SIZE, address, width) else {
         return refused(state, 1, out);
     };
-    let next = writers::write_register(state, bytes, offset, value);
+    // How many events were dropped is not said: a write answers ok.
+    let written = writers::write_register(state, bytes, offset, value);
+    let next = written.state;
     let len = reply::put_ok(out);
     Played { state: next, len }
 }

@@ -21,6 +21,7 @@ pub mod Refusals
 pub mod Maps
 pub mod Widths
 pub mod Writes
+pub mod Losses
 pub mod Counts
 pub mod Serving
 pub mod Answers

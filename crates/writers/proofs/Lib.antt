@@ -1,3 +1,3 @@
 -- The laws that the proofs of this crate cite.
 pub mod Bytes
-pub mod Written
+pub mod Acted

@@ -1,2 +1,2 @@
--- Bytes one after another.
-pub mod Bytes
+-- What the writers promise, in the rules' terms.
+pub mod Writes

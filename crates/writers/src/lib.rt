@@ -1,4 +1,5 @@
-// Writing a register, after loongarch_pch_pic.rs of axdevice 0.8.5: the four widths, and the cycle of the three writers. The state goes in and comes back.
+// Writing a register, after loongarch_pch_pic.rs of axdevice 0.8.5: the four widths, and the cycle of the three writers. The state goes in and
+// comes back, with how many events were dropped.
 use map::Cell;
 use map::Index;
 use map::Plain;
@@ -14,12 +15,18 @@ ghost use Rattle.rules.specs.Device.{acted};
 ghost use Rattle.state.specs.View.{view, Well, Is};
 ghost use Rattle.map.specs.Views.{plainView, registerView, widthView, bytesIn};
 ghost use Rattle.readers.specs.Depths.{ByteDepth, SplitDepth, DwordDepth};
-ghost use Rattle.writers.specs.Bytes.{bytesWritten};
+ghost use Rattle.writers.specs.Writes.{Writes, bytesActs};
+
+// The state after a write, and how many of its events were dropped.
+pub struct Written {
+    pub state: PchPicState,
+    pub dropped: u32,
+}
 
 // What an access writes; a value loses its bits above the width.
-pub fn write_register(state: PchPicState, width: Width, offset: usize, val: u64) -> PchPicState
+pub fn write_register(state: PchPicState, width: Width, offset: usize, val: u64) -> Written
     requires { ⌜ Well state × (offset + bytesIn (widthView width) ≤ 2 ^ 64 - 1) ⌝ }
-    ensures { λ r. ⌜ Is r (acted (view state) (writeActs (view state .core) (widthView width) offset val)) ⌝ }
+    ensures { λ r. ⌜ Writes r (view state) (writeActs (view state .core) (widthView width) offset val) ⌝ }
 {
     let low = bits::half(val, false);
     match width {
@@ -31,21 +38,31 @@ pub fn write_register(state: PchPicState, width: Width, offset: usize, val: u64)
 }
 
 // Dword and then Dword, which meets what the first left.
-fn write_qword(state: PchPicState, offset: usize, val: u64) -> PchPicState
+fn write_qword(state: PchPicState, offset: usize, val: u64) -> Written
     requires { ⌜ Well state × (offset + 8 ≤ 2 ^ 64 - 1) ⌝ }
-    ensures { λ r. ⌜ Is r (acted (view state) (writeActs (view state .core) qword offset val)) ⌝ }
+    ensures { λ r. ⌜ Writes r (view state) (writeActs (view state .core) qword offset val) ⌝ }
 {
     let first = write_dword(state, offset, bits::half(val, false), 2);
-    write_dword(first, offset + 4, bits::half(val, true), 2)
+    let dropped = first.dropped;
+    let second = write_dword(first.state, offset + 4, bits::half(val, true), 2);
+    let out = second.state;
+    Written {
+        state: out,
+        dropped: dropped + second.dropped,
+    }
 }
 
 // The three writers call one another as the readers do.
-pub fn write_byte(state: PchPicState, offset: usize, val: u8, depth: usize) -> PchPicState
+pub fn write_byte(state: PchPicState, offset: usize, val: u8, depth: usize) -> Written
     requires { ⌜ Well state × ByteDepth offset depth ⌝ }
-    ensures { λ r. ⌜ Is r (acted (view state) (byteActs (view state .core) offset val)) ⌝ }
+    ensures { λ r. ⌜ Writes r (view state) (byteActs (view state .core) offset val) ⌝ }
 {
     if let Index::At(index) = map::reg8_offset(offset) {
-        return write_entry(state, index, val);
+        let out = write_entry(state, index, val);
+        return Written {
+            state: out,
+            dropped: 0,
+        };
     }
     let aligned = offset & !0x3;
     let place = offset & 0x3;
@@ -93,47 +110,59 @@ pub fn write_split_bytes(
     len: usize,
     val: u32,
     depth: usize,
-) -> PchPicState
+) -> Written
     requires { ⌜ Well state × SplitDepth offset len depth ⌝ }
-    ensures { λ r. ⌜ Is r (bytesWritten (view state) offset val len) ⌝ }
+    ensures { λ r. ⌜ Writes r (view state) (bytesActs (view state .core) offset val len) ⌝ }
 {
     let mut out = state;
+    let mut dropped = 0;
     for idx in 0..len {
-        out = write_byte(out, offset + idx, bits::byte_of(val, idx), depth - 1);
+        let one = write_byte(out, offset + idx, bits::byte_of(val, idx), depth - 1);
+        out = one.state;
+        dropped += one.dropped;
     }
-    out
+    Written {
+        state: out,
+        dropped,
+    }
 }
 
-pub fn write_dword(state: PchPicState, offset: usize, val: u32, depth: usize) -> PchPicState
+pub fn write_dword(state: PchPicState, offset: usize, val: u32, depth: usize) -> Written
     requires { ⌜ Well state × DwordDepth offset depth ⌝ }
-    ensures { λ r. ⌜ Is r (acted (view state) (dwordActs offset val)) ⌝ }
+    ensures { λ r. ⌜ Writes r (view state) (dwordActs offset val) ⌝ }
 {
     match map::decode(offset) {
         Cell::Half(register, high) => write_half(state, register, val, high),
         Cell::Bytes => write_split_bytes(state, offset, 4, val, depth - 1),
-        Cell::Nothing => state,
+        Cell::Nothing => Written { state, dropped: 0 },
     }
 }
 
 // A register's half; ID and IRR ignore it.
-fn write_half(state: PchPicState, register: Register, val: u32, high: bool) -> PchPicState
+fn write_half(state: PchPicState, register: Register, val: u32, high: bool) -> Written
     requires { ⌜ Well state ⌝ }
-    ensures { λ r. ⌜ Is r (acted (view state) (registerActs (registerView register) high val)) ⌝ }
+    ensures { λ r. ⌜ Writes r (view state) (registerActs (registerView register) high val) ⌝ }
 {
     match register {
-        Register::Id => state,
+        Register::Id => Written { state, dropped: 0 },
         Register::Mask => write_mask(state, val, high),
         Register::Clear => write_clear(state, val, high),
-        Register::Irr => state,
-        Register::Isr => write_isr(state, val, high),
-        Register::Plain(register) => write_plain(state, register, val, high),
+        Register::Irr => Written { state, dropped: 0 },
+        Register::Isr => Written {
+            state: write_isr(state, val, high),
+            dropped: 0,
+        },
+        Register::Plain(register) => Written {
+            state: write_plain(state, register, val, high),
+            dropped: 0,
+        },
     }
 }
 
 // MASK: the engine moves the lines and offers their events to the ring.
-fn write_mask(state: PchPicState, val: u32, high: bool) -> PchPicState
+fn write_mask(state: PchPicState, val: u32, high: bool) -> Written
     requires { ⌜ Well state ⌝ }
-    ensures { λ r. ⌜ Is r (acted (view state) (move (setMask high val) ∷ [])) ⌝ }
+    ensures { λ r. ⌜ Writes r (view state) (move (setMask high val) ∷ []) ⌝ }
 {
     let mut out = state;
     let tables = out.tables;
@@ -142,13 +171,16 @@ fn write_mask(state: PchPicState, val: u32, high: bool) -> PchPicState
     let ring = moved.ring;
     out.lines = lines;
     out.ring = ring;
-    out
+    Written {
+        state: out,
+        dropped: moved.dropped,
+    }
 }
 
 // CLEAR: the bits stand in their half.
-fn write_clear(state: PchPicState, val: u32, high: bool) -> PchPicState
+fn write_clear(state: PchPicState, val: u32, high: bool) -> Written
     requires { ⌜ Well state ⌝ }
-    ensures { λ r. ⌜ Is r (acted (view state) (move (clear (asHalf high val)) ∷ [])) ⌝ }
+    ensures { λ r. ⌜ Writes r (view state) (move (clear (asHalf high val)) ∷ []) ⌝ }
 {
     let mut out = state;
     let tables = out.tables;
@@ -158,7 +190,10 @@ fn write_clear(state: PchPicState, val: u32, high: bool) -> PchPicState
     let ring = moved.ring;
     out.lines = lines;
     out.ring = ring;
-    out
+    Written {
+        state: out,
+        dropped: moved.dropped,
+    }
 }
 
 // ISR: the stored half is replaced, and no event is made.

@@ -1,20 +1,19 @@
 -- `clear_irq`: latches and service lose the inputs of the mask, and those of them that were in service are queued.
-use mathlib.Core.Path.{_≡_, ap, _∙_}
+use mathlib.Core.Path.{_≡_, ap}
 use mathlib.Core.Bool.{true, false}
 use mathlib.Core.List.{List, map}
 use Prim.Native.Nat.{ℕ, _-_, _<_, _^_}
 use lib.Bits.{bitAnd}
 use Rattle.rules.specs.Inputs.{register}
 use Rattle.rules.specs.Lines.{event, cleared}
-use Rattle.rules.specs.Ring.{ringRun}
-use Rattle.rules.specs.Device.{offers}
 use Rattle.rules.proofs.laws.Bits.{without-is}
-use Rattle.state.specs.View.{WellLines, IsRing, linesView, ringView}
+use Rattle.state.specs.View.{WellLines, linesView, ringView}
 use Rattle.state.specs.declared.Lines.{Lines}
 use Rattle.state.specs.declared.Ring.{Ring}
 use Rattle.decide.specs.Sets.{servedOf}
-use Rattle.engine.specs.Moves.{Moves, queued}
+use Rattle.engine.specs.Moves.{Offers, Moves, eventsOf}
 use Rattle.decide.proofs.Deciding.{inputs-of}
+use Rattle.engine.proofs.Offering.{offers-as}
 use borrow.Author.Needs.{needs}
 use Rattle.engine.proofs.clear_irq.Statement.{statement}
 use Rattle.engine.proofs.clear_irq.Tie as tie
@@ -22,21 +21,22 @@ use Rattle.engine.proofs.clear_irq.Tie as tie
 abbrev off : ℕ → ℕ → ℕ
 off x m = bitAnd x ((2 ^ 64 - 1) - m)
 
-clear-moves : (vs : List ℕ) (l : Lines) (r s : Ring) (m x : ℕ) → x ≡ register (servedOf m (l .intisr)) → WellLines l → m < 2 ^ 64 → l .intirr < 2 ^ 64 → l .intisr < 2 ^ 64
-    → IsRing s (queued vs (ringView r) x false)
-    → Moves (record { lines = record { «int_mask» = l .«int_mask»; «last_intirr» = off (l .«last_intirr») m; intirr = off (l .intirr) m; intisr = off (l .intisr) m }; ring = s }) (ringView r)
+clear-moves : (vs : List ℕ) (l : Lines) (r s : Ring) (n m x : ℕ) → x ≡ register (servedOf m (l .intisr)) → WellLines l → m < 2 ^ 64 → l .intirr < 2 ^ 64 → l .intisr < 2 ^ 64
+    → Offers s n (ringView r) (eventsOf vs x false)
+    → Moves (record { lines = record { «int_mask» = l .«int_mask»; «last_intirr» = off (l .«last_intirr») m; intirr = off (l .intirr) m; intisr = off (l .intisr) m }; ring = s; dropped = n }) (ringView r)
     (cleared vs (linesView l) m)
 unfolding cleared
-clear-moves vs l r s m x e well hm hirr hisr pushed =
+clear-moves vs l r s n m x e well hm hirr hisr pushed =
     let irr = without-is (l .intirr) m hirr hm in
     let isr = without-is (l .intisr) m hisr hm in
     record {
-      wellLines = ap (λ (x : ℕ). off x m) well;
-      wellRing = pushed .well;
+      well = ap (λ (x : ℕ). off x m) well;
       lines = λ t. record { mask = l .«int_mask»; irr = irr t; isr = isr t };
-      ring = pushed .shows
-          ∙ ap (λ (ns : List ℕ). ringRun (ringView r) (offers (map (event vs true false) ns)) .after) (inputs-of (servedOf m (l .intisr)) e);
+      offers = offers-as (ap (map (event vs true false)) (inputs-of (servedOf m (l .intisr)) e)) pushed;
     }
+
+isr-fits : (s : tie.Start) → s .args .lines .intisr < 2 ^ 64
+isr-fits s = search needs
 
 pub clear-irq-spec : {M : Type 1} → statement M
 clear-irq-spec =
@@ -45,6 +45,7 @@ clear-irq-spec =
     (λ c κs. search needs)
     (λ c κs. search needs)
     (λ c.
-    let s = c .before .before .before .before .before in
+    let q = c .before in
+    let s = q .before .before .before .before .before in
     let a = s .args in
-    clear-moves (a .vectors .now) (a .lines) (a .ring) (c .queue-events-for-mask .result) (a .mask) _ (c .before .before .before .before .served .ensures) (s .pre .0) (search needs) (search needs) (search needs) (c .queue-events-for-mask .ensures)))
+    clear-moves (a .vectors .now) (a .lines) (a .ring) _ _ (a .mask) _ (q .before .before .before .before .served .ensures) (s .pre .0) (search needs) (search needs) (isr-fits s) (q .queue-events-for-mask .ensures)))

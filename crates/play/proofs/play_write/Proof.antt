@@ -40,10 +40,11 @@ returns-2 c =
 
 returns-3 : tie.Need-returns-3
 returns-3 c =
-    let o = c .before .before .before .before .before .before in
+    let w = c .before .before .before .before .before in
+    let o = w .before .before in
     let b = o .before .before .before .before in
     let s = b .before .before .before .before in
-    plays-as (record { state = c .before .before .before .before .write-register .ensures; says = c .before .before .put-ok .ensures })
+    plays-as (record { state = w .write-register .ensures .is; says = c .before .before .put-ok .ensures })
     (write-done (view (s .args .state)) (s .args .width) (s .args .address) (s .args .value) _ _ (width b) (place o))
 
 pub play-write-spec : {M : Type 1} → statement M

@@ -9,14 +9,13 @@ use lib.Bits.{bitAnd}
 use lib.ListN.{set}
 use borrow.Author.Tests.{le-leb, lt-leb}
 use Rattle.rules.specs.Numbers.{byteOf, withByte}
-use Rattle.rules.specs.Inputs.{half, withHalf}
+use Rattle.rules.specs.Inputs.{withHalf}
 use Rattle.rules.specs.Lines.{Lines, Made, withIsr}
 use Rattle.rules.specs.Ring.{Ring, ringRun}
 use Rattle.rules.specs.Core.{Core, Stored, Move, Store, move, setIsr, store, setRoute, setVector, moved, lineTurn, vectorsAfter, storedBy, storedAfter, turns}
 use Rattle.rules.specs.Map.{Cell, bytes, routesAt, vectorsAt, inByteArea, cellAt}
-use Rattle.rules.specs.Access.{qword, readDword, entryActs, cellActs, dwordActs, byteActs, writeActs}
+use Rattle.rules.specs.Access.{readDword, entryActs, cellActs, dwordActs, byteActs}
 use Rattle.rules.specs.Device.{Device, offers, acted}
-use Rattle.rules.proofs.laws.Acts.{acted-append}
 use Rattle.rules.proofs.laws.Maps.{inside, Elsewhere, not-route, four-inside}
 use Rattle.rules.proofs.laws.Widths.{low-place, aligned}
 
@@ -80,9 +79,3 @@ unfolding cellActs
 dword-acts-four o v c e =
     let a : (k : ℕ) → k < 4 → byteActs (c k) (o + k) (byteOf v k) ≡ entryActs (o + k) (byteOf v k) = λ k l. byte-acts-inside (o + k) (byteOf v k) (c k) (four-inside o e k l) in
     sym (dword-acts-of o v (sym e)) ∙ rw (rw add-zero at (a 0 (omega arith)), a 1 (omega arith), a 2 (omega arith), a 3 (omega arith))
-
--- ---- a Qword: one Dword after the other
-module _ (d : Device) (o v : ℕ) where
-  pub qword-both : acted (acted d (dwordActs o (half false v))) (dwordActs (o + 4) (half true v)) ≡ acted d (writeActs (d .core) qword o v)
-  unfolding writeActs
-  qword-both = sym (acted-append d (dwordActs o (half false v)) (dwordActs (o + 4) (half true v)))

@@ -1,5 +1,5 @@
 -- The three writers meet their contracts together; the measure of each is its depth, which falls at each call, as with the readers.
-use mathlib.Core.Path.{_≡_, refl, ap, sym, _∙_}
+use mathlib.Core.Path.{_≡_, ap, sym, _∙_}
 use Prim.Native.Nat.{ℕ, _-_, _≤_, _<_}
 use native.Mathlib.Omega.{arith}
 use lib.Bits.{mask-lt}
@@ -8,14 +8,15 @@ use borrow.Fn.Kinds.{In}
 use borrow.Fn.PlainCycle.{Measures, is, falls, and}
 use Rattle.rules.specs.Access.{entryActs, cellActs}
 use Rattle.rules.proofs.laws.Widths.{aligned-no-bytes}
+use Rattle.rules.proofs.laws.Losses.{entry-quiet}
 use Rattle.rules.proofs.laws.Writes.{byte-acts-inside, dword-acts-of}
-use Rattle.state.specs.View.{view, Is}
+use Rattle.state.specs.View.{view}
 use Rattle.map.specs.Views.{cellView}
-use Rattle.writers.specs.Bytes.{bytesWritten}
+use Rattle.writers.specs.Writes.{Writes, bytesActs}
 use Rattle.map.proofs.Indexes.{byte-came, no-byte}
 use Rattle.readers.proofs.Deep.{four-deep}
-use Rattle.writers.proofs.Bytes.{four-written}
-use Rattle.writers.proofs.Written.{is-as, is-acts, is-none, is-outside, is-more}
+use Rattle.writers.proofs.Bytes.{four-bytes}
+use Rattle.writers.proofs.Acted.{writes-acts, writes-quiet, writes-none, byte-few, bytes-few, writes-outside, writes-more}
 use Rattle.bits.proofs.byte_of.Reads as byte-of-reads
 use Rattle.bits.proofs.with_byte.Reads as with-byte-reads
 use Rattle.map.proofs.decode.Reads as decode-reads
@@ -74,13 +75,13 @@ write-split-bytes-calls t = (byte-of-reads.Asked, byte-of-reads.Learnt, write-by
 
 -- ---- the loop: the bytes so far are written
 abbrev Inv-loop : write-split-bytes-lts.InvT-loop
-Inv-loop offset len val depth out₀ idx₀ out idx = (idx ≤ len) × Is out (bytesWritten (view out₀) offset val idx)
+Inv-loop offset len val depth out₀ dropped₀ idx₀ out dropped idx = (idx ≤ len) × Writes (record { state = out; dropped = dropped }) (view out₀) (bytesActs (view out₀ .core) offset val idx)
 
 abbrev μ-loop : write-split-bytes-lts.MeasureT-loop
-μ-loop offset len val depth out₀ idx₀ out idx = len - idx
+μ-loop offset len val depth out₀ dropped₀ idx₀ out dropped idx = len - idx
 
 pub +write-byte+write-dword+write-split-bytes-spec : {M : Type 1} → statement M
-unfolding cellActs bytesWritten
+unfolding cellActs bytesActs
 +write-byte+write-dword+write-split-bytes-spec =
     close μ-write-byte μ-write-dword μ-write-split-bytes
     (λ t. write-byte-lts.spec (write-byte-calls t) (write-byte-at t) write-byte.Post
@@ -90,7 +91,7 @@ unfolding cellActs bytesWritten
     (λ c.
     let m = c .before .before .before .before in
     let r = byte-came _ (m .reg8-offset .ensures) (c .before .before .index .given .1) in
-    is-acts _ (byte-acts-inside _ _ _ (r .0) ∙ ap (λ o. entryActs o (m .before .args .val)) (r .1)) (c .write-entry .ensures))
+    writes-acts _ (byte-acts-inside _ _ _ (r .0) ∙ ap (λ o. entryActs o (m .before .args .val)) (r .1)) (writes-quiet (view (m .before .args .state)) _ _ (entry-quiet _ _ _) (c .write-entry .ensures)))
     (λ c. search needs)
     (λ c κs. λ e. aligned-no-bytes _ (c .before .before .before .fits .offset .fits) (no-byte _ (c .before .before .reg8-offset .ensures) (c .enum-told .given .1)) e)
     (λ c κs. mask-lt (c .before .before .before .before .args .offset) 2)
@@ -106,7 +107,7 @@ unfolding cellActs bytesWritten
     let m = c .before .before .before in
     let s = m .before .before .before in
     let n = no-byte _ (m .before .before .reg8-offset .ensures) (m .enum-told .given .1) in
-    is-outside _ _ _ _ _ (s .fits .offset .fits) n (c .before .before .read-dword .ensures) (c .before .with-byte .ensures) (c .write-dword .ensures)))
+    writes-outside _ _ _ _ _ (s .fits .offset .fits) n (c .before .before .read-dword .ensures) (c .before .with-byte .ensures) (c .write-dword .ensures)))
     (λ t. write-dword-lts.spec (write-dword-calls t) (write-dword-at t) write-dword.Post
     (λ c κs. search needs)
     (λ c. search needs)
@@ -123,29 +124,35 @@ unfolding cellActs bytesWritten
     (λ c. search needs)
     (λ c.
     let d = c .before .before .before .before in
-    is-acts _ (sym (dword-acts-of _ _ (sym (ap cellView (c .before .before .register .given .1)) ∙ d .decode .ensures))) (c .write-half .ensures))
+    writes-acts _ (sym (dword-acts-of _ _ (sym (ap cellView (c .before .before .register .given .1)) ∙ d .decode .ensures))) (c .write-half .ensures))
     (λ c.
     let d = c .before .before .before in
-    is-as (c .write-split-bytes .ensures) (four-written _ _ _ (sym (d .decode .ensures) ∙ ap cellView (c .before .enum-told .given .1))))
+    writes-acts _ (sym (four-bytes _ _ _ (sym (d .decode .ensures) ∙ ap cellView (c .before .enum-told .given .1)))) (c .write-split-bytes .ensures))
     (λ c.
     let d = c .before .before in
-    is-acts _ (sym (dword-acts-of _ _ (sym (ap cellView (c .enum-told2 .given .1)) ∙ d .decode .ensures))) (is-none _ (d .before .pre .1 .0))))
+    writes-acts _ (sym (dword-acts-of _ _ (sym (ap cellView (c .enum-told2 .given .1)) ∙ d .decode .ensures))) (writes-none _ (d .before .pre .1 .0))))
     (λ t. write-split-bytes-lts.spec (write-split-bytes-calls t) (write-split-bytes-at t) write-split-bytes.Post
     Inv-loop
     μ-loop
-    (λ c. (omega arith, record { well = c .pre .1 .0; shows = refl }))
+    (λ c. (omega arith, writes-none _ (c .pre .1 .0)))
     (λ c. omega arith)
     (λ c κs. omega arith)
     (λ c. omega arith)
     (λ c κs.
     let l = c .before .before in
-    (omega (arith, l .before .pre .1 .1), (l .loop .inv .1 .well, l .before .pre .1 .1 .each (l .loop .idx) (omega arith))))
+    (omega (arith, l .before .pre .1 .1), (l .loop .inv .1 .is .well, l .before .pre .1 .1 .each (l .loop .idx) (omega arith))))
+    (λ c.
+    let w = c .before .before in
+    let l = w .before .before .before in
+    let a = l .before .args in
+    omega (arith, bytes-few (view (a .state)) (a .offset) (a .val) (l .loop .idx) (l .loop .inv .1), byte-few (view (l .loop .out)) _ _ (w .write-byte .ensures), l .before .pre .1 .1 .few))
     (λ c. omega arith)
     (λ c. omega arith)
     (λ c.
-    let l = c .before .before .before in
+    let w = c .before .before in
+    let l = w .before .before .before in
     let a = l .before .args in
-    (omega arith, is-more (view (a .state)) (a .offset) (a .val) (l .loop .idx) (l .loop .inv .1) (rw (c .before .byte-of .ensures) at (c .write-byte .ensures))))
+    (omega arith, writes-more (view (a .state)) (a .offset) (a .val) (l .loop .idx) (l .loop .inv .1) (rw (w .before .byte-of .ensures) at (w .write-byte .ensures))))
     (λ c.
     let e : c .before .loop .idx ≡ c .before .before .args .len = omega arith in
     rw e at (c .before .loop .inv .1)))

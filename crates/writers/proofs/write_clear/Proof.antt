@@ -2,7 +2,7 @@
 use borrow.Author.Needs.{needs}
 use Rattle.rules.specs.Inputs.{asHalf}
 use Rattle.rules.specs.Core.{clear, moved}
-use Rattle.writers.proofs.Written.{is-moved}
+use Rattle.writers.proofs.Acted.{writes-moved}
 use Rattle.writers.proofs.write_clear.Statement.{statement}
 use Rattle.writers.proofs.write_clear.Tie as tie
 
@@ -15,5 +15,5 @@ write-clear-spec =
     (λ c κs. search needs)
     (λ c.
     let a = c .before .before .before .before .before .before .before in
-    is-moved (a .args .state) (a .pre) (c .before .before .clear-irq .result) (clear (asHalf (a .args .high) (a .args .val)))
+    writes-moved (a .args .state) (a .pre) (c .before .before .clear-irq .result) (clear (asHalf (a .args .high) (a .args .val)))
     (rw (c .before .before .before .before .before .in-half .ensures) at (c .before .before .clear-irq .ensures))))

@@ -7,7 +7,7 @@ use Rattle.rules.specs.Core.{store, setRoute, setVector}
 use Rattle.rules.proofs.laws.Maps.{below, between, beyond}
 use Rattle.rules.proofs.laws.Writes.{entry-acts-route, entry-acts-vector, entry-acts-none}
 use Rattle.map.proofs.Indexes.{irq-came, no-irq}
-use Rattle.writers.proofs.Written.{is-acts, is-none, is-route, is-vector}
+use Rattle.writers.proofs.Acted.{is-acts, is-none, is-route, is-vector}
 use Rattle.writers.proofs.write_entry.Statement.{statement}
 use Rattle.writers.proofs.write_entry.Tie as tie
 

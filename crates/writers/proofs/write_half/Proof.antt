@@ -1,6 +1,10 @@
 -- `write_half` is right since each arm is told its register, and its leaf does that register's act, or there is none.
 use borrow.Author.Needs.{needs}
-use Rattle.writers.proofs.Written.{is-none}
+use Rattle.rules.specs.Core.{setPlain}
+use Rattle.rules.proofs.laws.Losses.{isr-quiet, store-quiet}
+use Rattle.state.specs.View.{view}
+use Rattle.map.specs.Views.{plainView}
+use Rattle.writers.proofs.Acted.{writes-quiet, writes-none}
 use Rattle.writers.proofs.write_half.Statement.{statement}
 use Rattle.writers.proofs.write_half.Tie as tie
 
@@ -18,9 +22,13 @@ write-half-spec =
     (λ c κs. search needs)
     (λ c. search needs)
     (λ c κs. search needs)
-    (λ c. rw (c .enum-told .given .1) (is-none _ (c .before .before .pre)))
+    (λ c. rw (c .enum-told .given .1) (writes-none _ (c .before .before .pre)))
     (λ c. rw (c .before .enum-told2 .given .1) (c .write-mask .ensures))
     (λ c. rw (c .before .enum-told3 .given .1) (c .write-clear .ensures))
-    (λ c. rw (c .enum-told4 .given .1) (is-none _ (c .before .before .pre)))
-    (λ c. rw (c .before .enum-told5 .given .1) (c .write-isr .ensures))
-    (λ c. rw (c .before .before .register .given .1) (c .write-plain .ensures)))
+    (λ c. rw (c .enum-told4 .given .1) (writes-none _ (c .before .before .pre)))
+    (λ c.
+    let a = c .before .before .before .args in
+    rw (c .before .enum-told5 .given .1) (writes-quiet (view (a .state)) _ _ (isr-quiet (view (a .state) .core) (a .high) (a .val)) (c .write-isr .ensures)))
+    (λ c.
+    let a = c .before .before .before .before .args in
+    rw (c .before .before .register .given .1) (writes-quiet (view (a .state)) _ _ (store-quiet (view (a .state) .core) (setPlain (plainView (c .before .before .register .given .0 .0)) (a .high) (a .val))) (c .write-plain .ensures))))

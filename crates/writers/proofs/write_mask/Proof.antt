@@ -1,7 +1,7 @@
 -- `write_mask` is right since the engine's lines and ring are put into the state.
 use borrow.Author.Needs.{needs}
 use Rattle.rules.specs.Core.{setMask, moved}
-use Rattle.writers.proofs.Written.{is-moved}
+use Rattle.writers.proofs.Acted.{writes-moved}
 use Rattle.writers.proofs.write_mask.Statement.{statement}
 use Rattle.writers.proofs.write_mask.Tie as tie
 
@@ -13,4 +13,4 @@ write-mask-spec =
     (λ c κs. search needs)
     (λ c.
     let a = c .before .before .before .before .before .before in
-    is-moved (a .args .state) (a .pre) (c .before .before .update-int-mask .result) (setMask (a .args .high) (a .args .val)) (c .before .before .update-int-mask .ensures)))
+    writes-moved (a .args .state) (a .pre) (c .before .before .update-int-mask .result) (setMask (a .args .high) (a .args .val)) (c .before .before .update-int-mask .ensures)))

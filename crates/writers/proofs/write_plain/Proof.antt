@@ -3,7 +3,7 @@ use mathlib.Core.Path.{refl, ap}
 use borrow.Author.Needs.{needs}
 use Rattle.rules.specs.Core.{htmsiEn, edge, pol, auto0, auto1}
 use Rattle.map.specs.Views.{plainView}
-use Rattle.writers.proofs.Written.{is-plain}
+use Rattle.writers.proofs.Acted.{is-plain}
 use Rattle.writers.proofs.write_plain.Statement.{statement}
 use Rattle.writers.proofs.write_plain.Tie as tie
 

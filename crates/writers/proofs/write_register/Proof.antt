@@ -1,10 +1,10 @@
 -- `write_register` is right since each width has its writer, a depth of 2 is enough for any offset, and the low half keeps the low bytes.
-use mathlib.Core.Path.{_∙_}
+use mathlib.Core.Path.{sym, _∙_}
 use native.Mathlib.Omega.{arith}
 use borrow.Author.Needs.{needs}
 use Rattle.rules.specs.Access.{writeActs}
-use Rattle.writers.proofs.Bytes.{low-bytes, word-written}
-use Rattle.writers.proofs.Written.{is-as}
+use Rattle.writers.proofs.Bytes.{low-bytes, word-bytes}
+use Rattle.writers.proofs.Acted.{writes-acts}
 use Rattle.writers.proofs.write_register.Statement.{statement}
 use Rattle.writers.proofs.write_register.Tie as tie
 
@@ -28,6 +28,6 @@ write-register-spec =
     rw (c .before .before .enum-told .given .1) (rw (c .before .byte-of .ensures ∙ l .0) at (c .write-byte .ensures)))
     (λ c.
     let l = low-bytes _ _ (c .before .before .before .half .ensures) in
-    rw (c .before .enum-told2 .given .1) (is-as (c .write-split-bytes .ensures) (word-written _ _ _ _ (l .0) (l .1))))
+    rw (c .before .enum-told2 .given .1) (writes-acts _ (sym (word-bytes _ _ _ _ (l .0) (l .1))) (c .write-split-bytes .ensures)))
     (λ c. rw (c .before .enum-told3 .given .1) (rw (c .before .before .before .half .ensures) at (c .write-dword .ensures)))
     (λ c. rw (c .before .enum-told4 .given .1) (c .write-qword .ensures)))
