@@ -3,7 +3,7 @@ use mathlib.Core.Path.{_≡_, refl, sym, ap, _∙_}
 use mathlib.Core.List.{List, []}
 use Prim.Native.Nat.{ℕ}
 use Rattle.rules.specs.Access.{Width, readAt, writeActs}
-use Rattle.rules.specs.Device.{Call, none, some, acted, value}
+use Rattle.rules.specs.Device.{Call, none, some, actsOf, acted, step, value}
 use Rattle.rules.specs.Device as device
 use Rattle.rules.specs.Image.{decode}
 use Rattle.rules.specs.Calls.{noWidth, outside, pass, widthTest, addressTest, accessCall, Request, calls, askedBy, bufferOf, ending}
@@ -46,9 +46,9 @@ module _ {i : List ℕ} (p : Passed i) (base size address width : ℕ) {k : Know
         call-done (asked.read base size address width) i _ refl (p .good) c (aimed device.read) (decode i) (some v) i []
         (here p .image) (sym (read-device (decode i) (widthView w) o)) (ap some (r (decode i) (here p))) (no-events (decode i) c refl)
 
-    pub write-done : (v : ℕ) {n : ℕ} {j : List ℕ} → Writes i j n (λ c. writeActs c (widthView w) o v) → record { number = 0; value = none; image = j; events = [] } ≡ ending (asked.write base size address width v) i
-    unfolding value
-    write-done v {j = j} r =
+    pub write-done : (v : ℕ) {n : ℕ} {j : List ℕ} → Writes i j n (λ c. writeActs c (widthView w) o v) → record { number = 0; value = some n; image = j; events = [] } ≡ ending (asked.write base size address width v) i
+    unfolding value step actsOf
+    write-done v {n} {j} r =
         let c = device.write (widthView w) o v in
-        call-done (asked.write base size address width v) i _ refl (p .good) c (aimed (λ w o. device.write w o v)) (acted (decode i) (writeActs (decode i .core) (widthView w) o v)) none j []
-        (r .becomes (decode i) (here p) .image) (sym (write-device (decode i) (widthView w) o v)) refl (no-events (decode i) c refl)
+        call-done (asked.write base size address width v) i _ refl (p .good) c (aimed (λ w o. device.write w o v)) (acted (decode i) (writeActs (decode i .core) (widthView w) o v)) (some n) j []
+        (r .becomes (decode i) (here p) .image) (sym (write-device (decode i) (widthView w) o v)) (ap some (r .gives (decode i) (here p))) (no-events (decode i) c refl)

@@ -45,6 +45,6 @@ pub fn write(image: &mut [u8], base: u64, size: u64, address: u64, width: u64, v
     let Located::At(offset) = window::locate(base, size, address, width) else {
         return outside(address);
     };
-    let _dropped = access::write_access(image, known, offset, value);
-    done(Value::Absent)
+    let dropped = access::write_access(image, known, offset, value);
+    done(Value::Present(dropped as u64))
 }

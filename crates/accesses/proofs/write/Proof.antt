@@ -32,7 +32,7 @@ write-spec =
     (no-place (on m) (a .base) (a .size) (a .address) (a .width) (w .width-of .ensures) (asked.write (a .base) (a .size) (a .address) (a .width) (a .value)) (λ w o. device.write w o (a .value)) refl (e .known .given .1) (l .locate .ensures .0) (u .enum-told3 .given .1)))
     (λ c κs. let o = c .before .before in let l = o .before .before in let e = l .before .before in let w = e .before .before in let m = w .before .before in
     (long (on m), reach _ _ (l .locate .ensures .1) (o .offset .given .1) (sym (w .width-of .ensures) ∙ ap knownView (e .known .given .1))))
-    (λ c κs. search needs) (λ c. search needs)
+    (λ c. search needs) (λ c κs. search needs) (λ c. search needs)
     (λ c. let g = c .before .before .before in let o = g .before .before .before in let l = o .before .before in let e = l .before .before in
     let w = e .before .before in let m = w .before .before in let a = m .before .before .before .before .args in tells (c .done .result) (c .done .ensures)
     (write-done (on m) (a .base) (a .size) (a .address) (a .width) (w .width-of .ensures) (e .known .given .1) (l .locate .ensures .0) (o .offset .given .1) (a .value) (g .write-access .ensures .1))))
