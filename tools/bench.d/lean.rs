@@ -191,9 +191,9 @@ fn read_at(image: &Image, width: u64, offset: u64) -> u64 {
 
 /// Offers an event for each of these inputs, lowest first: as many as there is room for; the others are counted as dropped.
 #[inline(always)]
-fn offer(image: &mut Image, mut inputs: u64, flag: u8) {
+fn offer(image: &mut Image, mut inputs: u64, flag: u8) -> u32 {
     if inputs == 0 {
-        return;
+        return 0;
     }
     let mut count = image[COUNT] as usize;
     while inputs != 0 && count < 16 {
@@ -203,32 +203,33 @@ fn offer(image: &mut Image, mut inputs: u64, flag: u8) {
         count += 1;
     }
     image[COUNT] = count as u8;
-    if inputs != 0 {
-        let drops = u32::from_le_bytes(image[DROPS..DROPS + 4].try_into().unwrap());
-        image[DROPS..DROPS + 4].copy_from_slice(&drops.saturating_add(inputs.count_ones()).to_le_bytes());
+    if inputs == 0 {
+        return 0;
     }
+    let (drops, lost) = (u32::from_le_bytes(image[DROPS..DROPS + 4].try_into().unwrap()), inputs.count_ones());
+    image[DROPS..DROPS + 4].copy_from_slice(&drops.saturating_add(lost).to_le_bytes());
+    lost
 }
 
-fn write_mask(image: &mut Image, new: u64) {
+fn write_mask(image: &mut Image, new: u64) -> u32 {
     let (old, isr) = (word(image, MASK), word(image, ISR));
     put(image, MASK, new);
     let pending = word(image, IRR) & !isr & old & !new;
     let asserted = pending & pending.wrapping_neg();
     let retracted = isr & !old & new;
     put(image, ISR, (isr | asserted) & !retracted);
-    offer(image, asserted, 1);
-    offer(image, retracted, 0);
+    offer(image, asserted, 1) + offer(image, retracted, 0)
 }
 
-fn clear(image: &mut Image, inputs: u64) {
+fn clear(image: &mut Image, inputs: u64) -> u32 {
     let isr = word(image, ISR);
     let irr = word(image, IRR) & !inputs;
     put_irr(image, irr);
     put(image, ISR, isr & !inputs);
-    offer(image, isr & inputs, 0);
+    offer(image, isr & inputs, 0)
 }
 
-fn write_dword(image: &mut Image, offset: u64, value: u32) {
+fn write_dword(image: &mut Image, offset: u64, value: u32) -> u32 {
     let shift = 8 * (offset & 4);
     let placed = u64::from(value) << shift;
     let kept = !(0xffff_ffff << shift);
@@ -240,45 +241,49 @@ fn write_dword(image: &mut Image, offset: u64, value: u32) {
             (Some(at), _) => at,
             (_, Some((at, left))) => {
                 let bytes = value.to_le_bytes();
-                return if left < 4 {
+                if left < 4 {
                     image[at..at + left].copy_from_slice(&bytes[..left])
                 } else {
                     image[at..at + 4].copy_from_slice(&bytes)
-                };
+                }
+                return 0;
             }
-            _ => return,
+            _ => return 0,
         },
     };
     put(image, at, word(image, at) & kept | placed);
+    0
 }
 
-fn write_byte(image: &mut Image, offset: u64, value: u8) {
+fn write_byte(image: &mut Image, offset: u64, value: u8) -> u32 {
     match entry(offset) {
         Some((at, _)) => image[at] = value,
         None if (0x100..0x3a0).contains(&offset) => {}
         None => {
             let shift = 8 * (offset & 3);
             let old = dword(image, offset & !3) & !(0xff << shift);
-            write_dword(image, offset & !3, old | u32::from(value) << shift);
+            return write_dword(image, offset & !3, old | u32::from(value) << shift);
         }
     }
+    0
 }
 
 #[inline(always)]
-fn write_at(image: &mut Image, width: u64, offset: u64, value: u64) {
+fn write_at(image: &mut Image, width: u64, offset: u64, value: u64) -> u32 {
     match width {
         1 => write_byte(image, offset, value as u8),
         2 => {
-            write_byte(image, offset, value as u8);
-            write_byte(image, offset + 1, (value >> 8) as u8);
+            let first = write_byte(image, offset, value as u8);
+            first + write_byte(image, offset + 1, (value >> 8) as u8)
         }
         4 => write_dword(image, offset, value as u32),
         _ => {
             if let Some((at, 8..)) = entry(offset) {
-                return put(image, at, value);
+                put(image, at, value);
+                return 0;
             }
-            write_dword(image, offset, value as u32);
-            write_dword(image, offset + 4, (value >> 32) as u32);
+            let first = write_dword(image, offset, value as u32);
+            first + write_dword(image, offset + 4, (value >> 32) as u32)
         }
     }
 }
@@ -337,10 +342,7 @@ pub fn read(image: &[u8], base: u64, size: u64, address: u64, width: u64, answer
 pub fn write(image: &mut [u8], base: u64, size: u64, address: u64, width: u64, value: u64, answer: &mut [u8]) -> u8 {
     let Some(answer) = answer.first_chunk_mut() else { return 7 };
     let outcome = changed(image, |image| match offset_of(base, size, address, width) {
-        Ok(offset) => {
-            write_at(image, width, offset, value);
-            (0, None)
-        }
+        Ok(offset) => (0, Some(u64::from(write_at(image, width, offset, value)))),
         Err(refused) => refused,
     });
     told(answer, outcome)

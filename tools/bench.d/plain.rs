@@ -38,6 +38,8 @@ struct State {
     drops: u32,
     /// The waiting events, oldest first, two bytes each; zero behind them.
     pairs: [u8; 32],
+    /// How many events the call dropped; no part of the image.
+    lost: u64,
 }
 
 fn word(image: &[u8; LENGTH], at: usize) -> u64 {
@@ -86,6 +88,7 @@ impl State {
             waiting: 0,
             drops: 0,
             pairs: [0; 32],
+            lost: 0,
         }
     }
 
@@ -105,6 +108,7 @@ impl State {
             waiting: image[COUNT] as usize,
             drops: u32::from_le_bytes(image[DROPS..DROPS + 4].try_into().unwrap()),
             pairs: image[PAIRS..].try_into().unwrap(),
+            lost: 0,
         }
     }
 
@@ -124,6 +128,7 @@ impl State {
     fn push(&mut self, input: usize, asserted: bool) {
         if self.waiting == 16 {
             self.drops = self.drops.saturating_add(1);
+            self.lost += 1;
             return;
         }
         self.pairs[2 * self.waiting] = self.vectors[input];
@@ -371,7 +376,7 @@ pub fn write(image: &mut [u8], base: u64, size: u64, address: u64, width: u64, v
     let outcome = changed(image, |state| {
         let known = Width::of(width)?;
         state.write(known, offset_of(base, size, address, width)?, value);
-        Ok(None)
+        Ok(Some(state.lost))
     });
     told(answer, outcome)
 }

@@ -61,18 +61,21 @@ impl Boundary {
         if *image != self.left {
             self.load(image);
         }
+        let mut dropped = None;
         let value = match *call {
             Call::Reset => unreachable!("reset was done above"),
             Call::Read { base, size, address, width } => Some(self.read(base, size, address, width_of(width)?)?),
             Call::Write { base, size, address, width, value } => {
                 self.write(base, size, address, width_of(width)?, value)?;
-                None
+                // 02, C-15: how many events this write dropped; the Rust warned of each
+                dropped = Some(oracle::take_warnings());
+                dropped
             }
             Call::Level { input, level } => self.device.set_irq_level(input_of(input)?, level != 0).map(|vector| vector as u64),
             Call::Poll { input } => self.device.pending_vector(input_of(input)?).map(|vector| vector as u64),
             Call::Drain { place } => Some(self.drain(&mut events[place as usize..])),
         };
-        let dropped = oracle::take_warnings();
+        let dropped = dropped.unwrap_or_else(oracle::take_warnings);
         self.drops = u64::from(self.drops).saturating_add(dropped).min(u64::from(u32::MAX)) as u32;
         self.save(image);
         Ok(value)

@@ -93,8 +93,8 @@ impl PchPic {
     /// # Errors
     ///
     /// [`Error::Outside`] where the access is not wholly inside the window.
-    pub fn write(&mut self, window: Window, address: u64, width: Width, value: u64) -> Result<(), Error> {
-        ffi::write(&mut self.image, window, address, width.bytes(), value).map(|_| ())
+    pub fn write(&mut self, window: Window, address: u64, width: Width, value: u64) -> Result<u32, Error> {
+        ffi::write(&mut self.image, window, address, width.bytes(), value).map(lost)
     }
 
     /// An access as a bus hands it on: as many bytes as `data` has, little end first.
@@ -124,13 +124,13 @@ impl PchPic {
     /// # Errors
     ///
     /// [`Error::Width`] where `data` has not 1, 2, 4 or 8 bytes, else [`Error::Outside`].
-    pub fn mmio_write(&mut self, window: Window, address: u64, data: &[u8]) -> Result<(), Error> {
+    pub fn mmio_write(&mut self, window: Window, address: u64, data: &[u8]) -> Result<u32, Error> {
         let mut bytes = [0; 8];
         for (to, from) in bytes.iter_mut().zip(data) {
             *to = *from;
         }
         let value = u64::from_le_bytes(bytes);
-        ffi::write(&mut self.image, window, address, data.len(), value).map(|_| ())
+        ffi::write(&mut self.image, window, address, data.len(), value).map(lost)
     }
 
     /// An input's line goes up (`true`) or down. The event, if there is one, is to be passed on at once; it does not wait.
