@@ -167,12 +167,12 @@ pub fn clear_irq(
     out.intirr &= !mask;
     out.last_intirr &= !mask;
     out.intisr &= !mask;
-    let queue = queue_events_for_mask(ring, vectors, active, false);
-    let left = queue.ring;
+    let queued = queue_events_for_mask(ring, vectors, active, false);
+    let queue = queued.ring;
     Moved {
         lines: out,
-        ring: left,
-        dropped: queue.dropped,
+        ring: queue,
+        dropped: queued.dropped,
     }
 }
 

@@ -51,7 +51,7 @@ update-int-mask-spec =
     (λ c. search needs)
     (λ c κs. search needs)
     (λ c κs. search needs)
-    (λ c κs. entered (c .before .before .before .before) .offers .well)
+    (λ c κs. search (needs, entered (c .before .before .before .before) .offers .well))
     (λ c.
     let q = c .before .before .before in
     let m = q .before .before .before .before in
