@@ -45,8 +45,7 @@
  *       that goes up and down with the events goes wrong then, below 0 even.
  *     - So count afresh: the vectors that are on are those of the inputs in the stored ISR, and no others. Take ISR out of the image's body of kind
  *       1: a read of register 0x3a0 leaves out masked inputs, and those can be in service too, after a write of ISR or a load. This must be done
- *       when the drop count moved, since a dropped event is never told (and after each write once the count is 4294967295, where it moves no
- *       more), and after a write to ISR or to a vector byte. It is right at any time when no event waits, so the simplest host does it after
+ *       when a write's value is not 0, since a dropped event is never told, and after a write to ISR or to a vector byte. It is right at any time when no event waits, so the simplest host does it after
  *       each call.
  *     - After a load, rebuild what is not in the image. Lower each input that is latched (IRR) while its line is low now, drain, count afresh
  *       against what the controller above has on, and raise each line that is high. The same goes for a reset while the guest runs.
@@ -72,9 +71,9 @@
 
 /* The version of the header and of what it says about the library. */
 #define PCH_PIC_VERSION_MAJOR 0
-#define PCH_PIC_VERSION_MINOR 3
+#define PCH_PIC_VERSION_MINOR 4
 #define PCH_PIC_VERSION_PATCH 0
-#define PCH_PIC_VERSION "0.3.0"
+#define PCH_PIC_VERSION "0.4.0"
 
 #ifdef __cplusplus
 extern "C" {
@@ -170,8 +169,10 @@ uint8_t pch_pic_reset(uint8_t *image, size_t image_len, uint8_t *answer, size_t 
 uint8_t pch_pic_read(const uint8_t *image, size_t image_len, uint64_t base, uint64_t size, uint64_t address, uint64_t width,
                      uint8_t *answer, size_t answer_len);
 
-/* The guest writes the low width bytes of value at address; the window is as for a read. No value. Where no register stands, nothing
- * changes. Events that the write makes wait to be drained. Refusals: 7, 4, 5, 6, 2, 1. */
+/* The guest writes the low width bytes of value at address; the window is as for a read. Where no register stands, nothing changes. Events
+ * that the write makes wait to be drained. The value is how many of them were dropped, and is always present: 0 where none was. It is no
+ * vector: a host that takes a present value for one must ask which call gave it. It goes on telling where the drop count has reached its stop.
+ * Refusals: 7, 4, 5, 6, 2, 1. */
 uint8_t pch_pic_write(uint8_t *image, size_t image_len, uint64_t base, uint64_t size, uint64_t address, uint64_t width, uint64_t value,
                       uint8_t *answer, size_t answer_len);
 

@@ -56,7 +56,7 @@ static void start(struct host *host)
 
 static void writes(struct host *host, uint64_t offset, uint64_t width, uint64_t value)
 {
-    int number = pic_write(&host->pic, BASE + offset, width, value);
+    int number = pic_write(&host->pic, BASE + offset, width, value, NULL);
     if (number == PCH_PIC_DONE) {
         number = pic_settle(&host->pic, &host->wires);
     }
@@ -168,6 +168,8 @@ static void dropped_events(void)
     }
     writes(&host, PCH_PIC_REG_MASK, 4, 0xffffffff);
     expect("sixteen were dropped by one write", pic_drops(&host.pic) == 16 && pic_waiting(&host.pic) == 0);
+    uint64_t dropped = 99;
+    expect("a write outside drops none", pic_write(&host.pic, BASE + 0x3fc, 8, 0, &dropped) == PCH_PIC_OUTSIDE && dropped == 0);
     expect("all are off", NONE(&host) && host.above.told == 64);
     writes(&host, PCH_PIC_REG_MASK, 4, 0);
     host.above.told = 0;
@@ -188,7 +190,7 @@ static void a_restore(const char *path)
     line(&old, 3, true);
     line(&old, 7, true);
     writes(&old, PCH_PIC_REG_ISR + PCH_PIC_REG_HIGH, 4, 0x100);
-    expect("a write whose event waits", pic_write(&old.pic, BASE + PCH_PIC_REG_MASK, 4, 0xffffff00) == PCH_PIC_DONE && pic_waiting(&old.pic) == 1);
+    expect("a write whose event waits", pic_write(&old.pic, BASE + PCH_PIC_REG_MASK, 4, 0xffffff00, NULL) == PCH_PIC_DONE && pic_waiting(&old.pic) == 1);
     expect("the device is saved", pic_save(&old.pic, path) == PCH_PIC_DONE);
     start(&fresh);
     expect("and loaded", pic_load(&fresh.pic, path) == PCH_PIC_DONE);

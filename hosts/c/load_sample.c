@@ -66,7 +66,7 @@ static uint64_t guest_reads(const struct host *host, uint64_t offset, uint64_t w
 static void guest_writes(struct host *host, uint64_t offset, uint64_t width, uint64_t value)
 {
     uint32_t before = pic_drops(&host->pic);
-    must(pic_write(&host->pic, BASE + offset, width, value));
+    must(pic_write(&host->pic, BASE + offset, width, value, NULL));
     must(pic_settle(&host->pic, &host->wires));
     if (pic_drops(&host->pic) != before) {
         printf("Dropped so far: %" PRIu32 ". What no event told was counted afresh from ISR.\n", pic_drops(&host->pic));
@@ -118,7 +118,7 @@ static void save_and_load(struct host *host, const char *path)
     line(host, SAMPLE, true);
     printf("The guest clears and unmasks it. The event waits, and the device is saved.\n");
     guest_writes(host, PCH_PIC_REG_CLEAR, 4, UINT64_C(1) << SAMPLE);
-    must(pic_write(&host->pic, BASE + PCH_PIC_REG_MASK, 4, mask_without(host, SAMPLE)));
+    must(pic_write(&host->pic, BASE + PCH_PIC_REG_MASK, 4, mask_without(host, SAMPLE), NULL));
     stored("save", path, pic_save(&host->pic, path));
     printf("A fresh host loads it; line %d is still high there.\n", SAMPLE);
     *host = new_host();

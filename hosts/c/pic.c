@@ -51,10 +51,13 @@ int pic_read(const struct pic *pic, uint64_t address, uint64_t width, uint64_t *
     return number;
 }
 
-int pic_write(struct pic *pic, uint64_t address, uint64_t width, uint64_t value)
+int pic_write(struct pic *pic, uint64_t address, uint64_t width, uint64_t value, uint64_t *dropped)
 {
     uint8_t answer[PCH_PIC_ANSWER_LEN];
-    return pch_pic_write(pic->image, sizeof pic->image, pic->base, pic->size, address, width, value, answer, sizeof answer);
+    int number = pch_pic_write(pic->image, sizeof pic->image, pic->base, pic->size, address, width, value, answer, sizeof answer);
+    if (dropped != NULL)
+        *dropped = number == PCH_PIC_DONE ? value_of(answer) : 0;
+    return number;
 }
 
 int pic_level(struct pic *pic, uint64_t input, bool high, struct pic_event *event)

@@ -82,7 +82,7 @@ int main(void)
 
     guard();
     n = pch_pic_write(image, IMAGE, 0x10000000, 0x400, 0x10000020, 4, 0xffffffdf, answer, ANSWER);
-    expect("MASK is written", n == 0 && answers(0, 0, 0));
+    expect("MASK is written, and says that no event was dropped", n == 0 && answers(0, 1, 0));
 
     guard();
     n = pch_pic_poll(image, IMAGE, 5, answer, ANSWER);
@@ -100,6 +100,9 @@ int main(void)
     guard();
     n = pch_pic_read(image, IMAGE, 0x10000000, 0x400, 0x10000400, 4, answer, ANSWER);
     expect("1: outside the window, with the address", n == 1 && answers(1, 1, 0x10000400));
+    guard();
+    n = pch_pic_read(image, IMAGE, 0x10000000, 0x400, 0x100003fc, 8, answer, ANSWER);
+    expect("1: over the window's end, with the address", n == 1 && answers(1, 1, 0x100003fc));
     guard();
     n = pch_pic_write(image, IMAGE, 0x10000000, 0x400, 0x10000400, 3, 0, answer, ANSWER);
     expect("2 before 1: no such width", n == 2 && answers(2, 0, 0));
@@ -122,6 +125,23 @@ int main(void)
     n = pch_pic_drain(image, IMAGE, NULL, 0, 0, answer, ANSWER);
     expect("no room moves none", n == 0 && answers(0, 1, 0));
     expect("no refusal changed the image", memcmp(before, image, IMAGE) == 0);
+
+    /* Seventeen inputs in service are masked at once: sixteen deasserts wait, and one is dropped. */
+    pch_pic_write(image, IMAGE, 0, 0x400, 0x20, 4, 0, answer, ANSWER);
+    for (uint64_t input = 0; input < 17; input++) {
+        pch_pic_level(image, IMAGE, input, 1, answer, ANSWER);
+    }
+    guard();
+    n = pch_pic_write(image, IMAGE, 0, 0x400, 0x20, 8, 0xffffffffffffffff, answer, ANSWER);
+    expect("a write says how many events it dropped", n == 0 && answers(0, 1, 1) && image[222] == 16 && image[223] == 1);
+    memset(image + 223, 0xff, 4);
+    for (uint64_t input = 0; input < 17; input++) {
+        pch_pic_level(image, IMAGE, input, 0, answer, ANSWER);
+        pch_pic_level(image, IMAGE, input, 1, answer, ANSWER);
+    }
+    guard();
+    n = pch_pic_write(image, IMAGE, 0, 0x400, 0x20, 4, 0, answer, ANSWER);
+    expect("and does so where the count has stopped", n == 0 && answers(0, 1, 1) && image[223] == 0xff && image[226] == 0xff);
 
     image[0] = 2;
     guard();

@@ -6,7 +6,7 @@ use Rattle.rules.specs.Lines.{Lines, Made, Turn, andThen}
 use Rattle.rules.specs.Ring.{Ring, Drawn, ringRun, lostOf}
 use Rattle.rules.specs.Device.{Device, offers, lost}
 use Rattle.rules.proofs.laws.Acts.{offers-append}
-use Rattle.rules.proofs.laws.Rings.{run-append, lost-append}
+use Rattle.rules.proofs.laws.Rings.{run-append, lostOf-append}
 use Rattle.inplace.specs.Held.{Holds, Does, MovesIn, withLines, withRing, turned}
 use Rattle.inplace.proofs.Doing.{does-same, does-then}
 
@@ -27,4 +27,4 @@ moves-then t u p q =
     ∙ ap (λ l. withRing (withLines d (b .after)) (ringRun (d .ring) l .after)) (sym (offers-append (a .made) (b .made))))
     (λ d h. let a = turned d t in
     let b = u (d .core .vectors) (a .after) in
-    sym (lost-append (d .ring) (offers (a .made)) (offers (b .made))) ∙ ap (lostOf (d .ring)) (sym (offers-append (a .made) (b .made))))
+    sym (lostOf-append (d .ring) (offers (a .made)) (offers (b .made))) ∙ ap (lostOf (d .ring)) (sym (offers-append (a .made) (b .made))))

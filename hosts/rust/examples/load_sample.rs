@@ -41,11 +41,10 @@ impl Host {
 
     /// After each write of its guest the host settles. A drop is no harm then, but worth a word.
     fn guest_writes(&mut self, offset: u64, width: Width, value: u64) -> Result<(), Error> {
-        let before = self.pic.drops();
-        self.pic.write(WINDOW, WINDOW.base + offset, width, value)?;
+        let dropped = self.pic.write(WINDOW, WINDOW.base + offset, width, value)?;
         self.wires.settle(&mut self.pic, route);
-        if self.pic.drops() != before {
-            println!("Dropped so far: {}. What no event told was counted afresh from ISR.", self.pic.drops());
+        if dropped != 0 {
+            println!("Dropped: {dropped}. What no event told was counted afresh from ISR.");
         }
         Ok(())
     }

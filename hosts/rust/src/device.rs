@@ -78,7 +78,8 @@ impl PchPic {
         Ok(value.expect("a done read has a value"))
     }
 
-    /// The guest writes at `address`; bits of `value` above the width are lost. Events that the write makes wait to be drained.
+    /// The guest writes at `address`; bits of `value` above the width are lost. Events that the write makes wait to be drained. The answer is how
+    /// many of them were dropped, since 16 waited already: 0 on a day without trouble, and at most 520.
     ///
     /// ```
     /// use pch_pic::{reg, Event, PchPic, Width, Window};
@@ -119,7 +120,7 @@ impl PchPic {
         Ok(())
     }
 
-    /// A write as a bus hands it on: as many bytes as `data` has, little end first.
+    /// A write as a bus hands it on: as many bytes as `data` has, little end first. The answer is how many events were dropped.
     ///
     /// # Errors
     ///
@@ -307,4 +308,9 @@ impl AsRef<[u8]> for PchPic {
     fn as_ref(&self) -> &[u8] {
         &self.image
     }
+}
+
+/// How many events a done write dropped; the library always tells it.
+fn lost(value: Option<u64>) -> u32 {
+    u32::try_from(value.expect("a done write has a value")).expect("a write drops few events")
 }

@@ -117,6 +117,20 @@ fn a_refusal_changes_nothing() {
 }
 
 #[test]
+fn a_write_tells_how_many_events_it_dropped() {
+    let (mut pic, window) = (PchPic::new(), Window::at(0));
+    assert_eq!(pic.write(window, reg::MASK, Width::Qword, 0), Ok(0));
+    for input in 0..40 {
+        assert!(pic.set_level(input, true).unwrap().is_some());
+    }
+    // 16 deasserts wait; the low half drops 16, the high half 8
+    assert_eq!(pic.write(window, reg::MASK, Width::Qword, u64::MAX), Ok(24));
+    assert_eq!((pic.waiting(), pic.drops()), (EVENTS, 24));
+    assert_eq!(pic.mmio_write(window, reg::MASK, &[0]), Ok(1));
+    assert_eq!(pic.write(window, 0x3fc, Width::Qword, 0), Err(Error::Outside(0x3fc)));
+}
+
+#[test]
 fn the_seventeenth_event_is_dropped_and_counted() {
     let mut pic = overflown();
     assert_eq!((pic.waiting(), pic.drops()), (EVENTS, 1));

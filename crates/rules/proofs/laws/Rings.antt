@@ -51,8 +51,8 @@ dropped-append r (a ∷ xs) ys =
     let s = ringStep r a .after in
     ap (λ es. droppedBy r a ++ es) (dropped-append s xs ys) ∙ sym (append-assoc (droppedBy r a) (dropped s xs) (dropped (ringRun s xs .after) ys))
 
-pub lost-append : (r : Ring) (xs ys : List RingAct) → lostOf r (xs ++ ys) ≡ lostOf r xs + lostOf (ringRun r xs .after) ys
-lost-append r xs ys = ap length (dropped-append r xs ys) ∙ length-append (dropped r xs) (dropped (ringRun r xs .after) ys)
+pub lostOf-append : (r : Ring) (xs ys : List RingAct) → lostOf r (xs ++ ys) ≡ lostOf r xs + lostOf (ringRun r xs .after) ys
+lostOf-append r xs ys = ap length (dropped-append r xs ys) ∙ length-append (dropped r xs) (dropped (ringRun r xs .after) ys)
 
 -- ---- what is kept, and what is dropped
 

@@ -8,7 +8,6 @@ use native.Mathlib.Omega.{arith}
 use lib.Bits.{bitAnd, bitOr, and-mask, and-high, or-shifted-r}
 use lib.Pow.{shl-exact}
 use lib.ListN.{getD}
-use borrow.Author.Tests.{le-leb, lt-leb}
 use Rattle.rules.specs.Numbers.{numberOf, byteOf}
 use Rattle.rules.specs.Core.{Core}
 use Rattle.rules.specs.Map.{Cell, bytes, routesAt, vectorsAt, inByteArea, cellAt}

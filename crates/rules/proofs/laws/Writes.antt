@@ -7,7 +7,6 @@ use native.Mathlib.Nat.{add-zero}
 use native.Mathlib.Omega.{arith}
 use lib.Bits.{bitAnd}
 use lib.ListN.{set}
-use borrow.Author.Tests.{le-leb, lt-leb}
 use Rattle.rules.specs.Numbers.{byteOf, withByte}
 use Rattle.rules.specs.Inputs.{withHalf}
 use Rattle.rules.specs.Lines.{Lines, Made, withIsr}
