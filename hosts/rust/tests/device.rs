@@ -121,7 +121,7 @@ fn a_write_tells_how_many_events_it_dropped() {
     let (mut pic, window) = (PchPic::new(), Window::at(0));
     assert_eq!(pic.write(window, reg::MASK, Width::Qword, 0), Ok(0));
     for input in 0..40 {
-        assert!(pic.set_level(input, true).unwrap().is_some());
+        assert_ne!(pic.set_level(input, true).unwrap(), None);
     }
     // 16 deasserts wait; the low half drops 16, the high half 8
     assert_eq!(pic.write(window, reg::MASK, Width::Qword, u64::MAX), Ok(24));
