@@ -71,9 +71,9 @@
 
 /* The version of the header and of what it says about the library. */
 #define PCH_PIC_VERSION_MAJOR 0
-#define PCH_PIC_VERSION_MINOR 4
+#define PCH_PIC_VERSION_MINOR 5
 #define PCH_PIC_VERSION_PATCH 0
-#define PCH_PIC_VERSION "0.4.0"
+#define PCH_PIC_VERSION "0.5.0"
 
 #ifdef __cplusplus
 extern "C" {
@@ -114,7 +114,8 @@ enum {
     PCH_PIC_EVENTS_DROPS = 1          /* in the body of the events: how many were dropped, 4 bytes */
 };
 
-/* The numbers handed back. A call tests for them in the order 7, 4, 5, 6, then 3, or 2 before 1, and hands back the first that holds. */
+/* The numbers handed back. A call tests for them in the order 7, 4, 5, 8, 9, 10, 11, then 3, or 2 before 1, and hands back the first
+ * that holds. There is no 6 any more. */
 enum pch_pic_number {
     PCH_PIC_DONE = 0,     /* the call was done */
     PCH_PIC_OUTSIDE = 1,  /* not all bytes of the access are inside the window; the value is the address */
@@ -122,8 +123,12 @@ enum pch_pic_number {
     PCH_PIC_INPUT = 3,    /* the input is 64 or more */
     PCH_PIC_LENGTH = 4,   /* the image is not 259 bytes long */
     PCH_PIC_CONTENTS = 5, /* the image's first 22 bytes are not those of form 1 */
-    PCH_PIC_BODY = 6,     /* the rest of the image breaks a rule of the form */
-    PCH_PIC_ROOM = 7      /* the answer area is under 16 bytes, or the place of a drain is past the end of its buffer */
+    PCH_PIC_ROOM = 7,     /* the answer area is under 16 bytes, or the place of a drain is past the end of its buffer */
+    /* A rule of the form is broken; the value is the place in the image of the byte that breaks it, the first where there are several. */
+    PCH_PIC_COPY = 8,     /* the copy of IRR differs from IRR; the place of its first byte */
+    PCH_PIC_COUNT = 9,    /* more than 16 events wait */
+    PCH_PIC_FLAG = 10,    /* the flag of a waiting event is neither 0 nor 1 */
+    PCH_PIC_UNUSED = 11   /* a byte behind the waiting events is not 0 */
 };
 
 /* A number in words. */
@@ -136,8 +141,11 @@ static inline const char *pch_pic_why(int number)
     case PCH_PIC_INPUT: return "the input is 64 or more";
     case PCH_PIC_LENGTH: return "the image is not 259 bytes long";
     case PCH_PIC_CONTENTS: return "the image does not begin as form 1 does";
-    case PCH_PIC_BODY: return "the image breaks a rule of the form";
     case PCH_PIC_ROOM: return "a buffer is too short";
+    case PCH_PIC_COPY: return "the image's copy of IRR differs from IRR";
+    case PCH_PIC_COUNT: return "the image says that more than 16 events wait";
+    case PCH_PIC_FLAG: return "the flag of a waiting event in the image is neither 0 nor 1";
+    case PCH_PIC_UNUSED: return "the image has a byte that is not 0 behind its waiting events";
     default: return "unknown number";
     }
 }
@@ -165,23 +173,23 @@ uint8_t pch_pic_reset(uint8_t *image, size_t image_len, uint8_t *answer, size_t 
 
 /* The guest reads width bytes (1, 2, 4 or 8) at address. The window is the size bytes from base on, and ends before address 2^64 - 1; all
  * bytes of an access have to lie inside. The value is what was read: 0 where no register stands. A read changes nothing in the image.
- * Refusals: 7, 4, 5, 6, 2, 1. */
+ * Refusals: 7, 4, 5, 8 to 11, 2, 1. */
 uint8_t pch_pic_read(const uint8_t *image, size_t image_len, uint64_t base, uint64_t size, uint64_t address, uint64_t width,
                      uint8_t *answer, size_t answer_len);
 
 /* The guest writes the low width bytes of value at address; the window is as for a read. Where no register stands, nothing changes. Events
  * that the write makes wait to be drained. The value is how many of them were dropped, and is always present: 0 where none was. It is no
  * vector: a host that takes a present value for one must ask which call gave it. It goes on telling where the drop count has reached its stop.
- * Refusals: 7, 4, 5, 6, 2, 1. */
+ * Refusals: 7, 4, 5, 8 to 11, 2, 1. */
 uint8_t pch_pic_write(uint8_t *image, size_t image_len, uint64_t base, uint64_t size, uint64_t address, uint64_t width, uint64_t value,
                       uint8_t *answer, size_t answer_len);
 
 /* The host lowers an input's line (level 0) or raises it (any other level). The value, if present, is a vector: to assert where the line was
- * raised, to deassert where it was lowered. Absent: nothing to pass on. Refusals: 7, 4, 5, 6, 3. */
+ * raised, to deassert where it was lowered. Absent: nothing to pass on. Refusals: 7, 4, 5, 8 to 11, 3. */
 uint8_t pch_pic_level(uint8_t *image, size_t image_len, uint64_t input, uint64_t level, uint8_t *answer, size_t answer_len);
 
 /* The host asks for an input whose line was raised before. If it is latched, unmasked and not in service, it goes into service, and the value
- * is the vector to assert. An unmask announces only the lowest input that waits: poll the others. Refusals: 7, 4, 5, 6, 3. */
+ * is the vector to assert. An unmask announces only the lowest input that waits: poll the others. Refusals: 7, 4, 5, 8 to 11, 3. */
 uint8_t pch_pic_poll(uint8_t *image, size_t image_len, uint64_t input, uint8_t *answer, size_t answer_len);
 
 /* Moves waiting events to the event buffer, oldest first, from byte place on: two bytes each, the vector and then 1 for an assert or 0 for a

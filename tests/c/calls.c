@@ -151,7 +151,21 @@ int main(void)
     image[222] = 17;
     guard();
     n = pch_pic_read(image, IMAGE, 0, 0x400, 0, 3, answer, ANSWER);
-    expect("6 before 2: seventeen waiting", n == 6 && answers(6, 0, 0));
+    expect("9 before 2: seventeen waiting, at the count", n == 9 && answers(9, 1, 222));
+    image[46] ^= 1;
+    guard();
+    n = pch_pic_read(image, IMAGE, 0, 0x400, 0, 3, answer, ANSWER);
+    expect("8 before 9: the copy of IRR, at its first byte", n == 8 && answers(8, 1, 46));
+    image[46] ^= 1;
+    image[222] = 3;
+    image[228 + 2] = 2;
+    guard();
+    n = pch_pic_poll(image, IMAGE, 64, answer, ANSWER);
+    expect("10 before 11 and 3: the first bad flag", n == 10 && answers(10, 1, 230));
+    image[228 + 2] = 1;
+    guard();
+    n = pch_pic_poll(image, IMAGE, 64, answer, ANSWER);
+    expect("11 before 3: the first byte behind those that wait", n == 11 && answers(11, 1, 233));
 
     printf("%d passed, %d failed\n", passed, failed);
     return failed != 0;

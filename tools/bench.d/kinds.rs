@@ -157,7 +157,7 @@ fn refusals(busy: &dyn Fn() -> Prepared) -> Vec<Kind> {
         refused("refusal-7-place", "refusal 7: place (drain)", 7, busy(), Call::Drain { place: 33 }),
         Kind { image_len: 258, ..refused("refusal-4", "refusal 4: length (raise)", 4, busy(), level) },
         refused("refusal-5", "refusal 5: contents (raise)", 5, busy().byte(21, 1), level),
-        refused("refusal-6", "refusal 6: last unused pair (raise)", 6, busy().byte(258, 1), level),
+        refused("refusal-11", "refusal 11: last unused pair (raise)", 11, busy().byte(258, 1), level),
         refused("refusal-3", "refusal 3: input (raise)", 3, busy(), Call::Level { input: 64, level: 1 }),
         refused("refusal-2", "refusal 2: width (write)", 2, busy(), write(0x020, 3, 0)),
         refused("refusal-1", "refusal 1: address (write)", 1, busy(), write(0x400, 4, 0)),

@@ -46,19 +46,30 @@ fn word(image: &[u8; LENGTH], at: usize) -> u64 {
     u64::from_le_bytes(image[at..at + 8].try_into().unwrap())
 }
 
-/// Refusals 5 and 6: the contents, and the rules of the bodies, which are the copy of IRR, the count, the flags of waiting pairs and the
-/// zeros of unused ones.
+fn broken(number: u8, place: usize) -> Refusal {
+    Refusal { number, value: Some(place as u64) }
+}
+
+/// Refusals 5 and 8 to 11: the contents, and the rules of the bodies, which are the copy of IRR, the count, the flags of waiting pairs and the
+/// zeros of unused ones, each with the place that breaks it.
 fn check(image: &[u8; LENGTH]) -> Result<(), Refusal> {
     if image[..REGISTERS] != CONTENTS {
         return Err(refusal(5));
     }
+    if word(image, REGISTERS + 24) != word(image, REGISTERS + 32) {
+        return Err(broken(8, REGISTERS + 24));
+    }
     let count = image[COUNT] as usize;
-    if word(image, REGISTERS + 24) != word(image, REGISTERS + 32) || count > 16 {
-        return Err(refusal(6));
+    if count > 16 {
+        return Err(broken(9, COUNT));
     }
     let (waiting, unused) = image[PAIRS..].split_at(2 * count);
-    if waiting.chunks_exact(2).any(|pair| pair[1] > 1) || *unused != [0; 32][2 * count..] {
-        return Err(refusal(6));
+    if let Some(pair) = waiting.chunks_exact(2).position(|pair| pair[1] > 1) {
+        return Err(broken(10, PAIRS + 2 * pair + 1));
+    }
+    if *unused != [0; 32][2 * count..] {
+        let place = unused.iter().position(|&byte| byte != 0).unwrap_or(0);
+        return Err(broken(11, PAIRS + 2 * count + place));
     }
     Ok(())
 }

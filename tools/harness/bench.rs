@@ -19,7 +19,7 @@ pub struct Met {
     /// Calls by kind, in the order of `Call`.
     pub kinds: [u64; 6],
     /// Calls by the number that 01 expects.
-    pub numbers: [u64; 8],
+    pub numbers: [u64; 12],
     pub vectors_returned: u64,
     pub events_drained: u64,
     /// Calls on an image with 16 waiting.

@@ -55,8 +55,8 @@ impl Boundary {
             return Ok(None);
         }
         match image::test(image) {
-            0 => {}
-            number => return Err((number, None)),
+            (0, _) => {}
+            refused => return Err(refused),
         }
         if *image != self.left {
             self.load(image);

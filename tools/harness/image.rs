@@ -16,26 +16,34 @@ pub const COUNT: usize = 222;
 pub const DROPS: usize = 223;
 pub const PAIRS: usize = 227;
 
-/// 0 for an accepted image; else the refusal: 4 the length, 5 the contents, 6 a rule of the bodies.
-pub fn test(bytes: &[u8]) -> u8 {
+/// 0 for an accepted image; else the refusal, and of one for a rule of the bodies the place that breaks it: 4 the length, 5 the contents, 8 the copy of
+/// IRR, 9 the count, 10 a flag of a waiting pair, 11 a byte of an unused one.
+pub fn test(bytes: &[u8]) -> (u8, Option<u64>) {
     if bytes.len() != LENGTH {
-        return 4;
+        return (4, None);
     }
     if bytes[..22] != CONTENTS {
-        return 5;
+        return (5, None);
     }
     if bytes[LAST_IRR..LAST_IRR + 8] != bytes[IRR..IRR + 8] {
-        return 6;
+        return (8, Some(LAST_IRR as u64));
     }
     let count = bytes[COUNT] as usize;
     if count > 16 {
-        return 6;
+        return (9, Some(COUNT as u64));
     }
-    let (waiting, unused) = bytes[PAIRS..].split_at(2 * count);
-    if waiting.chunks(2).any(|pair| pair[1] > 1) || unused.iter().any(|&byte| byte != 0) {
-        return 6;
+    for pair in 0..count {
+        let flag = PAIRS + 2 * pair + 1;
+        if bytes[flag] != 0 && bytes[flag] != 1 {
+            return (10, Some(flag as u64));
+        }
     }
-    0
+    for (place, &byte) in bytes.iter().enumerate().skip(PAIRS + 2 * count) {
+        if byte != 0 {
+            return (11, Some(place as u64));
+        }
+    }
+    (0, None)
 }
 
 /// The state that an accepted image holds, its ring starting at slot `head`, and the drop count.

@@ -28,12 +28,12 @@ struct Recorder {
     calls: u32,
     // how many calls of each kind there are, and how many answers of each number
     kinds: [u32; 7],
-    numbers: [u32; 8],
+    numbers: [u32; 12],
 }
 
 impl Recorder {
     fn new() -> Self {
-        Recorder { rust: Boundary::new(), image: [0; IMAGE_BUFFER], file: vec![0; RECORD], calls: 0, kinds: [0; 7], numbers: [0; 8] }
+        Recorder { rust: Boundary::new(), image: [0; IMAGE_BUFFER], file: vec![0; RECORD], calls: 0, kinds: [0; 7], numbers: [0; 12] }
     }
 
     /// How many records there are, the header left aside.
@@ -122,7 +122,7 @@ fn main() {
     let (records, calls) = (recorder.records(), recorder.calls);
     let [_, reset, read, write, level, poll, drain] = recorder.kinds;
     println!(
-        "reset {reset}, read {read}, write {write}, level {level}, poll {poll}, drain {drain}; numbers 0 to 7: {:?}",
+        "reset {reset}, read {read}, write {write}, level {level}, poll {poll}, drain {drain}; numbers 0 to 11: {:?}",
         recorder.numbers
     );
     let file = recorder.finish();

@@ -231,7 +231,7 @@ fn answers(bench: &mut Bench, _: &mut Chance, states: &[Image]) {
     }
 }
 
-/// Several faults at once: the number handed back is the first in 01's order, 7, 4, 5, 6, then 3, or 2 before 1.
+/// Several faults at once: the number handed back is the first in 01's order, 7, 4, 5, 8 to 11, then 3, or 2 before 1.
 fn orders(bench: &mut Bench, _: &mut Chance, states: &[Image]) {
     let (base, size) = (0x100, 0x400);
     let mut calls = vec![Call::Reset];
