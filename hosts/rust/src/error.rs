@@ -72,7 +72,7 @@ impl Error {
 impl fmt::Display for Error {
     fn fmt(&self, f: &mut fmt::Formatter<'_>) -> fmt::Result {
         match self {
-            Error::Outside(address) => write!(f, "an access at address {address:#x} is not wholly inside the window"),
+            Error::Outside(address) => write!(f, "the access at {address:#x} is not wholly inside the window"),
             Error::Width => f.write_str("the width is not 1, 2, 4 or 8"),
             Error::Input => f.write_str("the input is 64 or more"),
             Error::Length => f.write_str("the image is not 259 bytes long"),

@@ -268,7 +268,7 @@ fn events_and_errors_in_words() {
     assert_eq!(deassert_event(0xff).to_string(), "deassert vector 0xff");
     assert_eq!(format!("{:>6}|{}", Width::Word, Width::Qword), "  Word|Qword");
     assert_eq!(usize::from(Width::Qword), 8);
-    assert_eq!(Error::Outside(0x400).to_string(), "the address 0x400 is outside the window");
+    assert_eq!(Error::Outside(0x400).to_string(), "the access at 0x400 is not wholly inside the window");
 }
 
 #[test]

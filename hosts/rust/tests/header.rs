@@ -46,7 +46,7 @@ fn refusals() {
     ] {
         assert_eq!(header[name], u64::from(error.number()), "{name}");
         // The crate's text tells the address too.
-        let ours = error.to_string().replace(" 0x0", "");
+        let ours = error.to_string().replace(" at 0x0", "");
         assert_eq!(text(name), Some(ours), "{name}");
     }
 }
