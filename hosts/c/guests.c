@@ -193,14 +193,14 @@ static void a_restore(const char *path)
     expect("a write whose event waits", pic_write(&old.pic, BASE + PCH_PIC_REG_MASK, 4, 0xffffff00, NULL) == PCH_PIC_DONE && pic_waiting(&old.pic) == 1);
     expect("the device is saved", pic_save(&old.pic, path) == PCH_PIC_DONE);
     start(&fresh);
-    expect("and loaded", pic_load(&fresh.pic, path) == PCH_PIC_DONE);
+    expect("and loaded", pic_load(&fresh.pic, path, NULL) == PCH_PIC_DONE);
     expect("whole", memcmp(old.pic.image, fresh.pic.image, sizeof old.pic.image) == 0);
     expect("the fresh host goes on", pic_resume(&fresh.pic, &fresh.wires, 1 << 3 | 1 << 7) == PCH_PIC_DONE);
     expect("with what is in service, and no more", ONLY(&fresh, 3, 7, 40) && fresh.above.told == 3);
     expect("a line that fell is not latched", pic_latched(&fresh.pic) == (1 << 3 | 1 << 7));
     /* A controller above that was restored too has its vectors on already. */
     start(&fresh);
-    expect("loaded once more", pic_load(&fresh.pic, path) == PCH_PIC_DONE);
+    expect("loaded once more", pic_load(&fresh.pic, path, NULL) == PCH_PIC_DONE);
     fresh.above.on[2] = fresh.wires.on[2] = fresh.above.on[40] = fresh.wires.on[40] = true;
     expect("the host goes on", pic_resume(&fresh.pic, &fresh.wires, 1 << 3 | 1 << 7) == PCH_PIC_DONE);
     expect("and tells the difference", ONLY(&fresh, 3, 7, 40) && fresh.above.told == 3 && fresh.above.again == 0);
@@ -281,7 +281,7 @@ static bool refused(const char *path, int number)
     struct pic pic, before;
     pic_init(&pic, BASE);
     before = pic;
-    return pic_load(&pic, path) == number && memcmp(pic.image, before.image, sizeof pic.image) == 0;
+    return pic_load(&pic, path, NULL) == number && memcmp(pic.image, before.image, sizeof pic.image) == 0;
 }
 
 /* With the checksum made anew, so that the library has to find it. */
@@ -304,7 +304,7 @@ static void files(const char *path)
     uint8_t saved[SAVED_LEN + 1] = {0}, bytes[SAVED_LEN + 1];
     char beside[5000];
     pic_init(&pic, BASE);
-    expect("a device is saved", pic_save(&pic, path) == PCH_PIC_DONE && pic_load(&pic, path) == PCH_PIC_DONE);
+    expect("a device is saved", pic_save(&pic, path) == PCH_PIC_DONE && pic_load(&pic, path, NULL) == PCH_PIC_DONE);
     FILE *file = fopen(path, "rb");
     expect("in as many bytes as the form says", file && fread(saved, 1, sizeof saved, file) == SAVED_LEN && fclose(file) == 0);
     snprintf(beside, sizeof beside, "%s.new", path);
@@ -325,7 +325,7 @@ static void files(const char *path)
     put_file(path, pic.image, sizeof pic.image);
     expect("a bare image is no saved device", refused(path, PIC_FOREIGN));
     expect("another form is refused by the library", forged(path, saved, PCH_PIC_IMAGE_FORM, 9, PCH_PIC_CONTENTS));
-    expect("so is a broken rule", forged(path, saved, PCH_PIC_IMAGE_LEN - 1, 1, PCH_PIC_BODY));
+    expect("so is a broken rule", forged(path, saved, PCH_PIC_IMAGE_LEN - 1, 1, PCH_PIC_UNUSED));
     remove(path);
     expect("no file, no load", refused(path, PIC_FILE));
     expect("what an earlier save left is no hindrance", mkfifo(beside, 0600) == 0 && pic_save(&pic, path) == PCH_PIC_DONE);
@@ -371,7 +371,7 @@ static void what_is_no_device(void)
     expect("there is no input 64", pic_poll(&pic, 64, &event) == PCH_PIC_INPUT && pic_line(&pic, &wires, 64, true) == PCH_PIC_INPUT &&
                                        pic_line(&pic, &wires, UINT64_MAX, false) == PCH_PIC_INPUT);
     expect("each input has its vector", pic_vector(&pic, 0) == 0 && pic_vector(&pic, 63) == 63 && pic_vector(&pic, 64) == 0);
-    expect("numbers in words", strcmp(pic_why(6), "the image breaks a rule of the form") == 0 && strcmp(pic_why(99), "unknown number") == 0);
+    expect("numbers in words", strcmp(pic_why(PCH_PIC_COUNT), "the image says that more than 16 events wait") == 0 && strcmp(pic_why(99), "unknown number") == 0);
 }
 
 /* What an image holds is found by its contents, so a form with other places is read as well: here the registers have eight bytes less. */

@@ -27,12 +27,27 @@ static void must(int number)
 }
 
 /* A file may be anything. */
-static void stored(const char *what, const char *path, int number)
+static void saved(const char *path, int number)
 {
     if (number != PCH_PIC_DONE) {
-        fprintf(stderr, "load_sample: cannot %s %s: %s\n", what, path, pic_why(number));
+        fprintf(stderr, "load_sample: cannot save %s: %s\n", path, pic_why(number));
         exit(1);
     }
+}
+
+static void load(struct pic *pic, const char *path)
+{
+    uint64_t place = 0;
+    int number = pic_load(pic, path, &place);
+    if (number == PCH_PIC_DONE) {
+        return;
+    }
+    fprintf(stderr, "load_sample: cannot load %s: %s", path, pic_why(number));
+    if (place != 0) {
+        fprintf(stderr, ", at byte %" PRIu64, place);
+    }
+    fprintf(stderr, "\n");
+    exit(1);
 }
 
 /* A real host asserts or deasserts the vector at its CPUs here. */
@@ -119,10 +134,10 @@ static void save_and_load(struct host *host, const char *path)
     printf("The guest clears and unmasks it. The event waits, and the device is saved.\n");
     guest_writes(host, PCH_PIC_REG_CLEAR, 4, UINT64_C(1) << SAMPLE);
     must(pic_write(&host->pic, BASE + PCH_PIC_REG_MASK, 4, mask_without(host, SAMPLE), NULL));
-    stored("save", path, pic_save(&host->pic, path));
+    saved(path, pic_save(&host->pic, path));
     printf("A fresh host loads it; line %d is still high there.\n", SAMPLE);
     *host = new_host();
-    stored("load", path, pic_load(&host->pic, path));
+    load(&host->pic, path);
     must(pic_resume(&host->pic, &host->wires, UINT64_C(1) << SAMPLE));
     printf("The line goes down.\n");
     line(host, SAMPLE, false);
@@ -181,7 +196,7 @@ static int play(const char *path)
 static void show(const char *path)
 {
     struct host host = new_host();
-    stored("load", path, pic_load(&host.pic, path));
+    load(&host.pic, path);
     printf("Latched 0x%016" PRIx64 ", in service 0x%016" PRIx64 ", masked 0x%016" PRIx64 ".\n", pic_latched(&host.pic), pic_service(&host.pic),
            guest_reads(&host, PCH_PIC_REG_MASK, 8));
     printf("Waiting events: %u. Dropped: %" PRIu32 ".\n", pic_waiting(&host.pic), pic_drops(&host.pic));

@@ -78,9 +78,10 @@ int pic_line(struct pic *pic, struct pic_wires *wires, uint64_t input, bool high
 int pic_resume(struct pic *pic, struct pic_wires *wires, uint64_t high);
 
 /* The device to a file and back (pic_file.c). The file has a magic, a length and a checksum, and is replaced whole or not at all. The window is not in
- * it: pic_init sets that, before a load too. A load that fails leaves pic as it was; after one that is done, pic_resume. */
+ * it: pic_init sets that, before a load too. A load that fails leaves pic as it was, and where its image breaks a rule of the form (8 to 11) *place,
+ * if place is not NULL, is the byte of the image that does; after one that is done, pic_resume. */
 int pic_save(const struct pic *pic, const char *path);
-int pic_load(struct pic *pic, const char *path);
+int pic_load(struct pic *pic, const char *path, uint64_t *place);
 
 const char *pic_why(int number);
 

@@ -124,7 +124,7 @@ static int test(const uint8_t *bytes, size_t len)
 }
 
 /* More is asked for than a device has, so that a longer file is seen. A read of ID tests the image and changes nothing. */
-int pic_load(struct pic *pic, const char *path)
+int pic_load(struct pic *pic, const char *path, uint64_t *place)
 {
     uint8_t bytes[4096], answer[PCH_PIC_ANSWER_LEN];
     FILE *file = fopen(path, "rb");
@@ -142,6 +142,9 @@ int pic_load(struct pic *pic, const char *path)
     int number = test(bytes, len);
     if (number == PCH_PIC_DONE) {
         number = pch_pic_read(bytes + HEAD_LEN, len - HEAD_LEN - SUM_LEN, 0, PCH_PIC_WINDOW_LEN, PCH_PIC_REG_ID, 4, answer, sizeof answer);
+        if (place != NULL && number >= PCH_PIC_COPY && number <= PCH_PIC_UNUSED) {
+            *place = answer[8] | (uint64_t)answer[9] << 8; /* an image is shorter than 65,536 bytes */
+        }
     }
     if (number == PCH_PIC_DONE) {
         memcpy(pic->image, bytes + HEAD_LEN, sizeof pic->image);

@@ -118,7 +118,7 @@ fn verified(day: &[Call]) -> Result<(), String> {
     let numbers = verify::random()?;
     let beside = if WITH_C { ", on kinds and day beside the published Rust too" } else { "" };
     eprintln!(
-        "bench: {} kinds, a day of {} calls and {} random calls left the same bytes on the sides{beside}; random numbers 0..7: {numbers:?}",
+        "bench: {} kinds, a day of {} calls and {} random calls left the same bytes on the sides{beside}; random numbers 0..11: {numbers:?}",
         kinds::all().len(),
         day.len(),
         verify::RANDOM

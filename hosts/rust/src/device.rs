@@ -269,7 +269,8 @@ impl PchPic {
     ///
     /// # Errors
     ///
-    /// [`Error::Length`], [`Error::Contents`] or [`Error::Body`] where the bytes break a rule of the form.
+    /// [`Error::Length`], [`Error::Contents`], or, with the place of the byte that breaks a rule of the form, [`Error::Copy`], [`Error::Count`],
+    /// [`Error::Flag`] or [`Error::Unused`].
     pub fn load(image: &[u8]) -> Result<Self, Error> {
         let image: [u8; IMAGE_LEN] = image.try_into().map_err(|_| Error::Length)?;
         // A read tests the image and changes nothing.

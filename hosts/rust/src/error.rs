@@ -26,10 +26,16 @@ pub enum Error {
     Length,
     /// 5: the image's first 22 bytes are not those of form 1.
     Contents,
-    /// 6: the rest of the image breaks a rule of the form.
-    Body,
     /// 7: the place of a drain is past the end of its buffer.
     Room,
+    /// 8: the image's copy of IRR differs from IRR; the place of its first byte.
+    Copy(u64),
+    /// 9: the image says that more than 16 events wait; the place of the count.
+    Count(u64),
+    /// 10: the flag of a waiting event is neither 0 nor 1; the place of the first such flag.
+    Flag(u64),
+    /// 11: a byte behind the waiting events is not 0; the place of the first such byte.
+    Unused(u64),
 }
 
 impl Error {
@@ -41,15 +47,18 @@ impl Error {
             Error::Input => 3,
             Error::Length => 4,
             Error::Contents => 5,
-            Error::Body => 6,
             Error::Room => 7,
+            Error::Copy(_) => 8,
+            Error::Count(_) => 9,
+            Error::Flag(_) => 10,
+            Error::Unused(_) => 11,
         }
     }
 
-    /// The value that goes with the number: of 1 the address.
+    /// The value that goes with the number: of 1 the address, of 8 to 11 the place in the image.
     pub const fn value(&self) -> Option<u64> {
         match self {
-            Error::Outside(address) => Some(*address),
+            Error::Outside(value) | Error::Copy(value) | Error::Count(value) | Error::Flag(value) | Error::Unused(value) => Some(*value),
             _ => None,
         }
     }
@@ -62,8 +71,11 @@ impl Error {
             (3, None) => Some(Error::Input),
             (4, None) => Some(Error::Length),
             (5, None) => Some(Error::Contents),
-            (6, None) => Some(Error::Body),
             (7, None) => Some(Error::Room),
+            (8, Some(place)) => Some(Error::Copy(place)),
+            (9, Some(place)) => Some(Error::Count(place)),
+            (10, Some(place)) => Some(Error::Flag(place)),
+            (11, Some(place)) => Some(Error::Unused(place)),
             _ => None,
         }
     }
@@ -77,8 +89,11 @@ impl fmt::Display for Error {
             Error::Input => f.write_str("the input is 64 or more"),
             Error::Length => f.write_str("the image is not 259 bytes long"),
             Error::Contents => f.write_str("the image does not begin as form 1 does"),
-            Error::Body => f.write_str("the image breaks a rule of the form"),
             Error::Room => f.write_str("a buffer is too short"),
+            Error::Copy(place) => write!(f, "the image's copy of IRR differs from IRR, at byte {place}"),
+            Error::Count(place) => write!(f, "the image says that more than 16 events wait, at byte {place}"),
+            Error::Flag(place) => write!(f, "the flag of a waiting event in the image is neither 0 nor 1, at byte {place}"),
+            Error::Unused(place) => write!(f, "the image has a byte that is not 0 behind its waiting events, at byte {place}"),
         }
     }
 }
@@ -91,8 +106,8 @@ mod tests {
 
     #[test]
     fn a_number_and_its_value_come_back() {
-        for number in 1..=7 {
-            let value = (number == 1).then_some(0x1234);
+        for number in [1, 2, 3, 4, 5, 7, 8, 9, 10, 11] {
+            let value = (number == 1 || number >= 8).then_some(0x1234);
             let error = Error::from_answer(number, value).unwrap();
             assert_eq!((error.number(), error.value()), (number, value));
         }
@@ -100,7 +115,7 @@ mod tests {
 
     #[test]
     fn other_answers_are_no_error() {
-        for number in [0, 8, 255] {
+        for number in [0, 6, 8, 12, 255] {
             assert_eq!(Error::from_answer(number, None), None);
         }
         assert_eq!(Error::from_answer(1, None), None);

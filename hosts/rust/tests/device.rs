@@ -194,14 +194,19 @@ fn what_is_no_image_is_refused() {
     }
     // The copy of IRR, the count, a waiting event's flag, an unused pair: places in the bodies of the registers and of the events.
     let (registers, events) = (offset_of(&image, 1), offset_of(&image, 4));
-    for breach in [&[(registers + 24, 1)][..], &[(events, 17)], &[(events, 1), (events + 6, 2)], &[(IMAGE_LEN - 1, 1)]] {
+    let broken = |breach: &[(usize, u8)], why: fn(u64) -> Error, place: usize| {
         let mut broken = image;
         for (place, byte) in breach {
             broken[*place] = *byte;
         }
-        assert_eq!(PchPic::try_from(&broken[..]), Err(Error::Body), "{breach:?}");
-        assert_eq!(PchPic::try_from(broken), Err(Error::Body), "{breach:?}");
-    }
+        assert_eq!(PchPic::try_from(&broken[..]), Err(why(place as u64)), "{breach:?}");
+        assert_eq!(PchPic::try_from(broken), Err(why(place as u64)), "{breach:?}");
+    };
+    broken(&[(registers + 26, 1)], Error::Copy, registers + 24);
+    broken(&[(events, 17)], Error::Count, events);
+    broken(&[(events, 2), (events + 6, 1), (events + 8, 2)], Error::Flag, events + 8);
+    broken(&[(events, 1), (events + 6, 2), (IMAGE_LEN - 1, 1)], Error::Flag, events + 6);
+    broken(&[(IMAGE_LEN - 1, 1)], Error::Unused, IMAGE_LEN - 1);
 }
 
 #[test]

@@ -41,12 +41,15 @@ fn refusals() {
         ("INPUT", Error::Input),
         ("LENGTH", Error::Length),
         ("CONTENTS", Error::Contents),
-        ("BODY", Error::Body),
         ("ROOM", Error::Room),
+        ("COPY", Error::Copy(0)),
+        ("COUNT", Error::Count(0)),
+        ("FLAG", Error::Flag(0)),
+        ("UNUSED", Error::Unused(0)),
     ] {
         assert_eq!(header[name], u64::from(error.number()), "{name}");
-        // The crate's text tells the address too.
-        let ours = error.to_string().replace(" at 0x0", "");
+        // The crate's text tells the address or the place too.
+        let ours = error.to_string().replace(" at 0x0", "").replace(", at byte 0", "");
         assert_eq!(text(name), Some(ours), "{name}");
     }
 }
