@@ -3,9 +3,9 @@ use mathlib.Core.Path.{_∙_}
 use native.Mathlib.Omega.{arith}
 use borrow.Author.Needs.{needs}
 use Rattle.rules.specs.Numbers.{Bytes}
-use Rattle.image.proofs.Pairs.{pairs-empty, pairs-flagged, pairs-unused}
-use Rattle.image.proofs.check.pairs_good.Statement.{statement}
-use Rattle.image.proofs.check.pairs_good.Tie as tie
+use Rattle.checked.proofs.Pairs.{pairs-empty, pairs-flagged, pairs-unused}
+use Rattle.checked.proofs.pairs_good.Statement.{statement}
+use Rattle.checked.proofs.pairs_good.Tie as tie
 
 bytes : (c : tie.After-all-bits) → Bytes (c .before .before .args .pairs .now)
 bytes c j = omega (arith, c .before .shared-slice-known .given j)

@@ -17,11 +17,12 @@ use Rattle.rules.proofs.laws.Lists.{part-part, equal-same, differ-same}
 use Rattle.rules.proofs.laws.Bits.{test}
 use Rattle.rules.proofs.laws.Layout.{length-contents}
 use Rattle.rules.proofs.laws.Saved.{bytes-contents}
-use Rattle.image.specs.Shown.{formView, headGood, ContentsOf}
+use Rattle.image.specs.Shown.{formView, ContentsOf}
+use Rattle.checked.specs.Good.{headGood}
 use Rattle.image.specs.declared.form.Contents.{Contents}
-use Rattle.image.proofs.Forms.{words-known}
-use Rattle.image.proofs.check.contents_good.Statement.{statement}
-use Rattle.image.proofs.check.contents_good.Tie as tie
+use Rattle.checked.proofs.Tested.{words-known}
+use Rattle.checked.proofs.contents_good.Statement.{statement}
+use Rattle.checked.proofs.contents_good.Tie as tie
 
 module _ (f : Form) (l : List ℕ) where
   -- a number of eight bytes that differs from that of the contents

@@ -12,11 +12,13 @@ use Rattle.rules.specs.Numbers.{part}
 use Rattle.rules.specs.Ring.{capacity}
 use Rattle.rules.specs.Form.{Form, word, irr, copy, count, pairs, formLength, read}
 use Rattle.rules.specs.Image.{registerAt, countIn}
-use Rattle.image.specs.Shown.{formView, PlacesOf, pairsGood, bodiesGood}
+use Rattle.image.specs.Shown.{formView, PlacesOf}
+use Rattle.checked.specs.Good.{pairsGood, bodiesGood}
 use Rattle.image.specs.declared.form.Places.{Places}
-use Rattle.image.proofs.Forms.{always-within, always-at, copy-within, rules-tested}
-use Rattle.image.proofs.check.body_good.Statement.{statement}
-use Rattle.image.proofs.check.body_good.Tie as tie
+use Rattle.image.proofs.Forms.{always-within, always-at, copy-within}
+use Rattle.checked.proofs.Tested.{rules-tested}
+use Rattle.checked.proofs.body_good.Statement.{statement}
+use Rattle.checked.proofs.body_good.Tie as tie
 
 -- the rules, given what the first two say
 module _ (f : Form) (l : List ℕ) (s : length l ≡ formLength f) (p : Places) (o : PlacesOf f p) where

@@ -1,28 +1,24 @@
 // Whether an image may be loaded. Bytes are compared as numbers, eight at a time. Of the ring's pairs the bits are gathered that any has:
-// they settle the commonest ring, and all flags at once.
-use crate::form::CAPACITY;
-use crate::form::Form;
-use crate::form::KnownForm;
-use crate::form::PAIRS_LENGTH;
-use crate::form::contents_of;
-use crate::form::form_of;
-use crate::form::places_of;
+// they settle the commonest ring, and all flags at once. What is wrong, and where, is searched for only in an image that is not accepted.
 use bytes::word_at;
+use faults::Checked;
+use faults::first_fault;
+use image::form::CAPACITY;
+use image::form::Form;
+use image::form::KnownForm;
+use image::form::PAIRS_LENGTH;
+use image::form::contents_of;
+use image::form::form_of;
+use image::form::places_of;
 ghost use mathlib.Core.Path.{_≡_};
 ghost use Prim.Native.Nat.{_*_, _≤_};
 ghost use lib.ListN.{length, drop};
 ghost use Rattle.rules.specs.Ring.{capacity};
 ghost use Rattle.rules.specs.Form.{formLength};
 ghost use Rattle.rules.specs.Image.{imageTest};
-ghost use Rattle.image.specs.Shown.{formView, checkedView, bitsOf, allZero, pairsGood, headGood, bodiesGood};
-
-// What testing an image finds.
-pub enum Checked {
-    Accepted,
-    WrongLength,
-    WrongContents,
-    WrongBody,
-}
+ghost use Rattle.image.specs.Shown.{formView};
+ghost use Rattle.faults.specs.Found.{checkedView};
+ghost use Rattle.checked.specs.Good.{bitsOf, allZero, pairsGood, headGood, bodiesGood};
 
 // The bits that any of the four words of the pairs has.
 fn all_bits(pairs: &[u8]) -> u64
@@ -116,7 +112,7 @@ pub fn check(image: &[u8]) -> Checked
         return Checked::WrongContents;
     }
     if !body_good(image, form) {
-        return Checked::WrongBody;
+        return first_fault(image, form);
     }
     Checked::Accepted
 }

@@ -1,6 +1,6 @@
 -- `check` tests in the order of the definition: the length, which tells the form, the contents, the bodies.
 use mathlib.Core.Path.{_≡_, refl, sym, ap, _∙_}
-use mathlib.Core.Bool.{Bool, true, false, cond, false≢true}
+use mathlib.Core.Bool.{Bool, true, false, false≢true}
 use mathlib.Core.List.{List}
 use Prim.Native.Nat.{ℕ}
 use borrow.Author.Needs.{needs}
@@ -9,19 +9,17 @@ use lib.ListN.{length}
 use Rattle.rules.specs.Numbers.{part}
 use Rattle.rules.specs.Form.{forms, unknown, known, formLength, contentsLength, contentsOf, formOf}
 use Rattle.rules.specs.Form as rules-form
-use Rattle.rules.specs.Image.{Finding, clear, found, rules, firstFault, accepted, wrongLength, wrongContents, wrongBody, bodyTest, imageTest}
+use Rattle.rules.specs.Image.{rules, firstFault, accepted, wrongLength, wrongContents, bodyTest, imageTest}
 use Rattle.rules.proofs.laws.Lists.{equal-same, same-equal}
 use Rattle.rules.proofs.laws.Tests.{form-known, test-known, test-contents, test-body}
-use Rattle.image.specs.Shown.{formView, formKnown, headGood, isClear, bodiesGood}
+use Rattle.image.specs.Shown.{formView, formKnown}
+use Rattle.checked.specs.Good.{headGood, bodiesGood}
+use Rattle.checked.proofs.Tested.{is-clear}
 use Rattle.image.specs.declared.form.Form.{Form}
 use Rattle.image.specs.declared.form.KnownForm.{KnownForm}
 use Rattle.image.specs.declared.form.KnownForm.the-variants.{Unknown, As}
-use Rattle.image.proofs.check.check.Statement.{statement}
-use Rattle.image.proofs.check.check.Tie as tie
-
-by-bodies : (x : Finding) → bodyTest x ≡ cond (isClear x) accepted wrongBody
-by-bodies clear = refl
-by-bodies (found k a) = refl
+use Rattle.checked.proofs.check.Statement.{statement}
+use Rattle.checked.proofs.check.Tie as tie
 
 module _ (l : List ℕ) (k : KnownForm) (e : formKnown k ≡ formOf (length l)) where
   no-form : k ≡ Unknown → wrongLength ≡ imageTest l
@@ -40,10 +38,14 @@ module _ (l : List ℕ) (k : KnownForm) (e : formKnown k ≡ formOf (length l)) 
           let f = formView form in
           sym (test-known l told ∙ test-contents f l sized (λ q. false≢true (sym t ∙ g ∙ equal-same (part 0 (contentsLength f) l) (contentsOf f) q)))
 
-      body-decides : good ≡ true → (body : Bool) → body ≡ bodiesGood (formView form) l → {t : Bool} → body ≡ t → cond t accepted wrongBody ≡ imageTest l
-      body-decides t body b u =
+      -- the contents are good, and the bodies decide
+      by-bodies : good ≡ true → bodyTest (firstFault (formView form) l (rules (formView form) l)) ≡ imageTest l
+      by-bodies t =
           let f = formView form in
-          sym (test-known l told ∙ test-body f l sized (same-equal (part 0 (contentsLength f) l) (contentsOf f) (sym g ∙ t)) ∙ by-bodies (firstFault f l (rules f l)) ∙ ap (λ t. cond t accepted wrongBody) (sym b ∙ u))
+          sym (test-known l told ∙ test-body f l sized (same-equal (part 0 (contentsLength f) l) (contentsOf f) (sym g ∙ t)))
+
+      good-bodies : good ≡ true → bodiesGood (formView form) l ≡ true → accepted ≡ imageTest l
+      good-bodies t b = ap bodyTest (sym (is-clear (firstFault (formView form) l (rules (formView form) l)) b)) ∙ by-bodies t
 
 returns : tie.Need-returns
 returns c =
@@ -64,14 +66,23 @@ returns-2 c =
     bad-contents (k .before .before .args .image .now) (k .form-of .result) (k .form-of .ensures) (m .form .given .0 .0) (m .form .given .1) (g .contents-good .result) (g .contents-good .ensures)
     (not-true _ (c .if1 .taken))
 
--- the contents are good, and the bodies decide
-decided : (c : tie.After-body-good) {t : Bool} → c .body-good .result ≡ t → cond t accepted wrongBody ≡ imageTest (c .before .before .before .before .before .before .before .before .args .image .now)
-decided c =
-    let g = c .before .before in
+returns-3 : tie.Need-returns-3
+returns-3 c =
+    let g = c .before .before .before .before in
     let m = g .before .before in
     let k = m .before .before in
-    body-decides (k .before .before .args .image .now) (k .form-of .result) (k .form-of .ensures) (m .form .given .0 .0) (m .form .given .1) (g .contents-good .result) (g .contents-good .ensures)
-    (not-false _ (c .before .if1 .left)) (c .body-good .result) (c .body-good .ensures)
+    c .first-fault .ensures
+    ∙ by-bodies (k .before .before .args .image .now) (k .form-of .result) (k .form-of .ensures) (m .form .given .0 .0) (m .form .given .1) (g .contents-good .result) (g .contents-good .ensures)
+    (not-false _ (c .before .before .before .if1 .left))
+
+returns-4 : tie.Need-returns-4
+returns-4 c =
+    let b = c .before in
+    let g = b .before .before in
+    let m = g .before .before in
+    let k = m .before .before in
+    good-bodies (k .before .before .args .image .now) (k .form-of .result) (k .form-of .ensures) (m .form .given .0 .0) (m .form .given .1) (g .contents-good .result) (g .contents-good .ensures)
+    (not-false _ (b .before .if1 .left)) (sym (b .body-good .ensures) ∙ not-false _ (c .if2 .left))
 
 pub check-spec : {M : Type 1} → statement M
 check-spec =
@@ -82,5 +93,6 @@ check-spec =
     (λ c κs. fits c)
     returns-2
     (λ c κs. fits (c .before .before))
-    (λ c. decided (c .before) (not-true _ (c .if2 .taken)))
-    (λ c. decided (c .before) (not-false _ (c .if2 .left))))
+    (λ c κs. fits (c .before .before .before .before))
+    returns-3
+    returns-4)

@@ -5,9 +5,9 @@ use native.Mathlib.Numerals.{add-one}
 use native.Mathlib.Omega.{arith}
 use borrow.Author.Needs.{needs}
 use lib.Bits.{bitOr}
-use Rattle.image.specs.Shown.{bitsOf}
-use Rattle.image.proofs.check.all_bits.Statement.{statement}
-use Rattle.image.proofs.check.all_bits.Tie as tie
+use Rattle.checked.specs.Good.{bitsOf}
+use Rattle.checked.proofs.all_bits.Statement.{statement}
+use Rattle.checked.proofs.all_bits.Tie as tie
 
 abbrev Inv-loop : tie.InvT-loop
 Inv-loop pairs found₀ i₀ found i = (i ≤ 4) × (found ≡ bitsOf i pairs)

@@ -10,10 +10,10 @@ use lib.ListN.{length, drop, drop-of-length-le}
 use Rattle.rules.specs.Numbers.{Bytes}
 use Rattle.rules.specs.Ring.{capacity}
 use Rattle.rules.specs.Image.{registerAt}
-use Rattle.image.specs.Shown.{allZero}
-use Rattle.image.proofs.Pairs.{zero-word, zeros-more, none-more}
-use Rattle.image.proofs.check.unused_zero.Statement.{statement}
-use Rattle.image.proofs.check.unused_zero.Tie as tie
+use Rattle.checked.specs.Good.{allZero}
+use Rattle.checked.proofs.Pairs.{zero-word, zeros-more, none-more}
+use Rattle.checked.proofs.unused_zero.Statement.{statement}
+use Rattle.checked.proofs.unused_zero.Tie as tie
 
 -- the word in which the unused pairs begin
 first-word : (n x : ℕ) (l : List ℕ) → Bytes l → length l ≡ 2 * capacity → n < capacity → x ≡ registerAt (8 * (n / 4)) l

@@ -20,7 +20,7 @@ use Rattle.rules.proofs.laws.Lists.{length-part, part-then}
 use Rattle.rules.proofs.laws.Bytes.{bytes-drop, bytes-part}
 use Rattle.rules.proofs.laws.Bits.{test, on-and, on-or, on-ext}
 use Rattle.rules.proofs.laws.Tests.{Flags, Unused}
-use Rattle.image.specs.Shown.{flagsGood, allZero, pairsGood, bitsOf}
+use Rattle.checked.specs.Good.{flagsGood, allZero, pairsGood, bitsOf}
 
 -- ---- what the tests say
 
