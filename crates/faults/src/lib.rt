@@ -41,9 +41,9 @@ fn bad_flag(count: usize, pairs: &[u8]) -> usize
 {
     let mut i = 0;
     while i < count {
-        let flag = PAIR * i + FLAG;
-        if pairs[flag] > 1 {
-            return flag;
+        let pair = PAIR * i;
+        if pairs[pair + FLAG] > 1 {
+            return pair + FLAG;
         }
         i += 1;
     }
@@ -72,10 +72,10 @@ fn pair_fault(image: &[u8], at: usize, count: usize) -> Checked
 {
     let end = at + PAIRS_LENGTH;
     let flag = bad_flag(count, &image[at..end]);
+    let byte = used_byte(count, &image[at..end]);
     if flag < PAIRS_LENGTH {
         return Checked::Broken(Fault::Flag, at + flag);
     }
-    let byte = used_byte(count, &image[at..end]);
     if byte < PAIRS_LENGTH {
         return Checked::Broken(Fault::Unused, at + byte);
     }

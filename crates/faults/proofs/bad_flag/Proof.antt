@@ -39,7 +39,7 @@ bad-flag-spec =
     tie.close
     (tie.spec Inv-loop μ-loop
     loop-holds
-    (λ c. search needs) (λ c. search needs) (λ c. search needs)
+    (λ c. search needs) (λ c. search needs) (λ c. search needs) (λ c. search needs)
     returns
     (λ c. search needs) (λ c. search needs)
     loop-again

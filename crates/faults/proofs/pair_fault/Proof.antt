@@ -9,30 +9,35 @@ use Rattle.faults.proofs.pair_fault.Tie as tie
 
 returns : tie.Need-returns
 returns c =
-    let a = c .before .before .before .before .args in
+    let k = c .before .before .before in
+    let a = k .before .before .before .args in
     let w : a .at + 32 - a .at ≡ 32 = omega arith in
-    flag-told (a .at) (a .count) (a .image .now) (omega arith) w (c .before .bad-flag .ensures) (c .if1 .taken)
+    flag-told (a .at) (a .count) (a .image .now) (omega arith) w (k .bad-flag .ensures) (c .if1 .taken)
 
 returns-2 : tie.Need-returns-2
 returns-2 c =
-    let k = c .before .before .before .before in
+    let u = c .before .before in
+    let k = u .before .before in
     let a = k .before .before .before .args in
     let w : a .at + 32 - a .at ≡ 32 = omega arith in
-    unused-told (a .at) (a .count) (a .image .now) (omega arith) w (k .bad-flag .ensures) (omega arith) (c .before .used-byte .ensures) (c .if2 .taken)
+    unused-told (a .at) (a .count) (a .image .now) (omega arith) w (k .bad-flag .ensures) (c .before .if1 .left) (u .used-byte .ensures) (c .if2 .taken)
 
 returns-3 : tie.Need-returns-3
 returns-3 c =
-    let k = c .before .before .before .before in
+    let u = c .before .before in
+    let k = u .before .before in
     let a = k .before .before .before .args in
     let w : a .at + 32 - a .at ≡ 32 = omega arith in
-    pairs-clear (a .at) (a .count) (a .image .now) (omega arith) w (k .bad-flag .ensures) (omega arith) (c .before .used-byte .ensures) (c .if2 .left)
+    pairs-clear (a .at) (a .count) (a .image .now) (omega arith) w (k .bad-flag .ensures) (c .before .if1 .left) (u .used-byte .ensures) (c .if2 .left)
 
 pub pair-fault-spec : {M : Type 1} → statement M
 pair-fault-spec =
     tie.close
     (tie.spec
-    (λ c. search needs) (λ c. search needs) (λ c. search needs) (λ c. search needs) (λ c κs. search needs) (λ c. search needs)
+    (λ c. search needs) (λ c. search needs) (λ c. search needs) (λ c. search needs) (λ c κs. search needs)
+    (λ c. search needs) (λ c. search needs) (λ c. search needs) (λ c κs. search needs)
+    (λ c. search needs)
     returns
-    (λ c. search needs) (λ c. search needs) (λ c. search needs) (λ c κs. search needs) (λ c. search needs)
+    (λ c. search needs)
     returns-2
     returns-3)

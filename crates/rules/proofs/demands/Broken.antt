@@ -1,7 +1,7 @@
 -- Request C-16, 'Say what is wrong with the image': the set of accepted images stays; and what is told of an image is so, at the place that is told, and nothing
 -- is wrong before it.
 use mathlib.Core.Path.{_≡_, refl, sym, ap, _∙_}
-use mathlib.Core.Bool.{Bool, true, false, cond, not, _&&_, _||_, false≢true, and-eq-true-iff}
+use mathlib.Core.Bool.{Bool, true, false, cond, not, _&&_, false≢true, and-eq-true-iff}
 use mathlib.Core.List.{List, [], _∷_}
 use mathlib.Core.Logic.{⊎-elim}
 use Prim.Native.Nat.{ℕ, zero, suc, _+_, _-_, _*_, _/_, _%_, _<_, _≤_}
@@ -16,7 +16,7 @@ use Rattle.rules.specs.Image.{wordIn, countIn, Fault, copyDiffers, manyW
 use Rattle.rules.specs.Image.{accepted, wrongLength, wrongContents, broken, bodyTest, imageTest, everyByte, pairByte, acceptedBefore, imageLength, contents, countOf, countAt, pairsAt}
 use Rattle.rules.proofs.laws.Bits.{test}
 use Rattle.rules.proofs.laws.Lists.{equal-same, same-equal}
-use Rattle.rules.proofs.laws.Tests.{each-byte, Flags, Unused, Accepted, accepted-if-has, byte-read, length-read, Told, search-told, Decided, decided}
+use Rattle.rules.proofs.laws.Tests.{each-byte, Flags, accepted-if-has, byte-read, length-read, Told, search-told, decided}
 use Rattle.rules.proofs.laws.Tests.{Holds, flags-hold, copy-holds, count-holds, count-read}
 use Rattle.rules.proofs.laws.Images.{test-one, accepted-has}
 
