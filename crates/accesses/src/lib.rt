@@ -1,9 +1,9 @@
-// Reads and writes through the window, on the image alone: what they tell is handed back. The order of the tests is 4, 5, 6 by the image, then 2 before 1.
+// Reads and writes through the window, on the image alone: what they tell is handed back. The order of the tests is 4, 5, 8 to 11 by the image, then 2 before 1.
 use answer::Told;
 use answer::Value;
 use answer::done;
-use image::check::Checked;
-use image::check::check;
+use checked::check;
+use faults::Checked;
 use refusals::no_width;
 use refusals::of_image;
 use refusals::outside;

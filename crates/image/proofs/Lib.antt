@@ -1,3 +1,2 @@
--- The laws that the proofs of this crate cite.
-pub mod Pairs
+-- The laws that the proofs of this crate and of those above cite.
 pub mod Forms

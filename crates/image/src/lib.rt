@@ -1,3 +1,2 @@
-// The boundary's bytes: the form of the saved image, and whether an image may be loaded.
-pub mod check;
+// The boundary's bytes: the form of the saved image.
 pub mod form;

@@ -1,9 +1,9 @@
-// The calls on an input, on the image alone: what they tell is handed back. The order of the tests is 01's: 4, 5, 6 by the image, then 3.
+// The calls on an input, on the image alone: what they tell is handed back. The order of the tests is 01's: 4, 5, 8 to 11 by the image, then 3.
 use answer::Told;
 use answer::Value;
 use answer::done;
-use image::check::Checked;
-use image::check::check;
+use checked::check;
+use faults::Checked;
 use refusals::no_input;
 use refusals::of_image;
 ghost use mathlib.Core.Path.{_≡_};

@@ -1,5 +1,5 @@
 -- The image's test, as a call goes on or leaves by it, and what an image that passed it holds.
-use mathlib.Core.Path.{_≡_, refl, sym, ap, _∙_}
+use mathlib.Core.Path.{_≡_, refl, sym, _∙_}
 use mathlib.Core.Logic.{⊎-elim}
 use mathlib.Core.List.{List, [], _∷_}
 use Prim.Native.Nat.{ℕ, _≤_}
@@ -8,17 +8,17 @@ use types.Run.{OneOf}
 use denote.Enum.Declared.{tagOf}
 use lib.ListN.{length}
 use Rattle.rules.specs.Numbers.{Bytes}
-use Rattle.rules.specs.Device.{Call, Value, none}
+use Rattle.rules.specs.Device.{Call, Value}
 use Rattle.rules.specs.Image.{imageTest, accepted, decode, countOf}
-use Rattle.rules.specs.Calls.{imageNumber, Tested, Request, calls, askedBy, bufferOf, Ending, ending}
+use Rattle.rules.specs.Calls.{imageNumber, imageValue, Tested, Request, calls, askedBy, bufferOf, Ending, ending}
 use Rattle.rules.proofs.laws.Images.{accepted-has}
 use Rattle.rules.proofs.laws.Outcomes.{image-refused}
 use Rattle.inplace.specs.Held.{Holds}
 use Rattle.inplace.proofs.Doing.{held}
-use Rattle.image.specs.Shown.{checkedView}
-use Rattle.image.specs.declared.check.Checked.{Checked}
-use Rattle.image.specs.declared.check.Checked.the-variants.{Accepted, WrongLength, WrongContents, WrongBody}
-use Rattle.image.proofs.check.Checked.{the-type}
+use Rattle.faults.specs.Found.{checkedView}
+use Rattle.faults.specs.declared.Checked.{Checked}
+use Rattle.faults.specs.declared.Checked.the-variants.{Accepted, WrongLength, WrongContents, Broken}
+use Rattle.faults.proofs.Checked.{the-type}
 use Rattle.answer.specs.Given.{Tells, ends}
 use Rattle.answer.specs.declared.Told.{Told}
 
@@ -33,18 +33,18 @@ passed : (k : Checked) → OneOf (0 ∷ []) (tagOf the-type k) → checkedView k
 passed Accepted h = refl
 passed WrongLength h = absurd (omega arith)
 passed WrongContents h = absurd (omega arith)
-passed WrongBody h = absurd (omega arith)
+passed (Broken f a) h = absurd (omega arith)
 
 -- it left: the image is not
 failed : (k : Checked) → OneOf (1 ∷ 2 ∷ 3 ∷ []) (tagOf the-type k) → checkedView k ≡ accepted → ⊥
 failed Accepted h e = ⊎-elim (λ z. omega arith) (λ g. ⊎-elim (λ z. omega arith) (λ z. omega arith) g) h
 failed WrongLength h e = let z : _≡_ {A = ℕ} 0 1 = cc in omega arith
 failed WrongContents h e = let z : _≡_ {A = ℕ} 0 1 = cc in omega arith
-failed WrongBody h e = let z : _≡_ {A = ℕ} 0 1 = cc in omega arith
+failed (Broken f a) h e = let z : _≡_ {A = ℕ} 0 1 = cc in omega arith
 
--- 4, 5, 6: what is told of an image that is not accepted is how a call on it ends
+-- 4, 5, 8 to 11: what is told of an image that is not accepted is how a call on it ends
 pub by-image : (q : Request) {i : List ℕ} {x : Tested Call} → askedBy q ≡ calls x → (k : Checked) → OneOf (1 ∷ 2 ∷ 3 ∷ []) (tagOf the-type k) → checkedView k ≡ imageTest i
-    → (t : Told) → Tells t (imageNumber (checkedView k)) none → ends t i (bufferOf q) ≡ ending q i
+    → (t : Told) → Tells t (imageNumber (checkedView k)) (imageValue (checkedView k)) → ends t i (bufferOf q) ≡ ending q i
 by-image q {i} {x} asks k h e t p = tells t p (sym (image-refused q i x asks (checkedView k) (sym e) (failed k h)))
 
 -- ---- the image was accepted

@@ -1,13 +1,13 @@
 // What a call tells that is refused: 01's numbers, and the value that goes with each. Which refusal comes first is known above.
 use answer::Told;
 use answer::Value;
-use image::check::Checked;
+use faults::Checked;
+use faults::Fault;
 ghost use mathlib.Core.Path.{_≡_};
-ghost use Rattle.rules.specs.Device.{none};
-ghost use Rattle.rules.specs.Calls.{refusalNumber, refusalValue, noWidth, noInput, wrongLength, imageNumber};
+ghost use Rattle.rules.specs.Calls.{faultNumber, refusalNumber, refusalValue, noWidth, noInput, imageNumber, imageValue};
 ghost use Rattle.rules.specs.Calls as asked;
-ghost use Rattle.image.specs.Shown.{checkedView};
-ghost use Rattle.answer.specs.Given.{Tells};
+ghost use Rattle.faults.specs.Found.{faultView, checkedView};
+ghost use Rattle.answer.specs.Given.{valueView, Tells};
 
 // The address is outside the window.
 pub fn outside(address: u64) -> Told
@@ -37,7 +37,18 @@ pub fn no_input() -> Told
     }
 }
 
-// The number for what the test of an image found.
+fn fault_number(fault: Fault) -> u8
+    ensures { λ r. ⌜ r ≡ faultNumber (faultView fault) ⌝ }
+{
+    match fault {
+        Fault::Copy => 8,
+        Fault::Count => 9,
+        Fault::Flag => 10,
+        Fault::Unused => 11,
+    }
+}
+
+// The number for what the test of an image found, and its value: the place of what is wrong in a body.
 fn image_number(checked: Checked) -> u8
     ensures { λ r. ⌜ r ≡ imageNumber (checkedView checked) ⌝ }
 {
@@ -45,15 +56,26 @@ fn image_number(checked: Checked) -> u8
         Checked::Accepted => 0,
         Checked::WrongLength => 4,
         Checked::WrongContents => 5,
-        Checked::WrongBody => 6,
+        Checked::Broken(fault, _) => fault_number(fault),
+    }
+}
+
+fn image_value(checked: Checked) -> Value
+    ensures { λ r. ⌜ valueView r ≡ imageValue (checkedView checked) ⌝ }
+{
+    match checked {
+        Checked::Accepted => Value::Absent,
+        Checked::WrongLength => Value::Absent,
+        Checked::WrongContents => Value::Absent,
+        Checked::Broken(_, place) => Value::Present(place as u64),
     }
 }
 
 pub fn of_image(checked: Checked) -> Told
-    ensures { λ r. ⌜ Tells r (imageNumber (checkedView checked)) none ⌝ }
+    ensures { λ r. ⌜ Tells r (imageNumber (checkedView checked)) (imageValue (checkedView checked)) ⌝ }
 {
     Told {
         number: image_number(checked),
-        value: Value::Absent,
+        value: image_value(checked),
     }
 }

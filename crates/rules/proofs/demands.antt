@@ -7,3 +7,4 @@ pub mod EasyToGetWrong
 pub mod OneOutcome
 pub mod Refused
 pub mod Losses
+pub mod Broken

@@ -11,7 +11,7 @@ use Rattle.rules.specs.Access.{Width, byte, word, dword, qword}
 use Rattle.rules.specs.Device.{Device, Call, Value, none, some, step, value}
 use Rattle.rules.specs.Device as device
 use Rattle.rules.specs.Window.{inside, offset}
-use Rattle.rules.specs.Image.{imageLength, ImageTest, imageTest, encode, decode}
+use Rattle.rules.specs.Image.{Fault, copyDiffers, manyWait, badFlag, unusedSet, imageLength, ImageTest, imageTest, encode, decode}
 use Rattle.rules.specs.Image as image
 
 -- ---- refusals
@@ -19,17 +19,25 @@ use Rattle.rules.specs.Image as image
 -- why a call is refused (01, Numbers handed back)
 pub data Refusal : Type 0 where
   outside : ℕ → Refusal
-  noWidth noInput wrongLength wrongContents wrongBody noRoom : Refusal
+  noWidth noInput wrongLength wrongContents noRoom : Refusal
+  broken : Fault → ℕ → Refusal
 
--- its number, and its value: of 1 the address (01, Numbers handed back)
+-- the numbers of what can be wrong with an image's bodies (02, C-16)
+abbrev pub faultNumber : Fault → ℕ
+faultNumber copyDiffers = 8
+faultNumber manyWait = 9
+faultNumber badFlag = 10
+faultNumber unusedSet = 11
+
+-- its number, and its value: of 1 the address, of 8 to 11 the place in the image (01, Numbers handed back; 02, C-16)
 abbrev pub refusalNumber : Refusal → ℕ
 refusalNumber (outside address) = 1
 refusalNumber noWidth = 2
 refusalNumber noInput = 3
 refusalNumber wrongLength = 4
 refusalNumber wrongContents = 5
-refusalNumber wrongBody = 6
 refusalNumber noRoom = 7
+refusalNumber (broken k a) = faultNumber k
 
 abbrev pub refusalValue : Refusal → Value
 refusalValue (outside address) = some address
@@ -37,8 +45,8 @@ refusalValue noWidth = none
 refusalValue noInput = none
 refusalValue wrongLength = none
 refusalValue wrongContents = none
-refusalValue wrongBody = none
 refusalValue noRoom = none
+refusalValue (broken k a) = some a
 
 -- what a test answers: it passes and gives something, or it refuses
 pub data Tested (A : Type 0) : Type 0 where
@@ -52,19 +60,25 @@ onPass (refuse r) f = refuse r
 
 -- ---- the tests
 
--- 4, 5, 6: what the test of an image found, and the device of one that is accepted (01, Numbers handed back)
+-- 4, 5, then 8 to 11: what the test of an image found, and the device of one that is accepted (01, Numbers handed back; 02, C-16)
 abbrev pub imageAnswer : ImageTest → Device → Tested Device
 imageAnswer image.accepted d = pass d
 imageAnswer image.wrongLength d = refuse wrongLength
 imageAnswer image.wrongContents d = refuse wrongContents
-imageAnswer image.wrongBody d = refuse wrongBody
+imageAnswer (image.broken k a) d = refuse (broken k a)
 
--- the number of what was found, 0 for an accepted image (01, Numbers handed back)
+-- the number and the value of what was found, 0 and none for an accepted image (01, Numbers handed back)
 abbrev pub imageNumber : ImageTest → ℕ
 imageNumber image.accepted = 0
 imageNumber image.wrongLength = refusalNumber wrongLength
 imageNumber image.wrongContents = refusalNumber wrongContents
-imageNumber image.wrongBody = refusalNumber wrongBody
+imageNumber (image.broken k a) = refusalNumber (broken k a)
+
+abbrev pub imageValue : ImageTest → Value
+imageValue image.accepted = none
+imageValue image.wrongLength = refusalValue wrongLength
+imageValue image.wrongContents = refusalValue wrongContents
+imageValue (image.broken k a) = refusalValue (broken k a)
 
 -- 3: a call on an input asks for one below 64 (01, Numbers handed back)
 abbrev pub inputCall : ℕ → Call → Tested Call
@@ -117,7 +131,7 @@ pub record Done : Type 0 where
 abbrev pub doneOn : Device → Call → Done
 doneOn d c = record { device = step d c .after; value = value d c; drained = step d c .drained }
 
--- reset takes any 259 bytes; a call wants an accepted image, and then what it asks is tested (01, Numbers handed back: 4, 5, 6, then 3, or 2 before 1)
+-- reset takes any 259 bytes; a call wants an accepted image, and then what it asks is tested (01, Numbers handed back: 4, 5, 8 to 11, then 3, or 2 before 1)
 unfoldable pub performed : Asked → List ℕ → Tested Done
 performed afresh i = cond (eqb (length i) imageLength) (pass (record { device = device.reset; value = none; drained = [] })) (refuse wrongLength)
 performed (calls t) i = onPass (imageAnswer (imageTest i) (decode i)) (λ d. onPass t (λ c. pass (doneOn d c)))

@@ -2,8 +2,8 @@
 use answer::Told;
 use answer::Value;
 use answer::done;
-use image::check::Checked;
-use image::check::check;
+use checked::check;
+use faults::Checked;
 use image::form::KnownForm;
 use image::form::form_of;
 use refusals::of_image;

@@ -10,9 +10,9 @@ use lib.ListN.{length}
 use borrow.Author.Tests.{leb-true}
 use Rattle.rules.specs.Numbers.{Bytes}
 use Rattle.rules.specs.Device.{Device, Call, value, step, reset}
-use Rattle.rules.specs.Image.{imageLength, ImageTest, imageTest, same, encode, decode}
+use Rattle.rules.specs.Image.{copyDiffers, manyWait, badFlag, unusedSet, imageLength, ImageTest, imageTest, same, encode, decode}
 use Rattle.rules.specs.Image as image
-use Rattle.rules.specs.Calls.{Refusal, outside, noWidth, noInput, wrongLength, wrongContents, wrongBody, noRoom, refusalNumber}
+use Rattle.rules.specs.Calls.{Refusal, outside, noWidth, noInput, wrongLength, wrongContents, noRoom, broken, refusalNumber}
 use Rattle.rules.specs.Calls.{Tested, pass, refuse, Request, Asked, afresh, calls, askedBy, Done, doneOn, performed}
 use Rattle.rules.specs.Calls.{answered, bufferOf, placeOf, written, Outcome, leaves, ended, settled, answerLength, hasRoom, outcome}
 use Rattle.rules.specs.History.{history}
@@ -32,8 +32,11 @@ refused-not-done noWidth = refl
 refused-not-done noInput = refl
 refused-not-done wrongLength = refl
 refused-not-done wrongContents = refl
-refused-not-done wrongBody = refl
 refused-not-done noRoom = refl
+refused-not-done (broken copyDiffers a) = refl
+refused-not-done (broken manyWait a) = refl
+refused-not-done (broken badFlag a) = refl
+refused-not-done (broken unusedSet a) = refl
 
 -- its tests passed, and it left what it gives
 record DidPass (x : Exported) : Type 0 where
@@ -88,7 +91,7 @@ did-call t i y e = go (imageTest i) refl t refl
     go image.accepted f (refuse r) g = never r y (rw (f, g) at e)
     go image.wrongLength f u g = never wrongLength y (rw f at e)
     go image.wrongContents f u g = never wrongContents y (rw f at e)
-    go image.wrongBody f u g = never wrongBody y (rw f at e)
+    go (image.broken k a) f u g = never (broken k a) y (rw f at e)
 
 did-reset : (i : List ℕ) (y : Done) → performed afresh i ≡ pass y → y .device ≡ reset
 unfolding performed

@@ -14,7 +14,7 @@ use Rattle.rules.specs.Device.{Device, Call, Value, none, actsOf, draws,
 use Rattle.rules.specs.Device as device
 use Rattle.rules.specs.Image.{imageLength, ImageTest, imageTest, encode, decode}
 use Rattle.rules.specs.Image as image
-use Rattle.rules.specs.Calls.{Refusal, outside, refusalNumber, refusalValue, wrongLength, wrongContents, wrongBody, noInput, noRoom, Tested, pass, refuse, onPass, imageAnswer, imageNumber, inputCall, widthTest, addressTest, accessCall, Request, drain, Asked, calls, askedBy, Done, doneOn, performed, answerLength, answered, bufferOf, placeOf, written, Outcome, leaves, Ending, ended, ending, outcome}
+use Rattle.rules.specs.Calls.{Refusal, outside, refusalNumber, refusalValue, wrongLength, wrongContents, noInput, noRoom, Tested, pass, refuse, onPass, imageAnswer, imageNumber, imageValue, inputCall, widthTest, addressTest, accessCall, Request, drain, Asked, calls, askedBy, Done, doneOn, performed, answerLength, answered, bufferOf, placeOf, written, Outcome, leaves, Ending, ended, ending, outcome}
 use Rattle.rules.specs.Calls as asked
 
 -- ---- 7, or how it ends
@@ -39,7 +39,7 @@ module _ (q : Request) (i a : List ℕ) where
       (λ t. leaves (x .number) (x .image) (f t) (x .events)) ∙ (λ t. leaves (e t .number) (e t .image) (answered (e t .number) (e t .value) a) (e t .events))
       ∙ rw (le-leb answerLength (length a) roomy, le-leb (placeOf q) (length (bufferOf q)) inside)
 
--- ---- a call of the device: 4, 5, 6
+-- ---- a call of the device: 4, 5, 8 to 11
 
 module _ (q : Request) (i : List ℕ) (x : Tested Call) (asks : askedBy q ≡ calls x) where
   tested : (t : ImageTest) → imageTest i ≡ t → ending q i ≡ ended q i (onPass (imageAnswer t (decode i)) (λ d. onPass x (λ c. pass (doneOn d c))))
@@ -48,11 +48,11 @@ module _ (q : Request) (i : List ℕ) (x : Tested Call) (asks : askedBy q ≡ ca
       ap (λ (y : Asked). ended q i (performed y i)) asks
       ∙ ap (λ (u : ImageTest). ended q i (onPass (imageAnswer u (decode i)) (λ d. onPass x (λ c. pass (doneOn d c))))) e
 
-  pub image-refused : (t : ImageTest) → imageTest i ≡ t → (t ≡ image.accepted → ⊥) → ending q i ≡ record { number = imageNumber t; value = none; image = i; events = bufferOf q }
+  pub image-refused : (t : ImageTest) → imageTest i ≡ t → (t ≡ image.accepted → ⊥) → ending q i ≡ record { number = imageNumber t; value = imageValue t; image = i; events = bufferOf q }
   image-refused image.accepted e n = absurd (n refl)
   image-refused image.wrongLength e n = tested image.wrongLength e
   image-refused image.wrongContents e n = tested image.wrongContents e
-  image-refused image.wrongBody e n = tested image.wrongBody e
+  image-refused (image.broken k a) e n = tested (image.broken k a) e
 
   -- ---- the image is accepted: 3, 2, 1, or done
 

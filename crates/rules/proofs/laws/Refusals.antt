@@ -10,9 +10,9 @@ use Rattle.rules.specs.Access.{Width}
 use Rattle.rules.specs.Device.{Device, Call}
 use Rattle.rules.specs.Device as device
 use Rattle.rules.specs.Window.{inside}
-use Rattle.rules.specs.Image.{imageLength, ImageTest, imageTest, decode}
+use Rattle.rules.specs.Image.{Fault, copyDiffers, manyWait, badFlag, unusedSet, imageLength, ImageTest, imageTest, decode}
 use Rattle.rules.specs.Image as image
-use Rattle.rules.specs.Calls.{Refusal, refusalNumber, Tested, pass, refuse, onPass, imageAnswer, inputCall, widthTest, addressTest, accessCall}
+use Rattle.rules.specs.Calls.{Refusal, faultNumber, refusalNumber, Tested, pass, refuse, onPass, imageAnswer, inputCall, widthTest, addressTest, accessCall}
 use Rattle.rules.specs.Calls.{Request, Asked, afresh, calls, askedBy, performed}
 use Rattle.rules.specs.Calls as request
 use Rattle.rules.proofs.laws.Bits.{test}
@@ -38,11 +38,17 @@ access-not-seven base size address width f =
 input-not-seven : (n : ℕ) (c : Call) → NotSeven (inputCall n c)
 input-not-seven n c = test (ltb n 64) (λ e. rw e tt) (λ e. rw e)
 
+fault-not-seven : (k : Fault) → eqb (faultNumber k) 7 ≡ false
+fault-not-seven copyDiffers = refl
+fault-not-seven manyWait = refl
+fault-not-seven badFlag = refl
+fault-not-seven unusedSet = refl
+
 image-not-seven : (t : ImageTest) (d : Device) → NotSeven (imageAnswer t d)
 image-not-seven image.accepted d = tt
 image-not-seven image.wrongLength d = refl
 image-not-seven image.wrongContents d = refl
-image-not-seven image.wrongBody d = refl
+image-not-seven (image.broken k a) d = fault-not-seven k
 
 abbrev NeverSeven : Asked → Type 0
 NeverSeven afresh = Unit {0}

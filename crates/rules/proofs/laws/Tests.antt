@@ -112,9 +112,12 @@ decided f l k a (r ∷ rs) e = go (finding f l r) refl (decided f l k a rs)
 pub length-read : (f : Form) (l : List ℕ) → length l ≡ formLength f → (p : Field) → has f p ≡ true → length (read f l p) ≡ size p
 length-read f l e p h = length-part l (place f p) (size p) (omega (arith, field-fits f p h))
 
--- the waiting count is the byte of its field
+-- a byte of a field is one of the image; the waiting count is the byte of its field
+pub byte-read : (f : Form) (l : List ℕ) (p : Field) (i : ℕ) → i < size p → getD (read f l p) i 0 ≡ getD l (place f p + i) 0
+byte-read f l p i h = getD-take (size p) (drop (place f p) l) i 0 h ∙ getD-drop (place f p) l i 0
+
 pub count-read : (f : Form) (l : List ℕ) → getD (read f l count) 0 0 ≡ countIn f l
-count-read f l = getD-take 1 (drop (place f count) l) 0 0 (omega arith) ∙ getD-drop (place f count) l 0 0 ∙ ap (λ n. getD l n 0) (add-zero (place f count))
+count-read f l = byte-read f l count 0 (omega arith) ∙ ap (λ n. getD l n 0) (add-zero (place f count))
 
 -- of n waiting pairs the flags are 0 or 1; behind n things of two bytes each all is zero
 abbrev pub Flags : ℕ → List ℕ → Type 0
@@ -124,7 +127,7 @@ abbrev pub Unused : ℕ → List ℕ → Type 0
 Unused n l = (i : ℕ) → 2 * n ≤ i → getD l i 0 ≡ 0
 
 -- a fact of every byte is one of those that are there
-each-byte : (P : ℕ → ℕ → Type 0) (l : List ℕ) → ((i : ℕ) → P i 0) → ((i : ℕ) → i < length l → P i (getD l i 0)) → (i : ℕ) → P i (getD l i 0)
+pub each-byte : (P : ℕ → ℕ → Type 0) (l : List ℕ) → ((i : ℕ) → P i 0) → ((i : ℕ) → i < length l → P i (getD l i 0)) → (i : ℕ) → P i (getD l i 0)
 each-byte P l z h i = test (ltb i (length l)) (λ t. h i (ltb-true i (length l) t)) (λ t. rw (List·getD-eq-default l 0 {n = i} (ltb-false i (length l) t)) (z i))
 
 unless : (s t : Bool) → (s ≡ true → t ≡ false) → s && t ≡ false

@@ -1,0 +1,40 @@
+-- What the tests of an accepted image look at, as the rules see it.
+use mathlib.Core.Bool.{Bool, true, false, _&&_}
+use mathlib.Core.List.{List, [], _∷_}
+use Prim.Native.Nat.{ℕ, zero, suc, _*_}
+use lib.Bits.{bitOr}
+use lib.Dec.{eqb, leb}
+use lib.ListN.{drop}
+use Rattle.rules.specs.Numbers.{part}
+use Rattle.rules.specs.Form.{Form, contentsLength, contentsOf}
+use Rattle.rules.specs.Image.{registerAt, Finding, clear, found, rules, firstFault, same}
+
+-- the contents are those of a form; no rule of the bodies finds anything
+abbrev pub headGood : Form → List ℕ → Bool
+headGood f l = same (part 0 (contentsLength f) l) (contentsOf f)
+
+abbrev pub isClear : Finding → Bool
+isClear clear = true
+isClear (found k a) = false
+
+abbrev pub bodiesGood : Form → List ℕ → Bool
+bodiesGood f l = isClear (firstFault f l (rules f l))
+
+-- the flags of the first n pairs are 0 or 1; all bytes are zero; of pairs the first n of which wait both rules hold
+abbrev pub flagsGood : ℕ → List ℕ → Bool
+flagsGood zero l = true
+flagsGood (suc n) [] = true
+flagsGood (suc n) (v ∷ []) = true
+flagsGood (suc n) (v ∷ f ∷ l) = leb f 1 && flagsGood n l
+
+abbrev pub allZero : List ℕ → Bool
+allZero [] = true
+allZero (x ∷ l) = eqb x 0 && allZero l
+
+abbrev pub pairsGood : ℕ → List ℕ → Bool
+pairsGood n l = flagsGood n l && allZero (drop (2 * n) l)
+
+-- the bits that any of the first k words has
+abbrev pub bitsOf : ℕ → List ℕ → ℕ
+bitsOf zero l = 0
+bitsOf (suc k) l = bitOr (bitsOf k l) (registerAt (8 * k) l)

@@ -1,0 +1,118 @@
+// Whether an image may be loaded. Bytes are compared as numbers, eight at a time. Of the ring's pairs the bits are gathered that any has:
+// they settle the commonest ring, and all flags at once. What is wrong, and where, is searched for only in an image that is not accepted.
+use bytes::word_at;
+use faults::Checked;
+use faults::first_fault;
+use image::form::CAPACITY;
+use image::form::Form;
+use image::form::KnownForm;
+use image::form::PAIRS_LENGTH;
+use image::form::contents_of;
+use image::form::form_of;
+use image::form::places_of;
+ghost use mathlib.Core.Path.{_≡_};
+ghost use Prim.Native.Nat.{_*_, _≤_};
+ghost use lib.ListN.{length, drop};
+ghost use Rattle.rules.specs.Ring.{capacity};
+ghost use Rattle.rules.specs.Form.{formLength};
+ghost use Rattle.rules.specs.Image.{imageTest};
+ghost use Rattle.image.specs.Shown.{formView};
+ghost use Rattle.faults.specs.Found.{checkedView};
+ghost use Rattle.checked.specs.Good.{bitsOf, allZero, pairsGood, headGood, bodiesGood};
+
+// The bits that any of the four words of the pairs has.
+fn all_bits(pairs: &[u8]) -> u64
+    requires { ⌜ length (now pairs) ≡ 2 * capacity ⌝ }
+    ensures { λ r. ⌜ r ≡ bitsOf 4 (now (pairs .entry)) ⌝ }
+{
+    let mut found = 0u64;
+    let mut i = 0;
+    while i < 4 {
+        found |= word_at(pairs, 8 * i);
+        i += 1;
+    }
+    found
+}
+
+// Unused pairs are zero. In the word where they begin, the pairs that wait are shifted out.
+fn unused_zero(count: usize, pairs: &[u8]) -> bool
+    requires { ⌜ (length (now pairs) ≡ 2 * capacity) × (count ≤ capacity) ⌝ }
+    ensures { λ r. ⌜ r ≡ allZero (drop (2 * count) (now (pairs .entry))) ⌝ }
+{
+    if count == CAPACITY {
+        return true;
+    }
+    let first = count / 4;
+    let mut found = word_at(pairs, 8 * first) >> (16 * (count % 4));
+    let mut i = first + 1;
+    while i < 4 {
+        found |= word_at(pairs, 8 * i);
+        i += 1;
+    }
+    found == 0
+}
+
+// Flags of waiting pairs are 0 or 1, and unused pairs are zero.
+fn pairs_good(count: usize, pairs: &[u8]) -> bool
+    requires { ⌜ (length (now pairs) ≡ 2 * capacity) × (count ≤ capacity) ⌝ }
+    ensures { λ r. ⌜ r ≡ pairsGood count (now (pairs .entry)) ⌝ }
+{
+    let found = all_bits(pairs);
+    // every pair is zero: the commonest ring
+    if found == 0 {
+        return true;
+    }
+    // a flag is over 1, of a waiting pair or of an unused one
+    if found & 0xfe00_fe00_fe00_fe00 != 0 {
+        return false;
+    }
+    unused_zero(count, pairs)
+}
+
+fn contents_good(image: &[u8], form: Form) -> bool
+    requires { ⌜ length (now image) ≡ formLength (formView form) ⌝ }
+    ensures { λ r. ⌜ r ≡ headGood (formView form) (now (image .entry)) ⌝ }
+{
+    let c = contents_of(form);
+    if word_at(image, 0) != c.first {
+        return false;
+    }
+    if word_at(image, 8) != c.second {
+        return false;
+    }
+    word_at(image, c.last_at) == c.last
+}
+
+// The rules of the bodies. A form without a copy of IRR has IRR's own place there.
+fn body_good(image: &[u8], form: Form) -> bool
+    requires { ⌜ length (now image) ≡ formLength (formView form) ⌝ }
+    ensures { λ r. ⌜ r ≡ bodiesGood (formView form) (now (image .entry)) ⌝ }
+{
+    let p = places_of(form);
+    if word_at(image, p.last_intirr) != word_at(image, p.intirr) {
+        return false;
+    }
+    let place = p.count;
+    let count = image[place] as usize;
+    if count > CAPACITY {
+        return false;
+    }
+    let at = p.pairs;
+    let end = at + PAIRS_LENGTH;
+    pairs_good(count, &image[at..end])
+}
+
+pub fn check(image: &[u8]) -> Checked
+    ensures { λ r. ⌜ checkedView r ≡ imageTest (now (image .entry)) ⌝ }
+{
+    let KnownForm::As(form) = form_of(image.len()) else {
+        return Checked::WrongLength;
+    };
+    if !contents_good(image, form) {
+        return Checked::WrongContents;
+    }
+    if !body_good(image, form) {
+        return first_fault(image, form);
+    }
+    Checked::Accepted
+}

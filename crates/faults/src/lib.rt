@@ -1,0 +1,101 @@
+// What is wrong with an image that is not accepted, and where: the first rule that is broken, in the rules' order, and the first byte that breaks it. An accepted
+// image never comes here.
+use bytes::word_at;
+use image::form::CAPACITY;
+use image::form::FLAG;
+use image::form::Form;
+use image::form::PAIR;
+use image::form::PAIRS_LENGTH;
+use image::form::places_of;
+ghost use mathlib.Core.Path.{_≡_};
+ghost use Prim.Native.Nat.{_+_, _*_, _≤_};
+ghost use lib.ListN.{length};
+ghost use Rattle.rules.specs.Numbers.{part};
+ghost use Rattle.rules.specs.Ring.{capacity};
+ghost use Rattle.rules.specs.Form.{formLength};
+ghost use Rattle.rules.specs.Form as rules-form;
+ghost use Rattle.rules.specs.Image.{flagRule, unusedRule, rules, firstFault, bodyTest};
+ghost use Rattle.image.specs.Shown.{formView};
+ghost use Rattle.faults.specs.Found.{checkedView, First, pairFault};
+
+// The copy of IRR differs, too many wait, a waiting pair's flag is neither 0 nor 1, an unused pair is not zero.
+pub enum Fault {
+    Copy,
+    Count,
+    Flag,
+    Unused,
+}
+
+// What testing an image finds; of a broken rule what and at which place.
+pub enum Checked {
+    Accepted,
+    WrongLength,
+    WrongContents,
+    Broken(Fault, usize),
+}
+
+// The first flag of a waiting pair that is neither 0 nor 1, or the length.
+fn bad_flag(count: usize, pairs: &[u8]) -> usize
+    requires { ⌜ (length (now pairs) ≡ 2 * capacity) × (count ≤ capacity) ⌝ }
+    ensures { λ r. ⌜ First (flagRule count .bad) (now (pairs .entry)) r ⌝ }
+{
+    let mut i = 0;
+    while i < count {
+        let pair = PAIR * i;
+        if pairs[pair + FLAG] > 1 {
+            return pair + FLAG;
+        }
+        i += 1;
+    }
+    pairs.len()
+}
+
+// The first byte behind the waiting pairs that is not zero, or the length.
+fn used_byte(count: usize, pairs: &[u8]) -> usize
+    requires { ⌜ (length (now pairs) ≡ 2 * capacity) × (count ≤ capacity) ⌝ }
+    ensures { λ r. ⌜ First (unusedRule rules-form.pairs count .bad) (now (pairs .entry)) r ⌝ }
+{
+    let mut i = PAIR * count;
+    while i < pairs.len() {
+        if pairs[i] != 0 {
+            return i;
+        }
+        i += 1;
+    }
+    pairs.len()
+}
+
+// The rules of the pairs, which stand from `at` on.
+fn pair_fault(image: &[u8], at: usize, count: usize) -> Checked
+    requires { ⌜ (at + 2 * capacity ≤ length (now image)) × (count ≤ capacity) ⌝ }
+    ensures { λ r. ⌜ checkedView r ≡ bodyTest (pairFault at count (part at (2 * capacity) (now (image .entry)))) ⌝ }
+{
+    let end = at + PAIRS_LENGTH;
+    let flag = bad_flag(count, &image[at..end]);
+    let byte = used_byte(count, &image[at..end]);
+    if flag < PAIRS_LENGTH {
+        return Checked::Broken(Fault::Flag, at + flag);
+    }
+    if byte < PAIRS_LENGTH {
+        return Checked::Broken(Fault::Unused, at + byte);
+    }
+    Checked::Accepted
+}
+
+// A form without a copy of IRR has IRR's own place there.
+pub fn first_fault(image: &[u8], form: Form) -> Checked
+    requires { ⌜ length (now image) ≡ formLength (formView form) ⌝ }
+    ensures { λ r. ⌜ checkedView r ≡ bodyTest (firstFault (formView form) (now (image .entry)) (rules (formView form) (now (image .entry)))) ⌝ }
+{
+    let p = places_of(form);
+    let copy = p.last_intirr;
+    if word_at(image, copy) != word_at(image, p.intirr) {
+        return Checked::Broken(Fault::Copy, copy);
+    }
+    let place = p.count;
+    let count = image[place] as usize;
+    if count > CAPACITY {
+        return Checked::Broken(Fault::Count, place);
+    }
+    pair_fault(image, p.pairs, count)
+}

@@ -1,0 +1,246 @@
+-- Request C-16, 'Say what is wrong with the image': the set of accepted images stays; and what is told of an image is so, at the place that is told, and nothing
+-- is wrong before it.
+use mathlib.Core.Path.{_≡_, refl, sym, ap, _∙_}
+use mathlib.Core.Bool.{Bool, true, false, cond, not, _&&_, false≢true, and-eq-true-iff}
+use mathlib.Core.List.{List, [], _∷_}
+use mathlib.Core.Logic.{⊎-elim}
+use Prim.Native.Nat.{ℕ, zero, suc, _+_, _-_, _*_, _/_, _%_, _<_, _≤_}
+use native.Mathlib.Omega.{arith}
+use lib.Dec.{eqb, leb, ltb, lit≤}
+use lib.ListN.{length, getD}
+use borrow.Author.Tests.{eq-eqb, eqb-true, eqb-false, le-leb, leb-true, lt-ltb, le-ltb, ltb-true, ltb-false}
+use Rattle.rules.specs.Numbers.{part}
+use Rattle.rules.specs.Ring.{capacity}
+use Rattle.rules.specs.Form.{one, word, copy, irr, count, pairs, size, place, formLength, contentsLength, contentsOf, read}
+use Rattle.rules.specs.Image.{wordIn, countIn, Fault, copyDiffers, manyWait, badFlag, unusedSet, Finding, clear, found, countRule, rules, firstFault, same}
+use Rattle.rules.specs.Image.{accepted, wrongLength, wrongContents, broken, bodyTest, imageTest, everyByte, pairByte, acceptedBefore, imageLength, contents, countOf, countAt, pairsAt}
+use Rattle.rules.proofs.laws.Bits.{test}
+use Rattle.rules.proofs.laws.Lists.{equal-same, same-equal}
+use Rattle.rules.proofs.laws.Tests.{each-byte, Flags, accepted-if-has, byte-read, length-read, Told, search-told, decided}
+use Rattle.rules.proofs.laws.Tests.{Holds, flags-hold, copy-holds, count-holds, count-read}
+use Rattle.rules.proofs.laws.Images.{test-one, accepted-has}
+
+-- ---- the set of accepted images
+
+every : (good : ℕ → ℕ → Bool) (l : List ℕ) → ((j : ℕ) → j < length l → good j (getD l j 0) ≡ true) → everyByte good l ≡ true
+every good [] h = refl
+every good (x ∷ l) h = rw (h 0 (omega arith), every (λ i. good (suc i)) l (λ j k. h (suc j) (omega arith)))
+
+of-every : (good : ℕ → ℕ → Bool) (l : List ℕ) → everyByte good l ≡ true → (j : ℕ) → j < length l → good j (getD l j 0) ≡ true
+of-every good [] e j h = absurd (omega arith)
+of-every good (x ∷ l) e zero h = and-eq-true-iff (good 0 x) (everyByte (λ i. good (suc i)) l) .0 e .0
+of-every good (x ∷ l) e (suc j) h = of-every (λ i. good (suc i)) l (and-eq-true-iff (good 0 x) (everyByte (λ i. good (suc i)) l) .0 e .1) j (omega arith)
+
+-- a byte of the pairs, by where it stands
+module _ (n i b : ℕ) where
+  pair-good : (i < 2 * n → i % 2 ≡ 1 → b ≤ 1) → (2 * n ≤ i → b ≡ 0) → pairByte n i b ≡ true
+  pair-good f u =
+      test (ltb i (2 * n))
+      (λ t. rw t (test (eqb (i % 2) 0) (λ e. rw e)
+      (λ e. let odd : i % 2 ≡ 1 = omega (arith, eqb-false (i % 2) 0 e) in rw (e, le-leb b 1 (f (ltb-true i (2 * n) t) odd)))))
+      (λ t. rw (t, eq-eqb b 0 (u (ltb-false i (2 * n) t))))
+
+  pair-flag : pairByte n i b ≡ true → i < 2 * n → i % 2 ≡ 1 → b ≤ 1
+  pair-flag e h o =
+      let no : eqb (i % 2) 0 ≡ false = rw o in
+      leb-true b 1 (rw (lt-ltb i (2 * n) h, no) at e)
+
+  pair-unused : pairByte n i b ≡ true → 2 * n ≤ i → b ≡ 0
+  pair-unused e h = eqb-true b 0 (rw (le-ltb i (2 * n) h) at e)
+
+module _ (l : List ℕ) where
+  -- what is accepted was accepted
+  pub accepted-was : imageTest l ≡ accepted → acceptedBefore l ≡ true
+  unfolding acceptedBefore
+  accepted-was e =
+      let a = accepted-has l e in
+      let n = countIn one l in
+      rw (
+        eq-eqb (length l) (formLength one) (a .sized),
+        equal-same (part 0 (contentsLength one) l) (contentsOf one) (a .headed),
+        eq-eqb (wordIn one l copy) (wordIn one l irr) (a .ruled .copied refl),
+        le-leb n capacity (a .ruled .counted),
+      )
+      (every (pairByte n) (read one l pairs) (λ j h. pair-good n j (getD (read one l pairs) j 0) (a .ruled .flagged j) (a .ruled .unused j)))
+
+  -- and what was accepted is accepted
+  pub was-accepted : acceptedBefore l ≡ true → imageTest l ≡ accepted
+  unfolding acceptedBefore
+  was-accepted e =
+      let n = countIn one l in
+      let ps = read one l pairs in
+      let last = leb n capacity && everyByte (pairByte n) ps in
+      let words = eqb (wordIn one l copy) (wordIn one l irr) in
+      let head = same (part 0 (contentsLength one) l) (contentsOf one) in
+      let a = and-eq-true-iff (eqb (length l) (formLength one)) (head && (words && last)) .0 e in
+      let b = and-eq-true-iff head (words && last) .0 (a .1) in
+      let c = and-eq-true-iff words last .0 (b .1) in
+      let d = and-eq-true-iff (leb n capacity) (everyByte (pairByte n) ps) .0 (c .1) in
+      let good = of-every (pairByte n) ps (d .1) in
+      test-one l ∙ accepted-if-has one l (record {
+        sized = eqb-true (length l) (formLength one) (a .0);
+        headed = same-equal (part 0 (contentsLength one) l) (contentsOf one) (b .0);
+        ruled = record {
+          copied = λ h. eqb-true (wordIn one l copy) (wordIn one l irr) (c .0);
+          counted = leb-true n capacity (d .0);
+          flagged = each-byte (λ i x. i < 2 * n → i % 2 ≡ 1 → x ≤ 1) ps (λ i h o. lit≤ tt) (λ i k. pair-flag n i (getD ps i 0) (good i k));
+          unused = each-byte (λ i x. 2 * n ≤ i → x ≡ 0) ps (λ i h. refl) (λ i k. pair-unused n i (getD ps i 0) (good i k));
+        };
+      })
+
+-- ---- what is told
+
+-- the flag of pair m, and the first byte behind the waiting pairs
+abbrev pub flagAt : ℕ → ℕ
+flagAt m = pairsAt + (2 * m + 1)
+
+abbrev pub behindAt : List ℕ → ℕ
+behindAt l = pairsAt + 2 * countOf l
+
+-- 8: `last_intirr` differs from IRR
+pub record CopyDiffers (l : List ℕ) (a : ℕ) : Type 0 where
+  pub place : a ≡ place one (word copy)
+  pub differs : wordIn one l copy ≡ wordIn one l irr → ⊥
+
+-- 9: the copy is right, and more than 16 wait
+pub record ManyWait (l : List ℕ) (a : ℕ) : Type 0 where
+  pub copied : wordIn one l copy ≡ wordIn one l irr
+  pub place : a ≡ countAt
+  pub many : capacity < getD l a 0
+
+-- 10: copy and count are right, and a waiting pair's flag is neither 0 nor 1, the first such
+pub record BadFlag (l : List ℕ) (a : ℕ) : Type 0 where
+  pub copied : wordIn one l copy ≡ wordIn one l irr
+  pub counted : countOf l ≤ capacity
+  pub pair : ℕ
+  pub waits : pair < countOf l
+  pub place : a ≡ flagAt pair
+  pub over : 1 < getD l a 0
+  pub first : (m : ℕ) → m < pair → getD l (flagAt m) 0 ≤ 1
+
+-- 11: copy, count and flags are right, and behind the waiting pairs a byte is not zero, the first such
+pub record UnusedSet (l : List ℕ) (a : ℕ) : Type 0 where
+  pub copied : wordIn one l copy ≡ wordIn one l irr
+  pub counted : countOf l ≤ capacity
+  pub flagged : (m : ℕ) → m < countOf l → getD l (flagAt m) 0 ≤ 1
+  pub behind : behindAt l ≤ a
+  pub inside : a < imageLength
+  pub set : 0 < getD l a 0
+  pub first : (b : ℕ) → behindAt l ≤ b → b < a → getD l b 0 ≡ 0
+
+abbrev pub Why : Fault → List ℕ → ℕ → Type 0
+Why copyDiffers l a = CopyDiffers l a
+Why manyWait l a = ManyWait l a
+Why badFlag l a = BadFlag l a
+Why unusedSet l a = UnusedSet l a
+
+-- the places are those of form 1
+pub places : (place one (word copy) ≡ 46) × (countAt ≡ 222) × (pairsAt ≡ 227)
+places = (refl, refl, refl)
+
+-- its length and its contents are right too
+pub record Broken (l : List ℕ) (k : Fault) (a : ℕ) : Type 0 where
+  pub sized : length l ≡ imageLength
+  pub headed : part 0 (contentsLength one) l ≡ contents
+  pub why : Why k l a
+
+module _ (l : List ℕ) (s : length l ≡ imageLength) (k : Fault) (a : ℕ) where
+  paired : (i : ℕ) → i < size pairs → getD (read one l pairs) i 0 ≡ getD l (pairsAt + i) 0
+  paired = byte-read one l pairs
+
+  few-pairs : length (read one l pairs) ≡ size pairs
+  few-pairs = length-read one l s pairs refl
+
+  -- the flags of all waiting pairs, with their places in the image
+  flags-at : (n : ℕ) → n ≤ capacity → Flags n (read one l pairs) → (m : ℕ) → m < n → getD l (flagAt m) 0 ≤ 1
+  flags-at n c g m h = rw (paired (2 * m + 1) (omega arith)) at (g (2 * m + 1) (omega arith) (omega arith))
+
+  why-copy : Told copyDiffers k (λ i b. eqb i 0 && not (eqb (wordIn one l copy) (wordIn one l irr))) (read one l (word copy)) (place one (word copy)) a → Why k l a
+  why-copy t =
+      let both = and-eq-true-iff (eqb (t .index) 0) (not (eqb (wordIn one l copy) (wordIn one l irr))) .0 (t .isBad) in
+      rw (t .fault) (record { place = omega (arith, t .place, eqb-true (t .index) 0 (both .0)); differs = λ e. false≢true (rw (eq-eqb (wordIn one l copy) (wordIn one l irr) e) at (both .1)) })
+
+  module _ (copied : wordIn one l copy ≡ wordIn one l irr) where
+    why-count : Told manyWait k (λ i b. ltb capacity b) (read one l count) countAt a → Why k l a
+    why-count t =
+        let first : t .index ≡ 0 = omega (arith, t .inside, length-read one l s count refl) in
+        let at : a ≡ countAt = omega (arith, t .place, first) in
+        let byte : getD (read one l count) (t .index) 0 ≡ getD l a 0 = ap (λ i. getD (read one l count) i 0) first ∙ count-read one l ∙ ap (λ i. getD l i 0) (sym at) in
+        rw (t .fault) (record { copied = copied; place = at; many = rw byte at (ltb-true capacity (getD (read one l count) (t .index) 0) (t .isBad)) })
+
+    module _ (counted : countOf l ≤ capacity) where
+      why-flag : Told badFlag k (λ i b. eqb (i % 2) 1 && (ltb i (2 * countOf l) && ltb 1 b)) (read one l pairs) pairsAt a → Why k l a
+      why-flag t =
+          let i = t .index in
+          let n = countOf l in
+          let b = getD (read one l pairs) i 0 in
+          let odd = and-eq-true-iff (eqb (i % 2) 1) (ltb i (2 * n) && ltb 1 b) .0 (t .isBad) in
+          let low = and-eq-true-iff (ltb i (2 * n)) (ltb 1 b) .0 (odd .1) in
+          let is-odd = eqb-true (i % 2) 1 (odd .0) in
+          let waits = ltb-true i (2 * n) (low .0) in
+          let byte : b ≡ getD l a 0 = paired i (omega (arith, waits, counted)) ∙ ap (λ j. getD l j 0) (sym (t .place)) in
+          rw (t .fault) (record {
+            copied = copied;
+            counted = counted;
+            pair = i / 2;
+            waits = omega (arith, waits);
+            place = omega (arith, t .place, is-odd);
+            over = rw byte at (ltb-true 1 b (low .1));
+            first = λ m h.
+                let j = 2 * m + 1 in
+                let before : j < i = omega (arith, is-odd) in
+                let j-odd : j % 2 ≡ 1 = omega arith in
+                let byte-j = paired j (omega (arith, waits, counted, before)) in
+                rw byte-j at (ltb-false 1 (getD (read one l pairs) j 0) (rw (eq-eqb (j % 2) 1 j-odd, lt-ltb j (2 * n) (omega (arith, waits, before))) at (t .first j before)));
+          })
+
+      why-unused : Flags (countOf l) (read one l pairs) → Told unusedSet k (λ i b. leb (2 * countOf l) i && ltb 0 b) (read one l pairs) pairsAt a → Why k l a
+      why-unused g t =
+          let i = t .index in
+          let n = countOf l in
+          let b = getD (read one l pairs) i 0 in
+          let both = and-eq-true-iff (leb (2 * n) i) (ltb 0 b) .0 (t .isBad) in
+          let late = leb-true (2 * n) i (both .0) in
+          let room : i < size pairs = omega (arith, t .inside, few-pairs) in
+          let byte : b ≡ getD l a 0 = paired i room ∙ ap (λ j. getD l j 0) (sym (t .place)) in
+          rw (t .fault) (record {
+            copied = copied;
+            counted = counted;
+            flagged = flags-at n counted g;
+            behind = omega (arith, t .place, late);
+            inside = omega (arith, t .place, room);
+            set = rw byte at (ltb-true 0 b (both .1));
+            first = λ c from before.
+                let j = c - pairsAt in
+                let at : pairsAt + j ≡ c = omega (arith, from) in
+                let early : j < i = omega (arith, from, before, t .place) in
+                let zero-there : getD (read one l pairs) j 0 ≤ 0 = ltb-false 0 (getD (read one l pairs) j 0) (rw (le-leb (2 * n) j (omega (arith, from))) at (t .first j early)) in
+                omega (arith, zero-there, paired j (omega (arith, early, room)) ∙ ap (λ m. getD l m 0) at);
+          })
+
+  few : Holds one l countRule → countOf l ≤ capacity
+  few h = rw (count-read one l) at (count-holds (read one l count) (omega (arith, length-read one l s count refl)) (h refl))
+
+  why-first : firstFault one l (rules one l) ≡ found k a → Why k l a
+  why-first e =
+      let n = countOf l in
+      let copied = copy-holds (wordIn one l copy) (wordIn one l irr) (read one l (word copy)) (omega (arith, length-read one l s (word copy) refl)) in
+      ⊎-elim (λ t. why-copy (search-told copyDiffers k _ (place one (word copy)) a (read one l (word copy)) t)) (λ x.
+      ⊎-elim (λ t. why-count (copied (x .0 refl)) (search-told manyWait k _ countAt a (read one l count) t)) (λ y.
+      ⊎-elim (λ t. why-flag (copied (x .0 refl)) (few (y .0)) (search-told badFlag k _ pairsAt a (read one l pairs) t)) (λ z.
+      ⊎-elim (λ t. why-unused (copied (x .0 refl)) (few (y .0)) (flags-hold n (read one l pairs) (z .0 refl)) (search-told unusedSet k _ pairsAt a (read one l pairs) t))
+      (λ w. absurd (w .1))
+      (z .1)) (y .1)) (x .1)) (decided one l k a (rules one l) e)
+
+-- 8 to 11, and the place: what is told of an image is so
+pub told-is-so : (l : List ℕ) (k : Fault) (a : ℕ) → imageTest l ≡ broken k a → Broken l k a
+told-is-so l k a e =
+    let t = found-broken (eqb (length l) (formLength one)) (same (part 0 (contentsLength one) l) (contentsOf one)) (firstFault one l (rules one l)) (sym (test-one l) ∙ e) in
+    let sized = eqb-true (length l) (formLength one) (t .0) in
+    record { sized = sized; headed = same-equal (part 0 (contentsLength one) l) (contentsOf one) (t .1); why = why-first l sized k a (t .2) }
+  where
+    found-broken : (s h : Bool) (x : Finding) → cond s (cond h (bodyTest x) wrongContents) wrongLength ≡ broken k a → (s ≡ true) × (h ≡ true) × (x ≡ found k a)
+    found-broken true true clear e = (refl, refl, cc)
+    found-broken true true (found k₁ a₁) e = (refl, refl, cc)
+    found-broken true false x e = (refl, cc, cc)
+    found-broken false h x e = (cc, cc, cc)
