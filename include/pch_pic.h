@@ -6,7 +6,7 @@
  *
  * THE IMAGE. The device is an image of 259 bytes, which the host owns and lends to each call. Nothing is allocated, and nothing is kept from
  * one call to the next. So to save a device is to copy its image, and to load it is to lend the copy. pch_pic_reset makes an image of any 259
- * bytes. The other calls test theirs and refuse one that breaks a rule of the form (4, 5, 6). To test an image and change nothing, read ID from
+ * bytes. The other calls test theirs and refuse one that breaks a rule of the form (4, 5, 8 to 11). To test an image and change nothing, read ID from
  * it: 0 says that it is accepted. What a done call leaves is always accepted. The test finds no other damage: most images with one byte changed
  * break no rule, and are the images of another device. So keep a checksum beside a saved image, as hosts/c/pic_file.c does.
  *
@@ -194,7 +194,7 @@ uint8_t pch_pic_poll(uint8_t *image, size_t image_len, uint64_t input, uint8_t *
 
 /* Moves waiting events to the event buffer, oldest first, from byte place on: two bytes each, the vector and then 1 for an assert or 0 for a
  * deassert. It moves as many as wait or as fit, whichever is fewer; the rest wait on, and all other bytes of the buffer stay. The value is how
- * many were moved, and is always present; 32 bytes have room for all. Refusals: 7, 4, 5, 6. */
+ * many were moved, and is always present; 32 bytes have room for all. Refusals: 7, 4, 5, 8 to 11. */
 uint8_t pch_pic_drain(uint8_t *image, size_t image_len, uint8_t *events, size_t events_len, size_t place,
                       uint8_t *answer, size_t answer_len);
 
