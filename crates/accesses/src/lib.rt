@@ -2,8 +2,8 @@
 use answer::Told;
 use answer::Value;
 use answer::done;
+use checked::Verdict;
 use checked::check;
-use faults::Checked;
 use refusals::no_width;
 use refusals::of_image;
 use refusals::outside;
@@ -19,8 +19,8 @@ pub fn read(image: &[u8], base: u64, size: u64, address: u64, width: u64) -> Tol
     ensures { λ r. ⌜ ends r (now (image .entry)) [] ≡ ending (asked.read base size address width) (now (image .entry)) ⌝ }
 {
     let checked = check(image);
-    let Checked::Accepted = checked else {
-        return of_image(checked);
+    let Verdict::Accepted = checked else {
+        return of_image(image);
     };
     let Known::As(known) = window::width_of(width) else {
         return no_width();
@@ -36,8 +36,8 @@ pub fn write(image: &mut [u8], base: u64, size: u64, address: u64, width: u64, v
     ensures { λ r. ⌜ ends r (now (image .exit)) [] ≡ ending (asked.write base size address width value) (now (image .entry)) ⌝ }
 {
     let checked = check(image);
-    let Checked::Accepted = checked else {
-        return of_image(checked);
+    let Verdict::Accepted = checked else {
+        return of_image(image);
     };
     let Known::As(known) = window::width_of(width) else {
         return no_width();

@@ -1,3 +1,4 @@
 -- The laws that the proofs of this crate cite.
 pub mod Pairs
 pub mod Tested
+pub mod Orders

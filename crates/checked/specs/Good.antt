@@ -7,7 +7,19 @@ use lib.Dec.{eqb, leb}
 use lib.ListN.{drop}
 use Rattle.rules.specs.Numbers.{part}
 use Rattle.rules.specs.Form.{Form, contentsLength, contentsOf}
-use Rattle.rules.specs.Image.{registerAt, Finding, clear, found, rules, firstFault, same}
+use Rattle.rules.specs.Image.{registerAt, Finding, clear, found, rules, firstFault, same, ImageTest, accepted, wrongLength, wrongContents, broken}
+use Rattle.checked.specs.declared.Verdict.{Verdict}
+use Rattle.checked.specs.declared.Verdict.the-variants.{Accepted, Refused}
+
+abbrev pub verdictView : Verdict → Bool
+verdictView Accepted = true
+verdictView Refused = false
+
+abbrev pub isAccepted : ImageTest → Bool
+isAccepted accepted = true
+isAccepted wrongLength = false
+isAccepted wrongContents = false
+isAccepted (broken k a) = false
 
 -- the contents are those of a form; no rule of the bodies finds anything
 abbrev pub headGood : Form → List ℕ → Bool

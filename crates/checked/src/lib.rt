@@ -18,7 +18,12 @@ ghost use Rattle.rules.specs.Form.{formLength};
 ghost use Rattle.rules.specs.Image.{imageTest};
 ghost use Rattle.image.specs.Shown.{formView};
 ghost use Rattle.faults.specs.Found.{checkedView};
-ghost use Rattle.checked.specs.Good.{bitsOf, allZero, pairsGood, headGood, bodiesGood};
+ghost use Rattle.checked.specs.Good.{verdictView, isAccepted, bitsOf, allZero, pairsGood, headGood, bodiesGood};
+
+pub enum Verdict {
+    Accepted,
+    Refused,
+}
 
 // The bits that any of the four words of the pairs has.
 fn all_bits(pairs: &[u8]) -> u64
@@ -102,7 +107,23 @@ fn body_good(image: &[u8], form: Form) -> bool
     pairs_good(count, &image[at..end])
 }
 
-pub fn check(image: &[u8]) -> Checked
+pub fn check(image: &[u8]) -> Verdict
+    ensures { λ r. ⌜ verdictView r ≡ isAccepted (imageTest (now (image .entry))) ⌝ }
+{
+    let KnownForm::As(form) = form_of(image.len()) else {
+        return Verdict::Refused;
+    };
+    if !contents_good(image, form) {
+        return Verdict::Refused;
+    }
+    if !body_good(image, form) {
+        return Verdict::Refused;
+    }
+    Verdict::Accepted
+}
+
+// What is wrong with an image. Apart from `check`, which is small so that each call has it in place.
+pub fn fault_of(image: &[u8]) -> Checked
     ensures { λ r. ⌜ checkedView r ≡ imageTest (now (image .entry)) ⌝ }
 {
     let KnownForm::As(form) = form_of(image.len()) else {
@@ -111,8 +132,5 @@ pub fn check(image: &[u8]) -> Checked
     if !contents_good(image, form) {
         return Checked::WrongContents;
     }
-    if !body_good(image, form) {
-        return first_fault(image, form);
-    }
-    Checked::Accepted
+    first_fault(image, form)
 }

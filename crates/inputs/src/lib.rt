@@ -2,8 +2,8 @@
 use answer::Told;
 use answer::Value;
 use answer::done;
+use checked::Verdict;
 use checked::check;
-use faults::Checked;
 use refusals::no_input;
 use refusals::of_image;
 ghost use mathlib.Core.Path.{_≡_};
@@ -27,8 +27,8 @@ pub fn level(image: &mut [u8], input: u64, level: u64) -> Told
     ensures { λ r. ⌜ ends r (now (image .exit)) [] ≡ ending (asked.level input level) (now (image .entry)) ⌝ }
 {
     let checked = check(image);
-    let Checked::Accepted = checked else {
-        return of_image(checked);
+    let Verdict::Accepted = checked else {
+        return of_image(image);
     };
     if 64 <= input {
         return no_input();
@@ -41,8 +41,8 @@ pub fn poll(image: &mut [u8], input: u64) -> Told
     ensures { λ r. ⌜ ends r (now (image .exit)) [] ≡ ending (asked.poll input) (now (image .entry)) ⌝ }
 {
     let checked = check(image);
-    let Checked::Accepted = checked else {
-        return of_image(checked);
+    let Verdict::Accepted = checked else {
+        return of_image(image);
     };
     if 64 <= input {
         return no_input();

@@ -1,11 +1,13 @@
 // What a call tells that is refused: 01's numbers, and the value that goes with each. Which refusal comes first is known above.
 use answer::Told;
 use answer::Value;
+use checked::fault_of;
 use faults::Checked;
 use faults::Fault;
 ghost use mathlib.Core.Path.{_≡_};
-ghost use Rattle.rules.specs.Calls.{faultNumber, refusalNumber, refusalValue, noWidth, noInput, imageNumber, imageValue};
+ghost use Rattle.rules.specs.Calls.{faultNumber, refusalNumber, refusalValue, noWidth, noInput, wrongLength, imageNumber, imageValue};
 ghost use Rattle.rules.specs.Calls as asked;
+ghost use Rattle.rules.specs.Image.{imageTest};
 ghost use Rattle.faults.specs.Found.{faultView, checkedView};
 ghost use Rattle.answer.specs.Given.{valueView, Tells};
 
@@ -33,6 +35,15 @@ pub fn no_input() -> Told
 {
     Told {
         number: 3,
+        value: Value::Absent,
+    }
+}
+
+pub fn wrong_length() -> Told
+    ensures { λ r. ⌜ Tells r (refusalNumber wrongLength) (refusalValue wrongLength) ⌝ }
+{
+    Told {
+        number: 4,
         value: Value::Absent,
     }
 }
@@ -71,9 +82,10 @@ fn image_value(checked: Checked) -> Value
     }
 }
 
-pub fn of_image(checked: Checked) -> Told
-    ensures { λ r. ⌜ Tells r (imageNumber (checkedView checked)) (imageValue (checkedView checked)) ⌝ }
+pub fn of_image(image: &[u8]) -> Told
+    ensures { λ r. ⌜ Tells r (imageNumber (imageTest (now (image .entry)))) (imageValue (imageTest (now (image .entry)))) ⌝ }
 {
+    let checked = fault_of(image);
     Told {
         number: image_number(checked),
         value: image_value(checked),

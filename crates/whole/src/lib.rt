@@ -2,11 +2,12 @@
 use answer::Told;
 use answer::Value;
 use answer::done;
+use checked::Verdict;
 use checked::check;
-use faults::Checked;
 use image::form::KnownForm;
 use image::form::form_of;
 use refusals::of_image;
+use refusals::wrong_length;
 use state::PchPicState;
 ghost use mathlib.Core.Path.{_≡_};
 ghost use mathlib.Core.List.{[]};
@@ -20,7 +21,7 @@ pub fn reset(image: &mut [u8]) -> Told
 {
     let length = image.len();
     let KnownForm::As(_) = form_of(length) else {
-        return of_image(Checked::WrongLength);
+        return wrong_length();
     };
     saved::save(image, PchPicState::reset());
     done(Value::Absent)
@@ -31,8 +32,8 @@ pub fn drain(image: &mut [u8], events: &mut [u8]) -> Told
     ensures { λ r. ⌜ ends r (now (image .exit)) (now (events .exit)) ≡ ending (asked.drain (now (events .entry)) 0) (now (image .entry)) ⌝ }
 {
     let checked = check(image);
-    let Checked::Accepted = checked else {
-        return of_image(checked);
+    let Verdict::Accepted = checked else {
+        return of_image(image);
     };
     let count = drains::drain(image, events);
     done(Value::Present(count as u64))

@@ -19,17 +19,17 @@ unfolding on
 write-spec =
     tie.close
     (tie.spec
-    (λ c κs. search needs) (λ c. search needs) (λ c κs. search needs) (λ c. search needs)
-    (λ c. let m = c .before in let k = m .before in let a = m .before .before .before .before .args in
+    (λ c κs. search needs) (λ c. search needs) (λ c. search needs) (λ c κs. search needs) (λ c. search needs)
+    (λ c. let m = c .before .before .before in let k = m .before in let a = m .before .before .before .before .args in
     by-image (asked.write (a .base) (a .size) (a .address) (a .width) (a .value)) refl (k .check .result) (m .match .keys2) (k .check .ensures) (c .of-image .result) (c .of-image .ensures))
     (λ c κs. search needs) (λ c. search needs) (λ c. search needs) (λ c κs. search needs) (λ c. search needs)
     (λ c. let u = c .before in let w = u .before .before in let m = w .before .before in let a = m .before .before .before .before .args in
     tells (c .no-width .result) (c .no-width .ensures)
-    (no-width (on m) (a .base) (a .size) (a .address) (a .width) (w .width-of .ensures) (asked.write (a .base) (a .size) (a .address) (a .width) (a .value)) (λ w o. device.write w o (a .value)) refl (u .enum-told2 .given .1)))
+    (no-width (on m) (a .base) (a .size) (a .address) (a .width) (w .width-of .ensures) (asked.write (a .base) (a .size) (a .address) (a .width) (a .value)) (λ w o. device.write w o (a .value)) refl (u .enum-told3 .given .1)))
     (λ c κs. search needs) (λ c. search needs) (λ c. search needs) (λ c κs. search needs) (λ c. search needs)
     (λ c. let u = c .before in let l = u .before .before in let e = l .before .before in let w = e .before .before in let m = w .before .before in
     let a = m .before .before .before .before .args in tells (c .outside .result) (c .outside .ensures)
-    (no-place (on m) (a .base) (a .size) (a .address) (a .width) (w .width-of .ensures) (asked.write (a .base) (a .size) (a .address) (a .width) (a .value)) (λ w o. device.write w o (a .value)) refl (e .known .given .1) (l .locate .ensures .0) (u .enum-told3 .given .1)))
+    (no-place (on m) (a .base) (a .size) (a .address) (a .width) (w .width-of .ensures) (asked.write (a .base) (a .size) (a .address) (a .width) (a .value)) (λ w o. device.write w o (a .value)) refl (e .known .given .1) (l .locate .ensures .0) (u .enum-told4 .given .1)))
     (λ c κs. let o = c .before .before in let l = o .before .before in let e = l .before .before in let w = e .before .before in let m = w .before .before in
     (long (on m), reach _ _ (l .locate .ensures .1) (o .offset .given .1) (sym (w .width-of .ensures) ∙ ap knownView (e .known .given .1))))
     (λ c. search needs) (λ c κs. search needs) (λ c. search needs)

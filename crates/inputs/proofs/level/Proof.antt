@@ -19,8 +19,8 @@ unfolding on
 level-spec =
     tie.close
     (tie.spec
-    (λ c κs. search needs) (λ c. search needs) (λ c κs. search needs) (λ c. search needs)
-    (λ c. let m = c .before in let k = m .before in let a = k .before .before .before .args in
+    (λ c κs. search needs) (λ c. search needs) (λ c. search needs) (λ c κs. search needs) (λ c. search needs)
+    (λ c. let m = c .before .before .before in let k = m .before in let a = k .before .before .before .args in
     by-image (asked.level (a .input) (a .level)) refl (k .check .result) (m .match .keys2) (k .check .ensures) (c .of-image .result) (c .of-image .ensures))
     (λ c κs. search needs) (λ c. search needs)
     (λ c. let h = c .before in let m = h .before .before in let a = m .before .before .before .before .args in

@@ -16,8 +16,8 @@ unfolding on
 drain-spec =
     tie.close
     (tie.spec
-    (λ c κs. search needs) (λ c. search needs) (λ c κs. search needs) (λ c. search needs)
-    (λ c. let m = c .before in let k = m .before in
+    (λ c κs. search needs) (λ c. search needs) (λ c. search needs) (λ c κs. search needs) (λ c. search needs)
+    (λ c. let m = c .before .before .before in let k = m .before in
     by-image (asked.drain (k .before .before .before .before .args .events .now) 0) refl (k .check .result) (m .match .keys2) (k .check .ensures) (c .of-image .result) (c .of-image .ensures))
     (λ c κs. let p = on (c .before .before .before) in (long p, few p))
     (λ c κs. search needs) (λ c. search needs) (λ c. search needs)

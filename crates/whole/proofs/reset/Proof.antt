@@ -22,7 +22,7 @@ reset-spec =
     (tie.spec
     (λ c κs. search needs) (λ c. search needs) (λ c. search needs) (λ c κs. search needs)
     (λ c. let u = c .before in let f = u .before .before in let i = f .before .before .args .image .now in
-    tells (c .of-image .result) (c .of-image .ensures) (sym (reset-refused i (wrong-length (length i) (sym (ap formKnown (u .enum-told2 .given .1)) ∙ f .form-of .ensures)))))
+    tells (c .wrong-length .result) (c .wrong-length .ensures) (sym (reset-refused i (wrong-length (length i) (sym (ap formKnown (u .enum-told2 .given .1)) ∙ f .form-of .ensures)))))
     (λ c κs. search needs)
     (λ c κs. (long (c .before .before), search needs))
     (λ c κs. search needs) (λ c. search needs)
