@@ -52,7 +52,8 @@ pub fn vectors(image: &[u8], input: usize, n: usize) -> u64
 
 pub fn put_routes(image: &mut [u8], input: usize, n: usize, x: u64)
     requires { ⌜ (length (now image) ≡ imageLength) × (input + n ≤ bytesLength) ⌝ }
-    ensures { λ _. ⌜ Becomes (now (image .entry)) (now (image .exit)) (λ d. withStored d (withRoutes (d .core .stored) (withBytes input n x (d .core .stored .routes)))) ⌝ }
+    ensures { λ _. ⌜ Becomes (now (image .entry)) (now (image .exit))
+        (λ d. withStored d (withRoutes (d .core .stored) (withBytes input n x (d .core .stored .routes)))) ⌝ }
 {
     let p = places_of(Form::One);
     put_bytes(image, p.routes + input, n, x);

@@ -1,12 +1,11 @@
 -- `check` tests in the order of the definition: the length, which tells the form, the contents, the bodies.
-use mathlib.Core.Path.{_≡_, ap, _∙_}
+use mathlib.Core.Path.{_≡_, ap}
 use borrow.Author.Needs.{needs}
 use borrow.Author.Tests.{not-true, not-false}
 use lib.ListN.{length}
 use Rattle.rules.specs.Form.{formLength}
 use Rattle.image.specs.Shown.{formView}
 use Rattle.checked.specs.Good.{isAccepted}
-use Rattle.rules.specs.Image.{imageTest}
 use Rattle.checked.proofs.Orders.{no-form, sized, bad-contents, body-decides}
 use Rattle.checked.proofs.check.Statement.{statement}
 use Rattle.checked.proofs.check.Tie as tie
