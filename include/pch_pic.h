@@ -28,7 +28,7 @@
  *     bytes 2..7    0
  *     bytes 8..15   the value, little end first; 0 if absent
  *
- * REFUSALS. A refused call changes no byte of the image and of the event buffer. Refusals 1 to 6 write the answer area; refusal 7 writes nothing
+ * REFUSALS. A refused call changes no byte of the image and of the event buffer. Every refusal but 7 writes the answer area; refusal 7 writes nothing
  * at all, so after a 7 the answer area is not this call's. Every call ends with a number, whatever the bytes, numbers and lengths are.
  *
  * EVENTS. An event is a vector to assert or to deassert at the interrupt controller above this one. Where the host moves a line (pch_pic_level,
