@@ -45,8 +45,8 @@
  *       that goes up and down with the events goes wrong then, below 0 even.
  *     - So count afresh: the vectors that are on are those of the inputs in the stored ISR, and no others. Take ISR out of the image's body of kind
  *       1: a read of register 0x3a0 leaves out masked inputs, and those can be in service too, after a write of ISR or a load. This must be done
- *       when a write's value is not 0, since a dropped event is never told, and after a write to ISR or to a vector byte. It is right at any time when no event waits, so the simplest host does it after
- *       each call.
+ *       when a write's value is not 0, since a dropped event is never told, and after a write to ISR or to a vector byte. It is right at any
+ *       time when no event waits, so the simplest host does it after each call.
  *     - After a load, rebuild what is not in the image. Lower each input that is latched (IRR) while its line is low now, drain, count afresh
  *       against what the controller above has on, and raise each line that is high. The same goes for a reset while the guest runs.
  *     - Pass the events of one call on before the next call is made on that image: who holds the image's lock keeps it until then.

@@ -47,7 +47,8 @@ struct pic_wires {
 
 /* The six calls of pch_pic.h.
  * pic_init sets the window too: the registers stand at base. A line that is high already may be raised again: it is latched and asked for, and
- * asserted at most once. pic_write says how many events the write dropped, where dropped is not NULL. pic_drain takes all waiting events, oldest first, and says how many. */
+ * asserted at most once. pic_write says how many events the write dropped, where dropped is not NULL. pic_drain takes all waiting events, oldest
+ * first, and says how many. */
 int pic_init(struct pic *pic, uint64_t base);
 int pic_reset(struct pic *pic);
 int pic_read(const struct pic *pic, uint64_t address, uint64_t width, uint64_t *value);

@@ -1,5 +1,5 @@
 //! Side c: the published Rust in memory, with no image to load and save. Its lock is the stand-in of tools/oracle, a mutex of the standard
-//! library that nobody else takes. What the Rust has no part in (refusals 2 and 4 to 7) is not measured.
+//! library that nobody else takes. What the Rust has no part in (refusals 2, 4, 5 and 7 to 11) is not measured.
 
 use crate::call::Call;
 use crate::image;

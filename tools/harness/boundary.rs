@@ -1,4 +1,4 @@
-//! What 01 expects of a call: its refusals and its answer area, over the device of the published Rust. This is the expected side of every
+//! What 01 and 02 expect of a call: its refusals and its answer area, over the device of the published Rust. This is the expected side of every
 //! comparison.
 
 use crate::call::Call;

@@ -1,1 +1,1 @@
--- The contracts cite the definitions of rules, image and answer alone.
+-- The contracts cite the definitions of rules, faults and answer alone.

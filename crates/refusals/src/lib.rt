@@ -1,4 +1,4 @@
-// What a call tells that is refused: 01's numbers, and the value that goes with each. Which refusal comes first is known above.
+// What a call tells that is refused: 01's and 02's numbers, and the value that goes with each. Which refusal comes first is known above.
 use answer::Told;
 use answer::Value;
 use checked::fault_of;
@@ -11,7 +11,7 @@ ghost use Rattle.rules.specs.Image.{imageTest};
 ghost use Rattle.faults.specs.Found.{faultView, checkedView};
 ghost use Rattle.answer.specs.Given.{valueView, Tells};
 
-// The address is outside the window.
+// The access is not wholly inside the window.
 pub fn outside(address: u64) -> Told
     ensures { λ r. ⌜ Tells r (refusalNumber (asked.outside address)) (refusalValue (asked.outside address)) ⌝ }
 {

@@ -79,7 +79,7 @@ impl PchPic {
     }
 
     /// The guest writes at `address`; bits of `value` above the width are lost. Events that the write makes wait to be drained. The answer is how
-    /// many of them were dropped, since 16 waited already: 0 on a day without trouble, and at most 520.
+    /// many of them were dropped, since 16 waited already: 0 on a day without trouble.
     ///
     /// ```
     /// use pch_pic::{reg, Event, PchPic, Width, Window};
