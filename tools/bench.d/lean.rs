@@ -75,21 +75,23 @@ fn put_irr(image: &mut Image, value: u64) {
     put(image, IRR_COPY, value);
 }
 
-/// Refusal 5 or whatever breaks a rule of the bodies; (0, None) for an accepted image. Only a refused one is searched.
+/// Whether an image keeps all rules. Only a refused one is searched.
 #[inline(always)]
-fn check(image: &Image) -> Outcome {
+fn accepted(image: &Image) -> bool {
     if image[..22] != CONTENTS {
-        return (5, None);
+        return false;
     }
-    let Some(allowed) = ALLOWED.get(image[COUNT] as usize) else { return fault(image) };
-    let strange = (0..4).fold(word(image, IRR) ^ word(image, IRR_COPY), |strange, k| strange | word(image, PAIRS + 8 * k) & !allowed[k]);
-    if strange == 0 { (0, None) } else { fault(image) }
+    let Some(allowed) = ALLOWED.get(image[COUNT] as usize) else { return false };
+    (0..4).fold(word(image, IRR) ^ word(image, IRR_COPY), |strange, k| strange | word(image, PAIRS + 8 * k) & !allowed[k]) == 0
 }
 
-/// Refusals 8 to 11 with the place that breaks the rule.
+/// Refusal 5, or 8 to 11 with the place that breaks the rule.
 #[cold]
 #[inline(never)]
 fn fault(image: &Image) -> Outcome {
+    if image[..22] != CONTENTS {
+        return (5, None);
+    }
     if word(image, IRR) != word(image, IRR_COPY) {
         return (8, Some(IRR.min(IRR_COPY) as u64));
     }
@@ -97,8 +99,8 @@ fn fault(image: &Image) -> Outcome {
     if count > 16 {
         return (9, Some(COUNT as u64));
     }
-    let flags = (0..count).map(|pair| PAIRS + 2 * pair + 1);
-    if let Some(place) = flags.into_iter().find(|&place| image[place] > 1) {
+    let mut flags = (0..count).map(|pair| PAIRS + 2 * pair + 1);
+    if let Some(place) = flags.find(|&place| image[place] > 1) {
         return (10, Some(place as u64));
     }
     (11, (PAIRS + 2 * count..LENGTH).find(|&place| image[place] != 0).map(|place| place as u64))
@@ -108,19 +110,13 @@ fn fault(image: &Image) -> Outcome {
 #[inline(always)]
 fn checked(image: &[u8]) -> Result<&Image, Outcome> {
     let image: &Image = image.try_into().map_err(|_| (4, None))?;
-    match check(image) {
-        (0, _) => Ok(image),
-        refused => Err(refused),
-    }
+    if accepted(image) { Ok(image) } else { Err(fault(image)) }
 }
 
 #[inline(always)]
 fn checked_mut(image: &mut [u8]) -> Result<&mut Image, Outcome> {
     let image: &mut Image = image.try_into().map_err(|_| (4, None))?;
-    match check(image) {
-        (0, _) => Ok(image),
-        refused => Err(refused),
-    }
+    if accepted(image) { Ok(image) } else { Err(fault(image)) }
 }
 
 #[inline(always)]
