@@ -64,9 +64,9 @@ reading e = cond (leb 0xc0 e) (vector (e % 64)) (cond (leb 0x80 e) (route (e % 6
 
 -- ---- the table
 
--- the number of an offset, in rows of eight
+-- the number of an offset, in rows of 32
 abbrev pub entryAt : List (List ℕ) → ℕ → ℕ
-entryAt rows o = getD (getD rows (o / 8) []) (o % 8) 0
+entryAt rows o = getD (getD rows (o / 32) []) (o % 32) 0
 
 -- each of the 1,024 numbers tells what 01's map says of its offset (02, C-18)
 pub record Agrees (rows : List (List ℕ)) : Type 0 where

@@ -19,7 +19,7 @@ pub enum Place {
 }
 
 // The whole table. A caller lends it on: an array that is named again is copied again.
-pub fn whole() -> [[u8; 8]; 128]
+pub fn whole() -> [[u8; 32]; 32]
     ensures { λ r. ⌜ Agrees r ⌝ }
 {
     rows::TABLE
@@ -59,12 +59,12 @@ pub fn place_of(entry: u8) -> Place
 }
 
 // What stands at an offset; from 1,024 up nothing does.
-pub fn look(table: &[[u8; 8]; 128], offset: usize) -> Place
+pub fn look(table: &[[u8; 32]; 32], offset: usize) -> Place
     requires { ⌜ Agrees (now table) ⌝ }
     ensures { λ r. ⌜ placeView r ≡ meant offset ⌝ }
 {
     if offset >= 1024 {
         return Place::Nothing;
     }
-    place_of(table[offset / 8][offset % 8])
+    place_of(table[offset / 32][offset % 32])
 }

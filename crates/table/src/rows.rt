@@ -1,353 +1,67 @@
-// The table itself: for each of the 1,024 byte offsets a number that tells what the byte belongs to, in rows of eight.
-// A register has one row, its low half and then its high half, from the lowest byte up; a half's bytes are its number and the three behind it.
+// The table itself: a number for each of the 1,024 byte offsets, which tells what the byte belongs to. It has 32 rows of 32 bytes: a row for each
+// register, two for the route bytes, two for the vector bytes.
 
-// The registers: each has eight numbers from a multiple of eight on.
-pub const ID: u8 = 0x08;
+// ---- the numbers
 
-pub const MASK: u8 = 0x10;
+// A register's eight bytes have eight numbers, from a multiple of eight on: four of the low half, four of the high half, from the lowest byte up.
 
-pub const HTMSI: u8 = 0x18;
+const ID: u8 = 0x08;
 
-pub const EDGE: u8 = 0x20;
+const MASK: u8 = 0x10;
 
-pub const CLEAR: u8 = 0x28;
+const HTMSI_EN: u8 = 0x18;
 
-pub const AUTO0: u8 = 0x30;
+const EDGE: u8 = 0x20;
 
-pub const AUTO1: u8 = 0x38;
+const CLEAR: u8 = 0x28;
 
-pub const ISR: u8 = 0x40;
+const AUTO0: u8 = 0x30;
 
-pub const POL: u8 = 0x48;
+const AUTO1: u8 = 0x38;
 
-// IRR is silent to Byte and Word, as every number from SILENT on that belongs to a register.
+const ISR: u8 = 0x40;
+
+const POL: u8 = 0x48;
+
+// The registers from here on are silent to Byte and Word: IRR.
 pub const SILENT: u8 = 0x70;
 
-pub const IRR: u8 = SILENT;
+const IRR: u8 = 0x70;
 
-// The route byte and the vector byte of each input.
-pub const RTE: u8 = 0x80;
+// An input's route byte, and its vector byte: the number of the first input's and the input.
+const ROUTE: u8 = 0x80;
 
-pub const VEC: u8 = 0xc0;
+const VECTOR: u8 = 0xc0;
 
-// Eight bytes that belong to nothing.
-const NOTHING: [u8; 8] = [0, 0, 0, 0, 0, 0, 0, 0];
+// A byte that belongs to nothing.
+const NO: u8 = 0;
 
-pub const TABLE: [[u8; 8]; 128] = [
+// ---- the table, by its rows
+
+pub const TABLE: [[u8; 32]; 32] = [
     // 0x000
-    [ID, ID + 1, ID + 2, ID + 3, ID + 4, ID + 5, ID + 6, ID + 7],
+    ID_ROW,
+    MASK_ROW,
+    HTMSI_EN_ROW,
+    EDGE_ROW,
+    CLEAR_ROW,
     NOTHING,
-    NOTHING,
-    NOTHING,
-    // 0x020
-    [
-        MASK,
-        MASK + 1,
-        MASK + 2,
-        MASK + 3,
-        MASK + 4,
-        MASK + 5,
-        MASK + 6,
-        MASK + 7,
-    ],
-    NOTHING,
-    NOTHING,
-    NOTHING,
-    // 0x040
-    [
-        HTMSI,
-        HTMSI + 1,
-        HTMSI + 2,
-        HTMSI + 3,
-        HTMSI + 4,
-        HTMSI + 5,
-        HTMSI + 6,
-        HTMSI + 7,
-    ],
-    NOTHING,
-    NOTHING,
-    NOTHING,
-    // 0x060
-    [
-        EDGE,
-        EDGE + 1,
-        EDGE + 2,
-        EDGE + 3,
-        EDGE + 4,
-        EDGE + 5,
-        EDGE + 6,
-        EDGE + 7,
-    ],
-    NOTHING,
-    NOTHING,
-    NOTHING,
-    // 0x080
-    [
-        CLEAR,
-        CLEAR + 1,
-        CLEAR + 2,
-        CLEAR + 3,
-        CLEAR + 4,
-        CLEAR + 5,
-        CLEAR + 6,
-        CLEAR + 7,
-    ],
-    NOTHING,
-    NOTHING,
-    NOTHING,
-    // 0x0a0
-    NOTHING,
-    NOTHING,
-    NOTHING,
-    NOTHING,
-    // 0x0c0
-    [
-        AUTO0,
-        AUTO0 + 1,
-        AUTO0 + 2,
-        AUTO0 + 3,
-        AUTO0 + 4,
-        AUTO0 + 5,
-        AUTO0 + 6,
-        AUTO0 + 7,
-    ],
-    NOTHING,
-    NOTHING,
-    NOTHING,
-    // 0x0e0
-    [
-        AUTO1,
-        AUTO1 + 1,
-        AUTO1 + 2,
-        AUTO1 + 3,
-        AUTO1 + 4,
-        AUTO1 + 5,
-        AUTO1 + 6,
-        AUTO1 + 7,
-    ],
-    NOTHING,
-    NOTHING,
-    NOTHING,
+    AUTO0_ROW,
+    AUTO1_ROW,
     // 0x100
-    [
-        RTE,
-        RTE + 1,
-        RTE + 2,
-        RTE + 3,
-        RTE + 4,
-        RTE + 5,
-        RTE + 6,
-        RTE + 7,
-    ],
-    [
-        RTE + 8,
-        RTE + 9,
-        RTE + 10,
-        RTE + 11,
-        RTE + 12,
-        RTE + 13,
-        RTE + 14,
-        RTE + 15,
-    ],
-    [
-        RTE + 16,
-        RTE + 17,
-        RTE + 18,
-        RTE + 19,
-        RTE + 20,
-        RTE + 21,
-        RTE + 22,
-        RTE + 23,
-    ],
-    [
-        RTE + 24,
-        RTE + 25,
-        RTE + 26,
-        RTE + 27,
-        RTE + 28,
-        RTE + 29,
-        RTE + 30,
-        RTE + 31,
-    ],
-    // 0x120
-    [
-        RTE + 32,
-        RTE + 33,
-        RTE + 34,
-        RTE + 35,
-        RTE + 36,
-        RTE + 37,
-        RTE + 38,
-        RTE + 39,
-    ],
-    [
-        RTE + 40,
-        RTE + 41,
-        RTE + 42,
-        RTE + 43,
-        RTE + 44,
-        RTE + 45,
-        RTE + 46,
-        RTE + 47,
-    ],
-    [
-        RTE + 48,
-        RTE + 49,
-        RTE + 50,
-        RTE + 51,
-        RTE + 52,
-        RTE + 53,
-        RTE + 54,
-        RTE + 55,
-    ],
-    [
-        RTE + 56,
-        RTE + 57,
-        RTE + 58,
-        RTE + 59,
-        RTE + 60,
-        RTE + 61,
-        RTE + 62,
-        RTE + 63,
-    ],
-    // 0x140
+    ROUTES_0_TO_31,
+    ROUTES_32_TO_63,
     NOTHING,
     NOTHING,
-    NOTHING,
-    NOTHING,
-    // 0x160
-    NOTHING,
-    NOTHING,
-    NOTHING,
-    NOTHING,
-    // 0x180
-    NOTHING,
-    NOTHING,
-    NOTHING,
-    NOTHING,
-    // 0x1a0
-    NOTHING,
-    NOTHING,
-    NOTHING,
-    NOTHING,
-    // 0x1c0
-    NOTHING,
-    NOTHING,
-    NOTHING,
-    NOTHING,
-    // 0x1e0
     NOTHING,
     NOTHING,
     NOTHING,
     NOTHING,
     // 0x200
-    [
-        VEC,
-        VEC + 1,
-        VEC + 2,
-        VEC + 3,
-        VEC + 4,
-        VEC + 5,
-        VEC + 6,
-        VEC + 7,
-    ],
-    [
-        VEC + 8,
-        VEC + 9,
-        VEC + 10,
-        VEC + 11,
-        VEC + 12,
-        VEC + 13,
-        VEC + 14,
-        VEC + 15,
-    ],
-    [
-        VEC + 16,
-        VEC + 17,
-        VEC + 18,
-        VEC + 19,
-        VEC + 20,
-        VEC + 21,
-        VEC + 22,
-        VEC + 23,
-    ],
-    [
-        VEC + 24,
-        VEC + 25,
-        VEC + 26,
-        VEC + 27,
-        VEC + 28,
-        VEC + 29,
-        VEC + 30,
-        VEC + 31,
-    ],
-    // 0x220
-    [
-        VEC + 32,
-        VEC + 33,
-        VEC + 34,
-        VEC + 35,
-        VEC + 36,
-        VEC + 37,
-        VEC + 38,
-        VEC + 39,
-    ],
-    [
-        VEC + 40,
-        VEC + 41,
-        VEC + 42,
-        VEC + 43,
-        VEC + 44,
-        VEC + 45,
-        VEC + 46,
-        VEC + 47,
-    ],
-    [
-        VEC + 48,
-        VEC + 49,
-        VEC + 50,
-        VEC + 51,
-        VEC + 52,
-        VEC + 53,
-        VEC + 54,
-        VEC + 55,
-    ],
-    [
-        VEC + 56,
-        VEC + 57,
-        VEC + 58,
-        VEC + 59,
-        VEC + 60,
-        VEC + 61,
-        VEC + 62,
-        VEC + 63,
-    ],
-    // 0x240
+    VECTORS_0_TO_31,
+    VECTORS_32_TO_63,
     NOTHING,
     NOTHING,
-    NOTHING,
-    NOTHING,
-    // 0x260
-    NOTHING,
-    NOTHING,
-    NOTHING,
-    NOTHING,
-    // 0x280
-    NOTHING,
-    NOTHING,
-    NOTHING,
-    NOTHING,
-    // 0x2a0
-    NOTHING,
-    NOTHING,
-    NOTHING,
-    NOTHING,
-    // 0x2c0
-    NOTHING,
-    NOTHING,
-    NOTHING,
-    NOTHING,
-    // 0x2e0
     NOTHING,
     NOTHING,
     NOTHING,
@@ -357,66 +71,544 @@ pub const TABLE: [[u8; 8]; 128] = [
     NOTHING,
     NOTHING,
     NOTHING,
-    // 0x320
+    IRR_ROW,
+    ISR_ROW,
     NOTHING,
-    NOTHING,
-    NOTHING,
-    NOTHING,
-    // 0x340
-    NOTHING,
-    NOTHING,
-    NOTHING,
-    NOTHING,
-    // 0x360
-    NOTHING,
-    NOTHING,
-    NOTHING,
-    NOTHING,
-    // 0x380
-    [
-        IRR,
-        IRR + 1,
-        IRR + 2,
-        IRR + 3,
-        IRR + 4,
-        IRR + 5,
-        IRR + 6,
-        IRR + 7,
-    ],
-    NOTHING,
-    NOTHING,
-    NOTHING,
-    // 0x3a0
-    [
-        ISR,
-        ISR + 1,
-        ISR + 2,
-        ISR + 3,
-        ISR + 4,
-        ISR + 5,
-        ISR + 6,
-        ISR + 7,
-    ],
-    NOTHING,
-    NOTHING,
-    NOTHING,
-    // 0x3c0
-    NOTHING,
-    NOTHING,
-    NOTHING,
-    NOTHING,
-    // 0x3e0
-    [
-        POL,
-        POL + 1,
-        POL + 2,
-        POL + 3,
-        POL + 4,
-        POL + 5,
-        POL + 6,
-        POL + 7,
-    ],
-    NOTHING,
-    NOTHING,
-    NOTHING,
+    POL_ROW,
+];
+
+const NOTHING: [u8; 32] = [NO; 32];
+
+// 0x000..0x01f
+const ID_ROW: [u8; 32] = [
+    // low half
+    ID,
+    ID + 1,
+    ID + 2,
+    ID + 3,
+    // high half
+    ID + 4,
+    ID + 5,
+    ID + 6,
+    ID + 7,
+    // nothing
+    NO,
+    NO,
+    NO,
+    NO,
+    NO,
+    NO,
+    NO,
+    NO,
+    NO,
+    NO,
+    NO,
+    NO,
+    NO,
+    NO,
+    NO,
+    NO,
+    NO,
+    NO,
+    NO,
+    NO,
+    NO,
+    NO,
+    NO,
+    NO,
+];
+
+// 0x020..0x03f
+const MASK_ROW: [u8; 32] = [
+    // low half
+    MASK,
+    MASK + 1,
+    MASK + 2,
+    MASK + 3,
+    // high half
+    MASK + 4,
+    MASK + 5,
+    MASK + 6,
+    MASK + 7,
+    // nothing
+    NO,
+    NO,
+    NO,
+    NO,
+    NO,
+    NO,
+    NO,
+    NO,
+    NO,
+    NO,
+    NO,
+    NO,
+    NO,
+    NO,
+    NO,
+    NO,
+    NO,
+    NO,
+    NO,
+    NO,
+    NO,
+    NO,
+    NO,
+    NO,
+];
+
+// 0x040..0x05f
+const HTMSI_EN_ROW: [u8; 32] = [
+    // low half
+    HTMSI_EN,
+    HTMSI_EN + 1,
+    HTMSI_EN + 2,
+    HTMSI_EN + 3,
+    // high half
+    HTMSI_EN + 4,
+    HTMSI_EN + 5,
+    HTMSI_EN + 6,
+    HTMSI_EN + 7,
+    // nothing
+    NO,
+    NO,
+    NO,
+    NO,
+    NO,
+    NO,
+    NO,
+    NO,
+    NO,
+    NO,
+    NO,
+    NO,
+    NO,
+    NO,
+    NO,
+    NO,
+    NO,
+    NO,
+    NO,
+    NO,
+    NO,
+    NO,
+    NO,
+    NO,
+];
+
+// 0x060..0x07f
+const EDGE_ROW: [u8; 32] = [
+    // low half
+    EDGE,
+    EDGE + 1,
+    EDGE + 2,
+    EDGE + 3,
+    // high half
+    EDGE + 4,
+    EDGE + 5,
+    EDGE + 6,
+    EDGE + 7,
+    // nothing
+    NO,
+    NO,
+    NO,
+    NO,
+    NO,
+    NO,
+    NO,
+    NO,
+    NO,
+    NO,
+    NO,
+    NO,
+    NO,
+    NO,
+    NO,
+    NO,
+    NO,
+    NO,
+    NO,
+    NO,
+    NO,
+    NO,
+    NO,
+    NO,
+];
+
+// 0x080..0x09f
+const CLEAR_ROW: [u8; 32] = [
+    // low half
+    CLEAR,
+    CLEAR + 1,
+    CLEAR + 2,
+    CLEAR + 3,
+    // high half
+    CLEAR + 4,
+    CLEAR + 5,
+    CLEAR + 6,
+    CLEAR + 7,
+    // nothing
+    NO,
+    NO,
+    NO,
+    NO,
+    NO,
+    NO,
+    NO,
+    NO,
+    NO,
+    NO,
+    NO,
+    NO,
+    NO,
+    NO,
+    NO,
+    NO,
+    NO,
+    NO,
+    NO,
+    NO,
+    NO,
+    NO,
+    NO,
+    NO,
+];
+
+// 0x0c0..0x0df
+const AUTO0_ROW: [u8; 32] = [
+    // low half
+    AUTO0,
+    AUTO0 + 1,
+    AUTO0 + 2,
+    AUTO0 + 3,
+    // high half
+    AUTO0 + 4,
+    AUTO0 + 5,
+    AUTO0 + 6,
+    AUTO0 + 7,
+    // nothing
+    NO,
+    NO,
+    NO,
+    NO,
+    NO,
+    NO,
+    NO,
+    NO,
+    NO,
+    NO,
+    NO,
+    NO,
+    NO,
+    NO,
+    NO,
+    NO,
+    NO,
+    NO,
+    NO,
+    NO,
+    NO,
+    NO,
+    NO,
+    NO,
+];
+
+// 0x0e0..0x0ff
+const AUTO1_ROW: [u8; 32] = [
+    // low half
+    AUTO1,
+    AUTO1 + 1,
+    AUTO1 + 2,
+    AUTO1 + 3,
+    // high half
+    AUTO1 + 4,
+    AUTO1 + 5,
+    AUTO1 + 6,
+    AUTO1 + 7,
+    // nothing
+    NO,
+    NO,
+    NO,
+    NO,
+    NO,
+    NO,
+    NO,
+    NO,
+    NO,
+    NO,
+    NO,
+    NO,
+    NO,
+    NO,
+    NO,
+    NO,
+    NO,
+    NO,
+    NO,
+    NO,
+    NO,
+    NO,
+    NO,
+    NO,
+];
+
+// 0x380..0x39f
+const IRR_ROW: [u8; 32] = [
+    // low half
+    IRR,
+    IRR + 1,
+    IRR + 2,
+    IRR + 3,
+    // high half
+    IRR + 4,
+    IRR + 5,
+    IRR + 6,
+    IRR + 7,
+    // nothing
+    NO,
+    NO,
+    NO,
+    NO,
+    NO,
+    NO,
+    NO,
+    NO,
+    NO,
+    NO,
+    NO,
+    NO,
+    NO,
+    NO,
+    NO,
+    NO,
+    NO,
+    NO,
+    NO,
+    NO,
+    NO,
+    NO,
+    NO,
+    NO,
+];
+
+// 0x3a0..0x3bf
+const ISR_ROW: [u8; 32] = [
+    // low half
+    ISR,
+    ISR + 1,
+    ISR + 2,
+    ISR + 3,
+    // high half
+    ISR + 4,
+    ISR + 5,
+    ISR + 6,
+    ISR + 7,
+    // nothing
+    NO,
+    NO,
+    NO,
+    NO,
+    NO,
+    NO,
+    NO,
+    NO,
+    NO,
+    NO,
+    NO,
+    NO,
+    NO,
+    NO,
+    NO,
+    NO,
+    NO,
+    NO,
+    NO,
+    NO,
+    NO,
+    NO,
+    NO,
+    NO,
+];
+
+// 0x3e0..0x3ff
+const POL_ROW: [u8; 32] = [
+    // low half
+    POL,
+    POL + 1,
+    POL + 2,
+    POL + 3,
+    // high half
+    POL + 4,
+    POL + 5,
+    POL + 6,
+    POL + 7,
+    // nothing
+    NO,
+    NO,
+    NO,
+    NO,
+    NO,
+    NO,
+    NO,
+    NO,
+    NO,
+    NO,
+    NO,
+    NO,
+    NO,
+    NO,
+    NO,
+    NO,
+    NO,
+    NO,
+    NO,
+    NO,
+    NO,
+    NO,
+    NO,
+    NO,
+];
+
+// 0x100..0x11f
+const ROUTES_0_TO_31: [u8; 32] = [
+    ROUTE,
+    ROUTE + 1,
+    ROUTE + 2,
+    ROUTE + 3,
+    ROUTE + 4,
+    ROUTE + 5,
+    ROUTE + 6,
+    ROUTE + 7,
+    ROUTE + 8,
+    ROUTE + 9,
+    ROUTE + 10,
+    ROUTE + 11,
+    ROUTE + 12,
+    ROUTE + 13,
+    ROUTE + 14,
+    ROUTE + 15,
+    ROUTE + 16,
+    ROUTE + 17,
+    ROUTE + 18,
+    ROUTE + 19,
+    ROUTE + 20,
+    ROUTE + 21,
+    ROUTE + 22,
+    ROUTE + 23,
+    ROUTE + 24,
+    ROUTE + 25,
+    ROUTE + 26,
+    ROUTE + 27,
+    ROUTE + 28,
+    ROUTE + 29,
+    ROUTE + 30,
+    ROUTE + 31,
+];
+
+// 0x120..0x13f
+const ROUTES_32_TO_63: [u8; 32] = [
+    ROUTE + 32,
+    ROUTE + 33,
+    ROUTE + 34,
+    ROUTE + 35,
+    ROUTE + 36,
+    ROUTE + 37,
+    ROUTE + 38,
+    ROUTE + 39,
+    ROUTE + 40,
+    ROUTE + 41,
+    ROUTE + 42,
+    ROUTE + 43,
+    ROUTE + 44,
+    ROUTE + 45,
+    ROUTE + 46,
+    ROUTE + 47,
+    ROUTE + 48,
+    ROUTE + 49,
+    ROUTE + 50,
+    ROUTE + 51,
+    ROUTE + 52,
+    ROUTE + 53,
+    ROUTE + 54,
+    ROUTE + 55,
+    ROUTE + 56,
+    ROUTE + 57,
+    ROUTE + 58,
+    ROUTE + 59,
+    ROUTE + 60,
+    ROUTE + 61,
+    ROUTE + 62,
+    ROUTE + 63,
+];
+
+// 0x200..0x21f
+const VECTORS_0_TO_31: [u8; 32] = [
+    VECTOR,
+    VECTOR + 1,
+    VECTOR + 2,
+    VECTOR + 3,
+    VECTOR + 4,
+    VECTOR + 5,
+    VECTOR + 6,
+    VECTOR + 7,
+    VECTOR + 8,
+    VECTOR + 9,
+    VECTOR + 10,
+    VECTOR + 11,
+    VECTOR + 12,
+    VECTOR + 13,
+    VECTOR + 14,
+    VECTOR + 15,
+    VECTOR + 16,
+    VECTOR + 17,
+    VECTOR + 18,
+    VECTOR + 19,
+    VECTOR + 20,
+    VECTOR + 21,
+    VECTOR + 22,
+    VECTOR + 23,
+    VECTOR + 24,
+    VECTOR + 25,
+    VECTOR + 26,
+    VECTOR + 27,
+    VECTOR + 28,
+    VECTOR + 29,
+    VECTOR + 30,
+    VECTOR + 31,
+];
+
+// 0x220..0x23f
+const VECTORS_32_TO_63: [u8; 32] = [
+    VECTOR + 32,
+    VECTOR + 33,
+    VECTOR + 34,
+    VECTOR + 35,
+    VECTOR + 36,
+    VECTOR + 37,
+    VECTOR + 38,
+    VECTOR + 39,
+    VECTOR + 40,
+    VECTOR + 41,
+    VECTOR + 42,
+    VECTOR + 43,
+    VECTOR + 44,
+    VECTOR + 45,
+    VECTOR + 46,
+    VECTOR + 47,
+    VECTOR + 48,
+    VECTOR + 49,
+    VECTOR + 50,
+    VECTOR + 51,
+    VECTOR + 52,
+    VECTOR + 53,
+    VECTOR + 54,
+    VECTOR + 55,
+    VECTOR + 56,
+    VECTOR + 57,
+    VECTOR + 58,
+    VECTOR + 59,
+    VECTOR + 60,
+    VECTOR + 61,
+    VECTOR + 62,
+    VECTOR + 63,
 ];
