@@ -36,8 +36,8 @@ pub fn read_dword(image: &[u8], table: &[[u8; 32]; 32], offset: usize) -> u32
             }
             bits::half(value_of(image, register), high)
         }
-        Place::Route(_input) => read_four(image, table, offset),
-        Place::Vector(_input) => read_four(image, table, offset),
+        Place::Route(input) => read_four(image, table, offset),
+        Place::Vector(input) => read_four(image, table, offset),
         Place::Nothing => 0,
     }
 }
@@ -64,11 +64,11 @@ pub fn write_dword(image: &mut [u8], table: &[[u8; 32]; 32], offset: usize, val:
             }
             write_half(image, register, val, high)
         }
-        Place::Route(_input) => {
+        Place::Route(input) => {
             write_four(image, table, offset, val);
             0
         }
-        Place::Vector(_input) => {
+        Place::Vector(input) => {
             write_four(image, table, offset, val);
             0
         }
