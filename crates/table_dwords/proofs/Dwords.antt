@@ -81,14 +81,18 @@ four-writes o v e {b₀} {b₁} {b₂} {b₃} e₀ e₁ e₂ e₃ p q r s =
   where
     one : Core → Core
     one c = turns c (byteActs c o b₀) .after
+
     two : Core → Core
     two c = turns (one c) (byteActs (one c) (o + 1) b₁) .after
+
     three : Core → Core
     three c = turns (two c) (byteActs (two c) (o + 2) b₂) .after
+
     each : Core → ℕ → Core
     each c zero = c
     each c (suc zero) = one c
     each c (suc (suc zero)) = two c
     each c (suc (suc (suc k))) = three c
+
     all : (c : Core) → byteActs c o b₀ ++ (byteActs (one c) (o + 1) b₁ ++ (byteActs (two c) (o + 2) b₂ ++ byteActs (three c) (o + 3) b₃)) ≡ dwordActs o v
     all c = (λ t. byteActs c o (e₀ t) ++ (byteActs (one c) (o + 1) (e₁ t) ++ (byteActs (two c) (o + 2) (e₂ t) ++ byteActs (three c) (o + 3) (e₃ t)))) ∙ sym (dword-acts-four o v (each c) e)

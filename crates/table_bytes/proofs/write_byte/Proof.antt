@@ -27,9 +27,11 @@ write-byte-spec =
     (λ c. search needs)
     (λ c. search needs)
     (λ c. let w = c .before .before in let b = w .before in let h = b .before .before in let v = h .before in let e = v .before .before in let g = e .before .before in
-    let l = g .before .before in let a = l .before .before .args in
-    (w .write-half .ensures .0, part-writes (a .image .now) (a .offset) (a .val) _ _ _ _ (sym (ap placeView (g .register .given .1)) ∙ l .look .ensures) (e .if1 .left)
-    (v .value-of .ensures) (h .half .ensures) (b .with-byte .ensures) (w .write-half .ensures .1)))
+    let l = g .before .before in let a = l .before .before .args in (
+      w .write-half .ensures .0,
+      part-writes (a .image .now) (a .offset) (a .val) _ _ _ _ (sym (ap placeView (g .register .given .1)) ∙ l .look .ensures) (e .if1 .left)
+          (v .value-of .ensures) (h .half .ensures) (b .with-byte .ensures) (w .write-half .ensures .1),
+    ))
     (λ c. search needs)
     (λ c. let w = c .before .before in let g = w .before .before .before in let l = g .before .before in let a = l .before .before .args in
     (omega arith, route-writes (a .image .now) (a .offset) (a .val) _ (search needs) (sym (ap placeView (g .input .given .1)) ∙ l .look .ensures) (w .put-routes .ensures)))
