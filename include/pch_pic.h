@@ -1,6 +1,6 @@
 /* A LoongArch PCH-PIC interrupt controller as a library: six calls over bytes. This header is all that a host needs to read.
  *
- * Link with libpch_pic.a ('rt staticlib pch_pic' writes it to target/staticlib) and with no other library. The archive is for x86-64 Linux in user
+ * Link with libpch_pic.a (tools/archive writes it to target/archive) and with no other library. The archive is for x86-64 Linux in user
  * space, and for nothing else: it uses the SSE registers and the red zone below the stack pointer, which a kernel must not, and it has no
  * .eh_frame, so nothing can be unwound through its frames.
  *
