@@ -1,4 +1,4 @@
-//! A stand-in for the library under test: the six C calls over the published Rust, by the same boundary that the harness expects. It shows
+//! A stand-in for the library under test: the C calls over the published Rust, by the same boundary that the harness expects. It shows
 //! that the harness runs without a proved library at hand, and tools/mutants breaks copies of it to show that the harness catches them.
 
 mod boundary;
@@ -78,4 +78,35 @@ pub unsafe fn pch_pic_drain(
     answer_len: usize,
 ) -> u8 {
     unsafe { perform(Call::Drain { place: place as u64 }, (image, image_len), (answer, answer_len), (events, events_len)) }
+}
+
+#[allow(clippy::too_many_arguments)]
+pub unsafe fn pch_pic_table_read(
+    image: *const u8,
+    image_len: usize,
+    base: u64,
+    size: u64,
+    address: u64,
+    width: u64,
+    answer: *mut u8,
+    answer_len: usize,
+) -> u8 {
+    let call = Call::Read { base, size, address, width };
+    unsafe { perform(call, (image.cast_mut(), image_len), (answer, answer_len), NONE) }
+}
+
+#[allow(clippy::too_many_arguments)]
+pub unsafe fn pch_pic_table_write(
+    image: *mut u8,
+    image_len: usize,
+    base: u64,
+    size: u64,
+    address: u64,
+    width: u64,
+    value: u64,
+    answer: *mut u8,
+    answer_len: usize,
+) -> u8 {
+    let call = Call::Write { base, size, address, width, value };
+    unsafe { perform(call, (image, image_len), (answer, answer_len), NONE) }
 }

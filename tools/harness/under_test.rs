@@ -1,4 +1,5 @@
-//! Makes a call of the library under test on lent areas.
+//! Makes a call of the library under test on lent areas. A read or a write is made a second time by the table, on areas that held the same, and has to leave
+//! the same number and the same bytes.
 
 use crate::call::Call;
 use crate::lent::Areas;
@@ -14,6 +15,21 @@ pub fn box_areas() {
 }
 
 pub fn call(call: &Call, lent: &mut Areas) -> u8 {
+    let twin = matches!(call, Call::Read { .. } | Call::Write { .. }).then(|| lent.clone());
+    let number = on(call, lent, make);
+    if let Some(mut twin) = twin {
+        let other = on(call, &mut twin, make_by_table);
+        assert_eq!(other, number, "by the table it hands back another number");
+        assert!(twin.image.same(&lent.image), "by the table it leaves another image: {:?}", twin.image.difference(&lent.image));
+        assert!(twin.answer.same(&lent.answer), "by the table it leaves another answer area: {:?}", twin.answer.difference(&lent.answer));
+        assert!(twin.events.same(&lent.events), "by the table it leaves another event buffer");
+    }
+    number
+}
+
+type Area = (*mut u8, usize);
+
+fn on(call: &Call, lent: &mut Areas, make: fn(&Call, Area, Area, Area) -> u8) -> u8 {
     let Areas { image, answer, events } = lent;
     if !BOXED.load(Ordering::Relaxed) {
         return make(call, (image.pointer(), image.len), (answer.pointer(), answer.len), (events.pointer(), events.len));
@@ -27,7 +43,7 @@ pub fn call(call: &Call, lent: &mut Areas) -> u8 {
     number
 }
 
-fn make(call: &Call, (i, il): (*mut u8, usize), (a, al): (*mut u8, usize), (e, el): (*mut u8, usize)) -> u8 {
+fn make(call: &Call, (i, il): Area, (a, al): Area, (e, el): Area) -> u8 {
     // SAFETY: each pointer and length is an area of its own that outlives the call; an empty one may be null, as the boundary says.
     unsafe {
         match *call {
@@ -37,6 +53,17 @@ fn make(call: &Call, (i, il): (*mut u8, usize), (a, al): (*mut u8, usize), (e, e
             Call::Level { input, level } => library::pch_pic_level(i, il, input, level, a, al),
             Call::Poll { input } => library::pch_pic_poll(i, il, input, a, al),
             Call::Drain { place } => library::pch_pic_drain(i, il, e, el, place as usize, a, al),
+        }
+    }
+}
+
+fn make_by_table(call: &Call, (i, il): Area, (a, al): Area, _: Area) -> u8 {
+    // SAFETY: as above.
+    unsafe {
+        match *call {
+            Call::Read { base, size, address, width } => library::pch_pic_table_read(i, il, base, size, address, width, a, al),
+            Call::Write { base, size, address, width, value } => library::pch_pic_table_write(i, il, base, size, address, width, value, a, al),
+            _ => unreachable!("only reads and writes are decoded"),
         }
     }
 }
