@@ -31,6 +31,8 @@ write-byte-spec =
     (λ c. let w = c .before .before .write-dword .ensures in
     let r = c .before .before .before .before in
     let a = c .before .before .before .before .before .before .before .before .before .args in
-    let small = mask-lt (a .offset) 2 in
-    (w .0, outside-written (a .offset) (a .val) (search needs) (sym (r .before .before .before .in-byte-area .ensures) ∙ r .before .before .if1 .left) (r .read-dword .ensures)
-    (byte-replaced 32 (r .read-dword .result) (bitAnd (a .offset) 0x3) (a .val) (omega arith) (search needs) (search needs)) (w .1))))
+    let small = mask-lt (a .offset) 2 in (
+      w .0,
+      outside-written (a .offset) (a .val) (search needs) (sym (r .before .before .before .in-byte-area .ensures) ∙ r .before .before .if1 .left) (r .read-dword .ensures)
+          (byte-replaced 32 (r .read-dword .result) (bitAnd (a .offset) 0x3) (a .val) (omega arith) (search needs) (search needs)) (w .1),
+    )))
