@@ -43,8 +43,8 @@ fn amount_of(value: Value) -> u64
     }
 }
 
-// Sixteen bytes are written; those past them stay. The first eight become zeros before two of them are set: stored one after another, the zeros behind
-// those two are put together by themselves, and a call takes two instructions more.
+// Sixteen bytes are written; those past them stay. The first eight become zeros before two of them are set: of bytes that are stored in order the compiler
+// puts the last six together by themselves, and a call takes two instructions more.
 pub fn put_answer(answer: &mut [u8], number: u8, value: Value)
     requires { ⌜ answerLength ≤ length (now answer) ⌝ }
     ensures { λ _. ⌜ now (answer .exit) ≡ answered number (valueView value) (now (answer .entry)) ⌝ }
