@@ -5,14 +5,18 @@ ghost use Prim.Native.Nat.{_<_};
 ghost use Rattle.rules.specs.Numbers.{byteOf, withByte};
 ghost use Rattle.rules.specs.Inputs.{half, withHalf, asHalf};
 
-// old with its high or its low half replaced by val.
+// What a half of a register counts up to: the high half counts so many of these.
+const HALF: u64 = 0x1_0000_0000;
+
+// old with its high or its low half replaced by val, by remainder and product (02, C-12). Every half of a register that is replaced goes through here.
 pub fn replace_u32(old: u64, val: u32, high: bool) -> u64
     ensures { λ r. ⌜ r ≡ withHalf high old val ⌝ }
 {
+    let low = old % HALF;
     if high {
-        (old & 0x0000_0000_ffff_ffff) | ((val as u64) << 32)
+        (val as u64) * HALF + low
     } else {
-        (old & 0xffff_ffff_0000_0000) | (val as u64)
+        old - low + (val as u64)
     }
 }
 
