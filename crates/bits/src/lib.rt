@@ -12,11 +12,10 @@ const HALF: u64 = 0x1_0000_0000;
 pub fn replace_u32(old: u64, val: u32, high: bool) -> u64
     ensures { λ r. ⌜ r ≡ withHalf high old val ⌝ }
 {
-    let low = old % HALF;
     if high {
-        (val as u64) * HALF + low
+        (val as u64) * HALF + old % HALF
     } else {
-        old - low + (val as u64)
+        old - old % HALF + (val as u64)
     }
 }
 
