@@ -54,14 +54,15 @@ pub fn read_run(image: &[u8], offset: usize, n: usize) -> u64
     }
 }
 
+// By the table, in arms that are no two ways out of one test: of such the compiler brings the shifts together, and stores byte by byte.
 pub fn write_run(image: &mut [u8], offset: usize, n: usize, x: u64)
     requires { ⌜ (length (now image) ≡ imageLength) × Run offset n ⌝ }
     ensures { λ _. ⌜ Writes (now (image .entry)) (now (image .exit)) 0 (λ c. entriesActs offset n x) ⌝ }
 {
-    if offset < 0x200 {
-        put_routes(image, offset % 64, n, x)
-    } else {
-        put_vectors(image, offset % 64, n, x)
+    match offset / 64 {
+        4 => put_routes(image, offset % 64, n, x),
+        8 => put_vectors(image, offset % 64, n, x),
+        _ => {}
     }
 }
 
@@ -95,13 +96,14 @@ fn write_four(image: &mut [u8], offset: usize, val: u32)
 
 // ---- a Dword
 
+// The image is lent anew in each arm: a shared slice that is passed on as it is gets copied, and then each caller hands it over in memory.
 pub fn read_dword(image: &[u8], offset: usize) -> u32
     requires { ⌜ length (now image) ≡ imageLength ⌝ }
     ensures { λ r. ⌜ Reads (now (image .entry)) r (λ d. readDword (d .core) offset) ⌝ }
 {
     match map::low::decode_low(offset) {
-        Cell::Half(register, high) => bits::half(value_of(image, register), high),
-        Cell::Bytes => read_four(image, offset),
+        Cell::Half(register, high) => bits::half(value_of(&*image, register), high),
+        Cell::Bytes => read_four(&*image, offset),
         Cell::Nothing => 0,
     }
 }

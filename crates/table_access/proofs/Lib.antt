@@ -1,1 +1,1 @@
--- The laws that the proofs of this crate cite stand in narrow, wide and access.
+-- The laws that the proofs of this crate cite stand in narrow, wide and accesses.
