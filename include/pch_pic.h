@@ -1,4 +1,4 @@
-/* A LoongArch PCH-PIC interrupt controller as a library: six calls over bytes. This header is all that a host needs to read.
+/* A LoongArch PCH-PIC interrupt controller as a library: calls over bytes. This header is all that a host needs to read.
  *
  * Link with libpch_pic.a (tools/archive writes it to target/archive) and with no other library. The archive is for x86-64 Linux in user
  * space, and for nothing else: it uses the SSE registers and the red zone below the stack pointer, which a kernel must not, and it has no
@@ -55,7 +55,7 @@
  *     - each pointer is good for as many bytes as the length beside it says; a null pointer with length 0 is an empty buffer;
  *     - the image, the answer area and the event buffer of one call do not overlap;
  *     - while a call other than a read runs on an image, no other call runs on it. Reads of one image may run side by side, each with its own
- *       answer area: pch_pic_read only loads from the image. Calls on different images may always run side by side.
+ *       answer area: pch_pic_read and pch_pic_table_read only load from the image. Calls on different images may always run side by side.
  */
 #ifndef PCH_PIC_H
 #define PCH_PIC_H
@@ -71,9 +71,9 @@
 
 /* The version of the header and of what it says about the library. */
 #define PCH_PIC_VERSION_MAJOR 0
-#define PCH_PIC_VERSION_MINOR 5
+#define PCH_PIC_VERSION_MINOR 6
 #define PCH_PIC_VERSION_PATCH 0
-#define PCH_PIC_VERSION "0.5.0"
+#define PCH_PIC_VERSION "0.6.0"
 
 #ifdef __cplusplus
 extern "C" {
@@ -197,6 +197,13 @@ uint8_t pch_pic_poll(uint8_t *image, size_t image_len, uint64_t input, uint8_t *
  * many were moved, and is always present; 32 bytes have room for all. Refusals: 7, 4, 5, 8 to 11. */
 uint8_t pch_pic_drain(uint8_t *image, size_t image_len, uint8_t *events, size_t events_len, size_t place,
                       uint8_t *answer, size_t answer_len);
+
+/* As pch_pic_read and pch_pic_write, in the number and in every byte, but decoded by a table of 1,024 entries, one for each byte offset, the one that
+ * './run --map' prints. They take more time (docs/PERFORMANCE.md), and may be mixed with the other calls on one image. Refusals: 7, 4, 5, 8 to 11, 2, 1. */
+uint8_t pch_pic_table_read(const uint8_t *image, size_t image_len, uint64_t base, uint64_t size, uint64_t address, uint64_t width,
+                           uint8_t *answer, size_t answer_len);
+uint8_t pch_pic_table_write(uint8_t *image, size_t image_len, uint64_t base, uint64_t size, uint64_t address, uint64_t width, uint64_t value,
+                            uint8_t *answer, size_t answer_len);
 
 #ifdef __cplusplus
 }
