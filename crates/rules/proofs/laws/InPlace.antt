@@ -14,7 +14,7 @@ use Rattle.rules.specs.Ring.{Ring}
 use Rattle.rules.specs.Core.{Plain, htmsiEn, edge, pol, auto0, auto1, Stored, Core, plain, withPlain, withRoutes}
 use Rattle.rules.specs.Device.{Device, withRing}
 use Rattle.rules.specs.Form.{Word, mask, irr, isr, copy, stored, Field, word, routes, vectors, count, ringFields}
-use Rattle.rules.specs.Form.{Form, one, size, is, listed, total, from, fields, has, place, laid, image}
+use Rattle.rules.specs.Form.{Form, one, two, size, is, listed, total, from, fields, has, place, laid, image}
 use Rattle.rules.specs.Image.{wordOf, fieldOf}
 use Rattle.rules.proofs.laws.Layout.{Sized, never, by-word, by-plain, by-field, length-laid, from-starts, image-written}
 
@@ -140,6 +140,7 @@ ring-apart f d r q h t = by-field (λ q. listed q ringFields ≡ false → field
   where
     ring-touched : (f : Form) → touched f ringPart ≡ ringFields
     ring-touched one = refl
+    ring-touched two = refl
 
 -- entries of a table: the words stay
 same-words : (c d : Core) → c .lines ≡ d .lines → ((p : Plain) → plain (c .stored) p ≡ plain (d .stored) p) → (w : Word) → wordOf c w ≡ wordOf d w
