@@ -5,19 +5,13 @@ use mathlib.Core.List.{List}
 use Prim.Native.Nat.{ℕ, _+_, _≤_}
 use native.Mathlib.Omega.{arith}
 use lib.ListN.{length}
-use Rattle.rules.specs.Form.{one, Word, Field, word, copy, irr, has, size, place, formLength}
+use Rattle.rules.specs.Form.{Word, Field, word, copy, irr, has, size, place, formLength}
 use Rattle.rules.specs.Form as rules-form
 use Rattle.rules.specs.Image.{registerAt, wordIn}
 use Rattle.rules.proofs.laws.Bits.{test}
 use Rattle.rules.proofs.laws.Layout.{always, has-all, field-fits}
-use Rattle.image.specs.Shown.{formView, placeIn, PlacesOf}
-use Rattle.image.specs.declared.form.Form.{Form}
-use Rattle.image.specs.declared.form.Form.the-variants.{One}
+use Rattle.image.specs.Shown.{placeIn, PlacesOf}
 use Rattle.image.specs.declared.form.Places.{Places}
-
--- there is one form
-pub only : (k : Form) → formView k ≡ one
-only One = refl
 
 -- a field ends within the image
 module _ (f : rules-form.Form) (l : List ℕ) (s : length l ≡ formLength f) (p : Places) (o : PlacesOf f p) where
