@@ -13,6 +13,10 @@ use Rattle.rules.proofs.laws.Layout.{always, has-all, field-fits}
 use Rattle.image.specs.Shown.{placeIn, PlacesOf}
 use Rattle.image.specs.declared.form.Places.{Places}
 
+-- where a field stands that every form has
+pub placed : {f : rules-form.Form} {p : Places} → PlacesOf f p → (q : Field) → always q ≡ true → placeIn p q ≡ place f q
+placed {f} o q h = o .fields q (has-all f q h)
+
 -- a field ends within the image
 module _ (f : rules-form.Form) (l : List ℕ) (s : length l ≡ formLength f) (p : Places) (o : PlacesOf f p) where
   pub field-within : (q : Field) → has f q ≡ true → placeIn p q + size q ≤ length l
@@ -20,7 +24,7 @@ module _ (f : rules-form.Form) (l : List ℕ) (s : length l ≡ formLength f) (p
 
   -- those that every form has
   pub always-at : (q : Field) → always q ≡ true → placeIn p q ≡ place f q
-  always-at q h = o .fields q (has-all f q h)
+  always-at q h = placed o q h
 
   pub always-within : (q : Field) → always q ≡ true → placeIn p q + size q ≤ length l
   always-within q h = field-within q (has-all f q h)
