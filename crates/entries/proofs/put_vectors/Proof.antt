@@ -2,9 +2,8 @@
 use mathlib.Core.Path.{refl}
 use native.Mathlib.Omega.{arith}
 use Rattle.rules.specs.Form.{vectors}
-use Rattle.rules.proofs.laws.Layout.{has-all, field-fits}
 use Rattle.image.specs.Shown.{formView}
-use Rattle.image.proofs.Forms.{placed}
+use Rattle.image.proofs.Forms.{placed, always-fits}
 use Rattle.entries.proofs.Tables.{vectors-stored}
 use borrow.Author.Needs.{needs}
 use Rattle.entries.proofs.put_vectors.Statement.{statement}
@@ -15,8 +14,8 @@ put-vectors-spec =
     tie.close
     (tie.spec
     (λ c κs. search needs)
-    (λ c. (let p = c .before .before in omega (arith, placed (p .places-of .ensures) vectors refl, field-fits (formView (p .before .before .args .form)) vectors (has-all (formView (p .before .before .args .form)) vectors refl))))
-    (λ c κs. (let p = c .before .before in omega (arith, placed (p .places-of .ensures) vectors refl, field-fits (formView (p .before .before .args .form)) vectors (has-all (formView (p .before .before .args .form)) vectors refl))))
+    (λ c. (let p = c .before .before in omega (arith, placed (p .places-of .ensures) vectors refl, always-fits (formView (p .before .before .args .form)) vectors refl)))
+    (λ c κs. (let p = c .before .before in omega (arith, placed (p .places-of .ensures) vectors refl, always-fits (formView (p .before .before .args .form)) vectors refl)))
     (λ c. search needs)
     (λ c. let q = c .before .before in
     let p = q .before .before .before in

@@ -2,9 +2,8 @@
 use mathlib.Core.Path.{refl}
 use native.Mathlib.Omega.{arith}
 use Rattle.rules.specs.Form.{routes}
-use Rattle.rules.proofs.laws.Layout.{has-all, field-fits}
 use Rattle.image.specs.Shown.{formView}
-use Rattle.image.proofs.Forms.{placed}
+use Rattle.image.proofs.Forms.{placed, always-fits}
 use Rattle.entries.proofs.Tables.{entries-read}
 use borrow.Author.Needs.{needs}
 use Rattle.entries.proofs.routes.Statement.{statement}
@@ -15,11 +14,11 @@ routes-spec =
     tie.close
     (tie.spec
     (λ c κs. search needs)
-    (λ c. (let p = c .before in omega (arith, placed (p .places-of .ensures) routes refl, field-fits (formView (p .before .before .args .form)) routes (has-all (formView (p .before .before .args .form)) routes refl))))
-    (λ c. (let p = c .before in omega (arith, placed (p .places-of .ensures) routes refl, field-fits (formView (p .before .before .args .form)) routes (has-all (formView (p .before .before .args .form)) routes refl))))
+    (λ c. (let p = c .before in omega (arith, placed (p .places-of .ensures) routes refl, always-fits (formView (p .before .before .args .form)) routes refl)))
+    (λ c. (let p = c .before in omega (arith, placed (p .places-of .ensures) routes refl, always-fits (formView (p .before .before .args .form)) routes refl)))
     (λ c. search needs)
     (λ c. search needs)
-    (λ c. (let p = c .before in omega (arith, placed (p .places-of .ensures) routes refl, field-fits (formView (p .before .before .args .form)) routes (has-all (formView (p .before .before .args .form)) routes refl))))
+    (λ c. (let p = c .before in omega (arith, placed (p .places-of .ensures) routes refl, always-fits (formView (p .before .before .args .form)) routes refl)))
     (λ c κs. search needs)
     (λ c. let p = c .before .before .before in
     let s = p .before .before in

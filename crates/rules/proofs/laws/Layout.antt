@@ -230,6 +230,21 @@ module _ (f : Form) (b : Field → List ℕ) (s : Sized b) where
   abbrev pub run : Field → ℕ → List Field
   run p n = take n (from p (fields f))
 
+  -- they stand one after another from the first one's place on
+  pub read-run : (p : Field) (n : ℕ) → part (place f p) (total (run p n)) (image f b) ≡ laid b (run p n)
+  unfolding image
+  read-run p n =
+      let ps = fields f in
+      let rs = run p n in
+      let ts = drop n (from p ps) in
+      let split : before p ps ++ (rs ++ ts) ≡ ps = ap (λ m. before p ps ++ m) (take-append-drop n (from p ps)) ∙ before-from p ps in
+      let ahead : length (contentsOf f ++ laid b (before p ps)) ≡ place f p = length-append (contentsOf f) (laid b (before p ps)) ∙ (λ j. length-contents f j + length-laid b s (before p ps) j) in
+      ap (λ m. part (place f p) (total rs) (contentsOf f ++ laid b m)) (sym split)
+      ∙ ap (λ m. part (place f p) (total rs) (contentsOf f ++ m)) (laid-append b (before p ps) (rs ++ ts) ∙ ap (λ m. laid b (before p ps) ++ m) (laid-append b rs ts))
+      ∙ ap (part (place f p) (total rs)) (sym (append-assoc (contentsOf f) (laid b (before p ps)) (laid b rs ++ laid b ts)))
+      ∙ ap (take (total rs)) (drop-at (contentsOf f ++ laid b (before p ps)) (laid b rs ++ laid b ts) (place f p) ahead)
+      ∙ take-at (laid b rs) (laid b ts) (total rs) (length-laid b s rs)
+
   -- bytes that stand in n fields from p on are replaced
   pub image-written : (c : Field → List ℕ) (p : Field) (n : ℕ) → ((q : Field) → has f q ≡ true → listed q (run p n) ≡ false → b q ≡ c q)
       → (i k : ℕ) (ys : List ℕ) → i + k ≤ total (run p n) → laid c (run p n) ≡ putMid i k (laid b (run p n)) ys
