@@ -4,9 +4,8 @@ use mathlib.Core.Bool.{true}
 use mathlib.Core.List.{List}
 use Prim.Native.Nat.{ℕ, _+_, _≤_}
 use native.Mathlib.Omega.{arith}
-use lib.Dec.{lit≤}
 use lib.ListN.{length}
-use Rattle.rules.specs.Form.{count, Word, Field, word, copy, irr, has, size, place, formLength}
+use Rattle.rules.specs.Form.{Word, Field, word, copy, irr, has, size, place, formLength}
 use Rattle.rules.specs.Form as rules-form
 use Rattle.rules.specs.Image.{registerAt, wordIn}
 use Rattle.rules.proofs.laws.Bits.{test}
@@ -20,11 +19,6 @@ placed {f} o q h = o .fields q (has-all f q h)
 
 pub always-fits : (f : rules-form.Form) (q : Field) → always q ≡ true → place f q + size q ≤ formLength f
 always-fits f q h = field-fits f q (has-all f q h)
-
--- what stands behind the count: the ring's body ends within the image
-pub ring-fits : (f : rules-form.Form) → place f count + 37 ≤ formLength f
-ring-fits rules-form.one = lit≤ tt
-ring-fits rules-form.two = lit≤ tt
 
 -- a field ends within the image
 module _ (f : rules-form.Form) (l : List ℕ) (s : length l ≡ formLength f) (p : Places) (o : PlacesOf f p) where

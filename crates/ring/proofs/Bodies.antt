@@ -1,5 +1,5 @@
 -- Body 4 as bytes: an event stored behind those that wait, or counted as lost.
-use mathlib.Core.Path.{_≡_, refl, sym, ap, subst, _∙_}
+use mathlib.Core.Path.{_≡_, refl, sym, ap, _∙_}
 use mathlib.Core.Bool.{Bool}
 use mathlib.Core.List.{List, [], _∷_, _++_, map, append-assoc, append-nil}
 use Prim.Native.Nat.{ℕ, zero, suc, _+_, _-_, _*_, _<_, _≤_, min}
@@ -12,17 +12,15 @@ use borrow.Rule.Slice.PartMut.{putMid}
 use Rattle.rules.specs.Numbers.{numberOf, bytesOf, part, Bytes}
 use Rattle.rules.specs.Ring.{capacity, stop, flag, pairsOf, Event, Ring, offer, offered, ringStep, ringRun, droppedBy, dropped, lostOf}
 use Rattle.rules.specs.Device.{Device, WellFormed, reset}
-use Rattle.rules.specs.Form.{Form, count, total, laid, place, formLength}
-use Rattle.rules.specs.Image.{fieldOf, ringLength, ringBody, encodeAs}
+use Rattle.rules.specs.Form.{Form, count, place, formLength}
+use Rattle.rules.specs.Image.{ringLength, ringBody}
 use Rattle.rules.proofs.laws.Bytes.{numberOf-bytesOf}
 use Rattle.rules.proofs.laws.Bits.{test}
-use Rattle.rules.proofs.laws.Layout.{has-all, read-run}
-use Rattle.rules.proofs.laws.Saved.{fields-sized}
-use Rattle.rules.proofs.laws.InPlace.{ringPart, part-written, ring-touched, ring-apart}
 use Rattle.rules.proofs.laws.Rings.{offered-room, offered-full}
 use Rattle.bytes.specs.Put.{withBytes}
 use Rattle.inplace.specs.Held.{Holds, Offers, withRing}
 use Rattle.inplace.proofs.Doing.{holds-as, as-holds}
+use Rattle.inplace.proofs.Bodies.{ring-part, ring-put}
 use Rattle.ring.specs.Fields.{RingOffered, event, offering}
 
 -- a pair is stored over two bytes behind the pairs that wait
@@ -66,19 +64,6 @@ module _ (r : Ring) (v : ℕ) (a : Bool) {i : List ℕ} (n : ℕ) (e : i ≡ rin
         (λ t. withBytes 1 4 ((g ∙ ap (λ z. min (z + 1) stop) drops) t) (e t)) ∙ ap (λ q. ringBody (withRing reset q)) (sym (offered-full r (event v a) full)),
         rw (le-ltb (length (r .waiting)) capacity full) refl,
       )
-
--- ---- body 4 in an image
-
-module _ (f : Form) (d : Device) (w : WellFormed d) where
-  pub ring-part : part (place f count) ringLength (encodeAs f d) ≡ ringBody d
-  unfolding ringBody
-  ring-part = subst (λ rs. part (place f count) (total rs) (encodeAs f d) ≡ laid (fieldOf d) rs) (ring-touched f) (read-run f (fieldOf d) (fields-sized d w) count 3)
-
-  pub ring-put : (r : Ring) → putMid (place f count) ringLength (encodeAs f d) (ringBody (withRing d r)) ≡ encodeAs f (withRing d r)
-  unfolding ringBody
-  ring-put r =
-      subst (λ rs. putMid (place f count) (total rs) (encodeAs f d) (laid (fieldOf (withRing d r)) rs) ≡ encodeAs f (withRing d r)) (ring-touched f)
-      (part-written f (fieldOf d) (fieldOf (withRing d r)) (fields-sized d w) ringPart (has-all f count refl) (ring-apart f d r))
 
 -- a device stays well formed with another ring of its sizes
 pub ring-well : {d : Device} → WellFormed d → (r : Ring) → Bytes (map (λ e. e .vector) (r .waiting)) → length (r .waiting) ≤ capacity → r .drops ≤ stop → WellFormed (withRing d r)

@@ -3,7 +3,8 @@ use mathlib.Core.Path.{refl}
 use native.Mathlib.Omega.{arith}
 use Rattle.rules.specs.Form.{count}
 use Rattle.image.specs.Shown.{formView}
-use Rattle.image.proofs.Forms.{placed, ring-fits}
+use Rattle.image.proofs.Forms.{placed}
+use Rattle.inplace.proofs.Bodies.{ring-fits}
 use Rattle.ring.proofs.Bodies.{ring-offered}
 use borrow.Author.Needs.{needs}
 use Rattle.ring.proofs.offer.Statement.{statement}
