@@ -19,7 +19,7 @@ pub fn read(image: &[u8], base: u64, size: u64, address: u64, width: u64) -> Tol
     ensures { λ r. ⌜ ends r (now (image .entry)) [] ≡ ending (asked.read base size address width) (now (image .entry)) ⌝ }
 {
     let checked = check(image);
-    let Verdict::Accepted = checked else {
+    let Verdict::Accepted(form) = checked else {
         return of_image(image);
     };
     let Known::As(known) = window::width_of(width) else {
@@ -28,7 +28,7 @@ pub fn read(image: &[u8], base: u64, size: u64, address: u64, width: u64) -> Tol
     let Located::At(offset) = window::locate(base, size, address, width) else {
         return outside(address);
     };
-    let value = access::read_access(image, known, offset);
+    let value = access::read_access(image, form, known, offset);
     done(Value::Present(value))
 }
 
@@ -36,7 +36,7 @@ pub fn write(image: &mut [u8], base: u64, size: u64, address: u64, width: u64, v
     ensures { λ r. ⌜ ends r (now (image .exit)) [] ≡ ending (asked.write base size address width value) (now (image .entry)) ⌝ }
 {
     let checked = check(image);
-    let Verdict::Accepted = checked else {
+    let Verdict::Accepted(form) = checked else {
         return of_image(image);
     };
     let Known::As(known) = window::width_of(width) else {
@@ -45,6 +45,6 @@ pub fn write(image: &mut [u8], base: u64, size: u64, address: u64, width: u64, v
     let Located::At(offset) = window::locate(base, size, address, width) else {
         return outside(address);
     };
-    let dropped = access::write_access(image, known, offset, value);
+    let dropped = access::write_access(image, form, known, offset, value);
     done(Value::Present(dropped as u64))
 }

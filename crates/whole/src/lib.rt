@@ -32,9 +32,9 @@ pub fn drain(image: &mut [u8], events: &mut [u8]) -> Told
     ensures { λ r. ⌜ ends r (now (image .exit)) (now (events .exit)) ≡ ending (asked.drain (now (events .entry)) 0) (now (image .entry)) ⌝ }
 {
     let checked = check(image);
-    let Verdict::Accepted = checked else {
+    let Verdict::Accepted(form) = checked else {
         return of_image(image);
     };
-    let count = drains::drain(image, events);
+    let count = drains::drain(image, form, events);
     done(Value::Present(count as u64))
 }
