@@ -1,0 +1,78 @@
+-- Request C-17, of exported calls: the copy that an image holds, carried through the calls as the Rust writes it, is the one that the image left last
+-- holds; and that is IRR.
+use mathlib.Core.Path.{_≡_, refl, sym, ap, _∙_}
+use mathlib.Core.List.{List}
+use Prim.Native.Nat.{ℕ}
+use Rattle.rules.specs.Numbers.{Bytes}
+use Rattle.rules.specs.Device.{Device, reset}
+use Rattle.rules.specs.Form.{one, copy, irr}
+use Rattle.rules.specs.Image.{wordIn, encode, decode, imageTest, accepted}
+use Rattle.rules.specs.History.{history}
+use Rattle.rules.specs.Copy.{copyThrough}
+use Rattle.rules.proofs.laws.Images.{accepted-has, accepted-encode}
+use Rattle.rules.proofs.demands.Copy.{copy-is-irr}
+use Rattle.histories.specs.Exported.{Exported, Underway, carriedThrough, NoLoads, doneCalls, GivenBytes, current, inImage, Faithful, afterReset, atLoad}
+use Rattle.histories.proofs.laws.WellFormed.{history-well}
+use Rattle.histories.proofs.laws.Chains.{faithful-after-reset, faithful-at-load}
+use Rattle.histories.proofs.demands.FromCalls.{image-holds-device, faithful-through, image-holds-history, history-since-load}
+
+-- ---- one image
+
+-- the IRR that an image holds is the device's
+irr-in : (l : List ℕ) → wordIn one l irr ≡ decode l .core .lines .irr
+unfolding decode
+irr-in l = refl
+
+-- in an accepted image the copy equals IRR
+copy-in : (l : List ℕ) → imageTest l ≡ accepted → wordIn one l copy ≡ wordIn one l irr
+copy-in l e = accepted-has l e .ruled .copied refl
+
+-- so in the image left last
+copy-left : (h : Underway) → Faithful h → wordIn one (h .left) copy ≡ wordIn one (h .left) irr
+copy-left h f = copy-in (h .left) (rw (f .left) (accepted-encode (current h) (history-well (h .began) (h .calls) (f .began))))
+
+-- ---- exported calls
+
+module _ (h : Underway) (f : Faithful h) (xs : List Exported) (n : NoLoads h xs) where
+  -- The copy in the image left last is the copy in the image left at first, carried through the calls that were done since,
+  pub copy-of-calls : wordIn one (carriedThrough h xs .left) copy ≡ copyThrough (inImage h) (wordIn one (h .left) copy) (doneCalls xs)
+  copy-of-calls =
+      let u = carriedThrough h xs in
+      copy-left u (faithful-through h f xs n) ∙ irr-in (u .left)
+      ∙ ap (λ (d : Device). d .core .lines .irr) (image-holds-history h f xs n)
+      ∙ ap (λ d. history d (doneCalls xs) .after .core .lines .irr) (sym (image-holds-device h f))
+      ∙ sym (copy-is-irr (inImage h) (wordIn one (h .left) copy) (copy-left h f ∙ irr-in (h .left)) (doneCalls xs))
+
+  -- and it is the IRR that this image holds.
+  pub copy-of-calls-is-irr : wordIn one (carriedThrough h xs .left) copy ≡ wordIn one (carriedThrough h xs .left) irr
+  copy-of-calls-is-irr = copy-left (carriedThrough h xs) (faithful-through h f xs n)
+
+-- From a reset on, where the copy is 0.
+pub copy-of-calls-from-reset : (xs : List Exported) → NoLoads afterReset xs
+    → (wordIn one (carriedThrough afterReset xs .left) copy ≡ copyThrough reset 0 (doneCalls xs))
+    × (wordIn one (carriedThrough afterReset xs .left) copy ≡ wordIn one (carriedThrough afterReset xs .left) irr)
+unfolding history
+copy-of-calls-from-reset xs n =
+    let here = copy-left afterReset faithful-after-reset ∙ irr-in (encode reset) in
+    let zero-first = here ∙ ap (λ (d : Device). d .core .lines .irr) (image-holds-device afterReset faithful-after-reset) in (
+      copy-of-calls afterReset faithful-after-reset xs n ∙ (λ j. copyThrough (image-holds-device afterReset faithful-after-reset j) (zero-first j) (doneCalls xs)),
+      copy-of-calls-is-irr afterReset faithful-after-reset xs n,
+    )
+
+-- From an accepted image on, whatever it holds.
+pub copy-of-calls-from-image : (i : List ℕ) → Bytes i → imageTest i ≡ accepted → (xs : List Exported) → NoLoads (atLoad i) xs
+    → (wordIn one (carriedThrough (atLoad i) xs .left) copy ≡ copyThrough (decode i) (wordIn one i copy) (doneCalls xs))
+    × (wordIn one (carriedThrough (atLoad i) xs .left) copy ≡ wordIn one (carriedThrough (atLoad i) xs .left) irr)
+copy-of-calls-from-image i b e xs n =
+    let f = faithful-at-load i b e in
+    (copy-of-calls (atLoad i) f xs n, copy-of-calls-is-irr (atLoad i) f xs n)
+
+-- With loads and resets anywhere among the calls: carried from the IRR of the last of them.
+pub copy-since-load : (h : Underway) (xs : List Exported) → Faithful h → GivenBytes xs → let u = carriedThrough h xs in
+    (wordIn one (u .left) copy ≡ copyThrough (u .began) (u .began .core .lines .irr) (u .calls)) × (wordIn one (u .left) copy ≡ wordIn one (u .left) irr)
+copy-since-load h xs f b =
+    let u = carriedThrough h xs in
+    let g = history-since-load h xs f b in (
+      copy-left u g ∙ irr-in (u .left) ∙ ap (λ (d : Device). d .core .lines .irr) (image-holds-device u g) ∙ sym (copy-is-irr (u .began) (u .began .core .lines .irr) refl (u .calls)),
+      copy-left u g,
+    )
