@@ -110,7 +110,7 @@ module _ (vs : List ℕ) (l : Lines) (r : Ring) (new up : ℕ) (ups : (i : ℕ) 
     left-none e =
         let stays = leave-none vs true (newlyMasked (l .«int_mask») new) (linesView out) isr-lt (λ i h. ap (λ (b : Bool). on (out .intisr) i && b) (sym (downs i h) ∙ ap (λ (x : ℕ). on x i) e ∙ on-none i) ∙ and-false (on (out .intisr) i)) in
         record {
-              lines = lines-then (sym (ap (λ (t : Turn). t .after) stays));
+          lines = lines-then (sym (ap (λ (t : Turn). t .after) stays));
           offers = offers-as
               (sym (append-nil (first .made)) ∙ ap (λ (ms : List Made). first .made ++ ms) (sym (ap (λ (t : Turn). t .made) stays) ∙ ap (λ (k : lines.Lines). last k .made) (entered .lines)))
               (entered .offers);

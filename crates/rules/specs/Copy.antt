@@ -1,10 +1,10 @@
 -- What the Rust keeps or asks beside the rules, and C-17 takes out: `last_intirr` as a number of its own, and the index of a route or vector byte with its limit.
 use mathlib.Core.Bool.{cond}
 use mathlib.Core.List.{List, [], _∷_}
-use Prim.Native.Nat.{ℕ, _-_}
+use Prim.Native.Nat.{ℕ, _-_, _<_}
 use lib.Dec.{ltb}
 use Rattle.rules.specs.Inputs.{on, only, put, without}
-use Rattle.rules.specs.Core.{Move, poll, raise, lower, clear, setMask, Act, move, setIsr, store, setVector}
+use Rattle.rules.specs.Core.{Move, poll, raise, lower, clear, setMask, Act, move, setIsr, store, setPlain, setRoute, setVector}
 use Rattle.rules.specs.Device.{Device, Call, Value, none, some, actsOf, step}
 
 -- ---- the copy (02, C-17)
@@ -42,3 +42,11 @@ irqCount = 64
 -- the Rust's pch_pic_irq_index: which byte an offset is, counted from where the bytes start; none from 64 on
 abbrev pub indexFrom : ℕ → ℕ → Value
 indexFrom base o = cond (ltb (o - base) irqCount) (some (o - base)) none
+
+-- an act that stores a route or a vector byte stores it at an index below 64
+abbrev pub IndexBelow : Act → Type 0
+IndexBelow (move m) = Unit {0}
+IndexBelow (setIsr h v) = Unit {0}
+IndexBelow (store (setPlain p h v)) = Unit {0}
+IndexBelow (store (setRoute n v)) = n < irqCount
+IndexBelow (setVector n v) = n < irqCount

@@ -1,18 +1,24 @@
 -- Request C-17, of exported calls: the copy that an image holds, carried through the calls as the Rust writes it, is the one that the image left last
--- holds; and that is IRR.
+-- holds; and that is IRR. And of any call: it stores no route or vector byte at an index of 64 or more.
 use mathlib.Core.Path.{_≡_, refl, sym, ap, _∙_}
+use mathlib.Core.Bool.{Bool}
 use mathlib.Core.List.{List}
 use Prim.Native.Nat.{ℕ}
 use Rattle.rules.specs.Numbers.{Bytes}
-use Rattle.rules.specs.Device.{Device, reset}
+use Rattle.rules.specs.Map.{Register, inRoutes, inVectors}
+use Rattle.rules.specs.Access.{registerActs, entryActs}
+use Rattle.rules.specs.Device.{Device, Call, actsOf, reset}
 use Rattle.rules.specs.Form.{one, copy, irr}
 use Rattle.rules.specs.Image.{wordIn, encode, decode, imageTest, accepted}
 use Rattle.rules.specs.History.{history}
-use Rattle.rules.specs.Copy.{copyThrough}
+use Rattle.rules.specs.Copy.{copyThrough, IndexBelow}
+use Rattle.rules.proofs.laws.Bits.{test}
 use Rattle.rules.proofs.laws.Images.{accepted-has, accepted-encode}
-use Rattle.rules.proofs.demands.Copy.{copy-is-irr}
+use Rattle.rules.proofs.demands.Copy.{copy-is-irr, route-index-below, vector-index-below}
+use Rattle.histories.specs.Demands.{Each, done, also}
 use Rattle.histories.specs.Exported.{Exported, Underway, carriedThrough, NoLoads, doneCalls, GivenBytes, current, inImage, Faithful, afterReset, atLoad}
 use Rattle.histories.proofs.laws.WellFormed.{history-well}
+use Rattle.histories.proofs.laws.Reach.{Passes, register-has, any-met, call-has}
 use Rattle.histories.proofs.laws.Chains.{faithful-after-reset, faithful-at-load}
 use Rattle.histories.proofs.demands.FromCalls.{image-holds-device, faithful-through, image-holds-history, history-since-load}
 
@@ -76,3 +82,19 @@ copy-since-load h xs f b =
       copy-left u g ∙ irr-in (u .left) ∙ ap (λ (d : Device). d .core .lines .irr) (image-holds-device u g) ∙ sym (copy-is-irr (u .began) (u .began .core .lines .irr) refl (u .calls)),
       copy-left u g,
     )
+
+-- ---- the index
+
+-- a byte that stands in its range has an index below 64
+byte-below : (i : ℕ) → Passes IndexBelow i
+unfolding entryActs
+byte-below i b h =
+    test (inRoutes i) (λ e. rw e (also (route-index-below i e .1) done))
+    (λ e. rw e (test (inVectors i) (λ f. rw f (also (vector-index-below i f .1) done)) (λ f. rw f done)))
+
+register-below : (r : Register) (h : Bool) (v : ℕ) → Each IndexBelow (registerActs r h v)
+register-below r h v = register-has IndexBelow (λ h v. tt) (λ b. tt) (λ p h v. tt) r h v (λ e. tt)
+
+-- Whatever the device and the call, each route or vector byte that it stores has an index below 64.
+pub indexes-below : (d : Device) (c : Call) → Each IndexBelow (actsOf (d .core) c)
+indexes-below d c = call-has IndexBelow (λ m. tt) (d .core) c (λ w o v e. any-met IndexBelow register-below byte-below (d .core) w o v)
