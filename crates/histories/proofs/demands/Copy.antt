@@ -4,16 +4,19 @@ use mathlib.Core.Path.{_≡_, refl, sym, ap, _∙_}
 use mathlib.Core.Bool.{Bool}
 use mathlib.Core.List.{List}
 use Prim.Native.Nat.{ℕ}
+use native.Mathlib.Omega.{arith}
+use lib.ListN.{length}
 use Rattle.rules.specs.Numbers.{Bytes}
 use Rattle.rules.specs.Map.{Register, inRoutes, inVectors}
 use Rattle.rules.specs.Access.{registerActs, entryActs}
 use Rattle.rules.specs.Device.{Device, Call, actsOf, reset}
-use Rattle.rules.specs.Form.{one, copy, irr}
+use Rattle.rules.specs.Form.{copy, irr, word, one, place, formLength, read}
 use Rattle.rules.specs.Image.{wordIn, encode, decode, imageTest, accepted}
 use Rattle.rules.specs.History.{history}
 use Rattle.rules.specs.Copy.{copyThrough, IndexBelow}
 use Rattle.rules.proofs.laws.Bits.{test}
-use Rattle.rules.proofs.laws.Images.{accepted-has, accepted-encode}
+use Rattle.rules.proofs.laws.Bytes.{part-number, part-known}
+use Rattle.rules.proofs.laws.Images.{accepted-has, bytes-encode, length-encode, accepted-encode}
 use Rattle.rules.proofs.demands.Copy.{copy-is-irr, route-index-below, vector-index-below}
 use Rattle.histories.specs.Demands.{Each, done, also}
 use Rattle.histories.specs.Exported.{Exported, Underway, carriedThrough, NoLoads, doneCalls, GivenBytes, current, inImage, Faithful, afterReset, atLoad}
@@ -37,6 +40,12 @@ copy-in l e = accepted-has l e .ruled .copied refl
 copy-left : (h : Underway) → Faithful h → wordIn one (h .left) copy ≡ wordIn one (h .left) irr
 copy-left h f = copy-in (h .left) (rw (f .left) (accepted-encode (current h) (history-well (h .began) (h .calls) (f .began))))
 
+-- and so do their eight bytes
+same-bytes : (l : List ℕ) → Bytes l → length l ≡ formLength one → wordIn one l copy ≡ wordIn one l irr → read one l (word copy) ≡ read one l (word irr)
+same-bytes l b n e =
+    part-known l (place one (word copy)) 8 b (omega (arith, n)) (wordIn one l irr) e
+    ∙ part-number l (place one (word irr)) 8 b (omega (arith, n))
+
 -- ---- exported calls
 
 module _ (h : Underway) (f : Faithful h) (xs : List Exported) (n : NoLoads h xs) where
@@ -49,9 +58,16 @@ module _ (h : Underway) (f : Faithful h) (xs : List Exported) (n : NoLoads h xs)
       ∙ ap (λ d. history d (doneCalls xs) .after .core .lines .irr) (sym (image-holds-device h f))
       ∙ sym (copy-is-irr (inImage h) (wordIn one (h .left) copy) (copy-left h f ∙ irr-in (h .left)) (doneCalls xs))
 
-  -- and it is the IRR that this image holds.
+  -- and it is the IRR that this image holds, byte for byte.
   pub copy-of-calls-is-irr : wordIn one (carriedThrough h xs .left) copy ≡ wordIn one (carriedThrough h xs .left) irr
   copy-of-calls-is-irr = copy-left (carriedThrough h xs) (faithful-through h f xs n)
+
+  pub copy-of-calls-same-bytes : read one (carriedThrough h xs .left) (word copy) ≡ read one (carriedThrough h xs .left) (word irr)
+  copy-of-calls-same-bytes =
+      let u = carriedThrough h xs in
+      let g = faithful-through h f xs n in
+      let w = history-well (u .began) (u .calls) (g .began) in
+      same-bytes (u .left) (rw (g .left) (bytes-encode (current u) w)) (ap length (g .left) ∙ length-encode (current u) w) copy-of-calls-is-irr
 
 -- From a reset on, where the copy is 0.
 pub copy-of-calls-from-reset : (xs : List Exported) → NoLoads afterReset xs
