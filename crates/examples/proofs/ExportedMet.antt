@@ -11,10 +11,12 @@ use borrow.Author.Tests.{not-true}
 use Rattle.rules.specs.Access.{dword}
 use Rattle.rules.specs.Ring.{dropped}
 use Rattle.rules.specs.Device.{Device, WellFormed, Call, level, poll, write, drain, none, step, reset, withRing}
-use Rattle.rules.specs.Image.{encode, decode}
+use Rattle.rules.specs.Form.{one, copy}
+use Rattle.rules.specs.Image.{wordIn, encode, decode}
 use Rattle.rules.specs.Calls.{Request, askedBy, answered, outcome}
 use Rattle.rules.specs.Calls as request
 use Rattle.rules.specs.History.{history, fromReset}
+use Rattle.rules.specs.Copy.{copyActed, copyThrough}
 use Rattle.histories.specs.Premises.{Along, Admitted}
 use Rattle.rules.specs.Account.{tally, asserts, deasserts, carrying, assertsAmong, deassertsAmong}
 use Rattle.histories.specs.Demands.{inService, someAct, ringActs}
@@ -28,6 +30,7 @@ use Rattle.histories.proofs.demands.FromCalls.{handed-on-is-no-load}
 use Rattle.histories.proofs.demands.HandedBack.{account-from-load, drops-of-calls, service-of-calls, service-once-raised, account-since-load, account-under-way}
 use Rattle.histories.proofs.demands.Losses.{losses-of-calls, losses-below-the-stop, losses-up-to-the-stop, losses-from-load}
 use Rattle.histories.proofs.demands.ClearedCalls.{cleared-polled-in-vain, cleared-asserts-had-waited}
+use Rattle.histories.proofs.demands.Copy.{copy-of-calls}
 use Rattle.rules.proofs.demands.Refused.{Unchanged, refused-changes-nothing}
 use Rattle.examples.proofs.PremisesMet.{all-admitted, all-spared, all-undisturbed, all-unraised, all-carried-alone, begun, seventeen}
 
@@ -277,6 +280,14 @@ seven-raised =
     service-once-raised fromBegun (begins begun) 7 (lit< tt) refl (getD raisingCalls 0 loading) (drop 1 raisingCalls)
     (handed-on-is-no-load fromBegun raisingCalls (handed-on (imageOf begun) raising refl)) refl
     (all-undisturbed 7 (step (inImage fromBegun) (level 7 true) .after) (doneCalls (drop 1 raisingCalls)) refl)
+
+-- ---- the copy of IRR
+
+-- 3 and 5 are latched there: with 7 raised and 3 cleared the copy has 5 and 7
+five-and-seven-copied : wordIn one (carriedThrough fromBegun raisingCalls .left) copy ≡ 0xa0
+unfolding computing doneCalls copyActed copyThrough
+five-and-seven-copied =
+    copy-of-calls fromBegun (begins begun) raisingCalls (handed-on-is-no-load fromBegun raisingCalls (handed-on (imageOf begun) raising refl))
 
 -- ---- a cleared input
 

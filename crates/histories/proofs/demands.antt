@@ -7,3 +7,4 @@ pub mod FromCalls
 pub mod HandedBack
 pub mod ClearedCalls
 pub mod Losses
+pub mod Copy

@@ -32,7 +32,6 @@ pub fn load_lines(image: &[u8], form: Form) -> Lines
     let intisr = word_at(image, p.intisr);
     Lines {
         int_mask,
-        last_intirr: intirr,
         intirr,
         intisr,
     }

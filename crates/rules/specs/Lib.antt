@@ -25,3 +25,4 @@ pub mod History
 pub mod Account
 pub mod Session
 pub mod Dozen
+pub mod Copy

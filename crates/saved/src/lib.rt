@@ -17,7 +17,7 @@ ghost use mathlib.Core.List.{_++_};
 ghost use lib.ListN.{length, drop};
 ghost use Rattle.rules.specs.Form.{formLength, contentsLength, contentsOf};
 ghost use Rattle.rules.specs.Image.{imageLength, encode};
-ghost use Rattle.state.specs.View.{WellLines, WellRing, Well, view};
+ghost use Rattle.state.specs.View.{WellRing, Well, view};
 ghost use Rattle.image.specs.Shown.{formView};
 ghost use Rattle.saved.specs.Shown.{SavesLines, SavesStored, SavesTables, SavesRing};
 
@@ -32,12 +32,12 @@ fn put_contents(image: &mut [u8], form: Form)
 }
 
 pub fn save_lines(image: &mut [u8], form: Form, lines: Lines)
-    requires { ⌜ (length (now image) ≡ formLength (formView form)) × WellLines lines ⌝ }
+    requires { ⌜ length (now image) ≡ formLength (formView form) ⌝ }
     ensures { λ _. ⌜ SavesLines (formView form) lines (now (image .entry)) (now (image .exit)) ⌝ }
 {
     let p = places_of(form);
     put_word(image, p.int_mask, lines.int_mask);
-    put_word(image, p.last_intirr, lines.last_intirr);
+    put_word(image, p.last_intirr, lines.intirr);
     put_word(image, p.intirr, lines.intirr);
     put_word(image, p.intisr, lines.intisr);
 }

@@ -131,17 +131,13 @@ module _ (T : Act → Type 0) where
     write-has c dword o v f = dwords o (half false v) f
     write-has c qword o v f = each-append (dwords o (half false v) (f .0)) (dwords (o + 4) (half true v) (f .1))
 
--- a write, where T holds of whatever it meets
-pub any-write : (T : Act → Type 0) → ((r : Register) (h : Bool) (v : ℕ) → Each T (registerActs r h v))
-    → ((n b : ℕ) → b < 256 → T (store (setRoute n b))) → ((n b : ℕ) → b < 256 → T (setVector n b))
+-- a write, where T holds of whatever register and byte it meets
+pub any-met : (T : Act → Type 0) → ((r : Register) (h : Bool) (v : ℕ) → Each T (registerActs r h v)) → ((i : ℕ) → Passes T i)
     → (c : Core) (w : Width) (o v : ℕ) → Each T (writeActs c w o v)
-any-write T p q s c w o v =
+any-met T p entry c w o v =
     write-has T (λ i. Unit {0}) (λ i. Unit {0}) (λ i x u. dword-has T i x (λ r h e. p r h x) (λ k f g. entry k)) (λ i u. entry i)
     c w o v (fine w)
   where
-    entry : (i : ℕ) → Passes T i
-    entry i = entry-has T i (λ b h. q (i - routesAt) b h) (λ e b h. s (i - vectorsAt) b h)
-
     fine-byte : (i : ℕ) → FineByte (λ k. Unit {0}) (λ k. Unit {0}) i
     fine-byte i = record { single = λ s. tt; inDword = λ s. tt }
 
@@ -150,6 +146,12 @@ any-write T p q s c w o v =
     fine word = (fine-byte o, fine-byte (o + 1))
     fine dword = tt
     fine qword = (tt, tt)
+
+-- so where T holds of a byte stored at any index
+pub any-write : (T : Act → Type 0) → ((r : Register) (h : Bool) (v : ℕ) → Each T (registerActs r h v))
+    → ((n b : ℕ) → b < 256 → T (store (setRoute n b))) → ((n b : ℕ) → b < 256 → T (setVector n b))
+    → (c : Core) (w : Width) (o v : ℕ) → Each T (writeActs c w o v)
+any-write T p q s = any-met T p (λ i. entry-has T i (λ b h. q (i - routesAt) b h) (λ e b h. s (i - vectorsAt) b h))
 
 -- a call, where T holds of every move, and of each act if the call is a write
 pub call-has : (T : Act → Type 0) → ((m : Move) → T (move m)) → (c : Core) (x : Call)

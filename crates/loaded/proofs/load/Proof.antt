@@ -14,10 +14,10 @@ returns c =
     let stored = routes .before in
     let lines = stored .before in
     record {
-      well = record { copy = lines .load-lines .ensures .well; ring = c .load-ring .ensures .well };
+      well = record { ring = c .load-ring .ensures .well };
       shows = λ i. record {
         core = record {
-          lines = lines .load-lines .ensures .shows i;
+          lines = lines .load-lines .ensures i;
           vectors = vectors .fill-entries .ensures i;
           stored = (ap (storedView (stored .load-stored .result)) (routes .load-routes .ensures) ∙ stored .load-stored .ensures) i;
         };
