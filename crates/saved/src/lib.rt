@@ -16,7 +16,7 @@ ghost use mathlib.Core.Path.{_≡_};
 ghost use mathlib.Core.List.{_++_};
 ghost use lib.ListN.{length, drop};
 ghost use Rattle.rules.specs.Form.{formLength, contentsLength, contentsOf};
-ghost use Rattle.rules.specs.Image.{imageLength, encode};
+ghost use Rattle.rules.specs.Image.{encodeAs};
 ghost use Rattle.state.specs.View.{WellRing, Well, view};
 ghost use Rattle.image.specs.Shown.{formView};
 ghost use Rattle.saved.specs.Shown.{SavesLines, SavesStored, SavesTables, SavesRing};
@@ -79,13 +79,13 @@ pub fn save_ring(image: &mut [u8], form: Form, ring: Ring)
     put_pairs(&mut image[at..end], ring);
 }
 
-pub fn save(image: &mut [u8], state: PchPicState)
-    requires { ⌜ (length (now image) ≡ imageLength) × Well state ⌝ }
-    ensures { λ _. ⌜ now (image .exit) ≡ encode (view state) ⌝ }
+pub fn save(image: &mut [u8], form: Form, state: PchPicState)
+    requires { ⌜ (length (now image) ≡ formLength (formView form)) × Well state ⌝ }
+    ensures { λ _. ⌜ now (image .exit) ≡ encodeAs (formView form) (view state) ⌝ }
 {
-    put_contents(image, Form::One);
-    save_lines(image, Form::One, state.lines);
-    save_stored(image, Form::One, state.stored);
-    save_tables(image, Form::One, state.tables);
-    save_ring(image, Form::One, state.ring);
+    put_contents(image, form);
+    save_lines(image, form, state.lines);
+    save_stored(image, form, state.stored);
+    save_tables(image, form, state.tables);
+    save_ring(image, form, state.ring);
 }
