@@ -1,6 +1,6 @@
 -- The premises of the theorems over exported calls can be met, and what they count is not nothing: requests, each given the image that the one before it
 -- left, with what they hand back computed.
-use mathlib.Core.Path.{_≡_, refl}
+use mathlib.Core.Path.{_≡_, refl, sym, _∙_}
 use mathlib.Core.Bool.{Bool, true, false, not, _&&_, and-eq-true-iff}
 use mathlib.Core.List.{List, [], _∷_, _++_}
 use Prim.Native.Nat.{ℕ, _+_, _-_}
@@ -8,13 +8,15 @@ use native.Mathlib.Omega.{arith}
 use lib.Dec.{lit<, lit≤}
 use lib.ListN.{take, drop, getD, replicate}
 use borrow.Author.Tests.{not-true}
+use Rattle.rules.specs.Numbers.{Bytes}
 use Rattle.rules.specs.Access.{dword}
 use Rattle.rules.specs.Ring.{dropped}
 use Rattle.rules.specs.Device.{Device, WellFormed, Call, level, poll, write, drain, none, step, reset, withRing}
 use Rattle.rules.specs.Form.{Form, one, two, copy}
 use Rattle.rules.specs.Image.{wordIn, encodeAs, decode}
-use Rattle.rules.specs.Calls.{Request, askedBy, answered, outcome}
+use Rattle.rules.specs.Calls.{pass, Request, askedBy, answered, outcome}
 use Rattle.rules.specs.Calls as request
+use Rattle.rules.specs.Convert.{converted}
 use Rattle.rules.specs.History.{history, fromReset}
 use Rattle.rules.specs.Copy.{copyActed, copyThrough}
 use Rattle.histories.specs.Premises.{Along, Admitted}
@@ -22,6 +24,7 @@ use Rattle.rules.specs.Account.{tally, asserts, deasserts, carrying, assertsAmo
 use Rattle.histories.specs.Demands.{inService, someAct, ringActs}
 use Rattle.histories.specs.Exported.{Exported, leftBy, isReset, isLoad, Underway, carriedOn, carriedThrough, NoLoads, HandedOn, doneCalls}
 use Rattle.histories.specs.Exported.{inImage, Faithful, afterReset, atLoad, returnedBy, drainedBy, lossesRead, Balances}
+use Rattle.histories.specs.Alike.{Asking, madeOn, AllAlike}
 use Rattle.rules.proofs.laws.Computing.{computing}
 use Rattle.histories.proofs.laws.WellFormed.{history-well}
 use Rattle.histories.proofs.laws.Chains.{faithful-after-reset, faithful-at-load}
@@ -31,6 +34,7 @@ use Rattle.histories.proofs.demands.HandedBack.{account-from-load, drops-of-cal
 use Rattle.histories.proofs.demands.Losses.{losses-of-calls, losses-below-the-stop, losses-up-to-the-stop, losses-from-load}
 use Rattle.histories.proofs.demands.ClearedCalls.{cleared-polled-in-vain, cleared-asserts-had-waited}
 use Rattle.histories.proofs.demands.Copy.{copy-of-calls}
+use Rattle.histories.proofs.demands.Convert.{converted-answers-alike, converted-read-alike}
 use Rattle.rules.proofs.demands.Refused.{Unchanged, refused-changes-nothing}
 use Rattle.examples.proofs.PremisesMet.{all-admitted, all-spared, all-undisturbed, all-unraised, all-carried-alone, begun, seventeen}
 
@@ -291,6 +295,37 @@ five-and-seven-copied : wordIn one (carriedThrough fromBegun raisingCalls .left)
 unfolding computing doneCalls copyActed copyThrough
 five-and-seven-copied =
     copy-of-calls fromBegun (begins one begun) refl raisingCalls (handed-on-is-no-load fromBegun raisingCalls (handed-on (imageOf one begun) raising refl))
+
+-- ---- two forms
+
+abbrev asks : Request → Asking
+asks q = record { asked = q; answer = replicate 16 0 }
+
+-- raise 7, clear 3, a poll with 15 bytes for its answer, one of an input that is none, drain into eight bytes; then a reset, and 5 raised and polled
+abbrev asking : List Asking
+asking =
+    asks (request.level 7 1) ∷ asks (request.write 0 0x400 0x080 4 0x8) ∷ record { asked = request.poll 5; answer = replicate 15 0 } ∷ asks (request.poll 64) ∷
+    asks (request.drain (replicate 8 0xee) 0) ∷ asks request.reset ∷ asks (request.level 5 1) ∷ asks (request.poll 5) ∷ []
+
+-- the image of begun in form 1, moved to form 2
+moved : converted (imageOf one begun) (replicate 251 0) ≡ pass (imageOf two begun)
+unfolding computing converted
+moved = refl
+
+begun-bytes : Bytes (imageOf one begun)
+begun-bytes = saved-is-bytes (fromReset begun .after) (history-well reset begun reset-can-be-saved) one
+
+begun-alike : AllAlike (madeOn (imageOf one begun) asking) (madeOn (imageOf two begun) asking)
+begun-alike = converted-answers-alike (imageOf one begun) (replicate 251 0) (imageOf two begun) begun-bytes moved asking
+
+-- the assert of 3 waits there, its deassert comes behind it, and both are drained; so they are of form 2
+drained-from-one : drainedBy (madeOn (imageOf one begun) asking) ≡ record { vector = 3; asserted = true } ∷ record { vector = 3; asserted = false } ∷ []
+unfolding computing madeOn drainedBy
+drained-from-one = refl
+
+drained-from-two : drainedBy (madeOn (imageOf two begun) asking) ≡ record { vector = 3; asserted = true } ∷ record { vector = 3; asserted = false } ∷ []
+drained-from-two =
+    sym (converted-read-alike (imageOf one begun) (replicate 251 0) (imageOf two begun) begun-bytes moved asking .drained) ∙ drained-from-one
 
 -- ---- a cleared input
 

@@ -8,3 +8,4 @@ pub mod HandedBack
 pub mod ClearedCalls
 pub mod Losses
 pub mod Copy
+pub mod Convert
