@@ -1,0 +1,2 @@
+-- What 02, C-24 says of a sweep, as theorems.
+pub mod WakesAll

@@ -1,0 +1,3 @@
+-- Lemmas about one input along a sweep, for the theorems.
+pub mod Quiet
+pub mod OneInput

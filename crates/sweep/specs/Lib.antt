@@ -1,0 +1,2 @@
+-- One sweep wakes everything (02, C-24), as definitions over the rules' and the histories'.
+pub mod Sweeps
