@@ -1,3 +1,5 @@
--- Lemmas about one input along a sweep, for the theorems.
+-- Lemmas about one input and one call of a sweep, for the theorems.
 pub mod Quiet
 pub mod OneInput
+pub mod Announcing
+pub mod Reading

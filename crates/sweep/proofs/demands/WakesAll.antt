@@ -11,11 +11,13 @@ use Rattle.rules.specs.Lines.{Lines}
 use Rattle.rules.specs.Device.{Device, Call, actsOf}
 use Rattle.rules.specs.Device as call
 use Rattle.rules.specs.History.{history}
+use Rattle.histories.specs.Premises.{Along}
 use Rattle.histories.specs.Demands.{inService, Eligible, pollsOrRaises, assertsOf, someAct}
-use Rattle.sweep.specs.Sweeps.{sweeping, isPoll, everyCall, someCall, Sweep, deassertsIn, wakes, WakesAll}
+use Rattle.sweep.specs.Sweeps.{sweeping, isPoll, everyCall, someCall, Sweep, deassertsIn, wakes, WakesAll, Announced, AssertedBy}
 use Rattle.rules.proofs.laws.Bits.{test}
 use Rattle.sweep.proofs.laws.Quiet.{unsettles, sweeping-is}
 use Rattle.sweep.proofs.laws.OneInput.{calls-swept, calls-awake}
+use Rattle.sweep.proofs.laws.Announcing.{calls-announce, asserted-by, calls-drain}
 
 -- ---- one input
 
@@ -69,6 +71,27 @@ one-sweep-wakes-all d cs s =
       noDeassert = calls-swept 0 (lit< tt) d cs (s .admitted) .silent;
       asserted = λ n b. one-is-asserted n b d cs (s .admitted) (poll-asks n cs (s .polled n b));
     }
+
+-- ---- which vector an assert carries
+
+-- Each call of a sweep makes nothing, or it polls or raises an input and makes that input's assert, which is returned and has the vector byte that the input
+-- has as the call meets the device. So vector bytes may be written in between.
+pub asserts-carry-the-byte-met : (d : Device) (cs : List Call) → Sweep cs → Along Announced d cs
+asserts-carry-the-byte-met d cs s = calls-announce d cs (s .admitted)
+
+-- An input that wakes is asserted by one of the calls, a poll or raise of it, with the byte that it has there.
+pub woken-by-a-call : (d : Device) (cs : List Call) → Sweep cs → (n : ℕ) → n < 64 → wakes n (d .core .lines) (history d cs .after .core .lines) ≡ true
+    → AssertedBy n d cs
+woken-by-a-call d cs s n b w =
+    let made = one-sweep-wakes-all d cs s .asserted n b ∙ ap (λ x. cond x 1 0) w in
+    asserted-by n d cs (calls-announce d cs (s .admitted)) (omega (arith, made))
+
+-- Nothing is offered to the ring: what is drained, and what waits at the end, is what waited at the start, and no drop is counted.
+pub sweep-offers-nothing : (d : Device) (cs : List Call) → Sweep cs
+    → (history d cs .drained ++ history d cs .after .ring .waiting ≡ d .ring .waiting) × (history d cs .after .ring .drops ≡ d .ring .drops)
+sweep-offers-nothing d cs s = calls-drain d cs (calls-announce d cs (s .admitted))
+
+-- ---- the premise
 
 -- The premise on single calls is no more than it says: it refuses a call exactly where one of its acts lowers an input, or writes MASK, CLEAR or ISR, at
 -- any device and whatever the value.
