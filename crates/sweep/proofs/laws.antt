@@ -3,3 +3,4 @@ pub mod Quiet
 pub mod OneInput
 pub mod Announcing
 pub mod Reading
+pub mod Polls

@@ -1,23 +1,30 @@
 -- 02, C-24, of exported calls, each given the image that the one before it left. A refused call counts as none.
 use mathlib.Core.Path.{_≡_, refl, sym, ap, subst, _∙_}
-use mathlib.Core.Bool.{true, false, cond}
+use mathlib.Core.Bool.{true, false, cond, true≢false, and-eq-true-iff}
 use mathlib.Core.List.{List, [], _∷_, _++_}
-use Prim.Native.Nat.{ℕ, _+_, _^_, _<_}
+use Prim.Native.Nat.{ℕ, _+_, _^_, _<_, _≤_}
 use native.Mathlib.Omega.{arith}
-use lib.ListN.{getD}
+use lib.ListN.{length, getD}
 use Rattle.rules.specs.Numbers.{Bytes}
 use Rattle.rules.specs.Device.{Device, Call, value}
+use Rattle.rules.specs.Device as call
 use Rattle.rules.specs.Image.{decode, imageTest, accepted}
-use Rattle.rules.specs.Calls.{askedBy, answered, presentIn, valueIn, Outcome}
+use Rattle.rules.specs.Calls.{Request, askedBy, answered, presentIn, valueIn, Outcome}
+use Rattle.rules.specs.Calls as request
 use Rattle.rules.specs.History.{history}
+use Rattle.histories.specs.Demands.{pollsOrRaises}
 use Rattle.histories.specs.Exported.{Exported, leftBy, isDone, isReset, Underway, carriedOn, carriedThrough, NoLoads, HandedOn, doneCalls}
 use Rattle.histories.specs.Exported.{current, inImage, Faithful, atLoad, afterReset}
-use Rattle.sweep.specs.Sweeps.{Sweep}
-use Rattle.sweep.specs.Handed.{asksFor, leftAfter, WakesAllRead}
-use Rattle.histories.proofs.laws.Chains.{faithful-at-load, left-last}
+use Rattle.sweep.specs.Sweeps.{sweeping, Sweep}
+use Rattle.sweep.specs.Handed.{asksFor, readsAssert, leftAfter, WakesAllRead, pollsAll}
+use Rattle.rules.proofs.laws.Answers.{value-read}
+use Rattle.rules.proofs.laws.Images.{decode-well-formed}
+use Rattle.histories.proofs.laws.Chains.{faithful-at-load, left-last, done-call}
 use Rattle.histories.proofs.laws.Readings.{read-as}
 use Rattle.histories.proofs.demands.FromCalls.{image-holds-device, image-holds-history, handed-on-is-no-load}
-use Rattle.sweep.proofs.laws.Reading.{returned-silent, asserts-read}
+use Rattle.sweep.proofs.laws.Announcing.{call-announces, vector-answered}
+use Rattle.sweep.proofs.laws.Reading.{returned-silent, asserts-read, asks-is}
+use Rattle.sweep.proofs.laws.Polls.{all-polled, polls-done}
 use Rattle.sweep.proofs.demands.WakesAll.{one-sweep-wakes-all, sweep-offers-nothing}
 
 -- From any history under way, over exported calls of which none is a load and of which the done ones are a sweep.
@@ -50,3 +57,43 @@ pub sweep-of-an-image : (i : List ℕ) → Bytes i → imageTest i ≡ accepted 
     → WakesAllRead (decode i) xs (decode (leftAfter i xs))
 sweep-of-an-image i b t xs o s =
     rw (← left-through (atLoad i) xs o) (sweep-of-calls (atLoad i) (faithful-at-load i b t) xs (handed-on-is-no-load (atLoad i) xs o) s)
+
+-- The sweep that hosts do, from any accepted image: polls of the inputs 0 to 63, each given the image that the one before it left, with an answer area of 16
+-- bytes or more. All are done and are a sweep, so that at their end every latched and unmasked input is in service.
+pub polls-are-a-sweep : (i a : List ℕ) → Bytes i → imageTest i ≡ accepted → 16 ≤ length a → Sweep (doneCalls (pollsAll i a))
+polls-are-a-sweep i a b t r = rw (polls-done i a b t r .1) all-polled
+
+pub polls-wake-all : (i a : List ℕ) → Bytes i → imageTest i ≡ accepted → 16 ≤ length a → WakesAllRead (decode i) (pollsAll i a) (decode (leftAfter i (pollsAll i a)))
+polls-wake-all i a b t r = sweep-of-an-image i b t (pollsAll i a) (polls-done i a b t r .0) (polls-are-a-sweep i a b t r)
+
+-- ---- which vector a host reads
+
+asks-sweeps : (n : ℕ) (c : Call) → pollsOrRaises n c ≡ true → sweeping c ≡ true
+asks-sweeps n (call.level m true) e = refl
+asks-sweeps n (call.level m false) e = e
+asks-sweeps n (call.poll m) e = refl
+asks-sweeps n (call.read w o) e = refl
+asks-sweeps n (call.write w o v) e = absurd (true≢false (sym e))
+asks-sweeps n (call.drain k) e = refl
+
+asks-no-reset : (n : ℕ) (q : Request) → asksFor n q ≡ true → isReset (askedBy q) ≡ false
+asks-no-reset n request.reset e = sym e
+asks-no-reset n (request.read base size address width) e = refl
+asks-no-reset n (request.write base size address width v) e = refl
+asks-no-reset n (request.level m v) e = refl
+asks-no-reset n (request.poll m) e = refl
+asks-no-reset n (request.drain buffer place) e = refl
+
+-- Where a host reads an assert of n in an answer area, in a sweep or elsewhere, the value there is the vector byte that n has in the image that the call was
+-- given.
+pub vector-in-the-answer : (n : ℕ) (x : Exported) → Bytes (x .given) → readsAssert n x ≡ true → valueIn (leftBy x .answer) ≡ getD (decode (x .given) .core .vectors) n 0
+vector-in-the-answer n x b e =
+    let d = decode (x .given) in
+    let both = and-eq-true-iff (isDone x) _ .0 e in
+    let asked = and-eq-true-iff (asksFor n (x .asked)) (presentIn (leftBy x .answer)) .0 (both .1) in
+    let r = done-call afterReset x (both .0) (asks-no-reset n (x .asked) (asked .0)) in
+    let asks = sym (asks-is n (x .asked) (r .call) (r .passes)) ∙ asked .0 in
+    let answer : leftBy x .answer ≡ answered 0 (value d (r .call)) (x .answer) = ap (λ (o : Outcome). o .answer) (r .left) in
+    let says = vector-answered d (r .call) (call-announces d (r .call) (asks-sweeps n (r .call) asks)) n (x .answer) asks (rw answer at (asked .1)) in
+    let small = decode-well-formed (x .given) b (r .accepted) .vectorBytes n in
+    ap valueIn (answer ∙ ap (λ v. answered 0 v (x .answer)) says) ∙ value-read 0 (x .answer) (getD (d .core .vectors) n 0) (omega (arith, small))
