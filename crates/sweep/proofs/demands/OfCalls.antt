@@ -61,7 +61,7 @@ sweep-of-an-image i b t xs o s =
 -- The sweep that hosts do, from any accepted image: polls of the inputs 0 to 63, each given the image that the one before it left, with an answer area of 16
 -- bytes or more. All are done and are a sweep, so that at their end every latched and unmasked input is in service.
 pub polls-are-a-sweep : (i a : List ℕ) → Bytes i → imageTest i ≡ accepted → 16 ≤ length a → Sweep (doneCalls (pollsAll i a))
-polls-are-a-sweep i a b t r = rw (polls-done i a b t r .1) all-polled
+polls-are-a-sweep i a b t r = subst Sweep (sym (polls-done i a b t r .1)) all-polled
 
 pub polls-wake-all : (i a : List ℕ) → Bytes i → imageTest i ≡ accepted → 16 ≤ length a → WakesAllRead (decode i) (pollsAll i a) (decode (leftAfter i (pollsAll i a)))
 polls-wake-all i a b t r = sweep-of-an-image i b t (pollsAll i a) (polls-done i a b t r .0) (polls-are-a-sweep i a b t r)

@@ -45,6 +45,11 @@ movingHalf (halfOf (map.plain p) h) = false
 movingHalf bytes = false
 movingHalf nothing = false
 
+-- they stand nowhere but where movesLines says
+moving-only : (o : ℕ) → movesLines o ≡ false → movingHalf (cellAt o) ≡ false
+moving-only o t = ruled-out (movingHalf (cellAt o)) (rw t at (cell-has (λ i d. not (movingHalf d) || movesLines i) refl o refl refl))
+
+-- and there they stand
 moving-there : (o : ℕ) → movesLines o ≡ true → movingHalf (cellAt o) ≡ true
 unfolding cellAt
 moving-there o e =
@@ -52,13 +57,10 @@ moving-there o e =
     (λ a. test (eqb o 0x024) (λ t. rw (eqb-true o 0x024 t))
     (λ b. test (eqb o 0x080) (λ t. rw (eqb-true o 0x080 t))
     (λ c. test (eqb o 0x084) (λ t. rw (eqb-true o 0x084 t))
-    (λ d. test (eqb o 0x3a0) (λ t. rw (eqb-true o 0x3a0 t))
-    (λ f. rw (eqb-true o 0x3a4 (rw (a, b, c, d, f) at e)))))))
+    (λ d. test (eqb o 0x3a0) (λ t. rw (eqb-true o 0x3a0 t)) (λ f. rw (eqb-true o 0x3a4 (rw (a, b, c, d, f) at e)))))))
 
 moving-stands : (o : ℕ) → movingHalf (cellAt o) ≡ movesLines o
-moving-stands o =
-    test (movesLines o) (λ t. moving-there o t ∙ sym t)
-    (λ t. ruled-out (movingHalf (cellAt o)) (rw t at (cell-has (λ i d. not (movingHalf d) || movesLines i) refl o refl refl)) ∙ sym t)
+moving-stands o = test (movesLines o) (λ t. moving-there o t ∙ sym t) (λ t. moving-only o t ∙ sym t)
 
 -- ---- what a write does, by the Dwords that it reaches
 

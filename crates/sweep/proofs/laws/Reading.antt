@@ -54,6 +54,10 @@ asks-is n (request.level m v) c e = rw (input-is m (device.level m (not (eqb v 0
 asks-is n (request.poll m) c e = rw (input-is m (device.poll m) c (asked-is e) .1)
 asks-is n (request.drain buffer place) c e = rw (sym (passed (asked-is e)))
 
+-- of a refused call no assert is read
+refused-reads-none : (i : ℕ) (x : Exported) → isDone x ≡ false → readsAssert i x ≡ false
+refused-reads-none i x t = ap (λ b. b && (asksFor i (x .asked) && presentIn (leftBy x .answer))) t
+
 -- ---- along exported calls
 
 module _ (h : Underway) (f : Faithful h) (x : Exported) (n : isLoad (h .left) x ≡ false) where
@@ -70,7 +74,9 @@ module _ (h : Underway) (f : Faithful h) (x : Exported) (n : isLoad (h .left) x 
       let reads = read-is-asserted d (r .call) (call-announces d (r .call) admits) i (x .answer) in
       let whole = tally-append (λ (m : Made). m .asserted && only i (m .input)) (step d (r .call) .made) [] in
       rw (one, t, answer, asks-is i (x .asked) (r .call) (r .passes)) (omega (arith, reads, whole, tally-nil (λ (m : Made). m .asserted && only i (m .input)))))
-      (λ t. rw t (sym (tally-nil (λ (m : Made). m .asserted && only i (m .input)))))
+      (λ t.
+      let none : doneCall x ≡ [] = (λ j. cond (t j) (callOf (askedBy (x .asked))) []) in
+      rw (none, refused-reads-none i x t) (sym (tally-nil (λ (m : Made). m .asserted && only i (m .input)))))
 
 every-append : (t : Call → Bool) (xs ys : List Call) → everyCall t (xs ++ ys) ≡ true → (everyCall t xs ≡ true) × (everyCall t ys ≡ true)
 every-append t [] ys e = (refl, e)
