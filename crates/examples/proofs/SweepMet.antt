@@ -1,6 +1,6 @@
 -- The premises of a sweep can be met, and each of them is needed: a sweep that wakes three inputs, and beside it one that breaks a single premise for each of
 -- MASK, CLEAR, ISR, a lowering, an input not polled, a load and a reset, with a consequence that fails. Of calls of the device, and of exported calls.
-use mathlib.Core.Path.{_≡_, refl, sym, _∙_}
+use mathlib.Core.Path.{_≡_, refl, sym, ap, subst, _∙_}
 use mathlib.Core.Bool.{Bool, true, false, true≢false}
 use mathlib.Core.List.{List, [], _∷_, _++_, map}
 use Prim.Native.Nat.{ℕ}
@@ -8,24 +8,29 @@ use native.Mathlib.Omega.{arith}
 use lib.Dec.{lit<, lit≤}
 use lib.ListN.{replicate}
 use Rattle.rules.specs.Lines.{Made}
+use Rattle.rules.specs.Numbers.{Bytes}
 use Rattle.rules.specs.Ring.{Event}
 use Rattle.rules.specs.Access.{byte, dword}
 use Rattle.rules.specs.Device.{Device, Call, level, poll, read, write, drain, reset, upFrom}
-use Rattle.rules.specs.Image.{encode, decode}
+use Rattle.rules.specs.Image.{encode, decode, imageTest, accepted}
 use Rattle.rules.specs.Calls.{Request}
 use Rattle.rules.specs.Calls as request
 use Rattle.rules.specs.History.{history, fromReset}
 use Rattle.rules.specs.Account.{tally}
-use Rattle.histories.specs.Demands.{inService, assertsOf}
-use Rattle.histories.specs.Exported.{Exported, doneCalls, returnedBy, drainedBy}
+use Rattle.histories.specs.Demands.{inService, assertsOf, returnedIn}
+use Rattle.histories.specs.Exported.{Exported, leftBy, HandedOn, Underway, doneCall, doneCalls, atLoad, returnedBy, drainedBy}
 use Rattle.sweep.specs.Sweeps.{sweeping, isPoll, everyCall, someCall, Sweep, WakesAll}
-use Rattle.sweep.specs.Handed.{assertsRead, leftAfter, WakesAllRead, pollsFrom, pollsAll}
+use Rattle.sweep.specs.Handed.{leftAfter, WakesAllRead, pollsFrom, pollsAll}
 use Rattle.rules.proofs.laws.Computing.{computing}
 use Rattle.rules.proofs.demands.RoundTrip.{saved-is-bytes, saved-is-accepted, reset-can-be-saved}
 use Rattle.histories.proofs.laws.WellFormed.{history-well}
+use Rattle.histories.proofs.laws.Chains.{faithful-at-load, calls-split}
+use Rattle.histories.proofs.demands.FromCalls.{handed-on-is-no-load}
+use Rattle.histories.proofs.demands.HandedBack.{returned-is-read, drained-is-read}
+use Rattle.sweep.proofs.laws.Polls.{polls-done}
 use Rattle.sweep.proofs.demands.WakesAll.{one-sweep-wakes-all}
-use Rattle.sweep.proofs.demands.OfCalls.{sweep-of-an-image, polls-wake-all}
-use Rattle.examples.proofs.PremisesMet.{allBelow, all-below}
+use Rattle.sweep.proofs.demands.OfCalls.{sweep-of-an-image, polls-are-a-sweep, polls-wake-all}
+use Rattle.examples.proofs.PremisesMet.{allBelow, all-below, seventeen, maskAll}
 use Rattle.examples.proofs.ExportedMet.{handedOn, handed-on}
 
 -- ---- a test that decides whether calls are a sweep
@@ -62,7 +67,11 @@ swept-is-a-sweep : Sweep swept
 unfolding computing
 swept-is-a-sweep = is-sweep swept refl refl
 
-wakes-all : WakesAll start (history start swept .made) (history start swept .after)
+-- what a sweep does, said of any calls from start on
+abbrev Holds : List Call → Type 0
+Holds cs = WakesAll start (history start cs .made) (history start cs .after)
+
+wakes-all : Holds swept
 wakes-all = one-sweep-wakes-all start swept swept-is-a-sweep
 
 -- 63, 9 and 5 are woken, each once, and 5 with the vector that it had then; 3 and 60 were in service, 7 and 8 are masked
@@ -92,22 +101,22 @@ abbrev andThen : Call → List Call
 andThen c = swept ++ (c ∷ [])
 
 -- MASK: of 7 and 8, both latched, only 7 is announced; 8 is latched and unmasked, and not in service
-mask-needed : WakesAll start (history start (andThen (write dword 0x020 0)) .made) (history start (andThen (write dword 0x020 0)) .after) → ⊥
+mask-needed : Holds (andThen (write dword 0x020 0)) → ⊥
 unfolding computing
 mask-needed w = true≢false (sym (w .served 8 (lit< tt) (record { latched = refl; unmasked = refl })))
 
 -- CLEAR: 3 leaves service, and its deassert is made
-clear-needed : WakesAll start (history start (andThen (write dword 0x080 8)) .made) (history start (andThen (write dword 0x080 8)) .after) → ⊥
+clear-needed : Holds (andThen (write dword 0x080 8)) → ⊥
 unfolding computing tally
 clear-needed w = let z : _≡_ {A = ℕ} 1 0 = w .noDeassert in omega arith
 
 -- ISR: 3 is taken out of service, and stays latched and unmasked
-isr-needed : WakesAll start (history start (andThen (write dword 0x3a0 0)) .made) (history start (andThen (write dword 0x3a0 0)) .after) → ⊥
+isr-needed : Holds (andThen (write dword 0x3a0 0)) → ⊥
 unfolding computing
 isr-needed w = true≢false (sym (w .served 3 (lit< tt) (record { latched = refl; unmasked = refl })))
 
 -- a lowering: 3 leaves service, and its deassert is made
-lowering-needed : WakesAll start (history start (andThen (level 3 false)) .made) (history start (andThen (level 3 false)) .after) → ⊥
+lowering-needed : Holds (andThen (level 3 false)) → ⊥
 unfolding computing tally
 lowering-needed w = let z : _≡_ {A = ℕ} 1 0 = w .noDeassert in omega arith
 
@@ -119,7 +128,7 @@ but63-polls-the-others : (everyCall sweeping but63 ≡ true) × (pollsBelow 63 b
 unfolding computing
 but63-polls-the-others = (refl, refl)
 
-each-poll-needed : WakesAll start (history start but63 .made) (history start but63 .after) → ⊥
+each-poll-needed : Holds but63 → ⊥
 unfolding computing
 each-poll-needed w = true≢false (sym (w .served 63 (lit< tt) (record { latched = refl; unmasked = refl })))
 
@@ -135,61 +144,125 @@ asked =
 abbrev exported : List Exported
 exported = handedOn (encode start) asked
 
-exported-is-a-sweep : Sweep (doneCalls exported)
+start-bytes : Bytes (encode start)
+start-bytes = saved-is-bytes start (history-well reset begun reset-can-be-saved)
+
+start-accepted : imageTest (encode start) ≡ accepted
+start-accepted = saved-is-accepted start (history-well reset begun reset-can-be-saved)
+
+exported-handed-on : HandedOn (encode start) exported
+unfolding upFrom
+exported-handed-on = handed-on (encode start) asked refl
+
+-- the refused ones are no calls
+abbrev done : List Call
+done = polls 32 32 ++ (level 9 true ∷ write byte 0x205 0x55 ∷ read dword 0x3a0 ∷ drain 3 ∷ polls 0 32)
+
+exported-calls : doneCalls exported ≡ done
 unfolding computing doneCalls
-exported-is-a-sweep = is-sweep (doneCalls exported) refl refl
+exported-calls = refl
+
+done-is-a-sweep : Sweep done
+unfolding computing
+done-is-a-sweep = is-sweep done refl refl
 
 exported-wakes-all : WakesAllRead (decode (encode start)) exported (decode (leftAfter (encode start) exported))
-unfolding computing
 exported-wakes-all =
-    let well = history-well reset begun reset-can-be-saved in
-    sweep-of-an-image (encode start) (saved-is-bytes start well) (saved-is-accepted start well) exported (handed-on (encode start) asked refl) exported-is-a-sweep
+    sweep-of-an-image (encode start) start-bytes start-accepted exported exported-handed-on (subst Sweep (sym exported-calls) done-is-a-sweep)
 
 -- what the host reads: the three asserts in answer areas, and in the event buffer the two that waited
 abbrev asserts : ℕ → Event
 asserts v = record { vector = v; asserted = true }
 
+abbrev loaded : Underway
+loaded = atLoad (encode start)
+
 exported-returned : returnedBy exported ≡ asserts 63 ∷ asserts 9 ∷ asserts 0x55 ∷ []
-unfolding computing returnedBy
-exported-returned = refl
+unfolding computing returnedIn
+exported-returned =
+    returned-is-read loaded (faithful-at-load (encode start) start-bytes start-accepted) exported (handed-on-is-no-load loaded exported exported-handed-on)
+    ∙ ap (λ cs. returnedIn (history (decode (encode start)) cs .made)) exported-calls
 
 exported-drained : drainedBy exported ≡ asserts 3 ∷ asserts 60 ∷ []
-unfolding computing drainedBy
-exported-drained = refl
-
-five-read : assertsRead 5 exported ≡ 1
-unfolding computing leftAfter
-five-read = exported-wakes-all .asserted 5 (lit< tt)
+unfolding computing
+exported-drained =
+    drained-is-read loaded (faithful-at-load (encode start) start-bytes start-accepted) exported (handed-on-is-no-load loaded exported exported-handed-on)
+    ∙ ap (λ cs. history (decode (encode start)) cs .drained) exported-calls
 
 -- the 64 polls of a host
 hosts-polls : WakesAllRead (decode (encode start)) (pollsAll (encode start) (replicate 16 0)) (decode (leftAfter (encode start) (pollsAll (encode start) (replicate 16 0))))
-hosts-polls =
-    let well = history-well reset begun reset-can-be-saved in
-    polls-wake-all (encode start) (replicate 16 0) (saved-is-bytes start well) (saved-is-accepted start well) (lit≤ tt)
+hosts-polls = polls-wake-all (encode start) (replicate 16 0) start-bytes start-accepted (lit≤ tt)
 
--- a load: 0 is polled in the image of a reset device, and 1 to 63 in another, in which 0 is latched and unmasked; there it stays out of service
-abbrev other : Device
-other = fromReset (level 0 true ∷ write dword 0x020 0 ∷ write dword 0x3a0 0 ∷ []) .after
+-- ---- no load, and no reset
 
-abbrev loading : List Exported
-loading = handedOn (encode reset) (request.poll 0 ∷ []) ++ pollsFrom 1 63 (encode other) (replicate 16 0)
+left-last : (i : List ℕ) (xs : List Exported) (x : Exported) → leftAfter i (xs ++ (x ∷ [])) ≡ leftBy x .image
+unfolding leftAfter
+left-last i [] x = refl
+left-last i (y ∷ xs) x = left-last (leftBy y .image) xs x
 
-loading-polls-all : Sweep (doneCalls loading)
-unfolding computing doneCalls pollsFrom
-loading-polls-all = is-sweep (doneCalls loading) refl refl
+-- a load: 0 to 62 are polled, and then 63 in another image, in which 0 is latched, unmasked and out of service; there it stays so
+abbrev other : List Call
+other = level 0 true ∷ write dword 0x020 0 ∷ write dword 0x3a0 0 ∷ []
 
-load-needed : WakesAllRead (decode (encode reset)) loading (decode (leftAfter (encode reset) loading)) → ⊥
-unfolding computing pollsFrom leftAfter
-load-needed w = true≢false (sym (w .served 0 (lit< tt) (record { latched = refl; unmasked = refl })))
+abbrev loading : Exported
+loading = record { given = encode (fromReset other .after); asked = request.poll 63; answer = replicate 16 0 }
 
--- a reset: it is no call of the device, and 5 was asserted before it and is not latched after it
-abbrev resetting : List Exported
-resetting = handedOn (encode start) (map request.poll (upFrom 0 64) ++ (request.reset ∷ []))
+abbrev withLoad : List Exported
+withLoad = pollsFrom 0 63 (encode start) (replicate 16 0) ++ (loading ∷ [])
 
-resetting-polls-all : Sweep (doneCalls resetting)
+loading-polls : doneCall loading ≡ poll 63 ∷ []
+unfolding computing
+loading-polls = refl
+
+with-load-polls-all : Sweep (doneCalls withLoad)
 unfolding computing doneCalls
-resetting-polls-all = is-sweep (doneCalls resetting) refl refl
+with-load-polls-all =
+    let calls-are = calls-split (pollsFrom 0 63 (encode start) (replicate 16 0)) loading [] (poll 63) loading-polls in
+    let polled = polls-done 0 63 (lit≤ tt) (encode start) (replicate 16 0) start-bytes start-accepted (lit≤ tt) .1 in
+    subst Sweep (sym (calls-are ∙ ap (λ cs. cs ++ (poll 63 ∷ [])) polled)) (is-sweep (polls 0 63 ++ (poll 63 ∷ [])) refl refl)
 
-no-reset-needed : WakesAllRead (decode (encode start)) resetting (decode (leftAfter (encode start) resetting)) → ⊥
-unfolding computing leftAfter assertsRead
-no-reset-needed w = let z : _≡_ {A = ℕ} 1 0 = w .asserted 5 (lit< tt) in omega arith
+no-load-needed : WakesAllRead (decode (encode start)) withLoad (decode (leftAfter (encode start) withLoad)) → ⊥
+unfolding computing
+no-load-needed w =
+    let v = subst (λ i. WakesAllRead (decode (encode start)) withLoad (decode i)) (left-last (encode start) (pollsFrom 0 63 (encode start) (replicate 16 0)) loading) w in
+    true≢false (sym (v .served 0 (lit< tt) (record { latched = refl; unmasked = refl })))
+
+-- a reset: in front of the 64 polls it is no call of the device, and takes back the drop that the first image counts
+abbrev dropping : List Call
+dropping = seventeen ++ (maskAll ∷ [])
+
+abbrev resetting : Exported
+resetting = record { given = encode (fromReset dropping .after); asked = request.reset; answer = replicate 16 0 }
+
+abbrev afterReset : List ℕ
+afterReset = leftBy resetting .image
+
+abbrev withReset : List Exported
+withReset = resetting ∷ pollsAll afterReset (replicate 16 0)
+
+left-by-reset : (Bytes afterReset) × (imageTest afterReset ≡ accepted)
+unfolding computing
+left-by-reset = (saved-is-bytes reset reset-can-be-saved, saved-is-accepted reset reset-can-be-saved)
+
+with-reset-polls-all : Sweep (doneCalls withReset)
+unfolding computing doneCalls
+with-reset-polls-all = polls-are-a-sweep afterReset (replicate 16 0) (left-by-reset .0) (left-by-reset .1) (lit≤ tt)
+
+one-counted : decode (resetting .given) .ring .drops ≡ 1
+unfolding computing
+one-counted = refl
+
+none-counted : decode afterReset .ring .drops ≡ 0
+unfolding computing
+none-counted = refl
+
+left-behind : (i : List ℕ) (x : Exported) (xs : List Exported) → leftAfter i (x ∷ xs) ≡ leftAfter (leftBy x .image) xs
+unfolding leftAfter
+left-behind i x xs = refl
+
+no-reset-needed : WakesAllRead (decode (resetting .given)) withReset (decode (leftAfter (resetting .given) withReset)) → ⊥
+no-reset-needed w =
+    let polled = polls-wake-all afterReset (replicate 16 0) (left-by-reset .0) (left-by-reset .1) (lit≤ tt) in
+    let left = ap (λ i. decode i .ring .drops) (left-behind (resetting .given) resetting (pollsAll afterReset (replicate 16 0))) in
+    let z : _≡_ {A = ℕ} 1 0 = sym one-counted ∙ sym (w .noneDropped) ∙ left ∙ polled .noneDropped ∙ none-counted in
+    omega arith

@@ -1,12 +1,13 @@
 -- 02, C-24, of exported calls, each given the image that the one before it left. A refused call counts as none.
 use mathlib.Core.Path.{_≡_, refl, sym, ap, subst, _∙_}
-use mathlib.Core.Bool.{true, false, cond, true≢false, and-eq-true-iff}
-use mathlib.Core.List.{List, [], _∷_, _++_}
-use Prim.Native.Nat.{ℕ, _+_, _^_, _<_, _≤_}
+use mathlib.Core.Bool.{true, false, true≢false, and-eq-true-iff}
+use mathlib.Core.List.{List, [], _∷_}
+use Prim.Native.Nat.{ℕ, _≤_}
 use native.Mathlib.Omega.{arith}
+use lib.Dec.{lit≤}
 use lib.ListN.{length, getD}
 use Rattle.rules.specs.Numbers.{Bytes}
-use Rattle.rules.specs.Device.{Device, Call, value}
+use Rattle.rules.specs.Device.{Call, value}
 use Rattle.rules.specs.Device as call
 use Rattle.rules.specs.Image.{decode, imageTest, accepted}
 use Rattle.rules.specs.Calls.{Request, askedBy, answered, presentIn, valueIn, Outcome}
@@ -61,10 +62,10 @@ sweep-of-an-image i b t xs o s =
 -- The sweep that hosts do, from any accepted image: polls of the inputs 0 to 63, each given the image that the one before it left, with an answer area of 16
 -- bytes or more. All are done and are a sweep, so that at their end every latched and unmasked input is in service.
 pub polls-are-a-sweep : (i a : List ℕ) → Bytes i → imageTest i ≡ accepted → 16 ≤ length a → Sweep (doneCalls (pollsAll i a))
-polls-are-a-sweep i a b t r = subst Sweep (sym (polls-done i a b t r .1)) all-polled
+polls-are-a-sweep i a b t r = subst Sweep (sym (polls-done 0 64 (lit≤ tt) i a b t r .1)) all-polled
 
 pub polls-wake-all : (i a : List ℕ) → Bytes i → imageTest i ≡ accepted → 16 ≤ length a → WakesAllRead (decode i) (pollsAll i a) (decode (leftAfter i (pollsAll i a)))
-polls-wake-all i a b t r = sweep-of-an-image i b t (pollsAll i a) (polls-done i a b t r .0) (polls-are-a-sweep i a b t r)
+polls-wake-all i a b t r = sweep-of-an-image i b t (pollsAll i a) (polls-done 0 64 (lit≤ tt) i a b t r .0) (polls-are-a-sweep i a b t r)
 
 -- ---- which vector a host reads
 

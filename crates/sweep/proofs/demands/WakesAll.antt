@@ -1,19 +1,18 @@
 -- 02, C-24: one sweep wakes everything. From any device, so from any loaded one.
 use mathlib.Core.Path.{_≡_, refl, sym, ap, _∙_}
 use mathlib.Core.Logic.{_⊎_, inl, inr, ⊎-elim}
-use mathlib.Core.Bool.{Bool, true, false, cond, not, _&&_, _||_, true≢false, or-true}
-use mathlib.Core.List.{List, [], _∷_, _++_, append-nil}
+use mathlib.Core.Bool.{Bool, true, false, cond, not, _&&_, true≢false, or-true}
+use mathlib.Core.List.{List, [], _∷_, _++_}
 use Prim.Native.Nat.{ℕ, _+_, _<_}
 use native.Mathlib.Omega.{arith}
 use lib.Dec.{lit<}
 use Rattle.rules.specs.Inputs.{on}
-use Rattle.rules.specs.Lines.{Lines}
 use Rattle.rules.specs.Device.{Device, Call, actsOf}
 use Rattle.rules.specs.Device as call
 use Rattle.rules.specs.History.{history}
 use Rattle.histories.specs.Premises.{Along}
 use Rattle.histories.specs.Demands.{inService, Eligible, pollsOrRaises, assertsOf, someAct}
-use Rattle.sweep.specs.Sweeps.{sweeping, isPoll, everyCall, someCall, Sweep, deassertsIn, wakes, WakesAll, Announced, AssertedBy}
+use Rattle.sweep.specs.Sweeps.{sweeping, isPoll, everyCall, someCall, Sweep, wakes, WakesAll, Announced, AssertedBy}
 use Rattle.rules.proofs.laws.Bits.{test}
 use Rattle.sweep.proofs.laws.Quiet.{unsettles, sweeping-is}
 use Rattle.sweep.proofs.laws.OneInput.{calls-swept, calls-awake}

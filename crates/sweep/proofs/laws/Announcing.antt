@@ -1,17 +1,17 @@
 -- What a call of a sweep makes: nothing, or the assert of the input that it polls or raises, returned, with the vector byte that it meets (call-announces).
 -- So the ring is offered nothing; and of the call's answer area, where it is exported, a host reads that assert (read-is-asserted).
-use mathlib.Core.Path.{_≡_, refl, sym, ap, ap₂, _∙_}
-use mathlib.Core.Bool.{Bool, true, false, cond, not, _&&_, true≢false, and-eq-true-iff, and-true}
+use mathlib.Core.Path.{_≡_, refl, sym, ap, _∙_}
+use mathlib.Core.Bool.{true, false, cond, _&&_, true≢false, and-eq-true-iff, and-true}
 use mathlib.Core.List.{List, [], _∷_, _++_, append-nil, append-assoc}
 use Prim.Native.Nat.{ℕ, _+_, _<_}
 use native.Mathlib.Omega.{arith}
 use lib.ListN.{getD}
 use borrow.Author.Tests.{eq-eqb, eqb-true}
-use Rattle.rules.specs.Inputs.{on, inputs, only, put}
+use Rattle.rules.specs.Inputs.{inputs, only, put}
 use Rattle.rules.specs.Lines.{Lines, Made, withIrr, pendingIn, serve, enter, polled, raised}
 use Rattle.rules.specs.Ring.{Event, Ring, draw, kept, ringStep, ringRun, drawn}
 use Rattle.rules.specs.Core.{moved, lineTurn, turns}
-use Rattle.rules.specs.Device.{Device, Call, Value, none, some, actsOf, acted, offers, draws, step, returned, value}
+use Rattle.rules.specs.Device.{Device, Call, some, actsOf, acted, offers, draws, step, returned, value}
 use Rattle.rules.specs.Device as call
 use Rattle.rules.specs.History.{history}
 use Rattle.rules.specs.Calls.{answered, presentIn}

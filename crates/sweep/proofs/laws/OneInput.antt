@@ -2,11 +2,10 @@
 -- assert, and once it has been polled it is in service whenever it is latched and unmasked.
 use mathlib.Core.Path.{_≡_, refl, sym, ap, _∙_}
 use mathlib.Core.Logic.{_⊎_, inl, inr, ⊎-elim}
-use mathlib.Core.Bool.{Bool, true, false, cond, not, _&&_, _||_, true≢false, and-eq-true-iff, or-true, or-false}
+use mathlib.Core.Bool.{Bool, true, false, cond, not, _&&_, true≢false, and-eq-true-iff, or-true, or-false}
 use mathlib.Core.List.{List, [], _∷_, _++_}
 use Prim.Native.Nat.{ℕ, _+_, _<_}
 use native.Mathlib.Omega.{arith}
-use lib.Dec.{eqb}
 use borrow.Author.Tests.{eq-eqb, ne-eqb, eqb-true, eqb-false}
 use Rattle.rules.specs.Inputs.{on, inputs, only, put}
 use Rattle.rules.specs.Lines.{Lines, Made, event, withIrr, withIsr, pendingIn, serve, enter, polled, raised}
@@ -15,13 +14,12 @@ use Rattle.rules.specs.Device.{Device, Call, actsOf, acted, step}
 use Rattle.rules.specs.Device as call
 use Rattle.rules.specs.History.{history}
 use Rattle.rules.specs.Account.{tally}
-use Rattle.histories.specs.Premises.{Along}
 use Rattle.histories.specs.Demands.{inService, Eligible, pollsOrRaises, assertsOf}
 use Rattle.sweep.specs.Sweeps.{sweeping, everyCall, someCall, deassertsIn}
 use Rattle.rules.proofs.laws.Bits.{test, on-put}
 use Rattle.rules.proofs.laws.Inputs.{first-has}
-use Rattle.rules.proofs.laws.Counts.{tally-append, tally-nil}
-use Rattle.rules.proofs.laws.Serving.{poll-serves, raise-serves}
+use Rattle.rules.proofs.laws.Counts.{tally-append}
+use Rattle.rules.proofs.laws.Serving.{poll-serves}
 use Rattle.histories.proofs.laws.Folds.{fold-acts, fold-calls}
 use Rattle.sweep.proofs.laws.Quiet.{Settled, settled-acts, along-every}
 

@@ -1,8 +1,8 @@
--- The 64 polls one after another, from any accepted image and with an answer area that has room: each is done and leaves such an image and area (polls-done),
--- and their calls are a sweep (all-polled).
-use mathlib.Core.Path.{_≡_, refl, sym, ap, ap₂, _∙_}
+-- Polls one after another, from any accepted image and with an answer area that has room: each is done and leaves such an image and area (polls-done). The
+-- calls of all 64 are a sweep (all-polled).
+use mathlib.Core.Path.{_≡_, refl, sym, ap₂}
 use mathlib.Core.Logic.{⊎-elim}
-use mathlib.Core.Bool.{Bool, true, false, cond, _||_, or-true}
+use mathlib.Core.Bool.{true, or-true}
 use mathlib.Core.List.{List, [], _∷_, _++_, map}
 use Prim.Native.Nat.{ℕ, zero, suc, _+_, _<_, _≤_}
 use native.Mathlib.Nat.{eq-or-lt-of-le}
@@ -10,11 +10,11 @@ use native.Mathlib.Omega.{arith}
 use lib.ListN.{length}
 use borrow.Author.Tests.{eq-eqb, le-leb, lt-ltb}
 use Rattle.rules.specs.Numbers.{Bytes}
-use Rattle.rules.specs.Device.{Device, WellFormed, Call, poll, upFrom, Value, step, value}
-use Rattle.rules.specs.Image.{encode, decode, imageTest, accepted}
+use Rattle.rules.specs.Device.{Call, poll, upFrom, Value, step, value}
+use Rattle.rules.specs.Image.{decode, imageTest, accepted}
 use Rattle.rules.specs.Calls.{performed, answerLength, answered, outcome}
 use Rattle.rules.specs.Calls as request
-use Rattle.histories.specs.Exported.{Exported, leftBy, isDone, callOf, HandedOn, doneCall, doneCalls}
+use Rattle.histories.specs.Exported.{Exported, leftBy, isDone, HandedOn, doneCall, doneCalls}
 use Rattle.sweep.specs.Sweeps.{sweeping, isPoll, everyCall, someCall, Sweep}
 use Rattle.sweep.specs.Handed.{pollsFrom}
 use Rattle.rules.proofs.laws.Images.{encode-decode, decode-well-formed, bytes-encode, accepted-encode}
@@ -87,8 +87,8 @@ polled-from n (suc k) l i a f =
     let rest = polled-from (suc n) k (omega arith) _ _ (poll-fit n b i a f) in
     record { handedOn = (refl, refl, rest .handedOn); calls = ap₂ _++_ (poll-call n b i a f) (rest .calls) }
 
-pub polls-done : (i a : List ℕ) → Bytes i → imageTest i ≡ accepted → answerLength ≤ length a
-    → HandedOn i (pollsFrom 0 64 i a) × (doneCalls (pollsFrom 0 64 i a) ≡ pollCalls 0 64)
-polls-done i a b e h =
-    let r = polled-from 0 64 (omega arith) i a (record { bytes = b; isAccepted = e; room = h }) in
+pub polls-done : (n k : ℕ) → n + k ≤ 64 → (i a : List ℕ) → Bytes i → imageTest i ≡ accepted → answerLength ≤ length a
+    → HandedOn i (pollsFrom n k i a) × (doneCalls (pollsFrom n k i a) ≡ pollCalls n k)
+polls-done n k l i a b e h =
+    let r = polled-from n k l i a (record { bytes = b; isAccepted = e; room = h }) in
     (r .handedOn, r .calls)

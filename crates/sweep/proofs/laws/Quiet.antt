@@ -1,14 +1,14 @@
 -- Which acts a call of a sweep does: it lowers no input and writes neither MASK, CLEAR nor ISR. A call that is no such call does one of these (sweeping-is).
 use mathlib.Core.Path.{_≡_, refl, sym, ap, ap₂, _∙_}
-use mathlib.Core.Bool.{Bool, true, false, not, _&&_, _||_, true≢false, and-eq-true-iff, or-false}
-use mathlib.Core.List.{List, [], _∷_, _++_}
+use mathlib.Core.Bool.{Bool, true, false, not, _||_, true≢false, and-eq-true-iff}
+use mathlib.Core.List.{List, [], _∷_}
 use Prim.Native.Nat.{ℕ, _+_, _-_, _%_}
 use lib.Dec.{eqb}
 use borrow.Author.Tests.{eqb-true, not-true}
 use Rattle.rules.specs.Numbers.{byteOf}
 use Rattle.rules.specs.Inputs.{half}
 use Rattle.rules.specs.Core.{Core, Act, poll, raise, lower, clear, setMask, move, setIsr, store, setVector}
-use Rattle.rules.specs.Map.{Register, Cell, halfOf, bytes, nothing, inRoutes, inVectors, inByteArea, cellAt}
+use Rattle.rules.specs.Map.{Cell, halfOf, bytes, nothing, inRoutes, inVectors, inByteArea, cellAt}
 use Rattle.rules.specs.Map as map
 use Rattle.rules.specs.Access.{Width, byte, word, dword, qword, entryActs, cellActs, dwordActs, byteActs, writeActs}
 use Rattle.rules.specs.Device.{Device, Call, actsOf}

@@ -1,22 +1,21 @@
 -- What a host reads of exported calls whose calls are such as a sweep admits: in answer areas the asserts that the history makes, input by input
 -- (asserts-read). And the 64 polls one after another: all are done (polls-done).
-use mathlib.Core.Path.{_≡_, refl, sym, ap, ap₂, subst, _∙_}
-use mathlib.Core.Bool.{Bool, true, false, cond, not, _&&_, _||_, true≢false, and-eq-true-iff, and-true, and-false}
+use mathlib.Core.Path.{_≡_, refl, sym, ap, ap₂, _∙_}
+use mathlib.Core.Bool.{Bool, true, false, cond, not, _&&_, true≢false, and-eq-true-iff, and-true, and-false}
 use mathlib.Core.List.{List, [], _∷_, _++_}
-use Prim.Native.Nat.{ℕ, zero, suc, _+_, _<_, _≤_}
+use Prim.Native.Nat.{ℕ, _+_}
 use native.Mathlib.Omega.{arith}
 use lib.Dec.{eqb}
-use lib.ListN.{length}
 use Rattle.rules.specs.Inputs.{only}
 use Rattle.rules.specs.Lines.{Made}
 use Rattle.rules.specs.Ring.{Event}
-use Rattle.rules.specs.Device.{Device, Call, Step, value, step}
+use Rattle.rules.specs.Device.{Call, Step, value, step}
 use Rattle.rules.specs.Device as device
 use Rattle.rules.specs.Calls.{Request, pass, calls, askedBy, widthTest, addressTest, answered, presentIn, Outcome}
 use Rattle.rules.specs.Calls as request
 use Rattle.rules.specs.History.{history}
 use Rattle.rules.specs.Account.{tally}
-use Rattle.histories.specs.Demands.{pollsOrRaises, assertsOf, asEvent, returnedIn}
+use Rattle.histories.specs.Demands.{pollsOrRaises, assertsOf, returnedIn}
 use Rattle.histories.specs.Exported.{Exported, leftBy, isDone, isLoad, callOf, Underway, carriedOn, NoLoads, doneCall, doneCalls, current, Faithful}
 use Rattle.sweep.specs.Sweeps.{sweeping, everyCall, deassertsIn}
 use Rattle.sweep.specs.Handed.{asksFor, readsAssert, assertsRead}
