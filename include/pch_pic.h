@@ -38,8 +38,8 @@
  * WHAT A HOST MUST DO. hosts/c/pic.c and crate pch-pic in hosts/rust do all of this (pic_settle, pic_line, pic_resume):
  *     - After each write of the guest, drain, and pass the events on in their order. Then poll all 64 inputs, in any order, and pass on what they
  *       return: an unmask announces only the lowest input that waits, and this sweep wakes the others. Once each input is polled, with no MASK, CLEAR
- *       or ISR written, no line lowered and no other image lent in between, every latched and unmasked input is in service, and each was asserted at
- *       most once. And raise each line again that is still high: a CLEAR takes the latch of a line though it is high.
+ *       or ISR written, no line lowered, no reset and no other image lent in between, every latched and unmasked input is in service, and each was
+ *       asserted at most once. And raise each line again that is still high: a CLEAR takes the latch of a line though it is high.
  *     - Hold a vector on while any input in service carries it. Inputs may share a vector: then it is asserted once for each of them, and is off
  *       only after as many deasserts.
  *     - Do not trust that each deassert had an assert. Where the guest changes the vector byte of an input in service, the deassert names the
