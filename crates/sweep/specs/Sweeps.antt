@@ -6,6 +6,7 @@ use Prim.Native.Nat.{ℕ, _<_}
 use lib.Dec.{eqb}
 use Rattle.rules.specs.Inputs.{on, only}
 use Rattle.rules.specs.Lines.{Lines, Made, event}
+use Rattle.rules.specs.Core.{Act, poll, raise, lower, clear, setMask, move, setIsr, store, setVector}
 use Rattle.rules.specs.Device.{Device, Call, step}
 use Rattle.rules.specs.Device as call
 use Rattle.rules.specs.History.{history}
@@ -22,17 +23,29 @@ isMask o = eqb o 0x020 || eqb o 0x024
 abbrev pub isClear : ℕ → Bool
 isClear o = eqb o 0x080 || eqb o 0x084
 
--- the registers that a sweep writes not at all (02, C-24)
+-- the registers that no call of a sweep writes (02, C-24)
 abbrev pub movesLines : ℕ → Bool
 movesLines o = isMask o || isClear o || isIsr o
 
 -- a call that a sweep admits: a raise, a poll, a read, a drain, a write that reaches neither MASK, CLEAR nor ISR, whatever its value (02, C-24)
 abbrev pub sweeping : Call → Bool
-sweeping (call.level n raise) = raise
+sweeping (call.level n true) = true
+sweeping (call.level n false) = false
 sweeping (call.poll n) = true
 sweeping (call.read w o) = true
 sweeping (call.write w o v) = not (reaches movesLines w o)
 sweeping (call.drain k) = true
+
+-- what such a call does not do: an act that lowers an input, or writes MASK, CLEAR or ISR (01, Inputs; 01, Window and register map)
+abbrev pub unsettles : Act → Bool
+unsettles (move (poll n)) = false
+unsettles (move (raise n)) = false
+unsettles (move (lower n)) = true
+unsettles (move (clear b)) = true
+unsettles (move (setMask h v)) = true
+unsettles (setIsr h v) = true
+unsettles (store s) = false
+unsettles (setVector n v) = false
 
 -- a call is a poll of n
 abbrev pub isPoll : ℕ → Call → Bool

@@ -12,9 +12,9 @@ use Rattle.rules.specs.Device as call
 use Rattle.rules.specs.History.{history}
 use Rattle.histories.specs.Premises.{Along}
 use Rattle.histories.specs.Demands.{inService, Eligible, pollsOrRaises, assertsOf, someAct}
-use Rattle.sweep.specs.Sweeps.{sweeping, isPoll, everyCall, someCall, Sweep, wakes, WakesAll, Announced, AssertedBy}
+use Rattle.sweep.specs.Sweeps.{unsettles, sweeping, isPoll, everyCall, someCall, Sweep, wakes, WakesAll, Announced, AssertedBy}
 use Rattle.rules.proofs.laws.Bits.{test}
-use Rattle.sweep.proofs.laws.Quiet.{unsettles, sweeping-is}
+use Rattle.sweep.proofs.laws.Quiet.{sweeping-is}
 use Rattle.sweep.proofs.laws.OneInput.{calls-swept, calls-awake}
 use Rattle.sweep.proofs.laws.Announcing.{calls-announce, asserted-by, calls-drain}
 

@@ -38,7 +38,7 @@ polls-some n (suc k) m a b =
     ⊎-elim (λ e. rw (eq-eqb n m e)) (λ l. rw (polls-some (suc n) k m l (omega arith)) (or-true (isPoll m (poll n)))) (eq-or-lt-of-le a)
 
 pub all-polled : Sweep (pollCalls 0 64)
-all-polled = record { admitted = polls-sweep 0 64; polled = λ m b. polls-some 0 64 m (omega arith) b }
+all-polled = record { admitted = polls-sweep 0 64; polled = λ m b. polls-some 0 64 m (omega arith) (omega (arith, b)) }
 
 -- ---- they are done
 

@@ -15,21 +15,11 @@ use Rattle.rules.specs.Device.{Device, Call, actsOf}
 use Rattle.rules.specs.Device as call
 use Rattle.histories.specs.Premises.{Along, byteReaches, reaches}
 use Rattle.histories.specs.Demands.{Each, done, also, someAct}
-use Rattle.sweep.specs.Sweeps.{movesLines, sweeping, everyCall}
+use Rattle.sweep.specs.Sweeps.{movesLines, unsettles, sweeping, everyCall}
 use Rattle.rules.proofs.laws.Bits.{test}
 use Rattle.histories.proofs.laws.Reach.{each-both, each-so, cell-has, ruled-out, some-append, ReturnsNone, write-returns-none, LeavesLines}
 
--- an act lowers an input, or writes MASK, CLEAR or ISR
-abbrev pub unsettles : Act → Bool
-unsettles (move (poll n)) = false
-unsettles (move (raise n)) = false
-unsettles (move (lower n)) = true
-unsettles (move (clear b)) = true
-unsettles (move (setMask h v)) = true
-unsettles (setIsr h v) = true
-unsettles (store s) = false
-unsettles (setVector n v) = false
-
+-- an act that does none of it
 abbrev pub Settled : Act → Type 0
 Settled a = unsettles a ≡ false
 
