@@ -36,8 +36,10 @@
  * at most, until pch_pic_drain moves them out; one that finds 16 waiting is dropped and counted.
  *
  * WHAT A HOST MUST DO. hosts/c/pic.c and crate pch-pic in hosts/rust do all of this (pic_settle, pic_line, pic_resume):
- *     - After each write of the guest, drain, and pass the events on in their order. Then raise each line again that is still high: an unmask
- *       announces only the lowest input that waits, and a CLEAR takes the latch of a line though it is high.
+ *     - After each write of the guest, drain, and pass the events on in their order. Then poll all 64 inputs, in any order, and pass on what they
+ *       return: an unmask announces only the lowest input that waits, and this sweep wakes the others. Once each input is polled, with no MASK, CLEAR
+ *       or ISR written, no line lowered, no reset and no other image lent in between, every latched and unmasked input is in service, and each was
+ *       asserted at most once. And raise each line again that is still high: a CLEAR takes the latch of a line though it is high.
  *     - Hold a vector on while any input in service carries it. Inputs may share a vector: then it is asserted once for each of them, and is off
  *       only after as many deasserts.
  *     - Do not trust that each deassert had an assert. Where the guest changes the vector byte of an input in service, the deassert names the
@@ -48,7 +50,8 @@
  *       when a write's value is not 0, since a dropped event is never told, and after a write to ISR or to a vector byte. It is right at any
  *       time when no event waits, so the simplest host does it after each call.
  *     - After a load, rebuild what is not in the image. Lower each input that is latched (IRR) while its line is low now, drain, count afresh
- *       against what the controller above has on, and raise each line that is high. The same goes for a reset while the guest runs.
+ *       against what the controller above has on, poll all 64 inputs, and raise each line that is high. The same goes for a reset while the guest
+ *       runs.
  *     - Pass the events of one call on before the next call is made on that image: who holds the image's lock keeps it until then.
  *
  * THE HOST'S DUTIES. No call can test these:

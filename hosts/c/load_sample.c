@@ -150,7 +150,7 @@ static void after_sixteen(struct host *host)
     for (unsigned input = 0; input <= 16; input++) {
         line(host, input, true);
     }
-    printf("The guest unmasks them with one write: the device announces the lowest, the host asks for the others.\n");
+    printf("The guest unmasks them with one write: the device announces the lowest, one sweep wakes the others.\n");
     guest_writes(host, PCH_PIC_REG_MASK, 4, 0xfffe0000);
     printf("The guest masks them with one write: seventeen events, and sixteen can wait.\n");
     guest_writes(host, PCH_PIC_REG_MASK, 4, 0xffffffff);

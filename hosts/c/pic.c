@@ -187,22 +187,43 @@ static int catch_up(struct pic *pic, struct pic_wires *wires)
     return PCH_PIC_DONE;
 }
 
-static int move(struct pic *pic, struct pic_wires *wires, uint64_t input, bool high)
+/* What a call on an input returned, if it returned anything. */
+static void pass_back(struct pic *pic, struct pic_wires *wires, struct pic_event event)
 {
-    struct pic_event event;
     uint8_t held[PIC_VECTORS];
-    int number = pic_level(pic, input, high, &event);
     if (event.change != PIC_NOTHING) {
         pic_count(pic, held);
         pass_on(wires, held, event);
     }
+}
+
+static int move(struct pic *pic, struct pic_wires *wires, uint64_t input, bool high)
+{
+    struct pic_event event;
+    int number = pic_level(pic, input, high, &event);
+    pass_back(pic, wires, event);
     return number;
 }
 
-/* Waiting events are older than those of the lines, so they go first; and a line that a CLEAR took goes off above before it goes on again. */
+/* One sweep: each input is polled. Whatever the guest did, every latched and unmasked input is in service then, and each was asserted at most once. */
+static int sweep(struct pic *pic, struct pic_wires *wires)
+{
+    struct pic_event event;
+    int number = PCH_PIC_DONE;
+    for (unsigned input = 0; input < PCH_PIC_INPUTS && number == PCH_PIC_DONE; input++) {
+        number = pic_poll(pic, input, &event);
+        pass_back(pic, wires, event);
+    }
+    return number;
+}
+
+/* Waiting events are older than those of the inputs, so they go first; and a line that a CLEAR took goes off above before it goes on again. */
 int pic_settle(struct pic *pic, struct pic_wires *wires)
 {
     int number = catch_up(pic, wires);
+    if (number == PCH_PIC_DONE) {
+        number = sweep(pic, wires);
+    }
     for (unsigned input = 0; input < PCH_PIC_INPUTS && number == PCH_PIC_DONE; input++) {
         if (wires->high >> input & 1) {
             number = move(pic, wires, input, true);

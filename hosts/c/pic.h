@@ -69,7 +69,8 @@ uint32_t pic_drops(const struct pic *pic);
 void pic_count(const struct pic *pic, uint8_t held[PIC_VECTORS]);
 
 /* Brings the wires in line with the device, whatever the guest did: drains and passes on, counts afresh which vectors are on and passes on what no
- * event told, and raises each line again that is still high. Call it after each write and each reset. */
+ * event told, polls all 64 inputs, and raises each line again that is still high. Then every latched and unmasked input is in service. Call it after
+ * each write and each reset. */
 int pic_settle(struct pic *pic, struct pic_wires *wires);
 
 /* A device of the host moves a line, and what comes of it is passed on. */

@@ -41,17 +41,17 @@ use Rattle.examples.proofs.PremisesMet.{all-admitted, all-spared, all-u
 -- ---- exported calls
 
 -- requests with an answer area of zeros, each given the image that the one before it left
-abbrev handedOn : List ℕ → List Request → List Exported
+abbrev pub handedOn : List ℕ → List Request → List Exported
 handedOn i [] = []
 handedOn i (q ∷ qs) =
     let x : Exported = record { given = i; asked = q; answer = replicate 16 0 } in
     x ∷ handedOn (leftBy x .image) qs
 
-abbrev noReset : List Request → Bool
+abbrev pub noReset : List Request → Bool
 noReset [] = true
 noReset (q ∷ qs) = not (isReset (askedBy q)) && noReset qs
 
-handed-on : (i : List ℕ) (qs : List Request) → noReset qs ≡ true → HandedOn i (handedOn i qs)
+pub handed-on : (i : List ℕ) (qs : List Request) → noReset qs ≡ true → HandedOn i (handedOn i qs)
 unfolding HandedOn
 handed-on i [] e = tt
 handed-on i (q ∷ qs) e =

@@ -20,11 +20,6 @@ unfoldable pub madeOn : List ℕ → List Asking → List Exported
 madeOn i [] = []
 madeOn i (q ∷ qs) = askedOf i q ∷ madeOn (leftBy (askedOf i q) .image) qs
 
--- the image that they leave at last
-unfoldable pub leftAfter : List ℕ → List Asking → List ℕ
-leftAfter i [] = i
-leftAfter i (q ∷ qs) = leftAfter (leftBy (askedOf i q) .image) qs
-
 -- two exported calls hand back the same number, answer area and event buffer; their images hold the same device, each in the form that it was given
 pub record Alike (x y : Exported) : Type 0 where
   pub number : leftBy x .number ≡ leftBy y .number

@@ -81,6 +81,11 @@ unfoldable pub HandedOn : List ℕ → List Exported → Type 0
 HandedOn left [] = Unit {0}
 HandedOn left (x ∷ xs) = (x .given ≡ left) × (isReset (askedBy (x .asked)) ≡ false) × HandedOn (leftBy x .image) xs
 
+-- the image left at last, done or refused, where each call is given the image that the one before it left
+unfoldable pub leftAfter : List ℕ → List Exported → List ℕ
+leftAfter i [] = i
+leftAfter i (x ∷ xs) = leftAfter (leftBy x .image) xs
+
 -- the call of the device that an exported call is, if it is one; a refused call counts as no call (01, Saved image)
 abbrev pub doneCall : Exported → List Call
 doneCall x = cond (isDone x) (callOf (askedBy (x .asked))) []

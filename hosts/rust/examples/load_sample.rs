@@ -113,7 +113,7 @@ fn after_sixteen(host: &mut Host) -> Result<(), Error> {
     for input in 0..=16 {
         host.line(input, true)?;
     }
-    println!("The guest unmasks them with one write: the device announces the lowest, the host asks for the others.");
+    println!("The guest unmasks them with one write: the device announces the lowest, one sweep wakes the others.");
     host.guest_writes(reg::MASK, Width::Dword, 0xfffe_0000)?;
     println!("The guest masks them with one write: seventeen events, and sixteen can wait.");
     host.guest_writes(reg::MASK, Width::Dword, 0xffff_ffff)?;

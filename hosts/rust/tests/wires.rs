@@ -73,8 +73,9 @@ impl Host {
         want.dedup();
         assert_eq!(self.above.on, want);
         assert_eq!(self.wires.vectors_on().collect::<Vec<_>>(), want);
-        let waits = self.wires.high() & !self.pic.read(WINDOW, reg::MASK, Width::Qword).unwrap() & !self.pic.in_service();
-        assert_eq!(waits, 0, "a line that is high and unmasked is in service");
+        let masked = self.pic.read(WINDOW, reg::MASK, Width::Qword).unwrap();
+        let waits = (self.wires.high() | self.pic.latched()) & !masked & !self.pic.in_service();
+        assert_eq!(waits, 0, "what is high or latched, and unmasked, is in service");
     }
 
     #[track_caller]
@@ -128,6 +129,23 @@ fn a_shared_vector() {
     host.expect(&[0], 5, 2);
     host.writes(reg::MASK, Width::Dword, 3);
     host.expect(&[], 6, 2);
+}
+
+/// Inputs that are latched, though no line of the wires is high: the unmask announces one of each half, and the sweep wakes the others.
+#[test]
+fn one_sweep() {
+    let mut host = Host::new(PchPic::new());
+    for input in [3, 5, 40, 63] {
+        assert_eq!(host.pic.set_level(input, true).unwrap(), None);
+    }
+    host.writes(reg::MASK, Width::Qword, 0);
+    host.expect(&[3, 5, 40, 63], 4, 0);
+    host.writes(reg::ISR, Width::Qword, 0);
+    host.expect(&[3, 5, 40, 63], 12, 0); // off, and on again
+    host.settle();
+    host.expect(&[3, 5, 40, 63], 12, 0);
+    host.writes(reg::MASK, Width::Qword, u64::MAX);
+    host.expect(&[], 16, 0);
 }
 
 #[test]

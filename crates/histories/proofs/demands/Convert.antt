@@ -14,8 +14,8 @@ use Rattle.rules.specs.Image.{imageTest, accepted, encodeAs, decode}
 use Rattle.rules.specs.Calls.{noRoom, refusalNumber, Tested, pass, refuse, onPass, imageAnswer, Request, Asked, afresh, calls, askedBy, Done, doneOn, resetAs, performed}
 use Rattle.rules.specs.Calls.{bufferOf, Outcome, leaves, ended, settled, hasRoom, outcome}
 use Rattle.rules.specs.Convert.{converted}
-use Rattle.histories.specs.Exported.{Exported, leftBy, isDone, isReset, callOf, atLoad, doneCalls, returnedTo, drainedTo, lostTo, returnedBy, drainedBy, lossesRead}
-use Rattle.histories.specs.Alike.{Asking, askedOf, madeOn, leftAfter, Alike, AllAlike, ReadAlike}
+use Rattle.histories.specs.Exported.{Exported, leftBy, isDone, isReset, callOf, atLoad, leftAfter, doneCalls, returnedTo, drainedTo, lostTo, returnedBy, drainedBy, lossesRead}
+use Rattle.histories.specs.Alike.{Asking, askedOf, madeOn, Alike, AllAlike, ReadAlike}
 use Rattle.rules.proofs.laws.Bits.{test}
 use Rattle.rules.proofs.laws.Saved.{length-encode}
 use Rattle.rules.proofs.laws.Images.{form-of, encode-as, accepted-has, encode-decode, decode-well-formed, accepted-encode, decode-encode, reset-well-formed}
@@ -141,8 +141,8 @@ record ShowSame (f g : Form) (i j : List ℕ) : Type 0 where
   first : Shows f device i
   second : Shows g device j
 
-left-show : {f g : Form} {d : Device} {i j : List ℕ} → Shows f d i → Shows g d j → (qs : List Asking) → ShowSame f g (leftAfter i qs) (leftAfter j qs)
-unfolding leftAfter
+left-show : {f g : Form} {d : Device} {i j : List ℕ} → Shows f d i → Shows g d j → (qs : List Asking) → ShowSame f g (leftAfter i (madeOn i qs)) (leftAfter j (madeOn j qs))
+unfolding leftAfter madeOn
 left-show {d = d} h k [] = record { device = d; first = h; second = k }
 left-show h k (q ∷ qs) = left-show (next-shows q h) (next-shows q k) qs
 
@@ -197,10 +197,10 @@ module _ (i t j : List ℕ) (b : Bytes i) (e : converted i t ≡ pass j) where
   converted-read-alike qs = read-alike qs i j (converted-answers-alike qs)
 
   -- and to move it and then make calls leaves what it leaves to make them and then move it.
-  pub moved-first-or-last : (qs : List Asking) → converted (leftAfter i qs) t ≡ pass (leftAfter j qs)
+  pub moved-first-or-last : (qs : List Asking) → converted (leftAfter i (madeOn i qs)) t ≡ pass (leftAfter j (madeOn j qs))
   moved-first-or-last qs =
       let r = left-show (shows i b (did .accepted)) its-image qs in
-      can-be-converted (leftAfter i qs) t (good (r .first)) (did .form) (did .target)
+      can-be-converted (leftAfter i (madeOn i qs)) t (good (r .first)) (did .form) (did .target)
       ∙ ap (λ l. pass l) (ap (encodeAs (did .form)) (holds (r .first)) ∙ sym (r .second .is))
 
 -- ---- the form is kept
