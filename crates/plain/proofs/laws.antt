@@ -1,0 +1,2 @@
+-- Lemmas: the machines against the lines, the list against the ring.
+pub mod Machines
