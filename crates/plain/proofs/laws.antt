@@ -1,3 +1,4 @@
--- Lemmas: the machines against the lines, the list against the ring.
+-- Lemmas: the machines against the lines, the list against the ring, the plain engine against the ported one.
 pub mod Machines
 pub mod Queues
+pub mod Same

@@ -269,19 +269,23 @@ unfolding lowestFrom from firstOf
 lowest-first n zero f = refl
 lowest-first n (suc k) f = test (f n) (λ t. rw t) (λ t. rw t (lowest-first (suc n) k f))
 
+-- the lowest of the sixty-four is found by the machines of the sixty-four alone
+pub lowest-ext : (f g : ℕ → Bool) → ((i : ℕ) → i < 64 → f i ≡ g i) → lowestFrom 0 64 f ≡ lowestFrom 0 64 g
+lowest-ext f g e = lowest-first 0 64 f ∙ ap firstOf (inputs-ext f g e) ∙ sym (lowest-first 0 64 g)
+
 -- a 0 is brought
 abbrev opens : Brought → Bool
 opens nothing = false
 opens (bit b) = not b
 
 module _ (h : Bool) (v : ℕ) (l : Lines) (vs : List ℕ) where
-  abbrev new : ℕ
+  abbrev pub new : ℕ
   new = withHalf h (l .mask) v
 
-  abbrev fresh : ℕ → Bool
+  abbrev pub fresh : ℕ → Bool
   fresh = pendingIn (newlyUnmasked (l .mask) new) (withMask l new)
 
-  abbrev begun : Turn
+  abbrev pub begun : Turn
   begun = enter vs true (newlyUnmasked (l .mask) new) (withMask l new)
 
   -- the lowest of those that could wake
@@ -348,7 +352,7 @@ module _ (h : Bool) (v : ℕ) (l : Lines) (vs : List ℕ) where
       serve-one vs true (withMask l new) (inputs fresh) n b
       ∙ machine= refl (half-bit h (l .mask) v n b) (ap (λ (c : Bool). on (l .isr) n || c) (sym (woken-is n)))
 
-  abbrev leaving : ℕ → Bool
+  abbrev pub leaving : ℕ → Bool
   leaving = newlyMasked (l .mask) new
 
   pub mask-after : (n : ℕ) → n < 64 → maskedBy (brings h v n) (middle n) .after ≡ oneOf (leave vs true leaving (begun .after) .after) n

@@ -1,0 +1,194 @@
+-- The plain engine and the ported one side by side: the relation between them, kept by every half, byte and width that is written.
+use mathlib.Core.Path.{_≡_, refl, sym, ap, ap₂, subst, _∙_}
+use mathlib.Core.Bool.{Bool, true, false, cond, not, _&&_}
+use mathlib.Core.List.{List, [], _∷_, _++_, map, append-nil, append-assoc}
+use Prim.Native.Nat.{ℕ, zero, suc, _+_, _-_, _*_, _%_, _^_, _<_}
+use native.Mathlib.Omega.{arith}
+use lib.ListN.{length, getD, set}
+use Rattle.rules.specs.Numbers.{numberOf, byteOf, withByte}
+use Rattle.rules.specs.Inputs.{on, numberWith, inputs, put, without, half, withHalf, asHalf}
+use Rattle.rules.specs.Lines.{Lines, Made, Turn, stay, withIsr, withMask, withIrr, serve, enter, leave, pendingIn, masked, polled, raised, lowered, cleared, newlyUnmasked, newlyMasked}
+use Rattle.rules.specs.Ring.{Event, Ring, RingAct, Drawn, ringRun, dropped}
+use Rattle.rules.specs.Core.{Core, Stored, CoreTurn, Move, Act, move, setIsr, store, setVector, setPlain, setRoute, poll, raise, lower, clear, setMask, moved, lineTurn, vectorsAfter, storedAfter, turn, turns}
+use Rattle.rules.specs.Map as map
+use Rattle.rules.specs.Map.{Register, Cell, cellAt, routesAt, vectorsAt, inRoutes, inVectors, inByteArea}
+use Rattle.rules.specs.Access.{Width, byte, word, dword, qword, registerActs, entryActs, cellActs, dwordActs, byteActs, writeActs}
+use Rattle.rules.specs.Access as access
+use Rattle.rules.specs.Device.{Device, acted}
+use Rattle.rules.specs.Device as device
+use Rattle.rules.proofs.laws.Bits.{test, is-number, register-ext, put-lt, without-lt}
+use Rattle.rules.proofs.laws.Rings.{run-append, dropped-append}
+use Rattle.rules.proofs.laws.Acts.{turns-append, offers-append, acted-none, acted-append}
+use Rattle.rules.proofs.laws.Steps.{turns-one, acted-one}
+use Rattle.plain.specs.Machine.{Machine, Stepped}
+use Rattle.plain.specs.Plain.{Engine, Heard, heardFrom, heard, Steps, stepping, returns, offers, eachHeard, withMachines, withStored, withVectors}
+use Rattle.plain.specs.Plain.{Brought, brings, clearedBy, unmaskedBy, maskedBy, wakable, servedBy, Found, lowestFrom, isIt, remasked}
+use Rattle.plain.specs.Plain.{numberBelow, number, valueOf, entry, readCell, readDword, readByte, readAt, writeHalf, writeEntry, writeCell, writeDword, writeByte, writeAt}
+use Rattle.plain.specs.Plain as plain
+use Rattle.plain.proofs.laws.Machines.{machine, oneOf, madeBy, heard-ext, Steps-are, cleared-steps, served-steps, lowest-ext}
+use Rattle.plain.proofs.laws.Machines.{wokenIn, middle, unmask-made, mask-after, mask-made, masked-is, new, begun, leaving}
+use Rattle.plain.proofs.laws.Queues.{Else, offers-else, returns-else, TailOf, ringAfter, lostOf, offers-tail, returns-tail, returned-unoffered}
+
+-- ---- the relation
+
+-- an engine has these machines, bytes and stored registers, and its list and history stand to a ring, to events made and to events dropped as they should
+pub record Stands (e : Engine) (ms : ℕ → Machine) (vs : List ℕ) (s : Stored) (r : Ring) (made : List Made) (lost : List Event) : Type 0 where
+  pub machine : (n : ℕ) → n < 64 → e .machines n ≡ ms n
+  pub vectors : e .vectors ≡ vs
+  pub stored : e .stored ≡ s
+  pub tail : TailOf e r made lost
+
+-- the ported engine, with all events made and all dropped since the load
+pub record Run : Type 0 where
+  pub device : Device
+  pub made : List Made
+  pub lost : List Event
+
+abbrev pub Same : Engine → Run → Type 0
+Same e r = Stands e (oneOf (r .device .core .lines)) (r .device .core .vectors) (r .device .core .stored) (r .device .ring) (r .made) (r .lost)
+
+pub other-machines : {e : Engine} (ms ns : ℕ → Machine) {vs : List ℕ} {s : Stored} {r : Ring} {M : List Made} {L : List Event}
+    → ((n : ℕ) → n < 64 → ms n ≡ ns n) → Stands e ms vs s r M L → Stands e ns vs s r M L
+other-machines ms ns f x = record { machine = λ n b. x .machine n b ∙ f n b; vectors = x .vectors; stored = x .stored; tail = x .tail }
+
+-- ---- steps
+
+module _ (e : Engine) (ms : ℕ → Machine) (vs : List ℕ) (s : Stored) (r : Ring) (M : List Made) (L : List Event) (x : Stands e ms vs s r M L) (f : Steps) where
+  heard-same : heard f e ≡ heardFrom 0 64 (λ n. f n (ms n) .signal)
+  heard-same = heard-ext 0 64 _ _ (λ i p b. ap (λ (m : Machine). f i m .signal) (x .machine i b))
+
+  made-same : (o : Bool) → map (madeBy (e .vectors) o) (heard f e) ≡ map (madeBy vs o) (heardFrom 0 64 (λ n. f n (ms n) .signal))
+  made-same o t = map (madeBy (x .vectors t) o) (heard-same t)
+
+  pub step-offers : (made : List Made) → map (madeBy vs true) (heardFrom 0 64 (λ n. f n (ms n) .signal)) ≡ made
+      → Stands (stepping offers f e) (λ n. f n (ms n) .after) vs s (ringAfter r made) (M ++ made) (L ++ lostOf r made)
+  step-offers made is =
+      let g = withMachines e (λ n. f n (e .machines n) .after) in
+      let rest = offers-else g (heard f e) in
+      let tail = offers-tail (heard f e) g r M L (record { waits = x .tail .waits; count = x .tail .count; taken = x .tail .taken; made = x .tail .made; lost = x .tail .lost }) in
+      record {
+        machine = λ n b. ap (λ (k : ℕ → Machine). k n) (rest .machines) ∙ ap (λ (m : Machine). f n m .after) (x .machine n b);
+        vectors = rest .vectors ∙ x .vectors;
+        stored = rest .stored ∙ x .stored;
+        tail = subst (λ (ms : List Made). TailOf (stepping offers f e) (ringAfter r ms) (M ++ ms) (L ++ lostOf r ms)) (made-same true ∙ is) tail;
+      }
+
+  pub step-returns : (made : List Made) → map (madeBy vs false) (heardFrom 0 64 (λ n. f n (ms n) .signal)) ≡ made
+      → Stands (stepping returns f e) (λ n. f n (ms n) .after) vs s r (M ++ made) L
+  step-returns made is =
+      let g = withMachines e (λ n. f n (e .machines n) .after) in
+      let rest = returns-else g (heard f e) in
+      let tail = returns-tail (heard f e) g r M L (record { waits = x .tail .waits; count = x .tail .count; taken = x .tail .taken; made = x .tail .made; lost = x .tail .lost }) in
+      record {
+        machine = λ n b. ap (λ (k : ℕ → Machine). k n) (rest .machines) ∙ ap (λ (m : Machine). f n m .after) (x .machine n b);
+        vectors = rest .vectors ∙ x .vectors;
+        stored = rest .stored ∙ x .stored;
+        tail = subst (λ (ms : List Made). TailOf (stepping returns f e) r (M ++ ms) L) (made-same false ∙ is) tail;
+      }
+
+-- ---- acts of the ported engine
+
+abbrev pub acting : Run → List Act → Run
+acting r xs = record {
+  device = acted (r .device) xs;
+  made = r .made ++ turns (r .device .core) xs .made;
+  lost = r .lost ++ lostOf (r .device .ring) (turns (r .device .core) xs .made);
+}
+
+ring-after-append : (r : Ring) (xs ys : List Made) → ringAfter r (xs ++ ys) ≡ ringAfter (ringAfter r xs) ys
+ring-after-append r xs ys =
+    ap (λ (os : List RingAct). ringRun r os .after) (offers-append xs ys) ∙ ap (λ (t : Drawn). t .after) (run-append r (device.offers xs) (device.offers ys))
+
+lost-of-append : (r : Ring) (xs ys : List Made) → lostOf r (xs ++ ys) ≡ lostOf r xs ++ lostOf (ringAfter r xs) ys
+lost-of-append r xs ys = ap (dropped r) (offers-append xs ys) ∙ dropped-append r (device.offers xs) (device.offers ys)
+
+module _ (r : Run) (xs ys : List Act) where
+  acting-made : turns (r .device .core) (xs ++ ys) .made ≡ turns (r .device .core) xs .made ++ turns (acted (r .device) xs .core) ys .made
+  unfolding acted
+  acting-made = ap (λ (t : CoreTurn). t .made) (turns-append (r .device .core) xs ys)
+
+  acting-lost : lostOf (r .device .ring) (turns (r .device .core) (xs ++ ys) .made)
+      ≡ lostOf (r .device .ring) (turns (r .device .core) xs .made) ++ lostOf (acted (r .device) xs .ring) (turns (acted (r .device) xs .core) ys .made)
+  unfolding acted
+  acting-lost = ap (lostOf (r .device .ring)) acting-made ∙ lost-of-append (r .device .ring) (turns (r .device .core) xs .made) (turns (acted (r .device) xs .core) ys .made)
+
+  pub acting-append : acting r (xs ++ ys) ≡ acting (acting r xs) ys
+  acting-append =
+      let m = ap (λ (ms : List Made). r .made ++ ms) acting-made ∙ sym (append-assoc (r .made) (turns (r .device .core) xs .made) (turns (acted (r .device) xs .core) ys .made)) in
+      let l = ap (λ (es : List Event). r .lost ++ es) acting-lost ∙ sym (append-assoc (r .lost) (lostOf (r .device .ring) (turns (r .device .core) xs .made)) (lostOf (acted (r .device) xs .ring) (turns (acted (r .device) xs .core) ys .made))) in
+      λ t. record { device = acted-append (r .device) xs ys t; made = m t; lost = l t }
+
+-- no act
+pub acting-none : (r : Run) → acting r [] ≡ r
+unfolding turns device.offers dropped
+acting-none r t = record { device = acted-none (r .device) t; made = append-nil (r .made) t; lost = append-nil (r .lost) t }
+
+-- one act
+abbrev acting1 : Run → Act → Run
+acting1 r a = record {
+  device = record { core = turn (r .device .core) a .after; ring = ringAfter (r .device .ring) (turn (r .device .core) a .made) };
+  made = r .made ++ turn (r .device .core) a .made;
+  lost = r .lost ++ lostOf (r .device .ring) (turn (r .device .core) a .made);
+}
+
+pub acting-one : (r : Run) (a : Act) → acting r (a ∷ []) ≡ acting1 r a
+acting-one r a t =
+    let m = ap (λ (c : CoreTurn). c .made) (turns-one (r .device .core) a) in
+    record { device = acted-one (r .device) a t; made = r .made ++ m t; lost = r .lost ++ lostOf (r .device .ring) (m t) }
+
+-- a turn of the lines alone
+abbrev pub turning : Run → Turn → Run
+turning r t = record {
+  device = record {
+    core = record { lines = t .after; vectors = r .device .core .vectors; stored = r .device .core .stored };
+    ring = ringAfter (r .device .ring) (t .made);
+  };
+  made = r .made ++ t .made;
+  lost = r .lost ++ lostOf (r .device .ring) (t .made);
+}
+
+pub acting-move : (r : Run) (m : Move) → acting r (move m ∷ []) ≡ turning r (moved (r .device .core .vectors) (r .device .core .lines) m)
+unfolding lineTurn vectorsAfter storedAfter
+acting-move r m = acting-one r (move m)
+
+acting-isr : (r : Run) (h : Bool) (v : ℕ) → acting r (setIsr h v ∷ [])
+    ≡ turning r (record { after = withIsr (r .device .core .lines) (withHalf h (r .device .core .lines .isr) v); made = [] })
+unfolding lineTurn vectorsAfter storedAfter
+acting-isr r h v = acting-one r (setIsr h v)
+
+-- ---- a turn of the lines, by steps of the machines
+
+pub turn-offers : (e : Engine) (r : Run) (f : Steps) (t : Turn) → Same e r → Steps-are (r .device .core .vectors) true f (r .device .core .lines) t
+    → Same (stepping offers f e) (turning r t)
+turn-offers e r f t x s = other-machines _ _ (s .after) (step-offers e _ _ _ _ _ _ x f (t .made) (s .made))
+
+pub turn-returns : (e : Engine) (r : Run) (f : Steps) (t : Turn) → Same e r → Steps-are (r .device .core .vectors) false f (r .device .core .lines) t
+    → Same (stepping returns f e) (turning r t)
+unfolding ringRun dropped
+turn-returns e r f t x s =
+    let hs = heardFrom 0 64 (λ n. f n (oneOf (r .device .core .lines) n) .signal) in
+    let none : device.offers (t .made) ≡ [] = ap device.offers (sym (s .made)) ∙ returned-unoffered (r .device .core .vectors) hs in
+    let y = other-machines _ _ (s .after) (step-returns e _ _ _ _ _ _ x f (t .made) (s .made)) in
+    rw (none, append-nil (r .lost)) y
+
+-- ---- MASK
+
+same-mask : (e : Engine) (r : Run) (h : Bool) (v : ℕ) → Same e r → Same (remasked h v e) (acting r (move (setMask h v) ∷ []))
+unfolding moved
+same-mask e r h v x =
+    let l = r .device .core .lines in
+    let vs = r .device .core .vectors in
+    let woken = lowest-ext (λ n. wakable (brings h v n) (e .machines n)) (λ n. wakable (brings h v n) (oneOf l n)) (λ i b. ap (wakable (brings h v i)) (x .machine i b)) in
+    let m1 = begun h v l vs .made in
+    let m2 = leave vs true (leaving h v l vs) (begun h v l vs .after) .made in
+    let one = step-offers e (oneOf l) vs _ _ _ _ x (λ n. unmaskedBy (wokenIn h v l vs n) (brings h v n)) m1 (unmask-made h v l vs) in
+    let two = step-offers _ (middle h v l vs) vs _ _ _ _ one (λ n. maskedBy (brings h v n)) m2 (mask-made h v l vs) in
+    let three = other-machines _ _ (mask-after h v l vs) two in
+    let both : Same (twice (lowestFrom 0 64 (λ n. wakable (brings h v n) (oneOf l n)))) (turning r (masked vs l (new h v l vs))) =
+        rw (masked-is h v l vs, ring-after-append (r .device .ring) m1 m2, lost-of-append (r .device .ring) m1 m2,
+            ← append-assoc (r .made) m1 m2, ← append-assoc (r .lost) (lostOf (r .device .ring) m1) (lostOf (ringAfter (r .device .ring) m1) m2)) three
+    in
+    subst (Same (remasked h v e)) (sym (acting-move r (setMask h v))) (subst (λ (w : Found). Same (twice w) (turning r (masked vs l (new h v l vs)))) (sym woken) both)
+  where
+    twice : Found → Engine
+    twice w = stepping offers (λ n. maskedBy (brings h v n)) (stepping offers (λ n. unmaskedBy (isIt w n) (brings h v n)) e)
