@@ -2,3 +2,4 @@
 pub mod Machines
 pub mod Queues
 pub mod Same
+pub mod Accesses

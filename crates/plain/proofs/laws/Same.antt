@@ -51,6 +51,10 @@ pub other-machines : {e : Engine} (ms ns : ℕ → Machine) {vs : List ℕ} {s :
     → ((n : ℕ) → n < 64 → ms n ≡ ns n) → Stands e ms vs s r M L → Stands e ns vs s r M L
 other-machines ms ns f x = record { machine = λ n b. x .machine n b ∙ f n b; vectors = x .vectors; stored = x .stored; tail = x .tail }
 
+-- of two runs that are equal
+pub by-run : (e : Engine) {r s : Run} → s ≡ r → Same e r → Same e s
+by-run e p x = subst (Same e) (sym p) x
+
 -- ---- steps
 
 module _ (e : Engine) (ms : ℕ → Machine) (vs : List ℕ) (s : Stored) (r : Ring) (M : List Made) (L : List Event) (x : Stands e ms vs s r M L) (f : Steps) where
@@ -124,7 +128,7 @@ unfolding turns device.offers dropped
 acting-none r t = record { device = acted-none (r .device) t; made = append-nil (r .made) t; lost = append-nil (r .lost) t }
 
 -- one act
-abbrev acting1 : Run → Act → Run
+abbrev pub acting1 : Run → Act → Run
 acting1 r a = record {
   device = record { core = turn (r .device .core) a .after; ring = ringAfter (r .device .ring) (turn (r .device .core) a .made) };
   made = r .made ++ turn (r .device .core) a .made;
@@ -151,7 +155,7 @@ pub acting-move : (r : Run) (m : Move) → acting r (move m ∷ []) ≡ turning 
 unfolding lineTurn vectorsAfter storedAfter
 acting-move r m = acting-one r (move m)
 
-acting-isr : (r : Run) (h : Bool) (v : ℕ) → acting r (setIsr h v ∷ [])
+pub acting-isr : (r : Run) (h : Bool) (v : ℕ) → acting r (setIsr h v ∷ [])
     ≡ turning r (record { after = withIsr (r .device .core .lines) (withHalf h (r .device .core .lines .isr) v); made = [] })
 unfolding lineTurn vectorsAfter storedAfter
 acting-isr r h v = acting-one r (setIsr h v)
@@ -173,7 +177,7 @@ turn-returns e r f t x s =
 
 -- ---- MASK
 
-same-mask : (e : Engine) (r : Run) (h : Bool) (v : ℕ) → Same e r → Same (remasked h v e) (acting r (move (setMask h v) ∷ []))
+pub same-mask : (e : Engine) (r : Run) (h : Bool) (v : ℕ) → Same e r → Same (remasked h v e) (acting r (move (setMask h v) ∷ []))
 unfolding moved
 same-mask e r h v x =
     let l = r .device .core .lines in
@@ -188,7 +192,7 @@ same-mask e r h v x =
         rw (masked-is h v l vs, ring-after-append (r .device .ring) m1 m2, lost-of-append (r .device .ring) m1 m2,
             ← append-assoc (r .made) m1 m2, ← append-assoc (r .lost) (lostOf (r .device .ring) m1) (lostOf (ringAfter (r .device .ring) m1) m2)) three
     in
-    subst (Same (remasked h v e)) (sym (acting-move r (setMask h v))) (subst (λ (w : Found). Same (twice w) (turning r (masked vs l (new h v l vs)))) (sym woken) both)
+    by-run (remasked h v e) (acting-move r (setMask h v)) (subst (λ (w : Found). Same (twice w) (turning r (masked vs l (new h v l vs)))) (sym woken) both)
   where
     twice : Found → Engine
     twice w = stepping offers (λ n. maskedBy (brings h v n)) (stepping offers (λ n. unmaskedBy (isIt w n) (brings h v n)) e)
