@@ -3,3 +3,4 @@ pub mod Machines
 pub mod Queues
 pub mod Same
 pub mod Accesses
+pub mod Following

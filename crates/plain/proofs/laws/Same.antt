@@ -58,7 +58,7 @@ by-run e p x = subst (Same e) (sym p) x
 -- ---- steps
 
 module _ (e : Engine) (ms : ℕ → Machine) (vs : List ℕ) (s : Stored) (r : Ring) (M : List Made) (L : List Event) (x : Stands e ms vs s r M L) (f : Steps) where
-  heard-same : heard f e ≡ heardFrom 0 64 (λ n. f n (ms n) .signal)
+  pub heard-same : heard f e ≡ heardFrom 0 64 (λ n. f n (ms n) .signal)
   heard-same = heard-ext 0 64 _ _ (λ i p b. ap (λ (m : Machine). f i m .signal) (x .machine i b))
 
   made-same : (o : Bool) → map (madeBy (e .vectors) o) (heard f e) ≡ map (madeBy vs o) (heardFrom 0 64 (λ n. f n (ms n) .signal))

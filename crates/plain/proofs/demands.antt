@@ -1,0 +1,2 @@
+-- What was asked for of the plain engine.
+pub mod SameEngine
