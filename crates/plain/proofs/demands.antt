@@ -1,2 +1,3 @@
 -- What was asked for of the plain engine.
 pub mod SameEngine
+pub mod SameCalls
