@@ -1,13 +1,14 @@
 -- Calls, loads and refused calls, one after another, as the plain engine and as the ported one take them, and what is seen of each.
 use mathlib.Core.Bool.{Bool, true, false, cond}
 use mathlib.Core.List.{List, [], _∷_, _++_}
-use Prim.Native.Nat.{ℕ, _/_, _%_, _^_}
-use lib.Dec.{eqb}
+use Prim.Native.Nat.{ℕ, _+_, _/_, _%_, _^_}
+use lib.Dec.{eqb, ltb}
+use lib.ListN.{length}
 use Rattle.rules.specs.Lines.{Lines, Made}
-use Rattle.rules.specs.Ring.{Event}
+use Rattle.rules.specs.Ring.{capacity, Event, Ring, offered}
 use Rattle.rules.specs.Device.{Device, WellFormed, Call, Value, none, step, value}
 use Rattle.plain.specs.Machine.{Machine}
-use Rattle.plain.specs.Plain.{Fate, returned, kept, dropped, Note, Engine, startedWith, counted, waiting, dropCount, number, gives}
+use Rattle.plain.specs.Plain.{input, Offered, Fate, returned, kept, dropped, Note, Engine, startedWith, counted, waiting, dropCount, number, gives}
 
 -- ---- from a device and back
 
@@ -79,13 +80,65 @@ unfoldable pub plainAfter : Engine → List Item → Engine
 plainAfter e [] = e
 plainAfter e (x ∷ xs) = plainAfter (follows e x) xs
 
--- ---- the history, as the ported engine's events
+-- ---- the history, as the ported engine's events tell it
 
+-- a ported event as the history notes it
+abbrev pub noteOf : (call : ℕ) → Fate → Made → Note
+noteOf k f m = record { input = m .input; call = k; vector = m .vector; asserted = m .asserted; fate = f }
+
+-- the fate of an event that finds this ring
+abbrev pub fateIn : Ring → Made → Fate
+fateIn r m = cond (m .offered) (cond (ltb (length (r .waiting)) capacity) kept dropped) returned
+
+-- the ring after it
+abbrev pub ringWith : Ring → Made → Ring
+ringWith r m = cond (m .offered) (offered r (record { vector = m .vector; asserted = m .asserted })) r
+
+-- the events that a call makes, in order, where it finds this ring (01, The ring)
+unfoldable pub notesOf : (call : ℕ) → Ring → List Made → List Note
+notesOf k r [] = []
+notesOf k r (m ∷ ms) = noteOf k (fateIn r m) m ∷ notesOf k (ringWith r m) ms
+
+-- the ported engine with the number of its next call and the events made since the load
+pub record Ported : Type 0 where
+  pub device : Device
+  pub call : ℕ
+  pub history : List Note
+
+abbrev pub portedFollows : Ported → Item → Ported
+portedFollows p (call c) =
+    record {
+      device = step (p .device) c .after;
+      call = p .call + 1;
+      history = p .history ++ notesOf (p .call) (p .device .ring) (step (p .device) c .made);
+    }
+portedFollows p (load d) = record { device = d; call = 0; history = [] }
+portedFollows p refused = record { device = p .device; call = p .call + 1; history = p .history }
+
+unfoldable pub portedAfter : Ported → List Item → Ported
+portedAfter p [] = p
+portedAfter p (x ∷ xs) = portedAfter (portedFollows p x) xs
+
+-- without its call's number, and without whether it was kept, an event is one of the rules'
 abbrev pub isOffered : Fate → Bool
 isOffered returned = false
 isOffered kept = true
 isOffered dropped = true
 
--- an event made, without its call's number and without whether it was kept
 abbrev pub asMade : Note → Made
 asMade n = record { input = n .input; vector = n .vector; asserted = n .asserted; offered = isOffered (n .fate) }
+
+-- ---- list and history
+
+-- an event of the history as it stands in the list; one that was returned does not
+abbrev pub listedAs : (kept : Bool) → Note → Offered
+listedAs b n = record { source = input (n .input); event = record { vector = n .vector; asserted = n .asserted }; kept = b }
+
+abbrev pub inList : Fate → Note → List Offered
+inList returned n = []
+inList kept n = listedAs true n ∷ []
+inList dropped n = listedAs false n ∷ []
+
+abbrev pub listed : List Note → List Offered
+listed [] = []
+listed (n ∷ ns) = inList (n .fate) n ++ listed ns

@@ -21,7 +21,7 @@ use Rattle.plain.specs.Plain.{Engine, counted, Gave, gives}
 use Rattle.plain.specs.Sequence.{loadOf, shown}
 use Rattle.plain.specs.Beside.{idle, answers, startedBy, givesTo, meets, Agrees, AllAgree, afterCalls}
 use Rattle.plain.proofs.laws.Same.{Run, Same}
-use Rattle.plain.proofs.laws.Following.{stepped, Alike, like-call, loadedRun, sized, same-load, same-counted, shown-is}
+use Rattle.plain.proofs.laws.Following.{stepped, countedRun, Alike, like-call, loadedRun, sized, same-load, same-counted, shown-is}
 
 -- ---- one exported call
 
@@ -76,7 +76,7 @@ module _ (e : Engine) (h : Underway) (x : Exported) where
       let stays : current (carriedOn h x) ≡ current h = carried-on h x f no .current ∙ ap (λ cs. history (current h) cs .after) none-done in
       let is : meets e h x ≡ idle (counted e) = meets-is t no refl in
       subst (λ (g : Gave). Beside g (carriedOn h x) x) (sym is) (record {
-        run = r;
+        run = countedRun r;
         same = same-counted e r s;
         device = i ∙ sym stays;
         agrees = λ d. absurd (true≢false (sym d ∙ t));

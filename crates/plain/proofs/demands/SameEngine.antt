@@ -10,7 +10,7 @@ use Rattle.histories.proofs.laws.WellFormed.{step-well, history-well}
 use Rattle.plain.specs.Plain.{Engine, counted, gives, droppedIn}
 use Rattle.plain.specs.Sequence.{loadOf, shown, Item, call, load, refused, Seen, portedSees, plainSees, WellLoaded, plainAfter, asMade}
 use Rattle.plain.proofs.laws.Same.{Run, Same}
-use Rattle.plain.proofs.laws.Following.{stepped, Alike, like-call, loadedRun, sized, same-load, same-counted, shown-is}
+use Rattle.plain.proofs.laws.Following.{stepped, countedRun, Alike, like-call, loadedRun, sized, same-load, same-counted, shown-is}
 
 -- ---- side by side
 
@@ -30,7 +30,7 @@ alike e r (load d ∷ xs) x w l =
     λ t. record { value = none; drained = []; shows = shows t } ∷ later t
 alike e r (refused ∷ xs) x w l =
     let shows = shown-is e r x (sized w) in
-    let later = alike (counted e) r xs (same-counted e r x) w l in
+    let later = alike (counted e) (countedRun r) xs (same-counted e r x) w l in
     λ t. record { value = none; drained = []; shows = shows t } ∷ later t
 
 -- From a load of any device that an image can hold, whatever the engine was before: of each call, load and refused call that follows, the plain engine

@@ -20,8 +20,9 @@ use Rattle.rules.proofs.laws.Bits.{test, is-number, register-ext, put-lt, witho
 use Rattle.plain.specs.Machine.{Machine}
 use Rattle.plain.specs.Plain.{Engine, withStored, withVectors, numberBelow, number, valueOf, entry, readCell, readDword, readByte, readAt}
 use Rattle.plain.specs.Plain.{writeHalf, writeEntry, writeCell, writeDword, writeByte, writeAt}
+use Rattle.plain.specs.Sequence.{notesOf}
 use Rattle.plain.proofs.laws.Machines.{oneOf, cleared-steps, served-steps}
-use Rattle.plain.proofs.laws.Queues.{ringAfter, lostOf}
+use Rattle.plain.proofs.laws.Queues.{tail-of, ringAfter, lostOf}
 use Rattle.plain.proofs.laws.Same.{Run, Same, by-run, acting, acting-append, acting-none, acting-one, acting-move, acting-isr, turn-offers, same-mask}
 
 -- ---- registers of 64 bits
@@ -139,16 +140,24 @@ module _ (e : Engine) (r : Run) (x : Same e r) (s : SizedRun r) where
 
 -- an act that makes nothing
 quietly : (r : Run) (a : Act) → turn (r .device .core) a .made ≡ []
-    → acting r (a ∷ []) ≡ record { device = record { core = turn (r .device .core) a .after; ring = r .device .ring }; made = r .made; lost = r .lost }
-unfolding device.offers ringRun dropped
+    → acting r (a ∷ []) ≡ record { device = record { core = turn (r .device .core) a .after; ring = r .device .ring }; call = r .call; notes = r .notes; lost = r .lost; brought = r .brought }
+unfolding device.offers ringRun dropped notesOf
 quietly r a e =
     acting-one r a
     ∙ (λ t. record {
       device = record { core = turn (r .device .core) a .after; ring = ringAfter (r .device .ring) (e t) };
-      made = r .made ++ e t;
+      call = r .call;
+      notes = r .notes ++ notesOf (r .call) (r .device .ring) (e t);
       lost = r .lost ++ lostOf (r .device .ring) (e t);
+      brought = r .brought;
     })
-    ∙ (λ t. record { device = record { core = turn (r .device .core) a .after; ring = r .device .ring }; made = append-nil (r .made) t; lost = append-nil (r .lost) t })
+    ∙ (λ t. record {
+      device = record { core = turn (r .device .core) a .after; ring = r .device .ring };
+      call = r .call;
+      notes = append-nil (r .notes) t;
+      lost = append-nil (r .lost) t;
+      brought = r .brought;
+    })
 
 -- something stored
 module _ (e : Engine) (r : Run) (x : Same e r) where
@@ -161,7 +170,8 @@ module _ (e : Engine) (r : Run) (x : Same e r) where
     machine = x .machine;
     vectors = x .vectors;
     stored = ap (λ (s : Stored). withPlain s p (withHalf h (plain s p) v)) (x .stored);
-    tail = record { waits = x .tail .waits; count = x .tail .count; taken = x .tail .taken; made = x .tail .made; lost = x .tail .lost };
+    call = x .call;
+    tail = tail-of e _ refl refl (x .tail);
   })
 
   same-route : (n v : ℕ) → Same (withStored e (withRoutes (e .stored) (set (e .stored .routes) n v))) (acting r (store (setRoute n v) ∷ []))
@@ -170,7 +180,8 @@ module _ (e : Engine) (r : Run) (x : Same e r) where
     machine = x .machine;
     vectors = x .vectors;
     stored = ap (λ (s : Stored). withRoutes s (set (s .routes) n v)) (x .stored);
-    tail = record { waits = x .tail .waits; count = x .tail .count; taken = x .tail .taken; made = x .tail .made; lost = x .tail .lost };
+    call = x .call;
+    tail = tail-of e _ refl refl (x .tail);
   })
 
   same-vector : (n v : ℕ) → Same (withVectors e (set (e .vectors) n v)) (acting r (setVector n v ∷ []))
@@ -179,7 +190,8 @@ module _ (e : Engine) (r : Run) (x : Same e r) where
     machine = x .machine;
     vectors = ap (λ (vs : List ℕ). set vs n v) (x .vectors);
     stored = x .stored;
-    tail = record { waits = x .tail .waits; count = x .tail .count; taken = x .tail .taken; made = x .tail .made; lost = x .tail .lost };
+    call = x .call;
+    tail = tail-of e _ refl refl (x .tail);
   })
 
   same-half : (y : Register) (h : Bool) (v : ℕ) → Same (writeHalf e y h v) (acting r (registerActs y h v))
@@ -213,9 +225,9 @@ same-cell e r x o v map.bytes =
     let x1 = same-entry _ r0 x0 (o + 1) b1 in
     let x2 = same-entry _ r1 x1 (o + 2) b2 in
     by-run _ (
-      acting-append r (entryActs o b0) (entryActs (o + 1) b1 ++ (entryActs (o + 2) b2 ++ entryActs (o + 3) b3))
-      ∙ acting-append r0 (entryActs (o + 1) b1) (entryActs (o + 2) b2 ++ entryActs (o + 3) b3)
-      ∙ acting-append r1 (entryActs (o + 2) b2) (entryActs (o + 3) b3)
+    acting-append r (entryActs o b0) (entryActs (o + 1) b1 ++ (entryActs (o + 2) b2 ++ entryActs (o + 3) b3))
+    ∙ acting-append r0 (entryActs (o + 1) b1) (entryActs (o + 2) b2 ++ entryActs (o + 3) b3)
+    ∙ acting-append r1 (entryActs (o + 2) b2) (entryActs (o + 3) b3)
     ) (same-entry _ r2 x2 (o + 3) b3)
 same-cell e r x o v map.nothing = same-none e r x
 

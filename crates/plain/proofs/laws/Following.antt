@@ -15,10 +15,10 @@ use Rattle.rules.specs.Device as device
 use Rattle.rules.proofs.laws.Acts.{step-acted}
 use Rattle.rules.proofs.laws.Steps.{turns-one, drain-device, drain-drained}
 use Rattle.plain.specs.Machine.{Machine, polls, raises, lowers}
-use Rattle.plain.specs.Plain.{Engine, Heard, heardFrom, heard, Steps, at, stepping, returns, counted, vectorOf, lostBetween, droppedIn, waiting, asked, gives, startedWith, withDrained, writeAt}
-use Rattle.plain.specs.Sequence.{machineIn, loadOf, shown}
+use Rattle.plain.specs.Plain.{Engine, Heard, heardFrom, heard, Steps, at, stepping, returns, counted, vectorOf, lostBetween, droppedIn, waiting, asked, gives, startedWith, withQueue, withDrained, asLoaded, writeAt}
+use Rattle.plain.specs.Sequence.{machineIn, loadOf, shown, notesOf}
 use Rattle.plain.proofs.laws.Machines.{oneOf, one-of, madeBy, Steps-are, polled-steps, raised-steps, lowered-steps}
-use Rattle.plain.proofs.laws.Queues.{ringAfter, lostOf, loaded-kept, loaded-dropped, drained-tail}
+use Rattle.plain.proofs.laws.Queues.{tail-of, ringAfter, lostOf, loaded-kept, loaded-dropped, drained-tail}
 use Rattle.plain.proofs.laws.Same.{Run, Same, by-run, acting, acting-none, acting-move, turning, turn-returns, heard-same}
 use Rattle.plain.proofs.laws.Accesses.{Sized, SizedRun, mask-read, irr-read, isr-read, read-same, same-write}
 
@@ -26,32 +26,40 @@ use Rattle.plain.proofs.laws.Accesses.{Sized, SizedRun, mask-read, irr-
 abbrev pub stepped : Run → Call → Run
 stepped r c = record {
   device = step (r .device) c .after;
-  made = r .made ++ step (r .device) c .made;
+  call = r .call + 1;
+  notes = r .notes ++ notesOf (r .call) (r .device .ring) (step (r .device) c .made);
+  brought = r .brought;
   lost = r .lost ++ lostOf (r .device .ring) (step (r .device) c .made);
 }
 
+-- the next call's number
+abbrev pub countedRun : Run → Run
+countedRun r = record { device = r .device; call = r .call + 1; notes = r .notes; lost = r .lost; brought = r .brought }
+
 -- a call that draws nothing is its acts
-stepped-acting : (r : Run) (c : Call) → draws c ≡ [] → stepped r c ≡ acting r (actsOf (r .device .core) c)
+stepped-acting : (r : Run) (c : Call) → draws c ≡ [] → stepped r c ≡ countedRun (acting r (actsOf (r .device .core) c))
 unfolding step
 stepped-acting r c e t =
-    let xs = actsOf (r .device .core) c in
+    let made = turns (r .device .core) (actsOf (r .device .core) c) .made in
     record {
       device = step-acted (r .device) c e t;
-      made = r .made ++ turns (r .device .core) xs .made;
-      lost = r .lost ++ lostOf (r .device .ring) (turns (r .device .core) xs .made);
+      call = r .call + 1;
+      notes = r .notes ++ notesOf (r .call) (r .device .ring) made;
+      lost = r .lost ++ lostOf (r .device .ring) made;
+      brought = r .brought;
     }
 
 none-drained : (d : Device) (c : Call) → draws c ≡ [] → [] ≡ step d c .drained
 unfolding step ringRun
 none-drained d c e = ap (λ os. ringRun (acted d (actsOf (d .core) c) .ring) os .drained) (sym e)
 
--- the call's number is no matter of the ported engine
-pub same-counted : (e : Engine) (r : Run) → Same e r → Same (counted e) r
+pub same-counted : (e : Engine) (r : Run) → Same e r → Same (counted e) (countedRun r)
 same-counted e r x = record {
   machine = x .machine;
   vectors = x .vectors;
   stored = x .stored;
-  tail = record { waits = x .tail .waits; count = x .tail .count; taken = x .tail .taken; made = x .tail .made; lost = x .tail .lost };
+  call = ap (λ k. k + 1) (x .call);
+  tail = tail-of e (counted e) refl refl (x .tail);
 }
 
 -- what a call gives
@@ -74,14 +82,14 @@ module _ (e : Engine) (r : Run) (x : Same e r) where
       (s : Steps-are (d .core .vectors) false f (d .core .lines) (moved (d .core .vectors) (d .core .lines) m)) where
     input-after : Same (counted (stepping returns f e)) (stepped r c)
     input-after =
-        by-run _ (stepped-acting r c quiet ∙ ap (acting r) is ∙ acting-move r m)
+        by-run _ (stepped-acting r c quiet ∙ ap countedRun (ap (acting r) is ∙ acting-move r m))
         (same-counted (stepping returns f e) _ (turn-returns e r f (moved (d .core .vectors) (d .core .lines) m) x s))
 
     input-value : vectorOf e (heard f e) ≡ returned (step d c .made)
     unfolding step lineTurn
     input-value =
         vector-returned e (heard f e)
-        ∙ ap returned ((λ t. map (madeBy (x .vectors t) false) (heard-same e _ _ _ _ _ _ x f t)) ∙ s .made
+        ∙ ap returned ((λ t. map (madeBy (x .vectors t) false) (heard-same e _ _ _ _ _ _ _ _ x f t)) ∙ s .made
         ∙ sym (ap (λ (t : CoreTurn). t .made) (ap (turns (d .core)) is ∙ turns-one (d .core) (move m))))
 
   like-level : (n : ℕ) (b : Bool) → Alike e r (level n b)
@@ -112,18 +120,20 @@ module _ (e : Engine) (r : Run) (x : Same e r) where
       }
 
   like-drain : (k : ℕ) → Alike e r (drain k)
-  unfolding gives value step actsOf turns device.offers dropped drawn
+  unfolding gives value step actsOf turns device.offers dropped drawn notesOf
   like-drain k =
       let es : take k (waiting (e .queue)) ≡ step d (drain k) .drained = ap (take k) (x .tail .waits) ∙ sym (drain-drained d k) in
-      let same : stepped r (drain k) ≡ record { device = device.withRing d (drawn (d .ring) k .after); made = r .made; lost = r .lost } =
-          λ t. record { device = drain-device d k t; made = append-nil (r .made) t; lost = append-nil (r .lost) t }
+      let goes : Run = record { device = device.withRing d (drawn (d .ring) k .after); call = r .call + 1; notes = r .notes; lost = r .lost; brought = r .brought } in
+      let same : stepped r (drain k) ≡ goes =
+      λ t. record { device = drain-device d k t; call = r .call + 1; notes = append-nil (r .notes) t; lost = append-nil (r .lost) t; brought = r .brought }
       in
       record {
         after = by-run _ same (record {
           machine = x .machine;
           vectors = x .vectors;
           stored = x .stored;
-          tail = drained-tail (e .queue) (e .history) (d .ring) (r .made) (r .lost) k (x .tail);
+          call = ap (λ k. k + 1) (x .call);
+          tail = tail-of (withQueue e (withDrained (e .queue) k)) _ refl refl (drained-tail e (d .ring) (r .notes) (r .lost) (r .brought) k (x .tail));
         });
         value = ap (λ (l : List Event). some (length l)) es;
         drained = es;
@@ -133,7 +143,7 @@ module _ (e : Engine) (r : Run) (x : Same e r) where
     like-read : (w : Width) (o : ℕ) → Alike e r (read w o)
     unfolding gives value actsOf
     like-read w o = record {
-      after = same-counted e _ (by-run e (stepped-acting r (read w o) refl ∙ acting-none r) x);
+      after = by-run _ (stepped-acting r (read w o) refl ∙ ap countedRun (acting-none r)) (same-counted e r x);
       value = ap some (read-same e r x z w o);
       drained = none-drained d (read w o) refl;
     }
@@ -145,10 +155,10 @@ module _ (e : Engine) (r : Run) (x : Same e r) where
         let y = same-write e r x z w o v in
         let more = lostOf (d .ring) (turns (d .core) xs .made) in
         let told : lostBetween e (writeAt e w o v) ≡ length more =
-            omega (arith, ap length (y .tail .lost), length-append (r .lost) more, ap length (x .tail .lost))
+        omega (arith, ap length (y .tail .lost), length-append (r .lost) more, ap length (x .tail .lost))
         in
         record {
-          after = same-counted _ _ (by-run _ (stepped-acting r (write w o v) refl) y);
+          after = by-run _ (stepped-acting r (write w o v) refl) (same-counted _ _ y);
           value = ap some told;
           drained = none-drained d (write w o v) refl;
         }
@@ -165,7 +175,7 @@ module _ (e : Engine) (r : Run) (x : Same e r) where
 
 -- the ported engine right after a load: nothing has been made since
 abbrev pub loadedRun : Device → Run
-loadedRun d = record { device = d; made = []; lost = [] }
+loadedRun d = record { device = d; call = 0; notes = []; lost = []; brought = d .ring .waiting }
 
 pub sized : {d : Device} → WellFormed d → Sized (d .core .lines)
 sized w = record { mask = w .mask; irr = w .irr; isr = w .isr }
@@ -176,12 +186,14 @@ same-load old d w = record {
   machine = λ n b. one-of (d .core .lines) n;
   vectors = refl;
   stored = refl;
+  call = refl;
   tail = record {
     waits = loaded-kept (d .ring .waiting);
     count = ap (λ (es : List Event). min (d .ring .drops + length es) stop) (loaded-dropped (d .ring .waiting)) ∙ omega (arith, w .drops);
     taken = omega arith;
-    made = refl;
+    notes = refl;
     lost = loaded-dropped (d .ring .waiting);
+    list = sym (append-nil (map asLoaded (d .ring .waiting)));
   };
 }
 

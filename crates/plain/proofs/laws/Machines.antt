@@ -235,7 +235,7 @@ cleared-steps h v l vs =
     let b = on (asHalf h v) in
     let s = leave-steps b l vs true in
     let same : (n : ℕ) → n < 64 → clearedBy (brings h v n) (oneOf l n) ≡ cond (b n) (lowers (oneOf l n)) (rests (oneOf l n)) =
-        λ n k. go (brings h v n) (oneOf l n) ∙ ap (λ (c : Bool). cond c (lowers (oneOf l n)) (rests (oneOf l n))) (sym (half-bit h 0 v n k ∙ ap (becomes (brings h v n)) (on-none n)))
+    λ n k. go (brings h v n) (oneOf l n) ∙ ap (λ (c : Bool). cond c (lowers (oneOf l n)) (rests (oneOf l n))) (sym (half-bit h 0 v n k ∙ ap (becomes (brings h v n)) (on-none n)))
     in
     record {
       after = λ n k. ap (λ (x : Stepped). x .after) (same n k) ∙ s .after n k;

@@ -1,5 +1,5 @@
 -- The list of the events offered against the ring: what waits, the drop count, the events made and those dropped, event by event.
-use mathlib.Core.Path.{_≡_, refl, sym, ap, ap₂, _∙_}
+use mathlib.Core.Path.{_≡_, refl, sym, ap, ap₂, subst, _∙_}
 use mathlib.Core.Bool.{Bool, true, false, cond}
 use mathlib.Core.List.{List, [], _∷_, _++_, map, map-append, append-nil, append-assoc}
 use Prim.Native.Nat.{ℕ, zero, suc, _+_, _-_, _≤_, min}
@@ -13,9 +13,9 @@ use Rattle.rules.specs.Ring.{capacity, stop, Event, Ring, RingAct, offer, draw,
 use Rattle.rules.specs.Device as device
 use Rattle.rules.proofs.laws.Bits.{test}
 use Rattle.plain.specs.Plain.{Source, Offered, Queue, keptIn, droppedIn, waiting, dropCount, hasRoom, withOffer, withDrained, asLoaded, Fate, kept, Note}
-use Rattle.plain.specs.Plain.{Engine, Heard, noted, returns, offers, eachHeard, input}
+use Rattle.plain.specs.Plain.{returned, Engine, withQueue, Heard, noted, returns, offers, eachHeard, input}
 use Rattle.plain.specs.Plain as plain
-use Rattle.plain.specs.Sequence.{isOffered, asMade}
+use Rattle.plain.specs.Sequence.{noteOf, fateIn, ringWith, notesOf, isOffered, asMade, listedAs, inList, listed}
 use Rattle.plain.proofs.laws.Machines.{madeBy}
 
 -- ---- marks
@@ -38,58 +38,103 @@ pub loaded-dropped : (es : List Event) → droppedIn (map asLoaded es) ≡ []
 loaded-dropped [] = refl
 loaded-dropped (e ∷ es) = loaded-dropped es
 
--- ---- list and history stand to the ring and to the events made as they should
+-- the list of a history in two parts
+listed-append : (ns ms : List Note) → listed (ns ++ ms) ≡ listed ns ++ listed ms
+listed-append [] ms = refl
+listed-append (n ∷ ns) ms = ap (λ xs. inList (n .fate) n ++ xs) (listed-append ns ms) ∙ sym (append-assoc (inList (n .fate) n) (listed ns) (listed ms))
 
-pub record Tail (q : Queue) (ns : List Note) (r : Ring) (ms : List Made) (ls : List Event) : Type 0 where
-  pub waits : waiting q ≡ r .waiting
-  pub count : dropCount q ≡ r .drops
-  pub taken : q .drained ≤ length (keptIn (q .offered))
-  pub made : map asMade ns ≡ ms
-  pub lost : droppedIn (q .offered) ≡ ls
+-- ---- an engine's list and history stand to a ring, to the events noted and to those dropped since a load that brought bs as they should
+
+pub record Tail (e : Engine) (r : Ring) (ns : List Note) (ls bs : List Event) : Type 0 where
+  pub waits : waiting (e .queue) ≡ r .waiting
+  pub count : dropCount (e .queue) ≡ r .drops
+  pub taken : e .queue .drained ≤ length (keptIn (e .queue .offered))
+  pub notes : e .history ≡ ns
+  pub lost : droppedIn (e .queue .offered) ≡ ls
+  pub list : e .queue .offered ≡ map asLoaded bs ++ listed ns
+
+-- the number of the call, the machines and what is stored are no matter of it
+pub tail-of : (e f : Engine) {r : Ring} {ns : List Note} {ls bs : List Event} → f .queue ≡ e .queue → f .history ≡ e .history → Tail e r ns ls bs → Tail f r ns ls bs
+tail-of e f p q t = record {
+  waits = ap waiting p ∙ t .waits;
+  count = ap dropCount p ∙ t .count;
+  taken = subst (λ (x : Queue). x .drained ≤ length (keptIn (x .offered))) (sym p) (t .taken);
+  notes = q ∙ t .notes;
+  lost = ap (λ (x : Queue). droppedIn (x .offered)) p ∙ t .lost;
+  list = ap (λ (x : Queue). x .offered) p ∙ t .list;
+}
 
 -- an event more
-module _ (q : Queue) (ns : List Note) (r : Ring) (ms : List Made) (ls : List Event) (t : Tail q ns r ms ls) where
+module _ (e : Engine) (r : Ring) (ns : List Note) (ls bs : List Event) (t : Tail e r ns ls bs) where
+  abbrev q : Queue
+  q = e .queue
+
   -- in the list, marked b
   abbrev marked : Source → Event → Bool → Queue
-  marked s e b = record { offered = q .offered ++ (record { source = s; event = e; kept = b } ∷ []); drained = q .drained; brought = q .brought }
+  marked s x b = record { offered = q .offered ++ (record { source = s; event = x; kept = b } ∷ []); drained = q .drained; brought = q .brought }
 
-  marked-waits : (s : Source) (e : Event) (b : Bool) → waiting (marked s e b) ≡ r .waiting ++ cond b (e ∷ []) []
-  marked-waits s e b =
-      ap (drop (q .drained)) (kept-append (q .offered) _) ∙ drop-append-le (q .drained) (keptIn (q .offered)) (cond b (e ∷ []) []) (t .taken)
-      ∙ ap (λ es. es ++ cond b (e ∷ []) []) (t .waits)
+  marked-waits : (s : Source) (x : Event) (b : Bool) → waiting (marked s x b) ≡ r .waiting ++ cond b (x ∷ []) []
+  marked-waits s x b =
+      ap (drop (q .drained)) (kept-append (q .offered) _) ∙ drop-append-le (q .drained) (keptIn (q .offered)) (cond b (x ∷ []) []) (t .taken)
+      ∙ ap (λ es. es ++ cond b (x ∷ []) []) (t .waits)
 
-  marked-lost : (s : Source) (e : Event) (b : Bool) → droppedIn (marked s e b .offered) ≡ ls ++ cond b [] (e ∷ [])
-  marked-lost s e b = dropped-in-append (q .offered) _ ∙ ap (λ es. es ++ cond b [] (e ∷ [])) (t .lost)
+  marked-lost : (s : Source) (x : Event) (b : Bool) → droppedIn (marked s x b .offered) ≡ ls ++ cond b [] (x ∷ [])
+  marked-lost s x b = dropped-in-append (q .offered) _ ∙ ap (λ es. es ++ cond b [] (x ∷ [])) (t .lost)
 
-  marked-taken : (s : Source) (e : Event) (b : Bool) → q .drained ≤ length (keptIn (marked s e b .offered))
-  marked-taken s e b = rw (kept-append (q .offered) (record { source = s; event = e; kept = b } ∷ []), length-append (keptIn (q .offered)) (cond b (e ∷ []) [])) (omega (arith, t .taken))
+  marked-taken : (s : Source) (x : Event) (b : Bool) → q .drained ≤ length (keptIn (marked s x b .offered))
+  marked-taken s x b = rw (kept-append (q .offered) (record { source = s; event = x; kept = b } ∷ []), length-append (keptIn (q .offered)) (cond b (x ∷ []) [])) (omega (arith, t .taken))
+
+  -- it stands there as its note says
+  marked-list : (n : Note) (b : Bool) → inList (n .fate) n ≡ listedAs b n ∷ [] → marked (input (n .input)) (record { vector = n .vector; asserted = n .asserted }) b .offered
+      ≡ map asLoaded bs ++ listed (ns ++ (n ∷ []))
+  marked-list n b f =
+      ap (λ (xs : List Offered). xs ++ (listedAs b n ∷ [])) (t .list) ∙ append-assoc (map asLoaded bs) (listed ns) (listedAs b n ∷ [])
+      ∙ ap (λ (xs : List Offered). map asLoaded bs ++ xs) (sym (listed-append ns (n ∷ []) ∙ ap (λ (xs : List Offered). listed ns ++ xs) (append-nil (inList (n .fate) n) ∙ f)))
 
   -- by the ring's rule
-  offered-tail : (s : Source) (e : Event) (n : Note) (m : Made) → asMade n ≡ m
-      → Tail (withOffer q s e) (ns ++ (n ∷ [])) (ringStep r (offer e) .after) (ms ++ (m ∷ [])) (ls ++ droppedBy r (offer e))
-  unfolding ringStep offered
-  offered-tail s e n m f =
+  offered-tail : (h : Heard) → let m = madeBy (e .vectors) true h in
+      let x : Event = record { vector = m .vector; asserted = m .asserted } in
+      Tail (offers e h) (offered r x) (ns ++ (noteOf (e .call) (fateIn r m) m ∷ [])) (ls ++ droppedBy r (offer x)) bs
+  unfolding offered
+  offered-tail h =
+      let m = madeBy (e .vectors) true h in
+      let x : Event = record { vector = m .vector; asserted = m .asserted } in
+      let s = input (h .input) in
       let room : hasRoom q ≡ ltb (length (r .waiting)) capacity = ap (λ es. ltb (length es) capacity) (t .waits) in
-      let notes = map-append asMade ns (n ∷ []) ∙ ap₂ (λ xs x. xs ++ (x ∷ [])) (t .made) f in
       test (ltb (length (r .waiting)) capacity)
       (λ b.
-      let is : withOffer q s e ≡ marked s e true = ap (marked s e) (room ∙ b) in
+      let is : hasRoom q ≡ true = room ∙ b in
       rw (b, is) (record {
-        waits = marked-waits s e true;
-        count = ap (λ es. min (q .brought + length es) stop) (marked-lost s e true ∙ append-nil ls ∙ sym (t .lost)) ∙ t .count;
-        taken = marked-taken s e true;
-        made = notes;
-        lost = marked-lost s e true;
+        waits = marked-waits s x true;
+        count = ap (λ es. min (q .brought + length es) stop) (marked-lost s x true ∙ append-nil ls ∙ sym (t .lost)) ∙ t .count;
+        taken = marked-taken s x true;
+        notes = ap (λ xs. xs ++ (noteOf (e .call) kept m ∷ [])) (t .notes);
+        lost = marked-lost s x true;
+        list = marked-list (noteOf (e .call) kept m) true refl;
       }))
       (λ b.
-      let is : withOffer q s e ≡ marked s e false = ap (marked s e) (room ∙ b) in
+      let is : hasRoom q ≡ false = room ∙ b in
       rw (b, is) (record {
-        waits = marked-waits s e false ∙ append-nil (r .waiting);
-        count = omega (arith, t .count, ap length (marked-lost s e false), length-append ls (e ∷ []), ap length (t .lost));
-        taken = marked-taken s e false;
-        made = notes;
-        lost = marked-lost s e false;
+        waits = marked-waits s x false ∙ append-nil (r .waiting);
+        count = omega (arith, t .count, ap length (marked-lost s x false), length-append ls (x ∷ []), ap length (t .lost));
+        taken = marked-taken s x false;
+        notes = ap (λ xs. xs ++ (noteOf (e .call) plain.dropped m ∷ [])) (t .notes);
+        lost = marked-lost s x false;
+        list = marked-list (noteOf (e .call) plain.dropped m) false refl;
       }))
+
+  -- one that is returned is noted alone
+  returned-tail : (h : Heard) → Tail (returns e h) r (ns ++ (noteOf (e .call) returned (madeBy (e .vectors) false h) ∷ [])) ls bs
+  returned-tail h =
+      let n = noteOf (e .call) returned (madeBy (e .vectors) false h) in
+      record {
+        waits = t .waits;
+        count = t .count;
+        taken = t .taken;
+        notes = ap (λ xs. xs ++ (n ∷ [])) (t .notes);
+        lost = t .lost;
+        list = t .list ∙ ap (λ (xs : List Offered). map asLoaded bs ++ xs) (sym (listed-append ns (n ∷ []) ∙ append-nil (listed ns)));
+      }
 
 -- ---- what is heard, offered or returned
 
@@ -110,9 +155,6 @@ unfolding eachHeard
 returns-else e [] = record { machines = refl; vectors = refl; stored = refl; call = refl }
 returns-else e (h ∷ hs) = let r = returns-else (returns e h) hs in record { machines = r .machines; vectors = r .vectors; stored = r .stored; call = r .call }
 
-abbrev pub TailOf : Engine → Ring → List Made → List Event → Type 0
-TailOf e r ms ls = Tail (e .queue) (e .history) r ms ls
-
 -- the ring is offered events that are made
 abbrev pub ringAfter : Ring → List Made → Ring
 ringAfter r ms = ringRun r (device.offers ms) .after
@@ -120,44 +162,56 @@ ringAfter r ms = ringRun r (device.offers ms) .after
 abbrev pub lostOf : Ring → List Made → List Event
 lostOf r ms = dropped r (device.offers ms)
 
-pub offers-tail : (hs : List Heard) (e : Engine) (r : Ring) (ms : List Made) (ls : List Event) → TailOf e r ms ls
-    → let new = map (madeBy (e .vectors) true) hs in TailOf (eachHeard offers e hs) (ringAfter r new) (ms ++ new) (ls ++ lostOf r new)
-unfolding eachHeard device.offers ringRun dropped
-offers-tail [] e r ms ls t = rw (append-nil ms, append-nil ls) t
-offers-tail (h ∷ hs) e r ms ls t =
-    let x : Event = record { vector = getD (e .vectors) (h .input) 0; asserted = h .asserted } in
+pub offers-tail : (hs : List Heard) (e : Engine) (r : Ring) (ns : List Note) (ls bs : List Event) → Tail e r ns ls bs
+    → let new = map (madeBy (e .vectors) true) hs in Tail (eachHeard offers e hs) (ringAfter r new) (ns ++ notesOf (e .call) r new) (ls ++ lostOf r new) bs
+unfolding eachHeard device.offers ringRun ringStep dropped notesOf
+offers-tail [] e r ns ls bs t = rw (append-nil ns, append-nil ls) t
+offers-tail (h ∷ hs) e r ns ls bs t =
     let m = madeBy (e .vectors) true h in
+    let x : Event = record { vector = m .vector; asserted = m .asserted } in
+    let n = noteOf (e .call) (fateIn r m) m in
     let new = map (madeBy (e .vectors) true) hs in
-    let s = ringStep r (offer x) .after in
-    let one = offered-tail (e .queue) (e .history) r ms ls t (input (h .input)) x (noted e (cond (hasRoom (e .queue)) kept plain.dropped) h) m (is (hasRoom (e .queue))) in
-    let two = offers-tail hs (offers e h) s (ms ++ (m ∷ [])) (ls ++ droppedBy r (offer x)) one in
-    rw (← append-assoc ms (m ∷ []) new, ← append-assoc ls (droppedBy r (offer x)) (lostOf s new)) two
-  where
-    is : (b : Bool) → asMade (noted e (cond b kept plain.dropped) h) ≡ madeBy (e .vectors) true h
-    is true = refl
-    is false = refl
+    let s = offered r x in
+    let two = offers-tail hs (offers e h) s (ns ++ (n ∷ [])) (ls ++ droppedBy r (offer x)) bs (offered-tail e r ns ls bs t h) in
+    rw (← append-assoc ns (n ∷ []) (notesOf (e .call) s new), ← append-assoc ls (droppedBy r (offer x)) (lostOf s new)) two
 
-pub returns-tail : (hs : List Heard) (e : Engine) (r : Ring) (ms : List Made) (ls : List Event) → TailOf e r ms ls
-    → TailOf (eachHeard returns e hs) r (ms ++ map (madeBy (e .vectors) false) hs) ls
-unfolding eachHeard
-returns-tail [] e r ms ls t = rw (append-nil ms) t
-returns-tail (h ∷ hs) e r ms ls t =
-    let m = madeBy (e .vectors) false h in
-    let one : TailOf (returns e h) r (ms ++ (m ∷ [])) ls = record {
-      waits = t .waits;
-      count = t .count;
-      taken = t .taken;
-      made = map-append asMade (e .history) _ ∙ ap (λ xs. xs ++ (m ∷ [])) (t .made);
-      lost = t .lost;
-    } in
-    let two = returns-tail hs (returns e h) r (ms ++ (m ∷ [])) ls one in
-    rw (← append-assoc ms (m ∷ []) (map (madeBy (e .vectors) false) hs)) two
+pub returns-tail : (hs : List Heard) (e : Engine) (r : Ring) (ns : List Note) (ls bs : List Event) → Tail e r ns ls bs
+    → Tail (eachHeard returns e hs) r (ns ++ notesOf (e .call) r (map (madeBy (e .vectors) false) hs)) ls bs
+unfolding eachHeard notesOf
+returns-tail [] e r ns ls bs t = rw (append-nil ns) t
+returns-tail (h ∷ hs) e r ns ls bs t =
+    let n = noteOf (e .call) returned (madeBy (e .vectors) false h) in
+    let two = returns-tail hs (returns e h) r (ns ++ (n ∷ [])) ls bs (returned-tail e r ns ls bs t h) in
+    rw (← append-assoc ns (n ∷ []) (notesOf (e .call) r (map (madeBy (e .vectors) false) hs))) two
 
 -- what is returned is not offered
 pub returned-unoffered : (vs : List ℕ) (hs : List Heard) → device.offers (map (madeBy vs false) hs) ≡ []
 unfolding device.offers
 returned-unoffered vs [] = refl
 returned-unoffered vs (h ∷ hs) = returned-unoffered vs hs
+
+-- ---- notes of events in two parts, and as events
+
+pub notes-append : (k : ℕ) (r : Ring) (xs ys : List Made) → notesOf k r (xs ++ ys) ≡ notesOf k r xs ++ notesOf k (ringAfter r xs) ys
+unfolding notesOf device.offers ringRun ringStep
+notes-append k r [] ys = refl
+notes-append k r (m ∷ xs) ys =
+    ap (λ ns. noteOf k (fateIn r m) m ∷ ns) (notes-append k (ringWith r m) xs ys ∙ ap (λ s. notesOf k (ringWith r m) xs ++ notesOf k s ys) (same (m .offered)))
+  where
+    same : (b : Bool) → let x : Event = record { vector = m .vector; asserted = m .asserted } in
+        ringAfter (cond b (offered r x) r) xs ≡ ringRun r (cond b (offer x ∷ device.offers xs) (device.offers xs)) .after
+    same true = refl
+    same false = refl
+
+pub notes-made : (k : ℕ) (r : Ring) (ms : List Made) → map asMade (notesOf k r ms) ≡ ms
+unfolding notesOf
+notes-made k r [] = refl
+notes-made k r (m ∷ ms) = λ t. one (m .offered) (ltb (length (r .waiting)) capacity) t ∷ notes-made k (ringWith r m) ms t
+  where
+    one : (b c : Bool) → asMade (noteOf k (cond b (cond c kept plain.dropped) returned) m) ≡ record { input = m .input; vector = m .vector; asserted = m .asserted; offered = b }
+    one true true = refl
+    one true false = refl
+    one false c = refl
 
 -- ---- draining
 
@@ -170,15 +224,18 @@ drop-min k l =
     let e : min k (length l) ≡ length l = omega arith in
     rw e (drop-length l ∙ sym (drop-of-length-le l h)))
 
-pub drained-tail : (q : Queue) (ns : List Note) (r : Ring) (ms : List Made) (ls : List Event) (k : ℕ) → Tail q ns r ms ls
-    → Tail (withDrained q k) ns (drawn r k .after) ms ls
+pub drained-tail : (e : Engine) (r : Ring) (ns : List Note) (ls bs : List Event) (k : ℕ) → Tail e r ns ls bs
+    → Tail (withQueue e (withDrained (e .queue) k)) (drawn r k .after) ns ls bs
 unfolding drawn
-drained-tail q ns r ms ls k t = record {
-  waits =
-      sym (drop-drop (min k (length (waiting q))) (q .drained) (keptIn (q .offered)))
-      ∙ drop-min k (waiting q) ∙ ap (drop k) (t .waits);
-  count = t .count;
-  taken = omega (arith, t .taken, length-drop (q .drained) (keptIn (q .offered)));
-  made = t .made;
-  lost = t .lost;
-}
+drained-tail e r ns ls bs k t =
+    let q = e .queue in
+    record {
+      waits =
+          sym (drop-drop (min k (length (waiting q))) (q .drained) (keptIn (q .offered)))
+          ∙ drop-min k (waiting q) ∙ ap (drop k) (t .waits);
+      count = t .count;
+      taken = omega (arith, t .taken, length-drop (q .drained) (keptIn (q .offered)));
+      notes = t .notes;
+      lost = t .lost;
+      list = t .list;
+    }
