@@ -142,3 +142,10 @@ inList dropped n = listedAs false n ∷ []
 abbrev pub listed : List Note → List Offered
 listed [] = []
 listed (n ∷ ns) = inList (n .fate) n ++ listed ns
+
+-- the events that the last load of a sequence brought
+unfoldable pub broughtBy : List Event → List Item → List Event
+broughtBy es [] = es
+broughtBy es (call c ∷ xs) = broughtBy es xs
+broughtBy es (load d ∷ xs) = broughtBy (d .ring .waiting) xs
+broughtBy es (refused ∷ xs) = broughtBy es xs

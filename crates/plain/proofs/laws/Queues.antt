@@ -39,7 +39,7 @@ loaded-dropped [] = refl
 loaded-dropped (e ∷ es) = loaded-dropped es
 
 -- the list of a history in two parts
-listed-append : (ns ms : List Note) → listed (ns ++ ms) ≡ listed ns ++ listed ms
+pub listed-append : (ns ms : List Note) → listed (ns ++ ms) ≡ listed ns ++ listed ms
 listed-append [] ms = refl
 listed-append (n ∷ ns) ms = ap (λ xs. inList (n .fate) n ++ xs) (listed-append ns ms) ∙ sym (append-assoc (inList (n .fate) n) (listed ns) (listed ms))
 
