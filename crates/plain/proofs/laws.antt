@@ -4,3 +4,4 @@ pub mod Queues
 pub mod Same
 pub mod Accesses
 pub mod Following
+pub mod Plainly

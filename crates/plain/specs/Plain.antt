@@ -231,14 +231,13 @@ abbrev pub isIt : Found → ℕ → Bool
 isIt nobody n = false
 isIt (found m) n = eqb n m
 
-abbrev pub theLowest : (ℕ → Bool) → ℕ → Bool
-theLowest f = isIt (lowestFrom 0 64 f)
-
 -- MASK: of those that could wake only the lowest is woken; then the others of the half are masked; all is offered (01, Inputs: MASK)
+abbrev pub remaskedBy : Found → Bool → ℕ → Engine → Engine
+remaskedBy lowest h v e =
+    stepping offers (λ n. maskedBy (brings h v n)) (stepping offers (λ n. unmaskedBy (isIt lowest n) (brings h v n)) e)
+
 abbrev pub remasked : Bool → ℕ → Engine → Engine
-remasked h v e =
-    let woken = theLowest (λ n. wakable (brings h v n) (e .machines n)) in
-    stepping offers (λ n. maskedBy (brings h v n)) (stepping offers (λ n. unmaskedBy (woken n) (brings h v n)) e)
+remasked h v e = remaskedBy (lowestFrom 0 64 (λ n. wakable (brings h v n) (e .machines n))) h v e
 
 -- ---- reading
 

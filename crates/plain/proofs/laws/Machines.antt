@@ -15,7 +15,7 @@ use Rattle.rules.proofs.laws.Inputs.{from-ext, inputs-ext, no-inputs, only-inpu
 use Rattle.rules.proofs.laws.Halves.{placed, by-halves, on-new-half, on-kept-half}
 use Rattle.plain.specs.Machine.{Machine, Signal, quiet, asserts, deasserts, Stepped, rests, polls, raises, lowers, masks, unmasks, couldWake, serves}
 use Rattle.plain.specs.Plain.{Heard, inFront, heardFrom, Steps, at, Brought, nothing, bit, brings, clearedBy, unmaskedBy, maskedBy, wakable, servedBy}
-use Rattle.plain.specs.Plain.{Found, nobody, found, lowestFrom, isIt, theLowest}
+use Rattle.plain.specs.Plain.{Found, nobody, found, lowestFrom, isIt}
 use Rattle.plain.specs.Sequence.{machineIn}
 
 -- ---- one machine
@@ -290,7 +290,7 @@ module _ (h : Bool) (v : ℕ) (l : Lines) (vs : List ℕ) where
 
   -- the lowest of those that could wake
   abbrev pub wokenIn : ℕ → Bool
-  wokenIn = theLowest (λ n. wakable (brings h v n) (oneOf l n))
+  wokenIn n = isIt (lowestFrom 0 64 (λ n. wakable (brings h v n) (oneOf l n))) n
 
   wakable-is : (n : ℕ) → n < 64 → wakable (brings h v n) (oneOf l n) ≡ fresh n
   wakable-is n b =

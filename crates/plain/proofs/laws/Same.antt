@@ -22,7 +22,7 @@ use Rattle.rules.proofs.laws.Acts.{turns-append, offers-append, acted-none, act
 use Rattle.rules.proofs.laws.Steps.{turns-one, acted-one}
 use Rattle.plain.specs.Machine.{Machine, Stepped}
 use Rattle.plain.specs.Plain.{Note, Engine, Heard, heardFrom, heard, Steps, stepping, returns, offers, eachHeard, withMachines, withStored, withVectors}
-use Rattle.plain.specs.Plain.{Brought, brings, clearedBy, unmaskedBy, maskedBy, wakable, servedBy, Found, lowestFrom, isIt, remasked}
+use Rattle.plain.specs.Plain.{Brought, brings, clearedBy, unmaskedBy, maskedBy, wakable, servedBy, Found, lowestFrom, isIt, remaskedBy, remasked}
 use Rattle.plain.specs.Plain.{numberBelow, number, valueOf, entry, readCell, readDword, readByte, readAt, writeHalf, writeEntry, writeCell, writeDword, writeByte, writeAt}
 use Rattle.plain.specs.Sequence.{notesOf}
 use Rattle.plain.proofs.laws.Machines.{machine, oneOf, madeBy, heard-ext, Steps-are, cleared-steps, served-steps, lowest-ext}
@@ -223,7 +223,7 @@ same-mask e r h v x =
     let one = step-offers e (oneOf l) vs _ _ _ _ _ _ x (λ n. unmaskedBy (wokenIn h v l vs n) (brings h v n)) m1 (unmask-made h v l vs) in
     let two = step-offers _ (middle h v l vs) vs _ _ _ _ _ _ one (λ n. maskedBy (brings h v n)) m2 (mask-made h v l vs) in
     let three = other-machines _ _ (mask-after h v l vs) two in
-    let both : Same (twice (lowestFrom 0 64 (λ n. wakable (brings h v n) (oneOf l n)))) (turning r (masked vs l (new h v l vs))) =
+    let both : Same (remaskedBy (lowestFrom 0 64 (λ n. wakable (brings h v n) (oneOf l n))) h v e) (turning r (masked vs l (new h v l vs))) =
     rw (
       masked-is h v l vs,
       ring-after-append (r .device .ring) m1 m2,
@@ -233,7 +233,4 @@ same-mask e r h v x =
       ← append-assoc (r .lost) (lostOf (r .device .ring) m1) (lostOf (ringAfter (r .device .ring) m1) m2),
     ) three
     in
-    by-run (remasked h v e) (acting-move r (setMask h v)) (subst (λ (w : Found). Same (twice w) (turning r (masked vs l (new h v l vs)))) (sym woken) both)
-  where
-    twice : Found → Engine
-    twice w = stepping offers (λ n. maskedBy (brings h v n)) (stepping offers (λ n. unmaskedBy (isIt w n) (brings h v n)) e)
+    by-run (remasked h v e) (acting-move r (setMask h v)) (subst (λ (w : Found). Same (remaskedBy w h v e) (turning r (masked vs l (new h v l vs)))) (sym woken) both)

@@ -1,0 +1,1 @@
+// The worked day has no code: see proofs/.
