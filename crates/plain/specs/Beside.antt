@@ -1,9 +1,8 @@
 -- The plain engine beside exported calls on bytes: refused calls, loads and resets anywhere among them (01, Saved image).
-use mathlib.Core.Bool.{Bool, true, false, cond}
+use mathlib.Core.Bool.{Bool, true, cond}
 use mathlib.Core.List.{List, [], _∷_}
 use mathlib.Core.Path.{_≡_}
-use Prim.Native.Nat.{ℕ}
-use Rattle.rules.specs.Device.{Device, Value, none}
+use Rattle.rules.specs.Device.{none}
 use Rattle.rules.specs.Device as device
 use Rattle.rules.specs.Image.{encode, decode}
 use Rattle.rules.specs.Calls.{pass, refuse, Asked, afresh, calls, askedBy, answered, bufferOf, placeOf, written}

@@ -1,14 +1,12 @@
 -- 02, C-13: the plain engine's history is every event made since the load, in order, with its input, its call, its vector and its fate; and the list is what the load brought and
 -- what the history has of events offered, so it only grows between loads.
-use mathlib.Core.Path.{_≡_, refl, sym, ap, ap₂, subst, _∙_}
+use mathlib.Core.Path.{_≡_, refl, sym, ap, _∙_}
 use mathlib.Core.List.{List, [], _∷_, _++_, map, map-append, append-assoc, append-nil}
-use Prim.Native.Nat.{ℕ, _+_}
 use Rattle.rules.specs.Lines.{Made}
-use Rattle.rules.specs.Ring.{Event}
 use Rattle.rules.specs.Device.{Device, WellFormed, Call, step}
 use Rattle.rules.specs.History.{history}
 use Rattle.histories.proofs.laws.WellFormed.{step-well}
-use Rattle.plain.specs.Plain.{Engine, Note, Offered, asLoaded, gives}
+use Rattle.plain.specs.Plain.{Engine, Offered, asLoaded, gives}
 use Rattle.plain.specs.Sequence.{loadOf, shown, Item, call, load, refused, WellLoaded, plainAfter, Ported, portedFollows, portedAfter, notesOf, asMade, listed, broughtBy}
 use Rattle.plain.proofs.laws.Queues.{listed-append, notes-made}
 use Rattle.plain.proofs.laws.Same.{Run, Same}

@@ -1,27 +1,30 @@
 -- 02, C-13, of exported calls: every done call leaves the bytes that the plain engine tells, on any image, with refused calls, loads and resets anywhere.
 use mathlib.Core.Path.{_≡_, refl, sym, ap, ap₂, subst, _∙_}
-use mathlib.Core.Bool.{Bool, true, false, cond, true≢false, and-eq-true-iff}
-use mathlib.Core.List.{List, [], _∷_, _++_}
+use mathlib.Core.Bool.{Bool, true, false, cond, true≢false}
+use mathlib.Core.List.{List, [], _∷_, _++_, map, map-append, append-nil}
 use Prim.Native.Nat.{ℕ}
 use lib.Dec.{eqb}
 use lib.ListN.{length}
 use Rattle.rules.specs.Numbers.{Bytes}
-use Rattle.rules.specs.Device.{Device, WellFormed, Call, none, step, value}
+use Rattle.rules.specs.Lines.{Made}
+use Rattle.rules.specs.Device.{Device, WellFormed, Call, Step, none, step, value}
 use Rattle.rules.specs.Device as device
 use Rattle.rules.specs.Image.{imageLength, imageTest, accepted, encode, decode}
-use Rattle.rules.specs.Calls.{Tested, pass, refuse, Asked, afresh, calls, askedBy, Done, performed, wrongLength, answered, bufferOf, placeOf, written, Outcome, settled, ended}
+use Rattle.rules.specs.Calls.{pass, Asked, afresh, calls, askedBy, Done, performed, wrongLength, answered, bufferOf, placeOf, written, Outcome, settled, ended}
 use Rattle.rules.specs.History.{history}
-use Rattle.histories.specs.Exported.{Exported, leftBy, isDone, isReset, isLoad, callOf, doneCall, Underway, carriedOn, carriedThrough, GivenBytes, current, inImage, Faithful, afterReset, atLoad}
+use Rattle.histories.specs.Exported.{Exported, isDone, isReset, isLoad, callOf, doneCall, Underway, carriedOn, carriedThrough, GivenBytes, current, inImage, Faithful, afterReset, atLoad}
 use Rattle.rules.proofs.laws.Bits.{test}
 use Rattle.rules.proofs.laws.Images.{decode-well-formed, reset-well-formed}
+use Rattle.histories.proofs.laws.Folds.{history-append}
 use Rattle.histories.proofs.laws.WellFormed.{step-well, history-well}
 use Rattle.histories.proofs.laws.Chains.{never, passed, did-pass, handed, faithful-on, carried-on, reset-begins, done-call, own-image, load-begins, faithful-after-reset, faithful-at-load}
 use Rattle.histories.proofs.demands.FromCalls.{image-holds-device, history-since-load}
 use Rattle.plain.specs.Plain.{Engine, counted, Gave, gives}
-use Rattle.plain.specs.Sequence.{loadOf, shown}
-use Rattle.plain.specs.Beside.{idle, answers, startedBy, givesTo, meets, Agrees, AllAgree, afterCalls}
+use Rattle.plain.specs.Sequence.{loadOf, shown, notesOf, asMade}
+use Rattle.plain.specs.Beside.{idle, givesTo, meets, Agrees, AllAgree, afterCalls}
+use Rattle.plain.proofs.laws.Queues.{notes-made}
 use Rattle.plain.proofs.laws.Same.{Run, Same}
-use Rattle.plain.proofs.laws.Following.{stepped, countedRun, Alike, like-call, loadedRun, sized, same-load, same-counted, shown-is}
+use Rattle.plain.proofs.laws.Following.{stepped, countedRun, like-call, loadedRun, sized, same-load, same-counted, shown-is}
 
 -- ---- one exported call
 
@@ -30,11 +33,17 @@ record Beside (g : Gave) (u : Underway) (x : Exported) : Type 0 where
   run : Run
   same : Same (g .after) run
   device : run .device ≡ current u
+  made : map asMade (run .notes) ≡ history (u .began) (u .calls) .made
   agrees : isDone x ≡ true → Agrees g x
 
 -- the device of a faithful history under way is one that an image can hold
 current-well : (h : Underway) → Faithful h → WellFormed (current h)
 current-well h f = history-well (h .began) (h .calls) (f .began)
+
+history-made : (d : Device) (cs : List Call) (c : Call) → history d (cs ++ (c ∷ [])) .made ≡ history d cs .made ++ step (history d cs .after) c .made
+unfolding history
+history-made d cs c =
+    ap (λ (s : Step). s .made) (history-append d cs (c ∷ [])) ∙ ap (λ (ms : List Made). history d cs .made ++ ms) (append-nil (step (history d cs .after) c .made))
 
 history-one : (d : Device) (c : Call) → history d (c ∷ []) .after ≡ step d c .after
 unfolding history
@@ -46,8 +55,9 @@ module _ (e : Engine) (h : Underway) (x : Exported) where
   meets-is p q s t = givesTo (p t) (q t) (s t) e x
 
   -- a done call that is no load
-  beside-call : (r : Run) → Same e r → r .device ≡ current h → Faithful h → isDone x ≡ true → isLoad (h .left) x ≡ false → Beside (meets e h x) (carriedOn h x) x
-  beside-call r s i f t n =
+  beside-call : (r : Run) → Same e r → r .device ≡ current h → map asMade (r .notes) ≡ history (h .began) (h .calls) .made → Faithful h → isDone x ≡ true → isLoad (h .left) x ≡ false
+      → Beside (meets e h x) (carriedOn h x) x
+  beside-call r s i j f t n =
       let p = handed h x f t n in
       let c = p .call in
       let w = subst WellFormed (sym i) (current-well h f) in
@@ -55,11 +65,16 @@ module _ (e : Engine) (h : Underway) (x : Exported) where
       let is : meets e h x ≡ gives e c = meets-is t n (p .passes) in
       let one : doneCall x ≡ c ∷ [] = (λ j. cond (t j) (callOf (p .passes j)) []) in
       let after : step (current h) c .after ≡ current (carriedOn h x) = sym (carried-on h x f n .current ∙ ap (λ cs. history (current h) cs .after) one ∙ history-one (current h) c) in
+      let on = carried-on h x f n in
+      let new = notesOf (r .call) (r .device .ring) (step (r .device) c .made) in
       let shows = shown-is (gives e c .after) (stepped r c) (a .after) (sized (step-well (r .device) c w)) in
       subst (λ (g : Gave). Beside g (carriedOn h x) x) (sym is) (record {
         run = stepped r c;
         same = a .after;
         device = ap (λ (d : Device). step d c .after) i ∙ after;
+        made =
+            map-append asMade (r .notes) new ∙ ap₂ (λ (ms ns : List Made). ms ++ ns) j (notes-made (r .call) (r .device .ring) (step (r .device) c .made) ∙ ap (λ (d : Device). step d c .made) i)
+            ∙ sym (history-made (h .began) (h .calls) c) ∙ (λ z. history (sym (on .began) z) (sym (on .calls ∙ ap (λ cs. h .calls ++ cs) one) z) .made);
         agrees = λ _. record {
           image = ap (λ (o : Outcome). o .image) (p .left) ∙ ap (λ (d : Device). encode (step d c .after)) (sym i) ∙ ap encode (sym shows);
           answer = ap (λ (o : Outcome). o .answer) (p .left) ∙ ap (λ v. answered 0 v (x .answer)) (ap (λ (d : Device). value d c) (sym i) ∙ sym (a .value));
@@ -68,17 +83,19 @@ module _ (e : Engine) (h : Underway) (x : Exported) where
       })
 
   -- a refused call
-  beside-refused : (r : Run) → Same e r → r .device ≡ current h → Faithful h → isDone x ≡ false → Beside (meets e h x) (carriedOn h x) x
+  beside-refused : (r : Run) → Same e r → r .device ≡ current h → map asMade (r .notes) ≡ history (h .began) (h .calls) .made → Faithful h → isDone x ≡ false → Beside (meets e h x) (carriedOn h x) x
   unfolding history
-  beside-refused r s i f t =
+  beside-refused r s i j f t =
       let no : isLoad (h .left) x ≡ false = rw t in
       let none-done : doneCall x ≡ [] = (λ j. cond (t j) (callOf (askedBy (x .asked))) []) in
+      let on = carried-on h x f no in
       let stays : current (carriedOn h x) ≡ current h = carried-on h x f no .current ∙ ap (λ cs. history (current h) cs .after) none-done in
       let is : meets e h x ≡ idle (counted e) = meets-is t no refl in
       subst (λ (g : Gave). Beside g (carriedOn h x) x) (sym is) (record {
         run = countedRun r;
         same = same-counted e r s;
         device = i ∙ sym stays;
+        made = j ∙ (λ z. history (sym (on .began) z) (sym (on .calls ∙ ap (λ cs. h .calls ++ cs) none-done ∙ append-nil (h .calls)) z) .made);
         agrees = λ d. absurd (true≢false (sym d ∙ t));
       })
 
@@ -100,6 +117,7 @@ module _ (e : Engine) (h : Underway) (x : Exported) (t : isDone x ≡ true) wher
         run = loadedRun device.reset;
         same = same;
         device = sym (ap current (reset-begins h x t k));
+        made = sym (ap (λ (u : Underway). history (u .began) (u .calls) .made) (reset-begins h x t k));
         agrees = λ _. record {
           image = ap (λ (o : Outcome). o .image) left ∙ ap encode (sym (shown-is (loadOf e device.reset) (loadedRun device.reset) same (sized reset-well-formed)));
           answer = ap (λ (o : Outcome). o .answer) left;
@@ -116,17 +134,18 @@ module _ (e : Engine) (h : Underway) (x : Exported) (t : isDone x ≡ true) wher
       let g = loadOf e d in
       let u = atLoad (x .given) in
       let own = own-image x t a in
-      let one = beside-call g u x (loadedRun d) (same-load e d (decode-well-formed (x .given) b (did .accepted))) refl (faithful-at-load (x .given) b (did .accepted)) t own in
+      let one = beside-call g u x (loadedRun d) (same-load e d (decode-well-formed (x .given) b (did .accepted))) refl refl (faithful-at-load (x .given) b (did .accepted)) t own in
       let is : meets e h x ≡ meets g u x = meets-is e h x t n (did .passes) ∙ sym (meets-is g u x t own (did .passes)) in
       let goes : carriedOn h x ≡ carriedOn u x = load-begins x t a h n in
       subst (λ (v : Underway). Beside (meets e h x) v x) (sym goes) (subst (λ (y : Gave). Beside y (carriedOn u x) x) (sym is) one)
 
 -- any exported call
-beside : (e : Engine) (r : Run) (h : Underway) (x : Exported) → Same e r → r .device ≡ current h → Faithful h → Bytes (x .given) → Beside (meets e h x) (carriedOn h x) x
-beside e r h x s i f b =
+beside : (e : Engine) (r : Run) (h : Underway) (x : Exported) → Same e r → r .device ≡ current h → map asMade (r .notes) ≡ history (h .began) (h .calls) .made → Faithful h
+    → Bytes (x .given) → Beside (meets e h x) (carriedOn h x) x
+beside e r h x s i j f b =
     test (isDone x)
-    (λ t. test (isLoad (h .left) x) (λ n. go t n (askedBy (x .asked)) refl) (λ n. beside-call e h x r s i f t n))
-    (λ t. beside-refused e h x r s i f t)
+    (λ t. test (isLoad (h .left) x) (λ n. go t n (askedBy (x .asked)) refl) (λ n. beside-call e h x r s i j f t n))
+    (λ t. beside-refused e h x r s i j f t)
   where
     go : isDone x ≡ true → isLoad (h .left) x ≡ true → (k : Asked) → askedBy (x .asked) ≡ k → Beside (meets e h x) (carriedOn h x) x
     go t n afresh k = beside-reset e h x t k
@@ -137,37 +156,47 @@ beside e r h x s i f b =
 record Followed (e : Engine) (h : Underway) (xs : List Exported) : Type 0 where
   all : AllAgree e h xs
   shows : shown (afterCalls e h xs) ≡ current (carriedThrough h xs)
+  made : map asMade (afterCalls e h xs .history) ≡ history (carriedThrough h xs .began) (carriedThrough h xs .calls) .made
 
-followed : (e : Engine) (r : Run) (h : Underway) (xs : List Exported) → Same e r → r .device ≡ current h → Faithful h → GivenBytes xs → Followed e h xs
+followed : (e : Engine) (r : Run) (h : Underway) (xs : List Exported) → Same e r → r .device ≡ current h → map asMade (r .notes) ≡ history (h .began) (h .calls) .made
+    → Faithful h → GivenBytes xs → Followed e h xs
 unfolding AllAgree afterCalls carriedThrough
-followed e r h [] s i f b = record { all = tt; shows = shown-is e r s (sized (subst WellFormed (sym i) (current-well h f))) ∙ i }
-followed e r h (x ∷ xs) s i f b =
-    let one = beside e r h x s i f (b .0) in
-    let two = followed (meets e h x .after) (one .run) (carriedOn h x) xs (one .same) (one .device) (faithful-on h x f (λ _. b .0)) (b .1) in
-    record { all = (one .agrees, two .all); shows = two .shows }
+followed e r h [] s i j f b = record {
+  all = tt;
+  shows = shown-is e r s (sized (subst WellFormed (sym i) (current-well h f))) ∙ i;
+  made = ap (map asMade) (s .tail .notes) ∙ j;
+}
+followed e r h (x ∷ xs) s i j f b =
+    let one = beside e r h x s i j f (b .0) in
+    let two = followed (meets e h x .after) (one .run) (carriedOn h x) xs (one .same) (one .device) (one .made) (faithful-on h x f (λ _. b .0)) (b .1) in
+    record { all = (one .agrees, two .all); shows = two .shows; made = two .made }
 
-module _ (old : Engine) (h : Underway) (f : Faithful h) (xs : List Exported) (b : GivenBytes xs) where
-  abbrev start : Engine
-  start = loadOf old (current h)
+-- The plain engine is started with the device d, of reset or of an accepted image, and the history with it. Over any exported calls, refused ones, loads and
+-- resets among them:
+module _ (old : Engine) (d : Device) (i : List ℕ) (f : Faithful (record { began = d; calls = []; left = i })) (xs : List Exported) (b : GivenBytes xs) where
+  abbrev h : Underway
+  h = record { began = d; calls = []; left = i }
 
-  both : Followed start h xs
-  both = followed start (loadedRun (current h)) h xs (same-load old (current h) (current-well h f)) refl f b
+  both : Followed (loadOf old d) h xs
+  unfolding history
+  both = followed (loadOf old d) (loadedRun d) h xs (same-load old d (f .began)) refl refl f b
 
-  -- From any history under way, the plain engine being started with its device, over any exported calls, loads and resets among them: each call that is
-  -- done leaves the image of what the plain engine then shows, has its value in the answer area, and its drained events in the event buffer.
-  pub calls-as-plain : AllAgree start h xs
+  -- each call that is done leaves the image of what the plain engine then shows, has its value in the answer area and its drained events in the event buffer;
+  pub calls-as-plain : AllAgree (loadOf old d) h xs
   calls-as-plain = both .all
 
-  -- and the image left last holds what the plain engine shows: registers, bytes, waiting events and drop count
-  pub image-as-plain : inImage (carriedThrough h xs) ≡ shown (afterCalls start h xs)
+  -- the image left last holds what the plain engine shows: registers, bytes, waiting events and drop count;
+  pub image-as-plain : inImage (carriedThrough h xs) ≡ shown (afterCalls (loadOf old d) h xs)
   image-as-plain = image-holds-device (carriedThrough h xs) (history-since-load h xs f b) ∙ sym (both .shows)
 
--- From reset, and from an image that is accepted.
+  -- and the plain engine's history is of the events that the device has made since the last load or reset, in order.
+  pub events-as-plain : map asMade (afterCalls (loadOf old d) h xs .history) ≡ history (carriedThrough h xs .began) (carriedThrough h xs .calls) .made
+  events-as-plain = both .made
+
+-- So from reset, and from an image that is accepted.
 pub calls-as-plain-from-reset : (old : Engine) (xs : List Exported) → GivenBytes xs → AllAgree (loadOf old device.reset) afterReset xs
-unfolding history
-calls-as-plain-from-reset old xs b = calls-as-plain old afterReset faithful-after-reset xs b
+calls-as-plain-from-reset old xs b = calls-as-plain old device.reset (encode device.reset) faithful-after-reset xs b
 
 pub calls-as-plain-from-load : (old : Engine) (i : List ℕ) → Bytes i → imageTest i ≡ accepted → (xs : List Exported) → GivenBytes xs
     → AllAgree (loadOf old (decode i)) (atLoad i) xs
-unfolding history
-calls-as-plain-from-load old i c t xs b = calls-as-plain old (atLoad i) (faithful-at-load i c t) xs b
+calls-as-plain-from-load old i c t xs b = calls-as-plain old (decode i) i (faithful-at-load i c t) xs b

@@ -1,16 +1,13 @@
 -- 02, C-13: on every sequence of calls, loads and refused calls the plain engine gives what the ported one gives.
-use mathlib.Core.Path.{_≡_, refl, sym, ap, ap₂, _∙_}
-use mathlib.Core.List.{List, [], _∷_, _++_, map}
-use Prim.Native.Nat.{ℕ}
-use Rattle.rules.specs.Lines.{Made}
-use Rattle.rules.specs.Ring.{Event, dropped}
-use Rattle.rules.specs.Device.{Device, WellFormed, Call, Value, none, step, value}
-use Rattle.rules.specs.History.{history}
-use Rattle.histories.proofs.laws.WellFormed.{step-well, history-well}
-use Rattle.plain.specs.Plain.{Engine, counted, gives, droppedIn}
-use Rattle.plain.specs.Sequence.{loadOf, shown, Item, call, load, refused, Seen, portedSees, plainSees, WellLoaded, plainAfter, asMade}
+use mathlib.Core.Path.{_≡_, refl}
+use mathlib.Core.List.{List, [], _∷_}
+use Rattle.rules.specs.Ring.{dropped}
+use Rattle.rules.specs.Device.{Device, WellFormed, none, value}
+use Rattle.histories.proofs.laws.WellFormed.{step-well}
+use Rattle.plain.specs.Plain.{Engine, counted, gives}
+use Rattle.plain.specs.Sequence.{loadOf, Item, call, load, refused, portedSees, plainSees, WellLoaded}
 use Rattle.plain.proofs.laws.Same.{Run, Same}
-use Rattle.plain.proofs.laws.Following.{stepped, countedRun, Alike, like-call, loadedRun, sized, same-load, same-counted, shown-is}
+use Rattle.plain.proofs.laws.Following.{stepped, countedRun, like-call, loadedRun, sized, same-load, same-counted, shown-is}
 
 -- ---- side by side
 

@@ -1,5 +1,5 @@
 -- Reads and writes of every width: the plain engine reads what the ported one reads, and a write keeps both side by side.
-use mathlib.Core.Path.{_≡_, refl, sym, ap, ap₂, subst, _∙_}
+use mathlib.Core.Path.{_≡_, refl, sym, ap, _∙_}
 use mathlib.Core.Bool.{Bool, true, false, cond, not, _&&_}
 use mathlib.Core.List.{List, [], _∷_, _++_, append-nil}
 use Prim.Native.Nat.{ℕ, zero, suc, _+_, _-_, _*_, _%_, _^_, _<_}
@@ -9,7 +9,7 @@ use Rattle.rules.specs.Numbers.{numberOf, byteOf, withByte}
 use Rattle.rules.specs.Inputs.{on, numberWith, inputs, only, put, without, half, withHalf, asHalf}
 use Rattle.rules.specs.Lines.{Lines, withIrr, withMask, serve, enter, leave, pendingIn, polled, raised, lowered, cleared, masked, newlyUnmasked, newlyMasked}
 use Rattle.rules.specs.Ring.{ringRun, dropped}
-use Rattle.rules.specs.Core.{Core, Plain, Stored, plain, withPlain, withRoutes, Act, Move, Store, move, setIsr, store, setVector, setPlain, setRoute, poll, raise, lower, clear, setMask, moved, lineTurn, vectorsAfter, storedAfter, turn, turns}
+use Rattle.rules.specs.Core.{Core, Plain, Stored, plain, withPlain, withRoutes, Act, Move, move, setIsr, store, setVector, setPlain, setRoute, poll, raise, lower, clear, setMask, moved, lineTurn, vectorsAfter, storedAfter, turn, turns}
 use Rattle.rules.specs.Map as map
 use Rattle.rules.specs.Map.{Register, Cell, cellAt, routesAt, vectorsAt, inRoutes, inVectors, inByteArea}
 use Rattle.rules.specs.Access.{Width, byte, word, dword, qword, registerActs, entryActs, cellActs, dwordActs, byteActs, writeActs}

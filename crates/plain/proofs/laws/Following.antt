@@ -1,25 +1,24 @@
 -- One call: the plain engine gives the value and the drained events of the ported one, and both stand side by side after it.
-use mathlib.Core.Path.{_≡_, refl, sym, ap, ap₂, subst, _∙_}
+use mathlib.Core.Path.{_≡_, refl, sym, ap, _∙_}
 use mathlib.Core.Bool.{Bool, true, false}
 use mathlib.Core.List.{List, [], _∷_, _++_, map, append-nil}
-use Prim.Native.Nat.{ℕ, _+_, _-_, _≤_, min}
+use Prim.Native.Nat.{ℕ, _+_, min}
 use native.Mathlib.Omega.{arith}
-use lib.ListN.{length, take, getD, length-append}
-use Rattle.rules.specs.Lines.{Made}
-use Rattle.rules.specs.Ring.{Event, Ring, stop, drawn, ringRun, dropped}
-use Rattle.rules.specs.Core.{Core, Act, CoreTurn, Move, move, moved, turn, turns, lineTurn}
+use lib.ListN.{length, take, length-append}
+use Rattle.rules.specs.Ring.{Event, stop, drawn, ringRun, dropped}
+use Rattle.rules.specs.Core.{CoreTurn, Move, move, moved, turns, lineTurn}
 use Rattle.rules.specs.Core as core
 use Rattle.rules.specs.Access.{Width, writeActs}
-use Rattle.rules.specs.Device.{Device, WellFormed, Call, level, poll, read, write, drain, Value, none, some, actsOf, draws, acted, step, value, returned, lost}
+use Rattle.rules.specs.Device.{Device, WellFormed, Call, level, poll, read, write, drain, some, actsOf, draws, acted, step, value, returned, lost}
 use Rattle.rules.specs.Device as device
 use Rattle.rules.proofs.laws.Acts.{step-acted}
 use Rattle.rules.proofs.laws.Steps.{turns-one, drain-device, drain-drained}
-use Rattle.plain.specs.Machine.{Machine, polls, raises, lowers}
-use Rattle.plain.specs.Plain.{Engine, Heard, heardFrom, heard, Steps, at, stepping, returns, counted, vectorOf, lostBetween, droppedIn, waiting, asked, gives, startedWith, withQueue, withDrained, asLoaded, writeAt}
-use Rattle.plain.specs.Sequence.{machineIn, loadOf, shown, notesOf}
-use Rattle.plain.proofs.laws.Machines.{oneOf, one-of, madeBy, Steps-are, polled-steps, raised-steps, lowered-steps}
-use Rattle.plain.proofs.laws.Queues.{tail-of, ringAfter, lostOf, loaded-kept, loaded-dropped, drained-tail}
-use Rattle.plain.proofs.laws.Same.{Run, Same, by-run, acting, acting-none, acting-move, turning, turn-returns, heard-same}
+use Rattle.plain.specs.Machine.{polls, raises, lowers}
+use Rattle.plain.specs.Plain.{Engine, Heard, heard, Steps, at, stepping, returns, counted, vectorOf, lostBetween, waiting, gives, withQueue, withDrained, asLoaded, writeAt}
+use Rattle.plain.specs.Sequence.{loadOf, shown, notesOf}
+use Rattle.plain.proofs.laws.Machines.{one-of, madeBy, Steps-are, polled-steps, raised-steps, lowered-steps}
+use Rattle.plain.proofs.laws.Queues.{tail-of, lostOf, loaded-kept, loaded-dropped, drained-tail}
+use Rattle.plain.proofs.laws.Same.{Run, Same, by-run, acting, acting-none, acting-move, turn-returns, heard-same}
 use Rattle.plain.proofs.laws.Accesses.{Sized, SizedRun, mask-read, irr-read, isr-read, read-same, same-write}
 
 -- the ported engine after a call

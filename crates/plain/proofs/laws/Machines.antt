@@ -1,19 +1,18 @@
 -- The machines against the lines: input by input a step of the machines is what the rules' engine does to the bits of its registers, and what is heard is what it makes.
 use mathlib.Core.Path.{_≡_, refl, sym, ap, ap₂, _∙_}
-use mathlib.Core.Bool.{Bool, true, false, cond, not, _&&_, _||_, true≢false, false≢true, and-true, and-false, and-comm, or-false}
+use mathlib.Core.Bool.{Bool, true, false, cond, not, _&&_, _||_, true≢false, false≢true, and-true, or-false}
 use mathlib.Core.List.{List, [], _∷_, _++_, map}
-use Prim.Native.Nat.{ℕ, zero, suc, _+_, _/_, _%_, _^_, _<_, _≤_}
+use Prim.Native.Nat.{ℕ, zero, suc, _+_, _/_, _%_, _<_, _≤_}
 use native.Mathlib.Omega.{arith}
 use lib.Dec.{eqb, ltb}
-use lib.ListN.{getD}
-use borrow.Author.Tests.{eq-eqb, ne-eqb, eqb-true, ltb-true, ltb-false}
-use Rattle.rules.specs.Inputs.{on, from, inputs, only, put, without, half, withHalf, asHalf}
+use borrow.Author.Tests.{ne-eqb, eqb-true, ltb-true, ltb-false}
+use Rattle.rules.specs.Inputs.{on, from, inputs, only, put, without, withHalf, asHalf}
 use Rattle.rules.specs.Lines.{Lines, Made, Turn, event, isPending, pendingIn, servedIn, withIrr, withIsr, withMask, serve, enter, leave, newlyUnmasked, newlyMasked}
 use Rattle.rules.specs.Lines.{polled, raised, lowered, cleared, masked}
 use Rattle.rules.proofs.laws.Bits.{test, on-none, on-put, on-without}
-use Rattle.rules.proofs.laws.Inputs.{from-ext, inputs-ext, no-inputs, only-input, first-has}
+use Rattle.rules.proofs.laws.Inputs.{inputs-ext, no-inputs, only-input, first-has}
 use Rattle.rules.proofs.laws.Halves.{placed, by-halves, on-new-half, on-kept-half}
-use Rattle.plain.specs.Machine.{Machine, Signal, quiet, asserts, deasserts, Stepped, rests, polls, raises, lowers, masks, unmasks, couldWake, serves}
+use Rattle.plain.specs.Machine.{Machine, Signal, quiet, asserts, deasserts, Stepped, rests, polls, raises, lowers}
 use Rattle.plain.specs.Plain.{Heard, inFront, heardFrom, Steps, at, Brought, nothing, bit, brings, clearedBy, unmaskedBy, maskedBy, wakable, servedBy}
 use Rattle.plain.specs.Plain.{Found, nobody, found, lowestFrom, isIt}
 use Rattle.plain.specs.Sequence.{machineIn}

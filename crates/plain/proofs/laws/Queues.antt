@@ -1,21 +1,21 @@
 -- The list of the events offered against the ring: what waits, the drop count, the events made and those dropped, event by event.
-use mathlib.Core.Path.{_≡_, refl, sym, ap, ap₂, subst, _∙_}
+use mathlib.Core.Path.{_≡_, refl, sym, ap, subst, _∙_}
 use mathlib.Core.Bool.{Bool, true, false, cond}
-use mathlib.Core.List.{List, [], _∷_, _++_, map, map-append, append-nil, append-assoc}
-use Prim.Native.Nat.{ℕ, zero, suc, _+_, _-_, _≤_, min}
+use mathlib.Core.List.{List, [], _∷_, _++_, map, append-nil, append-assoc}
+use Prim.Native.Nat.{ℕ, _+_, _≤_, min}
 use native.Mathlib.Omega.{arith}
 use lib.Dec.{ltb}
-use lib.ListN.{length, take, drop, getD, length-append, length-drop, drop-of-length-le}
+use lib.ListN.{length, drop, length-append, length-drop, drop-of-length-le}
 use lib.Seq.{drop-append-le, drop-drop, drop-length}
 use borrow.Author.Tests.{ltb-true, ltb-false}
 use Rattle.rules.specs.Lines.{Made, event}
-use Rattle.rules.specs.Ring.{capacity, stop, Event, Ring, RingAct, offer, draw, Drawn, drawn, offered, ringStep, ringRun, droppedBy, dropped}
+use Rattle.rules.specs.Ring.{capacity, stop, Event, Ring, offer, drawn, offered, ringStep, ringRun, droppedBy, dropped}
 use Rattle.rules.specs.Device as device
 use Rattle.rules.proofs.laws.Bits.{test}
-use Rattle.plain.specs.Plain.{Source, Offered, Queue, keptIn, droppedIn, waiting, dropCount, hasRoom, withOffer, withDrained, asLoaded, Fate, kept, Note}
+use Rattle.plain.specs.Plain.{Source, Offered, Queue, keptIn, droppedIn, waiting, dropCount, hasRoom, withDrained, asLoaded, kept, Note}
 use Rattle.plain.specs.Plain.{returned, Engine, withQueue, Heard, noted, returns, offers, eachHeard, input}
 use Rattle.plain.specs.Plain as plain
-use Rattle.plain.specs.Sequence.{noteOf, fateIn, ringWith, notesOf, isOffered, asMade, listedAs, inList, listed}
+use Rattle.plain.specs.Sequence.{noteOf, fateIn, ringWith, notesOf, asMade, listedAs, inList, listed}
 use Rattle.plain.proofs.laws.Machines.{madeBy}
 
 -- ---- marks

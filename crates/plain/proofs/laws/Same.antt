@@ -1,33 +1,26 @@
 -- The plain engine and the ported one side by side: the relation between them, kept by every half, byte and width that is written.
-use mathlib.Core.Path.{_≡_, refl, sym, ap, ap₂, subst, _∙_}
-use mathlib.Core.Bool.{Bool, true, false, cond, not, _&&_}
+use mathlib.Core.Path.{_≡_, refl, sym, ap, subst, _∙_}
+use mathlib.Core.Bool.{Bool, true, false}
 use mathlib.Core.List.{List, [], _∷_, _++_, map, append-nil, append-assoc}
-use Prim.Native.Nat.{ℕ, zero, suc, _+_, _-_, _*_, _%_, _^_, _<_}
-use native.Mathlib.Omega.{arith}
-use lib.ListN.{length, getD, set}
-use Rattle.rules.specs.Numbers.{numberOf, byteOf, withByte}
-use Rattle.rules.specs.Inputs.{on, numberWith, inputs, put, without, half, withHalf, asHalf}
-use Rattle.rules.specs.Lines.{Lines, Made, Turn, stay, withIsr, withMask, withIrr, serve, enter, leave, pendingIn, masked, polled, raised, lowered, cleared, newlyUnmasked, newlyMasked}
+use Prim.Native.Nat.{ℕ, _<_}
+use Rattle.rules.specs.Inputs.{half, withHalf}
+use Rattle.rules.specs.Lines.{Made, Turn, withIsr, leave, masked}
 use Rattle.rules.specs.Ring.{Event, Ring, RingAct, Drawn, ringRun, dropped}
-use Rattle.rules.specs.Core.{Core, Stored, CoreTurn, Move, Act, move, setIsr, store, setVector, setPlain, setRoute, poll, raise, lower, clear, setMask, moved, lineTurn, vectorsAfter, storedAfter, turn, turns}
-use Rattle.rules.specs.Map as map
-use Rattle.rules.specs.Map.{Register, Cell, cellAt, routesAt, vectorsAt, inRoutes, inVectors, inByteArea}
-use Rattle.rules.specs.Access.{Width, byte, word, dword, qword, registerActs, entryActs, cellActs, dwordActs, byteActs, writeActs}
-use Rattle.rules.specs.Access as access
+use Rattle.rules.specs.Core.{Stored, CoreTurn, Move, Act, move, setIsr, setMask, moved, lineTurn, vectorsAfter, storedAfter, turn, turns}
+use Rattle.rules.specs.Access.{byte}
 use Rattle.rules.specs.Device.{Device, acted}
 use Rattle.rules.specs.Device as device
-use Rattle.rules.proofs.laws.Bits.{test, is-number, register-ext, put-lt, without-lt}
 use Rattle.rules.proofs.laws.Rings.{run-append, dropped-append}
 use Rattle.rules.proofs.laws.Acts.{turns-append, offers-append, acted-none, acted-append}
 use Rattle.rules.proofs.laws.Steps.{turns-one, acted-one}
-use Rattle.plain.specs.Machine.{Machine, Stepped}
-use Rattle.plain.specs.Plain.{Note, Engine, Heard, heardFrom, heard, Steps, stepping, returns, offers, eachHeard, withMachines, withStored, withVectors}
-use Rattle.plain.specs.Plain.{Brought, brings, clearedBy, unmaskedBy, maskedBy, wakable, servedBy, Found, lowestFrom, isIt, remaskedBy, remasked}
-use Rattle.plain.specs.Plain.{numberBelow, number, valueOf, entry, readCell, readDword, readByte, readAt, writeHalf, writeEntry, writeCell, writeDword, writeByte, writeAt}
+use Rattle.plain.specs.Machine.{Machine}
+use Rattle.plain.specs.Plain.{Note, Engine, heardFrom, heard, Steps, stepping, returns, offers, withMachines}
+use Rattle.plain.specs.Plain.{brings, unmaskedBy, maskedBy, wakable, Found, lowestFrom, remaskedBy, remasked}
+use Rattle.plain.specs.Plain.{number}
 use Rattle.plain.specs.Sequence.{notesOf}
-use Rattle.plain.proofs.laws.Machines.{machine, oneOf, madeBy, heard-ext, Steps-are, cleared-steps, served-steps, lowest-ext}
+use Rattle.plain.proofs.laws.Machines.{machine, oneOf, madeBy, heard-ext, Steps-are, lowest-ext}
 use Rattle.plain.proofs.laws.Machines.{wokenIn, middle, unmask-made, mask-after, mask-made, masked-is, new, begun, leaving}
-use Rattle.plain.proofs.laws.Queues.{Tail, tail-of, Else, offers-else, returns-else, ringAfter, lostOf, offers-tail, returns-tail, returned-unoffered, notes-append}
+use Rattle.plain.proofs.laws.Queues.{Tail, tail-of, offers-else, returns-else, ringAfter, lostOf, offers-tail, returns-tail, returned-unoffered, notes-append}
 
 -- ---- the relation
 

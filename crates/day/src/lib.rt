@@ -1,1 +1,0 @@
-// The worked day has no code: see proofs/.
