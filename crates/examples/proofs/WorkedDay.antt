@@ -12,8 +12,8 @@ use Rattle.rules.proofs.laws.Computing.{computing}
 use Rattle.rules.proofs.demands.RoundTrip.{reset-can-be-saved}
 use Rattle.histories.proofs.laws.WellFormed.{history-well}
 use Rattle.plain.specs.Machine.{Machine}
-use Rattle.plain.specs.Plain.{input, asLoaded, Fate, returned, kept, dropped, Note, Engine, waiting, dropCount, gives}
-use Rattle.plain.specs.Sequence.{loadOf, Item, call, load, refused, follows, portedSees, plainSees, WellLoaded, plainAfter}
+use Rattle.plain.specs.Plain.{input, asLoaded, Fate, returned, kept, dropped, Note, Engine, waiting, dropCount}
+use Rattle.plain.specs.Sequence.{loadOf, Item, call, load, refused, takes, portedSees, plainSees, WellLoaded, plainAfter}
 use Rattle.plain.proofs.laws.Plainly.{plainly}
 use Rattle.plain.proofs.demands.SameEngine.{plain-is-ported}
 
@@ -92,11 +92,6 @@ record Row : Type 0 where
   waits : List Event
   drops : ℕ
 
-valueAt : Engine → Item → Value
-valueAt e (call c) = gives e c .value
-valueAt e (load d) = none
-valueAt e refused = none
-
 rowOf : ℕ → Value → Engine → Row
 rowOf k v e = record {
   number = k;
@@ -110,7 +105,7 @@ rowOf k v e = record {
 
 rows : Engine → List Item → List Row
 rows e [] = []
-rows e (x ∷ xs) = rowOf (e .call) (valueAt e x) (follows e x) ∷ rows (follows e x) xs
+rows e (x ∷ xs) = let g = takes e x in rowOf (e .call) (g .value) (g .after) ∷ rows (g .after) xs
 
 row : ℕ → Value → Machine → Machine → Machine → List Event → ℕ → Row
 row k v a b c es d = record { number = k; value = v; three = a; five = b; nine = c; waits = es; drops = d }
@@ -144,7 +139,7 @@ worked-day : (old : Engine) → rows (loadOf old reset) day
     row 1 (some 15) (m true true false) (m false true false) (m true true false) (down 3 ∷ []) 1 ∷
     row 2 (some 0) (m true true false) (m false true false) (m true true false) (down 3 ∷ []) 1 ∷
     []
-unfolding computing plainly rows rowOf valueAt row
+unfolding computing plainly rows rowOf row
 worked-day old = refl
 
 -- ---- the history before the load, and the one that it begins

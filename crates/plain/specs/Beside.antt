@@ -2,17 +2,12 @@
 use mathlib.Core.Bool.{Bool, true, cond}
 use mathlib.Core.List.{List, [], _∷_}
 use mathlib.Core.Path.{_≡_}
-use Rattle.rules.specs.Device.{none}
 use Rattle.rules.specs.Device as device
 use Rattle.rules.specs.Image.{encode, decode}
 use Rattle.rules.specs.Calls.{pass, refuse, Asked, afresh, calls, askedBy, answered, bufferOf, placeOf, written}
 use Rattle.histories.specs.Exported.{Exported, leftBy, isDone, isReset, isLoad, Underway, carriedOn}
-use Rattle.plain.specs.Plain.{Engine, counted, Gave, gives}
+use Rattle.plain.specs.Plain.{Engine, counted, Gave, idle, gives}
 use Rattle.plain.specs.Sequence.{loadOf, shown}
-
--- a call that changes nothing and gives nothing
-abbrev pub idle : Engine → Gave
-idle e = record { after = e; value = none; drained = [] }
 
 -- what is asked of the engine: a reset starts it afresh and is no call of what it starts; a call is made
 abbrev pub answers : Engine → Asked → Gave

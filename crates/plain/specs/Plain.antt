@@ -337,6 +337,10 @@ pub record Gave : Type 0 where
   pub value : Value
   pub drained : List Event
 
+-- nothing is given, and nothing is drained
+abbrev pub idle : Engine → Gave
+idle e = record { after = e; value = none; drained = [] }
+
 -- a call of one input: the event is returned (01, Inputs)
 abbrev pub asked : Engine → Steps → Gave
 asked e f = record { after = counted (stepping returns f e); value = vectorOf e (heard f e); drained = [] }

@@ -8,7 +8,7 @@ use Rattle.rules.specs.Lines.{Lines, Made}
 use Rattle.rules.specs.Ring.{capacity, Event, Ring, offered}
 use Rattle.rules.specs.Device.{Device, WellFormed, Call, Value, none, step, value}
 use Rattle.plain.specs.Machine.{Machine}
-use Rattle.plain.specs.Plain.{input, Offered, Fate, returned, kept, dropped, Note, Engine, startedWith, counted, waiting, dropCount, number, gives}
+use Rattle.plain.specs.Plain.{input, Offered, Fate, returned, kept, dropped, Note, Engine, startedWith, counted, waiting, dropCount, number, Gave, idle, gives}
 
 -- ---- from a device and back
 
@@ -57,16 +57,16 @@ portedSees d (load f ∷ xs) = record { value = none; drained = []; shows = f } 
 portedSees d (refused ∷ xs) = record { value = none; drained = []; shows = d } ∷ portedSees d xs
 
 -- the plain engine: a refused call changes nothing, and has a number all the same (02, C-21)
-abbrev pub follows : Engine → Item → Engine
-follows e (call c) = gives e c .after
-follows e (load d) = loadOf e d
-follows e refused = counted e
+abbrev pub takes : Engine → Item → Gave
+takes e (call c) = gives e c
+takes e (load d) = idle (loadOf e d)
+takes e refused = idle (counted e)
 
 unfoldable pub plainSees : Engine → List Item → List Seen
 plainSees e [] = []
-plainSees e (call c ∷ xs) = let g = gives e c in record { value = g .value; drained = g .drained; shows = shown (g .after) } ∷ plainSees (g .after) xs
-plainSees e (load d ∷ xs) = let f = loadOf e d in record { value = none; drained = []; shows = shown f } ∷ plainSees f xs
-plainSees e (refused ∷ xs) = record { value = none; drained = []; shows = shown e } ∷ plainSees (counted e) xs
+plainSees e (x ∷ xs) =
+    let g = takes e x in
+    record { value = g .value; drained = g .drained; shows = shown (g .after) } ∷ plainSees (g .after) xs
 
 -- the loads are of devices that an image can hold
 unfoldable pub WellLoaded : List Item → Type 0
@@ -78,7 +78,7 @@ WellLoaded (refused ∷ xs) = WellLoaded xs
 -- the engine after all
 unfoldable pub plainAfter : Engine → List Item → Engine
 plainAfter e [] = e
-plainAfter e (x ∷ xs) = plainAfter (follows e x) xs
+plainAfter e (x ∷ xs) = plainAfter (takes e x .after) xs
 
 -- ---- the history, as the ported engine's events tell it
 

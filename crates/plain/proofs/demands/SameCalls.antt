@@ -19,9 +19,9 @@ use Rattle.histories.proofs.laws.Folds.{history-append}
 use Rattle.histories.proofs.laws.WellFormed.{step-well, history-well}
 use Rattle.histories.proofs.laws.Chains.{never, passed, did-pass, handed, faithful-on, carried-on, reset-begins, done-call, own-image, load-begins, faithful-after-reset, faithful-at-load}
 use Rattle.histories.proofs.demands.FromCalls.{image-holds-device, history-since-load}
-use Rattle.plain.specs.Plain.{Engine, counted, Gave, gives}
+use Rattle.plain.specs.Plain.{Engine, counted, Gave, idle, gives}
 use Rattle.plain.specs.Sequence.{loadOf, shown, notesOf, asMade}
-use Rattle.plain.specs.Beside.{idle, givesTo, meets, Agrees, AllAgree, afterCalls}
+use Rattle.plain.specs.Beside.{givesTo, meets, Agrees, AllAgree, afterCalls}
 use Rattle.plain.proofs.laws.Queues.{notes-made}
 use Rattle.plain.proofs.laws.Same.{Run, Same}
 use Rattle.plain.proofs.laws.Following.{stepped, countedRun, like-call, loadedRun, sized, same-load, same-counted, shown-is}
