@@ -19,14 +19,15 @@ answers e (calls (refuse r)) = idle (counted e)
 abbrev pub startedBy : Engine → Asked → Exported → Engine
 startedBy e k x = loadOf e (cond (isReset k) device.reset (decode (x .given)))
 
--- what the plain engine gives where a host makes an exported call: a load starts it afresh, and its own call is the first; a refused call only counts
+-- what the plain engine gives where a host makes an exported call: a load starts it afresh, and its own call is number 0; a refused call only counts
 abbrev pub givesTo : (done load : Bool) → Asked → Engine → Exported → Gave
 givesTo done load k e x = cond done (answers (cond load (startedBy e k x) e) k) (idle (counted e))
 
 unfoldable pub meets : Engine → Underway → Exported → Gave
 meets e h x = givesTo (isDone x) (isLoad (h .left) x) (askedBy (x .asked)) e x
 
--- the bytes of a done call are what the plain engine gives: the image is of what it shows, the answer area has its value, the event buffer the events that it drained
+-- the bytes of a done call are what the plain engine gives: the image is of what it shows, the answer area has its value, the event buffer the events that
+-- it drained (01, The boundary; 01, The ring)
 pub record Agrees (g : Gave) (x : Exported) : Type 0 where
   pub image : leftBy x .image ≡ encode (shown (g .after))
   pub answer : leftBy x .answer ≡ answered 0 (g .value) (x .answer)

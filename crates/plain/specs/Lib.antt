@@ -1,4 +1,5 @@
--- The plain engine of 02, C-13: sixty-four one-input machines, the list of the events offered, the history of the events made. docs/PLAIN.md tells the same in plain words.
+-- The plain engine of 02, C-13: sixty-four one-input machines, the list of the events offered, the history of the events made. Read in this order.
+-- docs/PLAIN.md tells the same in plain words.
 pub mod Machine
 pub mod Plain
 pub mod Sequence

@@ -41,14 +41,15 @@ masks m =
     cond (m .masked) (rests m)
     (record { after = record { latched = m .latched; masked = true; inService = false }; signal = cond (m .inService) deasserts quiet })
 
--- unmask: one that is woken goes into service and asserts (01, Inputs: MASK)
-abbrev pub unmasks : (woken : Bool) → Machine → Stepped
-unmasks woken m =
-    record { after = record { latched = m .latched; masked = false; inService = m .inService || woken }; signal = cond woken asserts quiet }
-
--- an unmask could wake it: it is masked, latched and not in service
+-- an unmask could wake it: it is masked, latched and not in service (01, Inputs: MASK)
 abbrev pub couldWake : Machine → Bool
 couldWake m = m .masked && m .latched && not (m .inService)
+
+-- unmask: one that could wake, and is the lowest that could, goes into service and asserts (01, Inputs: MASK)
+abbrev pub unmasks : (lowest : Bool) → Machine → Stepped
+unmasks lowest m =
+    let wakes = couldWake m && lowest in
+    record { after = record { latched = m .latched; masked = false; inService = m .inService || wakes }; signal = cond wakes asserts quiet }
 
 -- a write to ISR: service becomes what is written, and nothing is heard (01, Window and register map)
 abbrev pub serves : Bool → Machine → Stepped

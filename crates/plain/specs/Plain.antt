@@ -1,5 +1,6 @@
 -- The plain engine: sixty-four machines, the stored registers and bytes beside them, an unbounded list of the events offered, and the history of the events made.
--- Each call as the machines take it. Only a write to MASK looks across inputs, to find the lowest that it wakes.
+-- Each call as the machines take it. Only a write to MASK looks across inputs, to find the lowest that it wakes. Of the rules it uses the register map, calls and
+-- widths, the halves and bytes of numbers, and the record of what is only stored; nothing of their lines, and nothing of their ring but an event's two fields.
 use mathlib.Core.Bool.{Bool, true, false, cond, not, _&&_}
 use mathlib.Core.List.{List, [], _∷_, _++_, map}
 use Prim.Native.Nat.{ℕ, zero, suc, _+_, _-_, _*_, _/_, _%_, _^_, min}
@@ -147,29 +148,20 @@ at n f k m = cond (eqb k n) (f m) (rests m)
 abbrev pub noted : Engine → Fate → Heard → Note
 noted e f h = record { input = h .input; call = e .call; vector = getD (e .vectors) (h .input) 0; asserted = h .asserted; fate = f }
 
--- an event is returned to the caller: it is in the history, and not in the list (01, Inputs)
-abbrev pub returns : Engine → Heard → Engine
-returns e h =
-    record {
-      machines = e .machines;
-      vectors = e .vectors;
-      stored = e .stored;
-      queue = e .queue;
-      call = e .call;
-      history = e .history ++ (noted e returned h ∷ []);
-    }
+-- the engine with another list, and an event more in the history
+abbrev pub withNote : Engine → Queue → Note → Engine
+withNote e q n =
+    record { machines = e .machines; vectors = e .vectors; stored = e .stored; queue = q; call = e .call; history = e .history ++ (n ∷ []) }
 
--- an event is offered: it is in both
+-- an event is offered: it is in the list and in the history
 abbrev pub offers : Engine → Heard → Engine
 offers e h =
-    record {
-      machines = e .machines;
-      vectors = e .vectors;
-      stored = e .stored;
-      queue = withOffer (e .queue) (input (h .input)) (record { vector = getD (e .vectors) (h .input) 0; asserted = h .asserted });
-      call = e .call;
-      history = e .history ++ (noted e (cond (hasRoom (e .queue)) kept dropped) h ∷ []);
-    }
+    let x : Event = record { vector = getD (e .vectors) (h .input) 0; asserted = h .asserted } in
+    withNote e (withOffer (e .queue) (input (h .input)) x) (noted e (cond (hasRoom (e .queue)) kept dropped) h)
+
+-- an event is returned to the caller: it is in the history, and not in the list (01, Inputs)
+abbrev pub returns : Engine → Heard → Engine
+returns e h = withNote e (e .queue) (noted e returned h)
 
 -- one after another
 unfoldable pub eachHeard : (Engine → Heard → Engine) → Engine → List Heard → Engine
@@ -197,10 +189,10 @@ clearedBy (bit true) m = lowers m
 clearedBy (bit false) m = rests m
 
 -- MASK: a 0 unmasks, a 1 masks (01, Inputs: MASK)
-abbrev pub unmaskedBy : (woken : Bool) → Brought → Machine → Stepped
-unmaskedBy woken nothing m = rests m
-unmaskedBy woken (bit true) m = rests m
-unmaskedBy woken (bit false) m = unmasks woken m
+abbrev pub unmaskedBy : (lowest : Bool) → Brought → Machine → Stepped
+unmaskedBy lowest nothing m = rests m
+unmaskedBy lowest (bit true) m = rests m
+unmaskedBy lowest (bit false) m = unmasks lowest m
 
 abbrev pub maskedBy : Brought → Machine → Stepped
 maskedBy nothing m = rests m
@@ -231,7 +223,7 @@ abbrev pub isIt : Found → ℕ → Bool
 isIt nobody n = false
 isIt (found m) n = eqb n m
 
--- MASK: of those that could wake only the lowest is woken; then the others of the half are masked; all is offered (01, Inputs: MASK)
+-- MASK: of those that could wake only the lowest does; then those that are brought a 1 are masked; all is offered (01, Inputs: MASK)
 abbrev pub remaskedBy : Found → Bool → ℕ → Engine → Engine
 remaskedBy lowest h v e =
     stepping offers (λ n. maskedBy (brings h v n)) (stepping offers (λ n. unmaskedBy (isIt lowest n) (brings h v n)) e)

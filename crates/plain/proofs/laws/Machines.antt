@@ -1,6 +1,6 @@
 -- The machines against the lines: input by input a step of the machines is what the rules' engine does to the bits of its registers, and what is heard is what it makes.
 use mathlib.Core.Path.{_≡_, refl, sym, ap, ap₂, _∙_}
-use mathlib.Core.Bool.{Bool, true, false, cond, not, _&&_, _||_, true≢false, false≢true, and-true, or-false}
+use mathlib.Core.Bool.{Bool, true, false, cond, not, _&&_, _||_, true≢false, and-true, and-false, or-false}
 use mathlib.Core.List.{List, [], _∷_, _++_, map}
 use Prim.Native.Nat.{ℕ, zero, suc, _+_, _/_, _%_, _<_, _≤_}
 use native.Mathlib.Omega.{arith}
@@ -272,11 +272,6 @@ lowest-first n (suc k) f = test (f n) (λ t. rw t) (λ t. rw t (lowest-first (su
 pub lowest-ext : (f g : ℕ → Bool) → ((i : ℕ) → i < 64 → f i ≡ g i) → lowestFrom 0 64 f ≡ lowestFrom 0 64 g
 lowest-ext f g e = lowest-first 0 64 f ∙ ap firstOf (inputs-ext f g e) ∙ sym (lowest-first 0 64 g)
 
--- a 0 is brought
-abbrev opens : Brought → Bool
-opens nothing = false
-opens (bit b) = not b
-
 module _ (h : Bool) (v : ℕ) (l : Lines) (vs : List ℕ) where
   abbrev pub new : ℕ
   new = withHalf h (l .mask) v
@@ -308,23 +303,16 @@ module _ (h : Bool) (v : ℕ) (l : Lines) (vs : List ℕ) where
   woken-is : (n : ℕ) → wokenIn n ≡ isIt (firstOf (inputs fresh)) n
   woken-is n = ap (λ (w : Found). isIt w n) (lowest-first 0 64 _ ∙ ap firstOf (inputs-ext _ fresh wakable-is))
 
-  -- only one that is brought a 0 is woken
-  woken-opens : (n : ℕ) → (wokenIn n && not (opens (brings h v n))) ≡ false
+  -- only one that could wake is woken
+  woken-could : (n : ℕ) → n < 64 → (wokenIn n && not (wakable (brings h v n) (oneOf l n))) ≡ false
   unfolding firstOf
-  woken-opens n = ap (λ (c : Bool). c && not (opens (brings h v n))) (woken-is n) ∙ go (inputs fresh) refl
+  woken-could n b = ap (λ (c : Bool). c && not (wakable (brings h v n) (oneOf l n))) (woken-is n) ∙ go (inputs fresh) refl
     where
-      opened : (x : Brought) (m : Machine) → wakable x m ≡ true → not (opens x) ≡ false
-      opened nothing m t = absurd (false≢true t)
-      opened (bit true) m t = absurd (false≢true t)
-      opened (bit false) m t = refl
-
-      go : (ns : List ℕ) → inputs fresh ≡ ns → (isIt (firstOf ns) n && not (opens (brings h v n))) ≡ false
+      go : (ns : List ℕ) → inputs fresh ≡ ns → (isIt (firstOf ns) n && not (wakable (brings h v n) (oneOf l n))) ≡ false
       go [] e = refl
       go (m ∷ ns) e =
           test (eqb n m)
-          (λ t.
-          let r = first-has 0 64 fresh m ns e in
-          rw t (ap (λ (k : ℕ). not (opens (brings h v k))) (eqb-true n m t) ∙ opened (brings h v m) (oneOf l m) (wakable-is m (r .1) ∙ r .0)))
+          (λ t. rw (t, wakable-is n b) (ap (λ (k : ℕ). not (fresh k)) (eqb-true n m t) ∙ ap not (first-has 0 64 fresh m ns e .0)))
           (λ t. rw t)
 
   -- the machines between the two steps
@@ -334,16 +322,20 @@ module _ (h : Bool) (v : ℕ) (l : Lines) (vs : List ℕ) where
   pub unmask-made : map (madeBy vs true) (heardFrom 0 64 (λ n. unmaskedBy (wokenIn n) (brings h v n) (oneOf l n) .signal)) ≡ begun .made
   unmask-made =
       ap (map (madeBy vs true)) (heard-ext 0 64 _ (λ n. cond (isIt (firstOf (inputs fresh)) n) asserts quiet)
-      (λ i p b. signal (wokenIn i) (brings h v i) (oneOf l i) (woken-opens i) ∙ ap (λ (c : Bool). cond c asserts quiet) (woken-is i)))
+      (λ i p b. signal (wokenIn i) (brings h v i) (on (l .irr) i) (on (l .mask) i) (on (l .isr) i) (woken-could i b) ∙ ap (λ (c : Bool). cond c asserts quiet) (woken-is i)))
       ∙ heard-asserts vs true 0 64 (isIt (firstOf (inputs fresh))) ∙ serve-made vs true (withMask l new) fresh (inputs fresh) refl
     where
-      signal : (w : Bool) (x : Brought) (m : Machine) → (w && not (opens x)) ≡ false → unmaskedBy w x m .signal ≡ cond w asserts quiet
-      signal true nothing m e = absurd (true≢false e)
-      signal true (bit true) m e = absurd (true≢false e)
-      signal true (bit false) m e = refl
-      signal false nothing m e = refl
-      signal false (bit true) m e = refl
-      signal false (bit false) m e = refl
+      signal : (w : Bool) (x : Brought) (r k s : Bool) → (w && not (wakable x (machine r k s))) ≡ false → unmaskedBy w x (machine r k s) .signal ≡ cond w asserts quiet
+      signal true nothing r k s e = absurd (true≢false e)
+      signal true (bit true) r k s e = absurd (true≢false e)
+      signal true (bit false) true true false e = refl
+      signal true (bit false) true true true e = absurd (true≢false e)
+      signal true (bit false) true false s e = absurd (true≢false e)
+      signal true (bit false) false true s e = absurd (true≢false e)
+      signal true (bit false) false false s e = absurd (true≢false e)
+      signal false nothing r k s e = refl
+      signal false (bit true) r k s e = refl
+      signal false (bit false) r k s e = ap (λ (c : Bool). cond c asserts quiet) (and-false (k && r && not s))
 
   -- the bits between the two steps
   begun-bits : (n : ℕ) → n < 64 → oneOf (begun .after) n ≡ machine (on (l .irr) n) (becomes (brings h v n) (on (l .mask) n)) (on (l .isr) n || wokenIn n)
@@ -357,18 +349,19 @@ module _ (h : Bool) (v : ℕ) (l : Lines) (vs : List ℕ) where
   pub mask-after : (n : ℕ) → n < 64 → maskedBy (brings h v n) (middle n) .after ≡ oneOf (leave vs true leaving (begun .after) .after) n
   mask-after n b =
       let bits = begun-bits n b in
-      go (wokenIn n) (brings h v n) (on (l .irr) n) (on (l .mask) n) (on (l .isr) n) (woken-opens n)
+      go (wokenIn n) (brings h v n) (on (l .irr) n) (on (l .mask) n) (on (l .isr) n) (woken-could n b)
       ∙ sym (machine= (ap (λ (m : Machine). m .latched) bits) (ap (λ (m : Machine). m .masked) bits)
       (on-without (begun .after .isr) leaving n b ∙ ap₂ (λ (c d : Bool). c && not (not (on (l .mask) n) && d)) (ap (λ (m : Machine). m .inService) bits) (half-bit h (l .mask) v n b)))
     where
-      go : (w : Bool) (x : Brought) (r k s : Bool) → (w && not (opens x)) ≡ false
+      go : (w : Bool) (x : Brought) (r k s : Bool) → (w && not (wakable x (machine r k s))) ≡ false
           → maskedBy x (unmaskedBy w x (machine r k s) .after) .after ≡ machine r (becomes x k) ((s || w) && not (not k && becomes x k))
       go true nothing r k s e = absurd (true≢false e)
       go true (bit true) r k s e = absurd (true≢false e)
-      go true (bit false) r true true e = refl
-      go true (bit false) r true false e = refl
-      go true (bit false) r false true e = refl
-      go true (bit false) r false false e = refl
+      go true (bit false) true true false e = refl
+      go true (bit false) true true true e = absurd (true≢false e)
+      go true (bit false) true false s e = absurd (true≢false e)
+      go true (bit false) false true s e = absurd (true≢false e)
+      go true (bit false) false false s e = absurd (true≢false e)
       go false nothing r true true e = refl
       go false nothing r true false e = refl
       go false nothing r false true e = refl
@@ -377,26 +370,31 @@ module _ (h : Bool) (v : ℕ) (l : Lines) (vs : List ℕ) where
       go false (bit true) r true false e = refl
       go false (bit true) r false true e = refl
       go false (bit true) r false false e = refl
-      go false (bit false) r true true e = refl
-      go false (bit false) r true false e = refl
-      go false (bit false) r false true e = refl
-      go false (bit false) r false false e = refl
+      go false (bit false) true true true e = refl
+      go false (bit false) true true false e = refl
+      go false (bit false) true false true e = refl
+      go false (bit false) true false false e = refl
+      go false (bit false) false true true e = refl
+      go false (bit false) false true false e = refl
+      go false (bit false) false false true e = refl
+      go false (bit false) false false false e = refl
 
   pub mask-made : map (madeBy vs true) (heardFrom 0 64 (λ n. maskedBy (brings h v n) (middle n) .signal)) ≡ leave vs true leaving (begun .after) .made
   mask-made =
       ap (map (madeBy vs true)) (heard-ext 0 64 _ (λ n. cond (servedIn leaving (begun .after) n) deasserts quiet)
-      (λ i p b. signal (wokenIn i) (brings h v i) (on (l .irr) i) (on (l .mask) i) (on (l .isr) i) (woken-opens i)
+      (λ i p b. signal (wokenIn i) (brings h v i) (on (l .irr) i) (on (l .mask) i) (on (l .isr) i) (woken-could i b)
       ∙ ap₂ (λ (c d : Bool). cond (c && (not (on (l .mask) i) && d)) deasserts quiet) (sym (ap (λ (m : Machine). m .inService) (begun-bits i b))) (sym (half-bit h (l .mask) v i b))))
       ∙ heard-deasserts vs true 0 64 (servedIn leaving (begun .after))
     where
-      signal : (w : Bool) (x : Brought) (r k s : Bool) → (w && not (opens x)) ≡ false
+      signal : (w : Bool) (x : Brought) (r k s : Bool) → (w && not (wakable x (machine r k s))) ≡ false
           → maskedBy x (unmaskedBy w x (machine r k s) .after) .signal ≡ cond ((s || w) && (not k && becomes x k)) deasserts quiet
       signal true nothing r k s e = absurd (true≢false e)
       signal true (bit true) r k s e = absurd (true≢false e)
-      signal true (bit false) r true true e = refl
-      signal true (bit false) r true false e = refl
-      signal true (bit false) r false true e = refl
-      signal true (bit false) r false false e = refl
+      signal true (bit false) true true false e = refl
+      signal true (bit false) true true true e = absurd (true≢false e)
+      signal true (bit false) true false s e = absurd (true≢false e)
+      signal true (bit false) false true s e = absurd (true≢false e)
+      signal true (bit false) false false s e = absurd (true≢false e)
       signal false nothing r true true e = refl
       signal false nothing r true false e = refl
       signal false nothing r false true e = refl
@@ -405,10 +403,14 @@ module _ (h : Bool) (v : ℕ) (l : Lines) (vs : List ℕ) where
       signal false (bit true) r true false e = refl
       signal false (bit true) r false true e = refl
       signal false (bit true) r false false e = refl
-      signal false (bit false) r true true e = refl
-      signal false (bit false) r true false e = refl
-      signal false (bit false) r false true e = refl
-      signal false (bit false) r false false e = refl
+      signal false (bit false) true true true e = refl
+      signal false (bit false) true true false e = refl
+      signal false (bit false) true false true e = refl
+      signal false (bit false) true false false e = refl
+      signal false (bit false) false true true e = refl
+      signal false (bit false) false true false e = refl
+      signal false (bit false) false false true e = refl
+      signal false (bit false) false false false e = refl
 
   -- both turns are the rules' one
   pub masked-is : masked vs l new ≡ record { after = leave vs true leaving (begun .after) .after; made = begun .made ++ leave vs true leaving (begun .after) .made }
