@@ -3,19 +3,26 @@ use mathlib.Core.Path.{_≡_, refl, subst}
 use mathlib.Core.Bool.{Bool, true, false}
 use mathlib.Core.List.{List, [], _∷_, _++_, map}
 use Prim.Native.Nat.{ℕ, zero, suc}
-use lib.ListN.{take}
+use lib.ListN.{take, replicate}
+use Rattle.rules.specs.Ring as ring
 use Rattle.rules.specs.Ring.{Event}
 use Rattle.rules.specs.Access.{byte, dword}
 use Rattle.rules.specs.Device.{Device, WellFormed, Call, level, poll, read, write, drain, Value, none, some, reset}
+use Rattle.rules.specs.Image.{encode}
+use Rattle.rules.specs.Calls.{answered}
+use Rattle.rules.specs.Calls as request
 use Rattle.rules.specs.History.{fromReset}
+use Rattle.histories.specs.Exported.{Exported, leftBy, isDone, isLoad, carriedOn, afterReset}
 use Rattle.rules.proofs.laws.Computing.{computing}
-use Rattle.rules.proofs.demands.RoundTrip.{reset-can-be-saved}
+use Rattle.rules.proofs.demands.RoundTrip.{saved-is-bytes, reset-can-be-saved}
 use Rattle.histories.proofs.laws.WellFormed.{history-well}
 use Rattle.plain.specs.Machine.{Machine}
 use Rattle.plain.specs.Plain.{input, asLoaded, Fate, returned, kept, dropped, Note, Engine, waiting, dropCount}
+use Rattle.plain.specs.Beside.{AllAgree}
 use Rattle.plain.specs.Sequence.{loadOf, Item, call, load, refused, takes, portedSees, plainSees, WellLoaded, plainAfter}
 use Rattle.plain.proofs.laws.Plainly.{plainly}
 use Rattle.plain.proofs.demands.SameEngine.{plain-is-ported}
+use Rattle.plain.proofs.demands.SameCalls.{calls-as-plain-from-reset}
 
 -- ---- the day
 
@@ -182,3 +189,29 @@ worked-list old = refl
 worked-as-ported : (old : Engine) → plainSees (loadOf old reset) day ≡ portedSees reset day
 unfolding WellLoaded
 worked-as-ported old = plain-is-ported old reset reset-can-be-saved day (saved-well, tt)
+
+-- ---- exported calls
+
+-- from reset a raise of 3; then the load, by the call that masks all 32
+abbrev raising : Exported
+raising = record { given = encode reset; asked = request.level 3 1; answer = replicate 16 0 }
+
+abbrev loading : Exported
+loading = record { given = encode saved; asked = request.write 0 0x400 0x020 4 0xffffffff; answer = replicate 16 0 }
+
+exported-agree : (old : Engine) → AllAgree (loadOf old reset) afterReset (raising ∷ loading ∷ [])
+exported-agree old =
+    calls-as-plain-from-reset old (raising ∷ loading ∷ []) (saved-is-bytes reset reset-can-be-saved, (saved-is-bytes saved saved-well, tt))
+
+-- both are done, the second is a load, and it tells the one event that it dropped
+both-done : map isDone (raising ∷ loading ∷ []) ≡ true ∷ true ∷ []
+unfolding computing
+both-done = refl
+
+loading-loads : isLoad (carriedOn afterReset raising .left) loading ≡ true
+unfolding computing carriedOn
+loading-loads = refl
+
+loading-tells : leftBy loading .answer ≡ answered 0 (some 1) (replicate 16 0)
+unfolding computing ring.dropped
+loading-tells = refl
