@@ -16,8 +16,9 @@ use Rattle.histories.specs.Exported.{Exported, leftBy, isDone, isLoad, carriedO
 use Rattle.rules.proofs.laws.Computing.{computing}
 use Rattle.rules.proofs.demands.RoundTrip.{saved-is-bytes, reset-can-be-saved}
 use Rattle.histories.proofs.laws.WellFormed.{history-well}
+use Rattle.plain.specs.Events.{input, asLoaded, Fate, returned, kept, dropped, Note, waiting, dropCount}
 use Rattle.plain.specs.Machine.{Machine}
-use Rattle.plain.specs.Plain.{input, asLoaded, Fate, returned, kept, dropped, Note, Engine, waiting, dropCount}
+use Rattle.plain.specs.Plain.{Engine}
 use Rattle.plain.specs.Beside.{AllAgree}
 use Rattle.plain.specs.Sequence.{loadOf, Item, call, load, refused, takes, portedSees, plainSees, WellLoaded, plainAfter}
 use Rattle.plain.proofs.laws.Plainly.{plainly}

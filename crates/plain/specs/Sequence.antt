@@ -7,8 +7,8 @@ use lib.ListN.{length}
 use Rattle.rules.specs.Lines.{Lines, Made}
 use Rattle.rules.specs.Ring.{capacity, Event, Ring, offered}
 use Rattle.rules.specs.Device.{Device, WellFormed, Call, Value, none, step, value}
+use Rattle.plain.specs.Events.{input, Offered, waiting, dropCount, Fate, returned, kept, dropped, Note}
 use Rattle.plain.specs.Machine.{Machine}
-use Rattle.plain.specs.Plain.{input, Offered, waiting, dropCount, Fate, returned, kept, dropped, Note}
 use Rattle.plain.specs.Plain.{Engine, startedWith, counted, number, Gave, idle, gives}
 
 -- ---- from a device and back

@@ -1,13 +1,15 @@
--- 02, C-13: the plain engine's history is every event made since the load, in order, with its input, its call, its vector and its fate; and the list is what the load brought and
--- what the history has of events offered, so it only grows between loads.
+-- 02, C-13: the plain engine's history is every event made since the load, in order, with its input, its call, its vector and its fate; and the list is
+-- what the load brought and what the history has of events offered, so it only grows between loads.
 use mathlib.Core.Path.{_≡_, refl, sym, ap, _∙_}
 use mathlib.Core.List.{List, [], _∷_, _++_, map, map-append, append-assoc, append-nil}
 use Rattle.rules.specs.Lines.{Made}
 use Rattle.rules.specs.Device.{Device, WellFormed, Call, step}
 use Rattle.rules.specs.History.{history}
 use Rattle.histories.proofs.laws.WellFormed.{step-well}
-use Rattle.plain.specs.Plain.{Engine, Offered, asLoaded, gives}
-use Rattle.plain.specs.Sequence.{loadOf, shown, Item, call, load, refused, WellLoaded, plainAfter, Ported, portedFollows, portedAfter, notesOf, asMade, listed, broughtBy}
+use Rattle.plain.specs.Events.{Offered, asLoaded}
+use Rattle.plain.specs.Plain.{Engine, gives}
+use Rattle.plain.specs.Sequence.{loadOf, shown, Item, call, load, refused, WellLoaded, plainAfter, broughtBy}
+use Rattle.plain.specs.Sequence.{Ported, portedFollows, portedAfter, notesOf, asMade, listed}
 use Rattle.plain.proofs.laws.Queues.{listed-append, notes-made}
 use Rattle.plain.proofs.laws.Same.{Run, Same}
 use Rattle.plain.proofs.laws.Following.{stepped, countedRun, like-call, loadedRun, sized, same-load, same-counted, shown-is}
@@ -121,10 +123,12 @@ noted-calls : (q : Ported) (cs : List Call) → map asMade (portedAfter q (map c
 unfolding portedAfter history
 noted-calls q [] = sym (append-nil (map asMade (q .history)))
 noted-calls q (c ∷ cs) =
-    let new = notesOf (q .call) (q .device .ring) (step (q .device) c .made) in
+    let one = step (q .device) c in
+    let later = history (one .after) cs .made in
+    let new = map-append asMade (q .history) (notesOf (q .call) (q .device .ring) (one .made)) in
     noted-calls (portedFollows q (call c)) cs
-    ∙ ap (λ (ms : List Made). ms ++ history (step (q .device) c .after) cs .made) (map-append asMade (q .history) new ∙ ap (λ (ms : List Made). map asMade (q .history) ++ ms) (notes-made (q .call) (q .device .ring) (step (q .device) c .made)))
-    ∙ append-assoc (map asMade (q .history)) (step (q .device) c .made) (history (step (q .device) c .after) cs .made)
+    ∙ ap (λ (ms : List Made). ms ++ later) (new ∙ ap (λ (ms : List Made). map asMade (q .history) ++ ms) (notes-made (q .call) (q .device .ring) (one .made)))
+    ∙ append-assoc (map asMade (q .history)) (one .made) later
 
 calls-well : (cs : List Call) → WellLoaded (map call cs)
 unfolding WellLoaded

@@ -12,12 +12,14 @@ use Rattle.rules.specs.Device as device
 use Rattle.rules.specs.Image.{imageLength, imageTest, accepted, encode, decode}
 use Rattle.rules.specs.Calls.{pass, Asked, afresh, calls, askedBy, Done, performed, wrongLength, answered, bufferOf, placeOf, written, Outcome, settled, ended}
 use Rattle.rules.specs.History.{history}
-use Rattle.histories.specs.Exported.{Exported, isDone, isReset, isLoad, callOf, doneCall, Underway, carriedOn, carriedThrough, GivenBytes, current, inImage, Faithful, afterReset, atLoad}
+use Rattle.histories.specs.Exported.{Exported, isDone, isReset, isLoad, callOf, doneCall, Underway, carriedOn, carriedThrough}
+use Rattle.histories.specs.Exported.{GivenBytes, current, inImage, Faithful, afterReset, atLoad}
 use Rattle.rules.proofs.laws.Bits.{test}
 use Rattle.rules.proofs.laws.Images.{decode-well-formed, reset-well-formed}
 use Rattle.histories.proofs.laws.Folds.{history-append}
 use Rattle.histories.proofs.laws.WellFormed.{step-well, history-well}
-use Rattle.histories.proofs.laws.Chains.{never, passed, did-pass, handed, faithful-on, carried-on, reset-begins, done-call, own-image, load-begins, faithful-after-reset, faithful-at-load}
+use Rattle.histories.proofs.laws.Chains.{never, passed, did-pass, handed, faithful-on, carried-on, reset-begins, done-call, own-image, load-begins}
+use Rattle.histories.proofs.laws.Chains.{faithful-after-reset, faithful-at-load}
 use Rattle.histories.proofs.demands.FromCalls.{image-holds-device, history-since-load}
 use Rattle.plain.specs.Plain.{Engine, counted, Gave, idle, gives}
 use Rattle.plain.specs.Sequence.{loadOf, shown, notesOf, asMade}
@@ -28,12 +30,16 @@ use Rattle.plain.proofs.laws.Following.{stepped, countedRun, like-call,
 
 -- ---- one exported call
 
+-- a run is of a history under way: it has come to its device, by its events
+record Of (r : Run) (u : Underway) : Type 0 where
+  device : r .device ≡ current u
+  made : map asMade (r .notes) ≡ history (u .began) (u .calls) .made
+
 -- what the plain engine gave stands beside a history under way, and a done call agrees with it
 record Beside (g : Gave) (u : Underway) (x : Exported) : Type 0 where
   run : Run
   same : Same (g .after) run
-  device : run .device ≡ current u
-  made : map asMade (run .notes) ≡ history (u .began) (u .calls) .made
+  is : Of run u
   agrees : isDone x ≡ true → Agrees g x
 
 -- the device of a faithful history under way is one that an image can hold
@@ -55,37 +61,43 @@ module _ (e : Engine) (h : Underway) (x : Exported) where
   meets-is p q s t = givesTo (p t) (q t) (s t) e x
 
   -- a done call that is no load
-  beside-call : (r : Run) → Same e r → r .device ≡ current h → map asMade (r .notes) ≡ history (h .began) (h .calls) .made → Faithful h → isDone x ≡ true → isLoad (h .left) x ≡ false
+  beside-call : (r : Run) → Same e r → Of r h → Faithful h → isDone x ≡ true → isLoad (h .left) x ≡ false
       → Beside (meets e h x) (carriedOn h x) x
-  beside-call r s i j f t n =
+  beside-call r s o f t n =
+      let i = o .device in
       let p = handed h x f t n in
       let c = p .call in
       let w = subst WellFormed (sym i) (current-well h f) in
       let a = like-call e r s (sized w) c in
       let is : meets e h x ≡ gives e c = meets-is t n (p .passes) in
       let one : doneCall x ≡ c ∷ [] = (λ j. cond (t j) (callOf (p .passes j)) []) in
-      let after : step (current h) c .after ≡ current (carriedOn h x) = sym (carried-on h x f n .current ∙ ap (λ cs. history (current h) cs .after) one ∙ history-one (current h) c) in
       let on = carried-on h x f n in
-      let new = notesOf (r .call) (r .device .ring) (step (r .device) c .made) in
+      let after : step (current h) c .after ≡ current (carriedOn h x) = sym (on .current ∙ ap (λ cs. history (current h) cs .after) one ∙ history-one (current h) c) in
+      let new = step (r .device) c .made in
       let shows = shown-is (gives e c .after) (stepped r c) (a .after) (sized (step-well (r .device) c w)) in
       subst (λ (g : Gave). Beside g (carriedOn h x) x) (sym is) (record {
         run = stepped r c;
         same = a .after;
-        device = ap (λ (d : Device). step d c .after) i ∙ after;
-        made =
-            map-append asMade (r .notes) new ∙ ap₂ (λ (ms ns : List Made). ms ++ ns) j (notes-made (r .call) (r .device .ring) (step (r .device) c .made) ∙ ap (λ (d : Device). step d c .made) i)
-            ∙ sym (history-made (h .began) (h .calls) c) ∙ (λ z. history (sym (on .began) z) (sym (on .calls ∙ ap (λ cs. h .calls ++ cs) one) z) .made);
+        is = record {
+          device = ap (λ (d : Device). step d c .after) i ∙ after;
+          made =
+              map-append asMade (r .notes) (notesOf (r .call) (r .device .ring) new)
+              ∙ ap₂ (λ (ms ns : List Made). ms ++ ns) (o .made) (notes-made (r .call) (r .device .ring) new ∙ ap (λ (d : Device). step d c .made) i)
+              ∙ sym (history-made (h .began) (h .calls) c) ∙ (λ z. history (sym (on .began) z) (sym (on .calls ∙ ap (λ cs. h .calls ++ cs) one) z) .made);
+        };
         agrees = λ _. record {
           image = ap (λ (o : Outcome). o .image) (p .left) ∙ ap (λ (d : Device). encode (step d c .after)) (sym i) ∙ ap encode (sym shows);
           answer = ap (λ (o : Outcome). o .answer) (p .left) ∙ ap (λ v. answered 0 v (x .answer)) (ap (λ (d : Device). value d c) (sym i) ∙ sym (a .value));
-          events = ap (λ (o : Outcome). o .events) (p .left) ∙ ap (written (bufferOf (x .asked)) (placeOf (x .asked))) (ap (λ (d : Device). step d c .drained) (sym i) ∙ sym (a .drained));
+          events =
+              ap (λ (o : Outcome). o .events) (p .left)
+              ∙ ap (written (bufferOf (x .asked)) (placeOf (x .asked))) (ap (λ (d : Device). step d c .drained) (sym i) ∙ sym (a .drained));
         };
       })
 
   -- a refused call
-  beside-refused : (r : Run) → Same e r → r .device ≡ current h → map asMade (r .notes) ≡ history (h .began) (h .calls) .made → Faithful h → isDone x ≡ false → Beside (meets e h x) (carriedOn h x) x
+  beside-refused : (r : Run) → Same e r → Of r h → Faithful h → isDone x ≡ false → Beside (meets e h x) (carriedOn h x) x
   unfolding history
-  beside-refused r s i j f t =
+  beside-refused r s o f t =
       let no : isLoad (h .left) x ≡ false = rw t in
       let none-done : doneCall x ≡ [] = (λ j. cond (t j) (callOf (askedBy (x .asked))) []) in
       let on = carried-on h x f no in
@@ -94,8 +106,10 @@ module _ (e : Engine) (h : Underway) (x : Exported) where
       subst (λ (g : Gave). Beside g (carriedOn h x) x) (sym is) (record {
         run = countedRun r;
         same = same-counted e r s;
-        device = i ∙ sym stays;
-        made = j ∙ (λ z. history (sym (on .began) z) (sym (on .calls ∙ ap (λ cs. h .calls ++ cs) none-done ∙ append-nil (h .calls)) z) .made);
+        is = record {
+          device = o .device ∙ sym stays;
+          made = o .made ∙ (λ z. history (sym (on .began) z) (sym (on .calls ∙ ap (λ cs. h .calls ++ cs) none-done ∙ append-nil (h .calls)) z) .made);
+        };
         agrees = λ d. absurd (true≢false (sym d ∙ t));
       })
 
@@ -116,8 +130,10 @@ module _ (e : Engine) (h : Underway) (x : Exported) (t : isDone x ≡ true) wher
       subst (λ (g : Gave). Beside g (carriedOn h x) x) (sym is) (record {
         run = loadedRun device.reset;
         same = same;
-        device = sym (ap current (reset-begins h x t k));
-        made = sym (ap (λ (u : Underway). history (u .began) (u .calls) .made) (reset-begins h x t k));
+        is = record {
+          device = sym (ap current (reset-begins h x t k));
+          made = sym (ap (λ (u : Underway). history (u .began) (u .calls) .made) (reset-begins h x t k));
+        };
         agrees = λ _. record {
           image = ap (λ (o : Outcome). o .image) left ∙ ap encode (sym (shown-is (loadOf e device.reset) (loadedRun device.reset) same (sized reset-well-formed)));
           answer = ap (λ (o : Outcome). o .answer) left;
@@ -134,18 +150,20 @@ module _ (e : Engine) (h : Underway) (x : Exported) (t : isDone x ≡ true) wher
       let g = loadOf e d in
       let u = atLoad (x .given) in
       let own = own-image x t a in
-      let one = beside-call g u x (loadedRun d) (same-load e d (decode-well-formed (x .given) b (did .accepted))) refl refl (faithful-at-load (x .given) b (did .accepted)) t own in
+      let well = decode-well-formed (x .given) b (did .accepted) in
+      let faith = faithful-at-load (x .given) b (did .accepted) in
+      let one = beside-call g u x (loadedRun d) (same-load e d well) (record { device = refl; made = refl }) faith t own in
       let is : meets e h x ≡ meets g u x = meets-is e h x t n (did .passes) ∙ sym (meets-is g u x t own (did .passes)) in
       let goes : carriedOn h x ≡ carriedOn u x = load-begins x t a h n in
       subst (λ (v : Underway). Beside (meets e h x) v x) (sym goes) (subst (λ (y : Gave). Beside y (carriedOn u x) x) (sym is) one)
 
 -- any exported call
-beside : (e : Engine) (r : Run) (h : Underway) (x : Exported) → Same e r → r .device ≡ current h → map asMade (r .notes) ≡ history (h .began) (h .calls) .made → Faithful h
+beside : (e : Engine) (r : Run) (h : Underway) (x : Exported) → Same e r → Of r h → Faithful h
     → Bytes (x .given) → Beside (meets e h x) (carriedOn h x) x
-beside e r h x s i j f b =
+beside e r h x s o f b =
     test (isDone x)
-    (λ t. test (isLoad (h .left) x) (λ n. go t n (askedBy (x .asked)) refl) (λ n. beside-call e h x r s i j f t n))
-    (λ t. beside-refused e h x r s i j f t)
+    (λ t. test (isLoad (h .left) x) (λ n. go t n (askedBy (x .asked)) refl) (λ n. beside-call e h x r s o f t n))
+    (λ t. beside-refused e h x r s o f t)
   where
     go : isDone x ≡ true → isLoad (h .left) x ≡ true → (k : Asked) → askedBy (x .asked) ≡ k → Beside (meets e h x) (carriedOn h x) x
     go t n afresh k = beside-reset e h x t k
@@ -158,17 +176,16 @@ record Followed (e : Engine) (h : Underway) (xs : List Exported) : Type 0 where
   shows : shown (afterCalls e h xs) ≡ current (carriedThrough h xs)
   made : map asMade (afterCalls e h xs .history) ≡ history (carriedThrough h xs .began) (carriedThrough h xs .calls) .made
 
-followed : (e : Engine) (r : Run) (h : Underway) (xs : List Exported) → Same e r → r .device ≡ current h → map asMade (r .notes) ≡ history (h .began) (h .calls) .made
-    → Faithful h → GivenBytes xs → Followed e h xs
+followed : (e : Engine) (r : Run) (h : Underway) (xs : List Exported) → Same e r → Of r h → Faithful h → GivenBytes xs → Followed e h xs
 unfolding AllAgree afterCalls carriedThrough
-followed e r h [] s i j f b = record {
+followed e r h [] s o f b = record {
   all = tt;
-  shows = shown-is e r s (sized (subst WellFormed (sym i) (current-well h f))) ∙ i;
-  made = ap (map asMade) (s .tail .notes) ∙ j;
+  shows = shown-is e r s (sized (subst WellFormed (sym (o .device)) (current-well h f))) ∙ o .device;
+  made = ap (map asMade) (s .tail .notes) ∙ o .made;
 }
-followed e r h (x ∷ xs) s i j f b =
-    let one = beside e r h x s i j f (b .0) in
-    let two = followed (meets e h x .after) (one .run) (carriedOn h x) xs (one .same) (one .device) (one .made) (faithful-on h x f (λ _. b .0)) (b .1) in
+followed e r h (x ∷ xs) s o f b =
+    let one = beside e r h x s o f (b .0) in
+    let two = followed (meets e h x .after) (one .run) (carriedOn h x) xs (one .same) (one .is) (faithful-on h x f (λ _. b .0)) (b .1) in
     record { all = (one .agrees, two .all); shows = two .shows; made = two .made }
 
 -- The plain engine is started with the device d, of reset or of an accepted image, and the history with it. Over any exported calls, refused ones, loads and
@@ -179,7 +196,7 @@ module _ (old : Engine) (d : Device) (i : List ℕ) (f : Faithful (record { bega
 
   both : Followed (loadOf old d) h xs
   unfolding history
-  both = followed (loadOf old d) (loadedRun d) h xs (same-load old d (f .began)) refl refl f b
+  both = followed (loadOf old d) (loadedRun d) h xs (same-load old d (f .began)) (record { device = refl; made = refl }) f b
 
   -- each call that is done leaves the image of what the plain engine then shows, has its value in the answer area and its drained events in the event buffer;
   pub calls-as-plain : AllAgree (loadOf old d) h xs

@@ -9,7 +9,8 @@ use Rattle.rules.specs.Numbers.{numberOf, byteOf, withByte}
 use Rattle.rules.specs.Inputs.{on, numberWith, inputs, only, put, without, half, withHalf, asHalf}
 use Rattle.rules.specs.Lines.{Lines, withIrr, withMask, serve, enter, leave, pendingIn, polled, raised, lowered, cleared, masked, newlyUnmasked, newlyMasked}
 use Rattle.rules.specs.Ring.{ringRun, dropped}
-use Rattle.rules.specs.Core.{Core, Plain, Stored, plain, withPlain, withRoutes, Act, Move, move, setIsr, store, setVector, setPlain, setRoute, poll, raise, lower, clear, setMask, moved, lineTurn, vectorsAfter, storedAfter, turn, turns}
+use Rattle.rules.specs.Core.{Core, Plain, Stored, plain, withPlain, withRoutes, moved, lineTurn, vectorsAfter, storedAfter, turn, turns}
+use Rattle.rules.specs.Core.{Act, Move, move, setIsr, store, setVector, setPlain, setRoute, poll, raise, lower, clear, setMask}
 use Rattle.rules.specs.Map as map
 use Rattle.rules.specs.Map.{Register, Cell, cellAt, routesAt, vectorsAt, inRoutes, inVectors, inByteArea}
 use Rattle.rules.specs.Access.{Width, byte, word, dword, qword, registerActs, entryActs, cellActs, dwordActs, byteActs, writeActs}
@@ -139,8 +140,10 @@ module _ (e : Engine) (r : Run) (x : Same e r) (s : SizedRun r) where
 -- ---- writing
 
 -- an act that makes nothing
-quietly : (r : Run) (a : Act) → turn (r .device .core) a .made ≡ []
-    → acting r (a ∷ []) ≡ record { device = record { core = turn (r .device .core) a .after; ring = r .device .ring }; call = r .call; notes = r .notes; lost = r .lost; brought = r .brought }
+abbrev withCore : Run → Core → Run
+withCore r c = record { device = record { core = c; ring = r .device .ring }; call = r .call; notes = r .notes; lost = r .lost; brought = r .brought }
+
+quietly : (r : Run) (a : Act) → turn (r .device .core) a .made ≡ [] → acting r (a ∷ []) ≡ withCore r (turn (r .device .core) a .after)
 unfolding device.offers ringRun dropped notesOf
 quietly r a e =
     acting-one r a

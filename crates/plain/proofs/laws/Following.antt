@@ -13,8 +13,9 @@ use Rattle.rules.specs.Device.{Device, WellFormed, Call, level, poll, read, wri
 use Rattle.rules.specs.Device as device
 use Rattle.rules.proofs.laws.Acts.{step-acted}
 use Rattle.rules.proofs.laws.Steps.{turns-one, drain-device, drain-drained}
+use Rattle.plain.specs.Events.{waiting, withDrained, asLoaded}
 use Rattle.plain.specs.Machine.{polls, raises, lowers}
-use Rattle.plain.specs.Plain.{Engine, Heard, heard, Steps, at, stepping, returns, counted, vectorOf, lostBetween, waiting, gives, withQueue, withDrained, asLoaded, writeAt}
+use Rattle.plain.specs.Plain.{Engine, Heard, heard, Steps, at, stepping, returns, counted, vectorOf, lostBetween, gives, withQueue, writeAt}
 use Rattle.plain.specs.Sequence.{loadOf, shown, notesOf}
 use Rattle.plain.proofs.laws.Machines.{one-of, madeBy, Steps-are, polled-steps, raised-steps, lowered-steps}
 use Rattle.plain.proofs.laws.Queues.{tail-of, lostOf, loaded-kept, loaded-dropped, drained-tail}

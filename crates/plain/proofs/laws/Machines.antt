@@ -110,7 +110,9 @@ module _ (m : ℕ) (l : Lines) where
 
   poll-steps : (vs : List ℕ) → Steps-are vs false (at m polls) l (enter vs false (only m) l)
   poll-steps vs = record {
-    after = λ n b. after (only m n) (on (l .irr) n) (on (l .mask) n) (on (l .isr) n) ∙ machine= refl refl (ap (λ (c : Bool). on (l .isr) n || c) (sym (one-or-none n b))) ∙ sym (serve-one vs false l ns n b);
+    after = λ n b.
+        after (only m n) (on (l .irr) n) (on (l .mask) n) (on (l .isr) n)
+        ∙ machine= refl refl (ap (λ (c : Bool). on (l .isr) n || c) (sym (one-or-none n b))) ∙ sym (serve-one vs false l ns n b);
     made =
         ap (map (madeBy vs false)) (heard-ext 0 64 _ (λ n. cond (isIt (firstOf ns) n) asserts quiet) (λ i p b.
         signal (only m i) (on (l .irr) i) (on (l .mask) i) (on (l .isr) i) ∙ ap (λ (c : Bool). cond c asserts quiet) (sym (one-or-none i b))))
@@ -351,7 +353,8 @@ module _ (h : Bool) (v : ℕ) (l : Lines) (vs : List ℕ) where
       let bits = begun-bits n b in
       go (wokenIn n) (brings h v n) (on (l .irr) n) (on (l .mask) n) (on (l .isr) n) (woken-could n b)
       ∙ sym (machine= (ap (λ (m : Machine). m .latched) bits) (ap (λ (m : Machine). m .masked) bits)
-      (on-without (begun .after .isr) leaving n b ∙ ap₂ (λ (c d : Bool). c && not (not (on (l .mask) n) && d)) (ap (λ (m : Machine). m .inService) bits) (half-bit h (l .mask) v n b)))
+      (on-without (begun .after .isr) leaving n b
+      ∙ ap₂ (λ (c d : Bool). c && not (not (on (l .mask) n) && d)) (ap (λ (m : Machine). m .inService) bits) (half-bit h (l .mask) v n b)))
     where
       go : (w : Bool) (x : Brought) (r k s : Bool) → (w && not (wakable x (machine r k s))) ≡ false
           → maskedBy x (unmaskedBy w x (machine r k s) .after) .after ≡ machine r (becomes x k) ((s || w) && not (not k && becomes x k))
@@ -383,7 +386,8 @@ module _ (h : Bool) (v : ℕ) (l : Lines) (vs : List ℕ) where
   mask-made =
       ap (map (madeBy vs true)) (heard-ext 0 64 _ (λ n. cond (servedIn leaving (begun .after) n) deasserts quiet)
       (λ i p b. signal (wokenIn i) (brings h v i) (on (l .irr) i) (on (l .mask) i) (on (l .isr) i) (woken-could i b)
-      ∙ ap₂ (λ (c d : Bool). cond (c && (not (on (l .mask) i) && d)) deasserts quiet) (sym (ap (λ (m : Machine). m .inService) (begun-bits i b))) (sym (half-bit h (l .mask) v i b))))
+      ∙ ap₂ (λ (c d : Bool). cond (c && (not (on (l .mask) i) && d)) deasserts quiet)
+      (sym (ap (λ (m : Machine). m .inService) (begun-bits i b))) (sym (half-bit h (l .mask) v i b))))
       ∙ heard-deasserts vs true 0 64 (servedIn leaving (begun .after))
     where
       signal : (w : Bool) (x : Brought) (r k s : Bool) → (w && not (wakable x (machine r k s))) ≡ false

@@ -12,9 +12,9 @@ use Rattle.rules.specs.Lines.{Made, event}
 use Rattle.rules.specs.Ring.{capacity, stop, Event, Ring, offer, drawn, offered, ringStep, ringRun, droppedBy, dropped}
 use Rattle.rules.specs.Device as device
 use Rattle.rules.proofs.laws.Bits.{test}
-use Rattle.plain.specs.Plain.{Source, Offered, Queue, keptIn, droppedIn, waiting, dropCount, hasRoom, withDrained, asLoaded, kept, Note}
-use Rattle.plain.specs.Plain.{returned, Engine, withQueue, Heard, noted, returns, offers, eachHeard, input}
-use Rattle.plain.specs.Plain as plain
+use Rattle.plain.specs.Events.{Source, Offered, Queue, keptIn, droppedIn, waiting, dropCount, hasRoom, withDrained, asLoaded, kept, Note, returned, input}
+use Rattle.plain.specs.Plain.{Engine, withQueue, Heard, noted, returns, offers, eachHeard}
+use Rattle.plain.specs.Events as events
 use Rattle.plain.specs.Sequence.{noteOf, fateIn, ringWith, notesOf, asMade, listedAs, inList, listed}
 use Rattle.plain.proofs.laws.Machines.{madeBy}
 
@@ -82,7 +82,9 @@ module _ (e : Engine) (r : Ring) (ns : List Note) (ls bs : List Event) (t : Tail
   marked-lost s x b = dropped-in-append (q .offered) _ ∙ ap (λ es. es ++ cond b [] (x ∷ [])) (t .lost)
 
   marked-taken : (s : Source) (x : Event) (b : Bool) → q .drained ≤ length (keptIn (marked s x b .offered))
-  marked-taken s x b = rw (kept-append (q .offered) (record { source = s; event = x; kept = b } ∷ []), length-append (keptIn (q .offered)) (cond b (x ∷ []) [])) (omega (arith, t .taken))
+  marked-taken s x b =
+      rw (kept-append (q .offered) (record { source = s; event = x; kept = b } ∷ []), length-append (keptIn (q .offered)) (cond b (x ∷ []) []))
+      (omega (arith, t .taken))
 
   -- it stands there as its note says
   marked-list : (n : Note) (b : Bool) → inList (n .fate) n ≡ listedAs b n ∷ [] → marked (input (n .input)) (record { vector = n .vector; asserted = n .asserted }) b .offered
@@ -118,9 +120,9 @@ module _ (e : Engine) (r : Ring) (ns : List Note) (ls bs : List Event) (t : Tail
         waits = marked-waits s x false ∙ append-nil (r .waiting);
         count = omega (arith, t .count, ap length (marked-lost s x false), length-append ls (x ∷ []), ap length (t .lost));
         taken = marked-taken s x false;
-        notes = ap (λ xs. xs ++ (noteOf (e .call) plain.dropped m ∷ [])) (t .notes);
+        notes = ap (λ xs. xs ++ (noteOf (e .call) events.dropped m ∷ [])) (t .notes);
         lost = marked-lost s x false;
-        list = marked-list (noteOf (e .call) plain.dropped m) false refl;
+        list = marked-list (noteOf (e .call) events.dropped m) false refl;
       }))
 
   -- one that is returned is noted alone
@@ -208,7 +210,7 @@ unfolding notesOf
 notes-made k r [] = refl
 notes-made k r (m ∷ ms) = λ t. one (m .offered) (ltb (length (r .waiting)) capacity) t ∷ notes-made k (ringWith r m) ms t
   where
-    one : (b c : Bool) → asMade (noteOf k (cond b (cond c kept plain.dropped) returned) m) ≡ record { input = m .input; vector = m .vector; asserted = m .asserted; offered = b }
+    one : (b c : Bool) → asMade (noteOf k (cond b (cond c kept events.dropped) returned) m) ≡ record { input = m .input; vector = m .vector; asserted = m .asserted; offered = b }
     one true true = refl
     one true false = refl
     one false c = refl

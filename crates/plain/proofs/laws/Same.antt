@@ -13,14 +13,15 @@ use Rattle.rules.specs.Device as device
 use Rattle.rules.proofs.laws.Rings.{run-append, dropped-append}
 use Rattle.rules.proofs.laws.Acts.{turns-append, offers-append, acted-none, acted-append}
 use Rattle.rules.proofs.laws.Steps.{turns-one, acted-one}
+use Rattle.plain.specs.Events.{Note}
 use Rattle.plain.specs.Machine.{Machine}
-use Rattle.plain.specs.Plain.{Note, Engine, heardFrom, heard, Steps, stepping, returns, offers, withMachines}
+use Rattle.plain.specs.Plain.{Engine, heardFrom, heard, Steps, stepping, returns, offers, withMachines}
 use Rattle.plain.specs.Plain.{brings, unmaskedBy, maskedBy, wakable, Found, lowestFrom, remaskedBy, remasked}
 use Rattle.plain.specs.Plain.{number}
 use Rattle.plain.specs.Sequence.{notesOf}
 use Rattle.plain.proofs.laws.Machines.{machine, oneOf, madeBy, heard-ext, Steps-are, lowest-ext}
 use Rattle.plain.proofs.laws.Machines.{wokenIn, middle, unmask-made, mask-after, mask-made, masked-is, new, begun, leaving}
-use Rattle.plain.proofs.laws.Queues.{Tail, tail-of, offers-else, returns-else, ringAfter, lostOf, offers-tail, returns-tail, returned-unoffered, notes-append}
+use Rattle.plain.proofs.laws.Queues.{Tail, tail-of, Else, offers-else, returns-else, ringAfter, lostOf, offers-tail, returns-tail, returned-unoffered, notes-append}
 
 -- ---- the relation
 
@@ -64,35 +65,33 @@ module _ (e : Engine) (ms : ℕ → Machine) (vs : List ℕ) (s : Stored) (k : �
   abbrev moving : Engine
   moving = withMachines e (λ n. f n (e .machines n) .after)
 
+  -- all but list and history
+  moved-on : (g : Engine) → Else moving g → {q : Ring} {ns : List Note} {ls : List Event} → Tail g q ns ls B → Stands g (λ n. f n (ms n) .after) vs s k q ns ls B
+  moved-on g rest t = record {
+    machine = λ n b. ap (λ (h : ℕ → Machine). h n) (rest .machines) ∙ ap (λ (m : Machine). f n m .after) (x .machine n b);
+    vectors = rest .vectors ∙ x .vectors;
+    stored = rest .stored ∙ x .stored;
+    call = rest .call ∙ x .call;
+    tail = t;
+  }
+
   pub step-offers : (made : List Made) → map (madeBy vs true) (heardFrom 0 64 (λ n. f n (ms n) .signal)) ≡ made
       → Stands (stepping offers f e) (λ n. f n (ms n) .after) vs s k (ringAfter r made) (N ++ notesOf k r made) (L ++ lostOf r made) B
   step-offers made is =
-      let rest = offers-else moving (heard f e) in
+      let new = map (madeBy (e .vectors) true) (heard f e) in
       let tail = offers-tail (heard f e) moving r N L B (tail-of e moving refl refl (x .tail)) in
-      let same = made-same true ∙ is in
-      record {
-        machine = λ n b. ap (λ (k : ℕ → Machine). k n) (rest .machines) ∙ ap (λ (m : Machine). f n m .after) (x .machine n b);
-        vectors = rest .vectors ∙ x .vectors;
-        stored = rest .stored ∙ x .stored;
-        call = rest .call ∙ x .call;
-        tail = subst (λ (ms : List Made). Tail (stepping offers f e) (ringAfter r ms) (N ++ notesOf k r ms) (L ++ lostOf r ms) B) same
-            (subst (λ (c : ℕ). Tail (stepping offers f e) (ringAfter r (map (madeBy (e .vectors) true) (heard f e))) (N ++ notesOf c r (map (madeBy (e .vectors) true) (heard f e))) (L ++ lostOf r (map (madeBy (e .vectors) true) (heard f e))) B) (x .call) tail);
-      }
+      let at-call = subst (λ (c : ℕ). Tail (stepping offers f e) (ringAfter r new) (N ++ notesOf c r new) (L ++ lostOf r new) B) (x .call) tail in
+      moved-on (stepping offers f e) (offers-else moving (heard f e))
+      (subst (λ (ms : List Made). Tail (stepping offers f e) (ringAfter r ms) (N ++ notesOf k r ms) (L ++ lostOf r ms) B) (made-same true ∙ is) at-call)
 
   pub step-returns : (made : List Made) → map (madeBy vs false) (heardFrom 0 64 (λ n. f n (ms n) .signal)) ≡ made
       → Stands (stepping returns f e) (λ n. f n (ms n) .after) vs s k r (N ++ notesOf k r made) L B
   step-returns made is =
-      let rest = returns-else moving (heard f e) in
+      let new = map (madeBy (e .vectors) false) (heard f e) in
       let tail = returns-tail (heard f e) moving r N L B (tail-of e moving refl refl (x .tail)) in
-      let same = made-same false ∙ is in
-      record {
-        machine = λ n b. ap (λ (k : ℕ → Machine). k n) (rest .machines) ∙ ap (λ (m : Machine). f n m .after) (x .machine n b);
-        vectors = rest .vectors ∙ x .vectors;
-        stored = rest .stored ∙ x .stored;
-        call = rest .call ∙ x .call;
-        tail = subst (λ (ms : List Made). Tail (stepping returns f e) r (N ++ notesOf k r ms) L B) same
-            (subst (λ (c : ℕ). Tail (stepping returns f e) r (N ++ notesOf c r (map (madeBy (e .vectors) false) (heard f e))) L B) (x .call) tail);
-      }
+      let at-call = subst (λ (c : ℕ). Tail (stepping returns f e) r (N ++ notesOf c r new) L B) (x .call) tail in
+      moved-on (stepping returns f e) (returns-else moving (heard f e))
+      (subst (λ (ms : List Made). Tail (stepping returns f e) r (N ++ notesOf k r ms) L B) (made-same false ∙ is) at-call)
 
 -- ---- acts of the ported engine
 
