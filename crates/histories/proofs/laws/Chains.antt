@@ -42,17 +42,17 @@ refused-not-done (broken badFlag a) = refl
 refused-not-done (broken unusedSet a) = refl
 
 -- its tests passed, and it left what it gives
-record DidPass (x : Exported) : Type 0 where
-  room : hasRoom (x .asked) (x .answer) ≡ true
-  gives : Done
-  passed : performed (askedBy (x .asked)) (x .given) ≡ pass gives
-  left : leftBy x ≡ settled (x .answer) (ended (x .asked) (x .given) (pass gives))
+pub record DidPass (x : Exported) : Type 0 where
+  pub room : hasRoom (x .asked) (x .answer) ≡ true
+  pub gives : Done
+  pub passed : performed (askedBy (x .asked)) (x .given) ≡ pass gives
+  pub left : leftBy x ≡ settled (x .answer) (ended (x .asked) (x .given) (pass gives))
 
 place-fits : (q : Request) (a : List ℕ) → hasRoom q a ≡ true → placeOf q ≤ length (bufferOf q)
 place-fits q a t =
     leb-true (placeOf q) (length (bufferOf q)) (and-eq-true-iff (leb answerLength (length a)) (leb (placeOf q) (length (bufferOf q))) .0 t .1)
 
-did-pass : (x : Exported) → isDone x ≡ true → DidPass x
+pub did-pass : (x : Exported) → isDone x ≡ true → DidPass x
 unfolding outcome
 did-pass x e =
     test (hasRoom (x .asked) (x .answer)) (λ t. go t (performed (askedBy (x .asked)) (x .given)) refl)
