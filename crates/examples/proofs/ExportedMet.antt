@@ -34,7 +34,8 @@ use Rattle.histories.proofs.demands.HandedBack.{account-from-load, drops-of-cal
 use Rattle.histories.proofs.demands.Losses.{losses-of-calls, losses-below-the-stop, losses-up-to-the-stop, losses-from-load}
 use Rattle.histories.proofs.demands.ClearedCalls.{cleared-polled-in-vain, cleared-asserts-had-waited}
 use Rattle.histories.proofs.demands.Copy.{copy-of-calls}
-use Rattle.histories.proofs.demands.Convert.{converted-answers-alike, converted-read-alike}
+use Rattle.histories.proofs.demands.Convert.{converted-answers-alike}
+use Rattle.histories.proofs.demands.ReadAlike.{converted-read-alike}
 use Rattle.rules.proofs.demands.Refused.{Unchanged, refused-changes-nothing}
 use Rattle.examples.proofs.PremisesMet.{all-admitted, all-spared, all-undisturbed, all-unraised, all-carried-alone, begun, seventeen}
 

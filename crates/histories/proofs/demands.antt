@@ -9,3 +9,4 @@ pub mod ClearedCalls
 pub mod Losses
 pub mod Copy
 pub mod Convert
+pub mod ReadAlike

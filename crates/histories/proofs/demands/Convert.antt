@@ -3,9 +3,8 @@
 -- refused, leaves an image of the length that it was given.
 use mathlib.Core.Path.{_≡_, refl, sym, ap, subst, _∙_}
 use mathlib.Core.Bool.{Bool, true, false, cond}
-use mathlib.Core.List.{List, [], _∷_, _++_}
-use Prim.Native.Nat.{ℕ, _+_}
-use lib.Dec.{eqb}
+use mathlib.Core.List.{List, [], _∷_}
+use Prim.Native.Nat.{ℕ}
 use lib.ListN.{length}
 use Rattle.rules.specs.Numbers.{Bytes}
 use Rattle.rules.specs.Device.{Device, WellFormed, none, reset}
@@ -14,8 +13,8 @@ use Rattle.rules.specs.Image.{imageTest, accepted, encodeAs, decode}
 use Rattle.rules.specs.Calls.{noRoom, refusalNumber, Tested, pass, refuse, onPass, imageAnswer, Request, Asked, afresh, calls, askedBy, Done, doneOn, resetAs, performed}
 use Rattle.rules.specs.Calls.{bufferOf, Outcome, leaves, ended, settled, hasRoom, outcome}
 use Rattle.rules.specs.Convert.{converted}
-use Rattle.histories.specs.Exported.{Exported, leftBy, isDone, isReset, callOf, atLoad, leftAfter, doneCalls, returnedTo, drainedTo, lostTo, returnedBy, drainedBy, lossesRead}
-use Rattle.histories.specs.Alike.{Asking, askedOf, madeOn, Alike, AllAlike, ReadAlike}
+use Rattle.histories.specs.Exported.{Exported, leftBy, isDone, isReset, atLoad, leftAfter}
+use Rattle.histories.specs.Alike.{Asking, askedOf, madeOn, Alike, AllAlike}
 use Rattle.rules.proofs.laws.Bits.{test}
 use Rattle.rules.proofs.laws.Saved.{length-encode}
 use Rattle.rules.proofs.laws.Images.{form-of, encode-as, accepted-has, encode-decode, decode-well-formed, accepted-encode, decode-encode, reset-well-formed}
@@ -161,25 +160,6 @@ pub same-device-answers-alike : (i j : List ℕ) → Bytes i → Bytes j → ima
     → (qs : List Asking) → AllAlike (madeOn i qs) (madeOn j qs)
 same-device-answers-alike i j b c e f s = all-alike (shows i b e) (subst (λ d. Shows (accepted-has j f .form) d j) (sym s) (shows j c f))
 
--- One history, two forms: the done calls are the same, a host reads the same events in answer areas and event buffers, and the same sum of what writes say
--- that they dropped.
-read-alike : (qs : List Asking) (i j : List ℕ) → AllAlike (madeOn i qs) (madeOn j qs) → ReadAlike (madeOn i qs) (madeOn j qs)
-unfolding madeOn AllAlike doneCalls returnedBy drainedBy lossesRead
-read-alike [] i j a = record { calls = refl; returned = refl; drained = refl; lost = refl }
-read-alike (q ∷ qs) i j a =
-    let x = a .0 in
-    let rest = read-alike qs (leftBy (askedOf i q) .image) (leftBy (askedOf j q) .image) (a .1) in
-    record {
-      calls = (λ k. cond (eqb (x .number k) 0) (callOf (askedBy (q .asked))) [] ++ rest .calls k);
-      returned = (λ k. cond (eqb (x .number k) 0) (returnedTo (q .asked) (x .answer k)) [] ++ rest .returned k);
-      drained = (λ k. cond (eqb (x .number k) 0) (drainedTo (q .asked) (x .answer k) (x .events k)) [] ++ rest .drained k);
-      lost = (λ k. cond (eqb (x .number k) 0) (lostTo (q .asked) (x .answer k)) 0 + rest .lost k);
-    }
-
-pub same-device-read-alike : (i j : List ℕ) → Bytes i → Bytes j → imageTest i ≡ accepted → imageTest j ≡ accepted → decode i ≡ decode j
-    → (qs : List Asking) → ReadAlike (madeOn i qs) (madeOn j qs)
-same-device-read-alike i j b c e f s qs = read-alike qs i j (same-device-answers-alike i j b c e f s qs)
-
 -- ---- an image and what it is moved to
 
 module _ (i t j : List ℕ) (b : Bytes i) (e : converted i t ≡ pass j) where
@@ -192,9 +172,6 @@ module _ (i t j : List ℕ) (b : Bytes i) (e : converted i t ≡ pass j) where
   -- They answer every later call alike,
   pub converted-answers-alike : (qs : List Asking) → AllAlike (madeOn i qs) (madeOn j qs)
   converted-answers-alike = all-alike (shows i b (did .accepted)) its-image
-
-  pub converted-read-alike : (qs : List Asking) → ReadAlike (madeOn i qs) (madeOn j qs)
-  converted-read-alike qs = read-alike qs i j (converted-answers-alike qs)
 
   -- and to move it and then make calls leaves what it leaves to make them and then move it.
   pub moved-first-or-last : (qs : List Asking) → converted (leftAfter i (madeOn i qs)) t ≡ pass (leftAfter j (madeOn j qs))
