@@ -1,6 +1,6 @@
 // The answer area: the refusal, whether a value is present, and the value.
 use bytes::put_word;
-use bytes::wide;
+use bytes::put_zeros;
 ghost use mathlib.Core.Path.{_≡_};
 ghost use Prim.Native.Nat.{_≤_};
 ghost use lib.ListN.{length};
@@ -25,7 +25,7 @@ pub fn done(value: Value) -> Told
     Told { number: 0, value }
 }
 
-fn present_byte(value: Value) -> u64
+fn present_byte(value: Value) -> u8
     ensures { λ r. ⌜ r ≡ present (valueView value) ⌝ }
 {
     match value {
@@ -43,13 +43,15 @@ fn amount_of(value: Value) -> u64
     }
 }
 
-// Sixteen bytes are written, eight and eight; those past them stay.
+// Sixteen bytes are written; those past them stay. The first eight become zeros before two of them are set: of bytes that are stored in order the compiler
+// puts the last six together by themselves, and a call takes two instructions more.
 pub fn put_answer(answer: &mut [u8], number: u8, value: Value)
     requires { ⌜ answerLength ≤ length (now answer) ⌝ }
     ensures { λ _. ⌜ now (answer .exit) ≡ answered number (valueView value) (now (answer .entry)) ⌝ }
 {
-    let head = wide(number) + 256 * present_byte(value);
-    put_word(answer, 0, head);
+    put_zeros(&mut answer[0..8]);
+    answer[0] = number;
+    answer[1] = present_byte(value);
     put_word(answer, 8, amount_of(value));
 }
 

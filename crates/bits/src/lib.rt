@@ -1,18 +1,21 @@
-// The leaves on numbers: a half of a register and a byte of a Dword, taken and replaced by the masks of loongarch_pch_pic.rs.
-// Each is an equation with a definition of rules.
+// The leaves on numbers: a half of a register and a byte of a Dword, taken and replaced. They do it by the masks and shifts of loongarch_pch_pic.rs, but for
+// replace_u32, which has remainder and product (02, C-12). Each is an equation with a definition of rules.
 ghost use mathlib.Core.Path.{_≡_};
 ghost use Prim.Native.Nat.{_<_};
 ghost use Rattle.rules.specs.Numbers.{byteOf, withByte};
 ghost use Rattle.rules.specs.Inputs.{half, withHalf, asHalf};
 
-// old with its high or its low half replaced by val.
+// 2^32: a register is its high half times this, and its low half.
+const HALF: u64 = 0x1_0000_0000;
+
+// old with its high or its low half replaced by val. Every half of a register that is replaced, by value and in place, is replaced here.
 pub fn replace_u32(old: u64, val: u32, high: bool) -> u64
     ensures { λ r. ⌜ r ≡ withHalf high old val ⌝ }
 {
     if high {
-        (old & 0x0000_0000_ffff_ffff) | ((val as u64) << 32)
+        (val as u64) * HALF + old % HALF
     } else {
-        (old & 0xffff_ffff_0000_0000) | (val as u64)
+        old - old % HALF + (val as u64)
     }
 }
 

@@ -219,13 +219,6 @@ module _ (i : List ℕ) (o n x : ℕ) (fits : o % 64 + n ≤ 64) {j : List ℕ} 
       (λ d h. run-bytes 0x200 (withVectors d) (λ l p b low high. ap (acted (withVectors d l)) (entry-acts-vector p b low high) ∙ acted-vector (withVectors d l) (p - 0x200) b) n (o % 64) o x (d .core .vectors) at fits (h .well .vectors))
       (λ c. run-quiet n c o x)
 
-module _ (i : List ℕ) (o n x : ℕ) (run : Run o n) {j : List ℕ} where
-  pub routes-put : o < 0x200 → Becomes i j (λ d. routed d (withBytes (o % 64) n x (d .core .stored .routes))) → Writes i j 0 (λ c. entriesActs o n x)
-  routes-put h s = routes-acts i o n x (run .fits) (⊎-elim (λ e. e) (λ e. omega arith) (run .table)) s
-
-  pub vectors-put : 0x200 ≤ o → Becomes i j (λ d. withVectors d (withBytes (o % 64) n x (d .core .vectors))) → Writes i j 0 (λ c. entriesActs o n x)
-  vectors-put h s = vectors-acts i o n x (run .fits) (⊎-elim (λ e. omega arith) (λ e. e) (run .table)) s
-
 module _ (i : List ℕ) (o : ℕ) {j : List ℕ} where
   -- a single one
   pub entry-written : (v : ℕ) → v < 256 → Writes i j 0 (λ c. entriesActs o 1 v) → Writes i j 0 (λ c. entryActs o v)

@@ -56,14 +56,15 @@ pub fn read_run(image: &[u8], form: Form, offset: usize, n: usize) -> u64
     }
 }
 
+// By the table, in arms that are no two ways out of one test: of such the compiler brings the shifts together, and stores byte by byte.
 pub fn write_run(image: &mut [u8], form: Form, offset: usize, n: usize, x: u64)
     requires { ⌜ (length (now image) ≡ formLength (formView form)) × Run offset n ⌝ }
     ensures { λ _. ⌜ Writes (now (image .entry)) (now (image .exit)) 0 (λ c. entriesActs offset n x) ⌝ }
 {
-    if offset < 0x200 {
-        put_routes(image, form, offset % 64, n, x)
-    } else {
-        put_vectors(image, form, offset % 64, n, x)
+    match offset / 64 {
+        4 => put_routes(image, form, offset % 64, n, x),
+        8 => put_vectors(image, form, offset % 64, n, x),
+        _ => {}
     }
 }
 
@@ -97,13 +98,14 @@ fn write_four(image: &mut [u8], form: Form, offset: usize, val: u32)
 
 // ---- a Dword
 
+// The image is lent anew in each arm: a shared slice that is passed on as it is gets copied, and then each caller hands it over in memory.
 pub fn read_dword(image: &[u8], form: Form, offset: usize) -> u32
     requires { ⌜ length (now image) ≡ formLength (formView form) ⌝ }
     ensures { λ r. ⌜ Reads (now (image .entry)) r (λ d. readDword (d .core) offset) ⌝ }
 {
     match map::low::decode_low(offset) {
-        Cell::Half(register, high) => bits::half(value_of(image, form, register), high),
-        Cell::Bytes => read_four(image, form, offset),
+        Cell::Half(register, high) => bits::half(value_of(&*image, form, register), high),
+        Cell::Bytes => read_four(&*image, form, offset),
         Cell::Nothing => 0,
     }
 }

@@ -1,5 +1,5 @@
 -- The loop that offers a deassert for each input of a set, lowest first.
-use mathlib.Core.Path.{_≡_, refl, sym, ap, _∙_}
+use mathlib.Core.Path.{_≡_, refl, sym, ap, subst, _∙_}
 use mathlib.Core.Bool.{Bool, true, false}
 use mathlib.Core.List.{List, [], _++_, map, append-nil, append-assoc}
 use Prim.Native.Nat.{ℕ, zero, suc, _+_, _-_, _^_, _<_, _≤_}
@@ -25,25 +25,41 @@ unfolding from
 from-short n zero f = omega arith
 from-short n (suc k) f = test (f n) (λ t. rw t (omega (arith, from-short (suc n) k f))) (λ t. rw t (omega (arith, from-short (suc n) k f)))
 
+pub inputs-few : (x : ℕ) → length (inputs (on x)) ≤ 64
+inputs-few x = from-short 0 64 (on x)
+
 -- what holds at each turn: what was offered so far, and then what is left, is all
 pub record Offering (i j : List ℕ) (n set left : ℕ) : Type 0 where
   pub sofar : Core → List RingAct
   pub does : Offers i j n (λ d. sofar (d .core))
   pub rest : (c : Core) → sofar c ++ deasserts c left ≡ deasserts c set
   pub below : left < 2 ^ 64
-  pub few : n + length (inputs (on left)) ≤ 64
+  pub few : n + length (inputs (on left)) ≤ length (inputs (on set))
   pub sized : length j ≡ length i
 
 pub offering-starts : (i : List ℕ) (x : ℕ) → x < 2 ^ 64 → Offering i i 0 x x
-offering-starts i x h = record { sofar = λ c. []; does = offers-none i; rest = λ c. refl; below = h; few = omega (arith, from-short 0 64 (on x)); sized = refl }
+offering-starts i x h = record { sofar = λ c. []; does = offers-none i; rest = λ c. refl; below = h; few = omega arith; sized = refl }
 
 module _ {i j : List ℕ} {n set x : ℕ} (q : Offering i j n set x) where
-  pub offering-done : x ≡ 0 → (n ≤ 64) × Offers i j n (λ d. deasserts (d .core) set)
+  pub offering-done : x ≡ 0 → (n ≤ length (inputs (on set))) × Offers i j n (λ d. deasserts (d .core) set)
   unfolding offers
   offering-done z = (
     omega (arith, q .few),
     offers-same (λ d. q .sofar (d .core)) (λ d. deasserts (d .core) set) (q .does)
         (λ d h. sym (append-nil (q .sofar (d .core))) ∙ ap (λ ns. q .sofar (d .core) ++ offers (map (lines.event (d .core .vectors) true false) ns)) (sym (no-input x z)) ∙ q .rest (d .core)),
+  )
+
+  -- with the number dropped by another name
+  pub offering-told : {m : ℕ} → n ≡ m → Offering i j m set x
+  offering-told e = subst (λ m. Offering i j m set x) e q
+
+  -- the rest is offered at once
+  pub offering-rest : {k : List ℕ} {m : ℕ} → (m ≤ length (inputs (on x))) × Offers j k m (λ d. deasserts (d .core) x) → (n + m ≤ length (inputs (on set))) × Offers i k (n + m) (λ d. deasserts (d .core) set)
+  offering-rest o = (
+    omega (arith, q .few, o .0),
+    offers-same (λ d. q .sofar (d .core) ++ deasserts (d .core) x) (λ d. deasserts (d .core) set)
+        (offers-then (λ d. q .sofar (d .core)) (λ d. deasserts (d .core) x) (q .does) (o .1) (λ d r. refl))
+        (λ d h. q .rest (d .core)),
   )
 
   module _ (some : x ≡ 0 → ⊥) where

@@ -34,6 +34,7 @@ pub fn read_byte(image: &[u8], form: Form, offset: usize) -> u8
     bits::byte_of(read_dword(image, form, offset & !0x3), place)
 }
 
+// The byte's part of the Dword is known before the Dword is read, so that little is kept meanwhile: a route or vector byte then pays for none of it.
 pub fn write_byte(image: &mut [u8], form: Form, offset: usize, val: u8) -> u32
     requires { ⌜ length (now image) ≡ formLength (formView form) ⌝ }
     ensures { λ r. ⌜ (r ≤ 65) × Writes (now (image .entry)) (now (image .exit)) r (λ c. byteActs c offset val) ⌝ }
@@ -42,9 +43,11 @@ pub fn write_byte(image: &mut [u8], form: Form, offset: usize, val: u8) -> u32
         write_entry(image, form, offset, val);
         return 0;
     }
-    let place = offset & 0x3;
+    let shift = (offset & 0x3) * 8;
+    let others = !(0xff << shift);
+    let placed = (val as u32) << shift;
     let old = read_dword(image, form, offset & !0x3);
-    write_dword(image, form, offset & !0x3, bits::with_byte(old, place, val))
+    write_dword(image, form, offset & !0x3, (old & others) | placed)
 }
 
 // ---- Word

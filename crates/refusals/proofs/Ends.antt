@@ -43,7 +43,7 @@ passed wrongContents k e = absurd (known-unknown e)
 passed (broken g a) k e = absurd (known-unknown e)
 
 -- it left: the image is not
-failed : (i : List ℕ) → unknown ≡ acceptedForm i → imageTest i ≡ accepted → ⊥
+pub failed : (i : List ℕ) → unknown ≡ acceptedForm i → imageTest i ≡ accepted → ⊥
 failed i e f =
     let its = accepted-has i f in
     known-unknown (sym (form-of (its .form) i (its .has .sized)) ∙ ap (λ t. formIf (isAccepted t) (formOf (length i))) (sym f) ∙ sym e)

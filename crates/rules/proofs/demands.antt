@@ -9,3 +9,4 @@ pub mod Refused
 pub mod Losses
 pub mod Broken
 pub mod Copy
+pub mod Convert

@@ -26,3 +26,4 @@ pub mod Account
 pub mod Session
 pub mod Dozen
 pub mod Copy
+pub mod Convert

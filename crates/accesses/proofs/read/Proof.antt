@@ -1,5 +1,6 @@
 -- `read`: each refusal leaves where 01's order puts it; done, the image stays and what the registers read is told.
 use mathlib.Core.Path.{refl, sym, ap, _∙_}
+use Rattle.rules.specs.Access.{readAt}
 use Rattle.rules.specs.Device as device
 use Rattle.rules.specs.Calls as asked
 use Rattle.image.specs.Shown.{formView}
@@ -16,7 +17,7 @@ on : (t : tie.After-known-told) → Passed (formView (t .before .checked .given 
 on t = let e = t .before in let k = e .before .before in goes-on (λ n. k .before .shared-slice-known .given n .fits) (k .check .result) (e .checked .given .0 .0) (e .checked .given .1) (k .check .ensures)
 
 pub read-spec : {M : Type 1} → statement M
-unfolding on
+unfolding on readAt
 read-spec =
     tie.close
     (tie.spec
@@ -24,16 +25,38 @@ read-spec =
     (λ c. let u = c .before in let k = u .before .before in let a = k .before .before .args in
     by-image (asked.read (a .base) (a .size) (a .address) (a .width)) refl (k .check .result) (u .enum-told .given .1) (k .check .ensures) (c .of-image .result) (c .of-image .ensures))
     (λ c κs. search needs) (λ c. search needs) (λ c. search needs) (λ c κs. search needs)
-    (λ c. let u = c .before in let w = u .before .before in let t = w .before in let m = t .before .before in let a = m .before .before .before .args in
+    (λ c. let u = c .before in let w = u .before .before in let p = w .before in let m = p .before .before in let a = m .before .before .before .args in
     tells (c .no-width .result) (c .no-width .ensures)
-    (no-width (on t) (a .base) (a .size) (a .address) (a .width) (w .width-of .ensures) (asked.read (a .base) (a .size) (a .address) (a .width)) device.read refl (u .enum-told2 .given .1)))
+    (no-width (on p) (a .base) (a .size) (a .address) (a .width) (w .width-of .ensures) (asked.read (a .base) (a .size) (a .address) (a .width)) device.read refl (u .enum-told2 .given .1)))
     (λ c κs. search needs) (λ c. search needs) (λ c. search needs) (λ c κs. search needs)
-    (λ c. let u = c .before in let l = u .before .before in let e = l .before .before in let w = e .before .before in let t = w .before in let m = t .before .before in
+    (λ c. let u = c .before in let l = u .before .before in let e = l .before .before in let w = e .before .before in let p = w .before in let m = p .before .before in
     let a = m .before .before .before .args in tells (c .outside .result) (c .outside .ensures)
-    (no-place (on t) (a .base) (a .size) (a .address) (a .width) (w .width-of .ensures) (asked.read (a .base) (a .size) (a .address) (a .width)) device.read refl (e .known .given .1) (l .locate .ensures .0) (u .enum-told3 .given .1)))
-    (λ c κs. let o = c .before in let l = o .before .before in let e = l .before .before in let w = e .before .before in let t = w .before in let m = t .before .before in
-    (long (on t), reach _ _ (l .locate .ensures .1) (o .offset .given .1) (sym (w .width-of .ensures) ∙ ap knownView (e .known .given .1))))
+    (no-place (on p) (a .base) (a .size) (a .address) (a .width) (w .width-of .ensures) (asked.read (a .base) (a .size) (a .address) (a .width)) device.read refl (e .known .given .1) (l .locate .ensures .0) (u .enum-told3 .given .1)))
+    (λ c. search needs)
+    (λ c κs. let o = c .before .before .before in let l = o .before .before in let e = l .before .before in let w = e .before .before in let p = w .before in let m = p .before .before in long (on p))
+    (λ c. search needs)
     (λ c κs. search needs)
-    (λ c. let g = c .before in let o = g .before .before in let l = o .before .before in let e = l .before .before in let w = e .before .before in
-    let t = w .before in let m = t .before .before in let a = m .before .before .before .args in tells (c .done .result) (c .done .ensures)
-    (read-done (on t) (a .base) (a .size) (a .address) (a .width) (w .width-of .ensures) (e .known .given .1) (l .locate .ensures .0) (o .offset .given .1) (g .read-access .result) (g .read-access .ensures))))
+    (λ c. search needs)
+    (λ c κs. let o = c .before .before .before in let l = o .before .before in let e = l .before .before in let w = e .before .before in let p = w .before in let m = p .before .before in
+    (long (on p), rw (c .enum-told5 .given .1) at (reach _ _ (l .locate .ensures .1) (o .offset .given .1) (sym (w .width-of .ensures) ∙ ap knownView (e .known .given .1)))))
+    (λ c κs. search needs)
+    (λ c. search needs)
+    (λ c κs. let o = c .before .before .before in let l = o .before .before in let e = l .before .before in let w = e .before .before in let p = w .before in let m = p .before .before in long (on p))
+    (λ c. search needs)
+    (λ c κs. search needs)
+    (λ c. search needs)
+    (λ c κs. let o = c .before .before .before in let l = o .before .before in let e = l .before .before in let w = e .before .before in let p = w .before in let m = p .before .before in
+    (long (on p), rw (c .enum-told7 .given .1) at (reach _ _ (l .locate .ensures .1) (o .offset .given .1) (sym (w .width-of .ensures) ∙ ap knownView (e .known .given .1)))))
+    (λ c κs. search needs)
+    (λ c. let r = c .before in let t = r .before in let o = t .before .before .before in let l = o .before .before in let e = l .before .before in let w = e .before .before in let p = w .before in let m = p .before .before in
+    let a = m .before .before .before .args in tells (c .gives .result) (c .gives .ensures)
+    (read-done (on p) (a .base) (a .size) (a .address) (a .width) (w .width-of .ensures) (e .known .given .1) (l .locate .ensures .0) (o .offset .given .1) (r .read-byte .result) (rw (t .enum-told4 .given .1) (r .read-byte .ensures))))
+    (λ c. let r = c .before in let t = r .before in let o = t .before .before .before in let l = o .before .before in let e = l .before .before in let w = e .before .before in let p = w .before in let m = p .before .before in
+    let a = m .before .before .before .args in tells (c .gives2 .result) (c .gives2 .ensures)
+    (read-done (on p) (a .base) (a .size) (a .address) (a .width) (w .width-of .ensures) (e .known .given .1) (l .locate .ensures .0) (o .offset .given .1) (r .read-word .result) (rw (t .enum-told5 .given .1) (r .read-word .ensures))))
+    (λ c. let r = c .before in let t = r .before in let o = t .before .before .before in let l = o .before .before in let e = l .before .before in let w = e .before .before in let p = w .before in let m = p .before .before in
+    let a = m .before .before .before .args in tells (c .gives3 .result) (c .gives3 .ensures)
+    (read-done (on p) (a .base) (a .size) (a .address) (a .width) (w .width-of .ensures) (e .known .given .1) (l .locate .ensures .0) (o .offset .given .1) (r .read-dword .result) (rw (t .enum-told6 .given .1) (r .read-dword .ensures))))
+    (λ c. let r = c .before in let t = r .before in let o = t .before .before .before in let l = o .before .before in let e = l .before .before in let w = e .before .before in let p = w .before in let m = p .before .before in
+    let a = m .before .before .before .args in tells (c .gives4 .result) (c .gives4 .ensures)
+    (read-done (on p) (a .base) (a .size) (a .address) (a .width) (w .width-of .ensures) (e .known .given .1) (l .locate .ensures .0) (o .offset .given .1) (r .read-qword .result) (rw (t .enum-told7 .given .1) (r .read-qword .ensures)))))

@@ -1,60 +1,52 @@
--- `put_answer`: the first eight bytes are those of one number, whose lowest two bytes are the refusal and the presence; the next eight are the value's.
-use mathlib.Core.Path.{_≡_, _∙_}
-use mathlib.Core.List.{[], _∷_, _++_}
-use Prim.Native.Nat.{ℕ, _+_, _*_, _/_, _%_, _≤_, _<_}
+-- `put_answer`: eight zeros, of which the lowest two bytes become the refusal and the presence; the next eight are the value's.
+use mathlib.Core.Path.{_≡_, refl, ap, _∙_}
+use mathlib.Core.List.{List, [], _∷_, _++_}
+use Prim.Native.Nat.{ℕ, _≤_}
 use native.Mathlib.Omega.{arith}
-use lib.Dec.{lit≤}
-use lib.ListN.{drop}
-use Rattle.rules.specs.Numbers.{bytesOf}
-use Rattle.rules.specs.Device.{Value, none, some}
-use Rattle.rules.specs.Calls.{answerLength, present, answered}
-use Rattle.rules.proofs.laws.Parts.{start}
-use Rattle.answer.specs.Given.{valueView}
+use lib.ListN.{length, drop, set, replicate, length-set}
+use borrow.Rule.Slice.PartMut.{putMid}
+use Rattle.rules.specs.Numbers.{bytesOf, part}
+use Rattle.rules.specs.Calls.{answerLength, answered}
+use Rattle.rules.proofs.laws.Parts.{Filled, start, put-this, length-next}
 use Rattle.bytes.proofs.Putting.{word-put}
 use borrow.Author.Needs.{needs}
 use Rattle.answer.proofs.put_answer.Statement.{statement}
 use Rattle.answer.proofs.put_answer.Tie as tie
 
-present-small : (v : Value) → present v ≤ 1
-present-small none = lit≤ tt
-present-small (some x) = lit≤ tt
-
--- a number of two bytes, as eight
-head-bytes : (x n p : ℕ) → x ≡ n + 256 * p → n < 256 → p < 256 → bytesOf 8 x ≡ n ∷ p ∷ 0 ∷ 0 ∷ 0 ∷ 0 ∷ 0 ∷ 0 ∷ []
-head-bytes x n p e h k =
-    let low : x % 256 ≡ n = omega arith in
-    let high : x / 256 ≡ p = omega arith in
-    let low₂ : p % 256 ≡ p = omega arith in
-    let high₂ : p / 256 ≡ 0 = omega arith in
-    (λ i. low i ∷ bytesOf 7 (high i)) ∙ (λ i. n ∷ low₂ i ∷ bytesOf 6 (high₂ i))
-
-mul-head : tie.Need-mul-head
-mul-head c = omega (arith, c .present-byte .ensures, present-small (valueView (c .before .before .before .args .value)))
-
-add-head : tie.Need-add-head
-add-head c = omega (arith, c .present-byte .ensures, present-small (valueView (c .before .before .before .args .value)), c .before .wide .ensures)
+-- the first two of eight zeros are written over
+head-put : (l ys : List ℕ) (n p : ℕ) → answerLength ≤ length l → ys ≡ replicate (length (part 0 8 l)) 0 → Filled (set (set (putMid 0 8 l ys) 0 n) 1 p) l (n ∷ p ∷ 0 ∷ 0 ∷ 0 ∷ 0 ∷ 0 ∷ 0 ∷ []) 8
+head-put l ys n p h e =
+    let zeros : ys ≡ replicate 8 0 = e ∙ ap (λ k. replicate k 0) (length-next (start l) 8 (omega arith)) in
+    let eight = put-this (start l) 8 (replicate 8 0) ys refl zeros in
+    record { is = ap (λ m. set (set m 0 n) 1 p) (eight .is); len = refl }
 
 returns : tie.Need-returns
 unfolding answered
 returns c =
     let two = c .before .before in
-    let one = two .before .before .before .before .before in
-    let p = one .before .before in
-    let s = p .before .before .before in
-    let v = valueView (s .args .value) in
-    let small = present-small v in
-    let head = head-bytes (p .before .wide .result + 256 * p .present-byte .result) (s .args .number) (present v) (λ i. p .before .wide .ensures i + 256 * p .present-byte .ensures i) (omega arith) (omega arith) in
-    let eight = word-put (p .before .wide .result + 256 * p .present-byte .result) (one .put-word .last .0) (start (s .args .answer .now)) (one .put-word .ensures) in
-    word-put (two .before .amount-of .result) (two .put-word2 .last .0) eight (two .put-word2 .ensures) .is
-    ∙ (λ i. head i ++ (bytesOf 8 (two .before .amount-of .ensures i) ++ drop answerLength (s .args .answer .now)))
+    let b = two .before .before .before in
+    let z = b .before .before .before in
+    let s = z .before .before .before in
+    let eight = head-put (s .args .answer .now) (z .put-zeros .last .0) (s .args .number) (b .present-byte .result) (s .pre) (z .put-zeros .ensures) in
+    word-put (two .before .amount-of .result) (two .put-word .last .0) eight (two .put-word .ensures) .is
+    ∙ (λ i. (s .args .number ∷ b .present-byte .ensures i ∷ 0 ∷ 0 ∷ 0 ∷ 0 ∷ 0 ∷ 0 ∷ bytesOf 8 (two .before .amount-of .ensures i)) ++ drop answerLength (s .args .answer .now))
 
 pub put-answer-spec : {M : Type 1} → statement M
 put-answer-spec =
     tie.close
     (tie.spec
-    (λ c κs. search needs) (λ c κs. search needs)
-    mul-head
-    add-head
-    (λ c κs. search needs) (λ c κs. search needs) (λ c κs. search needs)
     (λ c. search needs)
+    (λ c. search needs)
+    (λ c. search needs)
+    (λ c κs. search needs)
+    (λ c. search needs)
+    (λ c κs. search needs)
+    (λ c. simp length-set (omega arith))
+    (λ c κs. search needs)
+    (λ c κs. simp length-set (omega arith))
+    (λ c. let b = c .before .before .before .before .before in
+    let z = b .before .before .before in
+    let s = z .before .before .before in
+    let l = putMid 0 8 (s .args .answer .now) (z .put-zeros .last .0) in
+    omega (arith, length-set l 0 (s .args .number), length-set (set l 0 (s .args .number)) 1 (b .present-byte .result)))
     returns)

@@ -1,5 +1,6 @@
 -- `write_run`: by the table that the run lies in.
-use Rattle.cells.proofs.Entries.{routes-put, vectors-put}
+use mathlib.Core.Logic.{⊎-elim}
+use Rattle.cells.proofs.Entries.{routes-acts, vectors-acts}
 use borrow.Author.Needs.{needs}
 use Rattle.cells.proofs.write_run.Statement.{statement}
 use Rattle.cells.proofs.write_run.Tie as tie
@@ -13,8 +14,9 @@ write-run-spec =
     (λ c. search needs)
     (λ c. let p = c .before .before in
     let s = p .before .before .before .before in
-    routes-put (s .args .image .now) (s .args .offset) (s .args .n) (s .args .x) (s .pre .1) (p .before .before .if1 .taken) (p .put-routes .ensures))
+    routes-acts (s .args .image .now) (s .args .offset) (s .args .n) (s .args .x) (s .pre .1 .fits) (p .before .before .match .keys1) (p .put-routes .ensures))
     (λ c. search needs)
     (λ c. let p = c .before .before in
     let s = p .before .before .before .before in
-    vectors-put (s .args .image .now) (s .args .offset) (s .args .n) (s .args .x) (s .pre .1) (p .before .before .if1 .left) (p .put-vectors .ensures)))
+    vectors-acts (s .args .image .now) (s .args .offset) (s .args .n) (s .args .x) (s .pre .1 .fits) (p .before .before .match .keys2) (p .put-vectors .ensures))
+    (λ c. ⊎-elim (λ e. absurd (c .match .rest .0 .1 e)) (λ e. absurd (c .match .rest .1 e)) (c .before .before .pre .1 .table)))

@@ -1,8 +1,9 @@
 -- `write_byte`: inside 0x100..0x39f one byte, and elsewhere the Dword that it lies in.
 use mathlib.Core.Path.{sym, _∙_}
 use native.Mathlib.Omega.{arith}
-use lib.Bits.{mask-lt}
+use lib.Bits.{bitAnd, mask-lt}
 use Rattle.rules.specs.Access.{entryActs, byteActs}
+use Rattle.rules.proofs.laws.Halves.{byte-replaced}
 use Rattle.rules.proofs.laws.Writes.{byte-acts-inside}
 use Rattle.inplace.proofs.Doing.{writes-same}
 use Rattle.narrow.proofs.Bytes.{outside-written}
@@ -19,10 +20,19 @@ write-byte-spec =
     (λ c. search needs)
     (λ c. let a = c .before .before .before .before .before .before .before .args in
     (omega arith, writes-same (λ k. entryActs (a .offset) (a .val)) (λ k. byteActs k (a .offset) (a .val)) (c .before .before .write-entry .ensures) (λ d h. sym (byte-acts-inside (a .offset) (a .val) (d .core) (sym (c .before .before .before .before .before .in-byte-area .ensures) ∙ c .before .before .before .before .if1 .taken)))))
+    (λ c. omega (arith, mask-lt (c .before .before .before .args .offset) 2))
+    (λ c. omega (arith, mask-lt (c .before .before .before .args .offset) 2))
+    (λ c. omega (arith, mask-lt (c .before .before .before .args .offset) 2))
+    (λ c. omega (arith, mask-lt (c .before .before .before .args .offset) 2))
+    (λ c. omega (arith, mask-lt (c .before .before .before .args .offset) 2))
     (λ c κs. search needs)
-    (λ c κs. mask-lt (c .before .before .before .before .before .before .args .offset) 2)
     (λ c κs. search needs)
     (λ c. search needs)
     (λ c. let w = c .before .before .write-dword .ensures in
-    let a = c .before .before .before .before .before .before .before .before .before .before .args in
-    (w .0, outside-written (a .offset) (a .val) (search needs) (sym (c .before .before .before .before .before .before .before .before .in-byte-area .ensures) ∙ c .before .before .before .before .before .before .before .if1 .left) (c .before .before .before .before .before .read-dword .ensures) (c .before .before .before .with-byte .ensures) (w .1))))
+    let r = c .before .before .before .before in
+    let a = c .before .before .before .before .before .before .before .before .before .args in
+    let small = mask-lt (a .offset) 2 in (
+      w .0,
+      outside-written (a .offset) (a .val) (search needs) (sym (r .before .before .before .in-byte-area .ensures) ∙ r .before .before .if1 .left) (r .read-dword .ensures)
+          (byte-replaced 32 (r .read-dword .result) (bitAnd (a .offset) 0x3) (a .val) (omega arith) (search needs) (search needs)) (w .1),
+    )))

@@ -1,6 +1,6 @@
--- The halves of a register and the bytes of a number: their bits, and the masks by which the code replaces one.
+-- The halves of a register and the bytes of a number: their bits, and the masks by which the code replaces a byte.
 -- A half is compared bit by bit, and so is the register, since the other half stays (changed).
-use mathlib.Core.Path.{_≡_, refl, sym, ap, ap₂, _∙_}
+use mathlib.Core.Path.{_≡_, refl, sym, ap₂, _∙_}
 use mathlib.Core.Bool.{Bool, true, false, not, _&&_, and-not-self, not-and-self}
 use Prim.Native.Nat.{ℕ, zero, suc, _+_, _-_, _*_, _/_, _%_, _^_, _≤_, _<_}
 use native.Mathlib.Nat.{mod-lt, mod-mod, add-zero, pow-suc}
@@ -98,14 +98,6 @@ replaced n w k x v l hx hv =
     let e : n ≡ (n - (k + w)) + (k + w) = omega arith in
     rw (shl-exact w k n (ones-lt w) (omega arith), shl-exact w k n hv (omega arith), e)
     (replaced-at (n - (k + w)) w k x v (rw e at hx) hv)
-
--- the halves by the code's masks: (x & 0x0000_0000_ffff_ffff) | (v << 32), and (x & 0xffff_ffff_0000_0000) | v
-pub high-replaced : (x v : ℕ) → x < 2 ^ 64 → v < 2 ^ 32 → bitOr (bitAnd x 0x0000_0000_ffff_ffff) (v * 2 ^ 32 % 2 ^ 64) ≡ withHalf true x v
-high-replaced x v hx hv = replaced 64 32 32 x v (omega arith) hx hv ∙ omega arith
-
-pub low-replaced : (x v : ℕ) → x < 2 ^ 64 → v < 2 ^ 32 → bitOr (bitAnd x 0xffff_ffff_0000_0000) v ≡ withHalf false x v
-low-replaced x v hx hv =
-    ap (bitOr (bitAnd x 0xffff_ffff_0000_0000)) (omega arith) ∙ replaced 64 32 0 x v (omega arith) hx hv ∙ omega arith
 
 -- v << 32, and v
 pub high-placed : (v : ℕ) → v < 2 ^ 32 → v * 2 ^ 32 % 2 ^ 64 ≡ asHalf true v
