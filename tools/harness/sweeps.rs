@@ -261,13 +261,22 @@ fn orders(bench: &mut Bench, _: &mut Chance, states: &[Image]) {
     calls.extend([0, TWO.length, TWO.length + 1, ONE.length].map(|target| Call::Convert { target }));
     for (form, state) in &in_both(states) {
         for call in &calls {
-            for faults in 0..32 {
+            for faults in 0..128 {
                 let mut bytes = state.clone();
                 if faults & 1 != 0 {
                     bytes[form.count] = 17;
                 }
                 if faults & 16 != 0 {
                     bytes[46] ^= 0x40; // the copy of IRR in form 1, and IRR in form 2
+                }
+                if faults & 96 != 0 && bytes[form.count] == 0 {
+                    bytes[form.count] = 1;
+                }
+                if faults & 32 != 0 {
+                    bytes[form.pairs + 1] = 2; // the flag of the oldest
+                }
+                if faults & 64 != 0 {
+                    bytes[form.length - 1] = 3; // the last pair, unused or with a flag that is none
                 }
                 if faults & 2 != 0 {
                     bytes[0] ^= 3;
