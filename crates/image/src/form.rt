@@ -42,6 +42,9 @@ pub struct Places {
     pub pairs: usize,
 }
 
+// Form 2 has no copy of IRR.
+const IRR_OF_TWO: usize = 46;
+
 pub fn places_of(form: Form) -> Places
     ensures { λ r. ⌜ PlacesOf (formView form) r ⌝ }
 {
@@ -66,8 +69,8 @@ pub fn places_of(form: Form) -> Places
             int_mask: 22,
             htmsi_en: 30,
             intedge: 38,
-            last_intirr: 46,
-            intirr: 46,
+            last_intirr: IRR_OF_TWO,
+            intirr: IRR_OF_TWO,
             intisr: 54,
             int_polarity: 62,
             auto_ctrl0: 70,
