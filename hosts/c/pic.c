@@ -89,6 +89,24 @@ int pic_drain(struct pic *pic, struct pic_event events[PCH_PIC_EVENTS], size_t *
     return number;
 }
 
+size_t pic_image(const struct pic *pic, enum pic_form form, uint8_t image[PCH_PIC_IMAGE_LEN])
+{
+    uint8_t answer[PCH_PIC_ANSWER_LEN];
+    size_t len = form == PIC_FORM_1 ? PCH_PIC_IMAGE_LEN : form == PIC_FORM_2 ? PCH_PIC_IMAGE2_LEN : 0;
+    return pch_pic_convert(pic->image, sizeof pic->image, image, len, answer, sizeof answer) == PCH_PIC_DONE ? len : 0;
+}
+
+/* The conversion tests the image, and leaves the device where it refuses. */
+int pic_take(struct pic *pic, const uint8_t *image, size_t image_len, uint64_t *place)
+{
+    uint8_t answer[PCH_PIC_ANSWER_LEN];
+    int number = pch_pic_convert(image, image_len, pic->image, sizeof pic->image, answer, sizeof answer);
+    if (place != NULL && number >= PCH_PIC_COPY && number <= PCH_PIC_UNUSED) {
+        *place = value_of(answer);
+    }
+    return number;
+}
+
 /* The len bytes at place of the body of that kind, as a number; counted back from the body's end if place is below 0. The body is found by the
  * contents, since it stands elsewhere in other forms. 0 where the image has no such bytes. */
 static uint64_t in_body(const struct pic *pic, unsigned kind, long place, size_t len)

@@ -1,4 +1,4 @@
-//! The library under test where its Rattle sources are read as Rust (tools/harness/as-rust): the C shape of the six calls, over slices.
+//! The library under test where its Rattle sources are read as Rust (tools/harness/as-rust): the C shape of the calls, over slices.
 
 /// SAFETY: the pointer has so many bytes, or is null and has none.
 unsafe fn area<'a>(pointer: *mut u8, len: usize) -> &'a mut [u8] {
@@ -54,4 +54,15 @@ pub unsafe fn pch_pic_drain(
     answer_len: usize,
 ) -> u8 {
     unsafe { pch_pic::pch_pic_drain(area(image, image_len), area(events, events_len), place, area(answer, answer_len)) }
+}
+
+pub unsafe fn pch_pic_convert(
+    image: *const u8,
+    image_len: usize,
+    target: *mut u8,
+    target_len: usize,
+    answer: *mut u8,
+    answer_len: usize,
+) -> u8 {
+    unsafe { pch_pic::pch_pic_convert(area(image.cast_mut(), image_len), area(target, target_len), area(answer, answer_len)) }
 }

@@ -14,20 +14,22 @@ pub fn box_areas() {
 }
 
 pub fn call(call: &Call, lent: &mut Areas) -> u8 {
-    let Areas { image, answer, events } = lent;
+    let Areas { image, answer, events, target } = lent;
     if !BOXED.load(Ordering::Relaxed) {
-        return make(call, (image.pointer(), image.len), (answer.pointer(), answer.len), (events.pointer(), events.len));
+        let lent =
+            [(image.pointer(), image.len), (answer.pointer(), answer.len), (events.pointer(), events.len), (target.pointer(), target.len)];
+        return make(call, lent);
     }
-    let mut boxes = [image.bytes(), answer.bytes(), events.bytes()].map(Box::<[u8]>::from);
-    let [i, a, e] = boxes.each_mut().map(|block| (block.as_mut_ptr(), block.len()));
-    let number = make(call, i, a, e);
+    let mut boxes = [image.bytes(), answer.bytes(), events.bytes(), target.bytes()].map(Box::<[u8]>::from);
+    let number = make(call, boxes.each_mut().map(|block| (block.as_mut_ptr(), block.len())));
     image.slice().copy_from_slice(&boxes[0]);
     answer.slice().copy_from_slice(&boxes[1]);
     events.slice().copy_from_slice(&boxes[2]);
+    target.slice().copy_from_slice(&boxes[3]);
     number
 }
 
-fn make(call: &Call, (i, il): (*mut u8, usize), (a, al): (*mut u8, usize), (e, el): (*mut u8, usize)) -> u8 {
+fn make(call: &Call, [(i, il), (a, al), (e, el), (t, tl)]: [(*mut u8, usize); 4]) -> u8 {
     // SAFETY: each pointer and length is an area of its own that outlives the call; an empty one may be null, as the boundary says.
     unsafe {
         match *call {
@@ -37,6 +39,7 @@ fn make(call: &Call, (i, il): (*mut u8, usize), (a, al): (*mut u8, usize), (e, e
             Call::Level { input, level } => library::pch_pic_level(i, il, input, level, a, al),
             Call::Poll { input } => library::pch_pic_poll(i, il, input, a, al),
             Call::Drain { place } => library::pch_pic_drain(i, il, e, el, place as usize, a, al),
+            Call::Convert { .. } => library::pch_pic_convert(i, il, t, tl, a, al),
         }
     }
 }

@@ -56,6 +56,7 @@ mod event;
 mod ffi;
 #[cfg(feature = "std")]
 pub mod file;
+mod form;
 pub mod reg;
 mod wires;
 
@@ -63,10 +64,14 @@ pub use access::{Width, Window};
 pub use device::PchPic;
 pub use error::Error;
 pub use event::{Event, Events, Returned};
+pub use form::{Form, Image};
 pub use wires::Wires;
 
-/// The bytes of a saved image.
+/// The bytes of a saved image of [`Form::One`], the longest.
 pub const IMAGE_LEN: usize = 259;
+
+/// The bytes of a saved image of [`Form::Two`].
+pub const IMAGE2_LEN: usize = 251;
 
 /// The input lines, 0 to 63.
 pub const INPUTS: usize = 64;

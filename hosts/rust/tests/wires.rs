@@ -1,7 +1,7 @@
 //! Guests that no driver would write, and what a host makes of them: after each step the vectors that are on above are those of the inputs
 //! in service.
 
-use pch_pic::{reg, Error, Event, PchPic, Width, Window, Wires, EVENTS, INPUTS, VECTORS};
+use pch_pic::{reg, Error, Event, Form, PchPic, Width, Window, Wires, EVENTS, INPUTS, VECTORS};
 
 const WINDOW: Window = Window::at(0);
 const WIDTHS: [Width; 4] = [Width::Byte, Width::Word, Width::Dword, Width::Qword];
@@ -184,7 +184,7 @@ fn saved() -> PchPic {
 
 #[test]
 fn a_restore_into_a_fresh_host() {
-    let mut host = Host::new(PchPic::load(saved().as_ref()).unwrap());
+    let mut host = Host::new(PchPic::load(Form::One, &saved().save(Form::One)).unwrap());
     host.resume(1 << 3 | 1 << 7);
     host.expect(&[3, 7, 40], 3, 0);
     assert_eq!((host.pic.latched(), host.wires.high()), (1 << 3 | 1 << 7, 1 << 3 | 1 << 7));
@@ -233,7 +233,7 @@ fn any_guest() {
             }
             _ => {
                 let high = host.wires.high();
-                host = Host::new(PchPic::load(host.pic.as_ref()).unwrap());
+                host = Host::new(PchPic::load(Form::Two, &host.pic.save(Form::Two)).unwrap());
                 host.resume(high);
             }
         }
