@@ -4,17 +4,23 @@
  * space, and for nothing else: it uses the SSE registers and the red zone below the stack pointer, which a kernel must not, and it has no
  * .eh_frame, so nothing can be unwound through its frames.
  *
- * THE IMAGE. The device is an image of 259 bytes, which the host owns and lends to each call. Nothing is allocated, and nothing is kept from
- * one call to the next. So to save a device is to copy its image, and to load it is to lend the copy. pch_pic_reset makes an image of any 259
- * bytes. The other calls test theirs and refuse one that breaks a rule of the form (4, 5, 8 to 11). To test an image and change nothing, read ID from
- * it: 0 says that it is accepted. What a done call leaves is always accepted. The test finds no other damage: most images with one byte changed
- * break no rule, and are the images of another device. So keep a checksum beside a saved image, as hosts/c/pic_file.c does.
+ * THE IMAGE. The device is an image of 259 or 251 bytes, which the host owns and lends to each call. Nothing is allocated, and nothing is kept from
+ * one call to the next. So to save a device is to copy its image, and to load it is to lend the copy. pch_pic_reset makes an image of any bytes of
+ * such a length. The other calls test theirs and refuse one that breaks a rule of the form (4, 5, 8 to 11). To test an image and change nothing, read
+ * ID from it: 0 says that it is accepted. What a done call leaves is always accepted. The test finds no other damage: most images with one byte
+ * changed break no rule, and are the images of another device. So keep a checksum beside a saved image, as hosts/c/pic_file.c does.
+ *
+ * THE FORM. The length is the form: 259 bytes are form 1, 251 are form 2, which has no copy of IRR and all else. Every call takes both and leaves an
+ * image in the form in which it was lent; pch_pic_reset too goes by the length. Both forms of a device answer every call alike. pch_pic_convert
+ * moves an image from one form to the other, and back to the same bytes. Libraries before version 0.6.0 know form 1 alone: move an image to it before it
+ * is sent to one of them. What they saved is lent as it is.
  *
  * THE CONTENTS. An image begins with a list: byte 0 is the form, byte 1 the number of bodies, and then come five bytes for each body: its kind,
  * its offset in the image and its length, two bytes each, little end first. Offsets and lengths differ from form to form, so a host that looks into
  * an image finds each body by its kind in this list:
  *
- *     kind 1    registers, eight bytes each, little end first; the last five are IRR, ISR, POL, AUTO0 and AUTO1
+ *     kind 1    registers, eight bytes each, little end first; the last five are IRR, ISR, POL, AUTO0 and AUTO1. In form 1 a copy of IRR stands
+ *               before them
  *     kind 2    the route bytes, that of input n at n
  *     kind 3    the vector bytes, that of input n at n
  *     kind 4    the events: how many wait (one byte, 0 to 16), how many were dropped since reset (four bytes, little end first; it stops at
@@ -28,16 +34,19 @@
  *     bytes 2..7    0
  *     bytes 8..15   the value, little end first; 0 if absent
  *
- * REFUSALS. A refused call changes no byte of the image and of the event buffer. Every refusal but 7 writes the answer area; refusal 7 writes nothing
- * at all, so after a 7 the answer area is not this call's. Every call ends with a number, whatever the bytes, numbers and lengths are.
+ * REFUSALS. A refused call changes no byte of the image, of the event buffer and of a conversion's target. Every refusal but 7 writes the answer
+ * area; refusal 7 writes nothing at all, so after a 7 the answer area is not this call's. Every call ends with a number, whatever the bytes, numbers
+ * and lengths are.
  *
  * EVENTS. An event is a vector to assert or to deassert at the interrupt controller above this one. Where the host moves a line (pch_pic_level,
  * pch_pic_poll) the event is returned at once, as the value. Where the guest writes MASK or CLEAR there can be many: they wait in the image, 16
  * at most, until pch_pic_drain moves them out; one that finds 16 waiting is dropped and counted.
  *
  * WHAT A HOST MUST DO. hosts/c/pic.c and crate pch-pic in hosts/rust do all of this (pic_settle, pic_line, pic_resume):
- *     - After each write of the guest, drain, and pass the events on in their order. Then raise each line again that is still high: an unmask
- *       announces only the lowest input that waits, and a CLEAR takes the latch of a line though it is high.
+ *     - After each write of the guest, drain, and pass the events on in their order. Then poll all 64 inputs, in any order, and pass on what they
+ *       return: an unmask announces only the lowest input that waits, and this sweep wakes the others. Once each input is polled, with no MASK, CLEAR
+ *       or ISR written, no line lowered, no reset and no other image lent in between, every latched and unmasked input is in service, and each was
+ *       asserted at most once. And raise each line again that is still high: a CLEAR takes the latch of a line though it is high.
  *     - Hold a vector on while any input in service carries it. Inputs may share a vector: then it is asserted once for each of them, and is off
  *       only after as many deasserts.
  *     - Do not trust that each deassert had an assert. Where the guest changes the vector byte of an input in service, the deassert names the
@@ -48,14 +57,15 @@
  *       when a write's value is not 0, since a dropped event is never told, and after a write to ISR or to a vector byte. It is right at any
  *       time when no event waits, so the simplest host does it after each call.
  *     - After a load, rebuild what is not in the image. Lower each input that is latched (IRR) while its line is low now, drain, count afresh
- *       against what the controller above has on, and raise each line that is high. The same goes for a reset while the guest runs.
+ *       against what the controller above has on, poll all 64 inputs, and raise each line that is high. The same goes for a reset while the guest
+ *       runs.
  *     - Pass the events of one call on before the next call is made on that image: who holds the image's lock keeps it until then.
  *
  * THE HOST'S DUTIES. No call can test these:
  *     - each pointer is good for as many bytes as the length beside it says; a null pointer with length 0 is an empty buffer;
- *     - the image, the answer area and the event buffer of one call do not overlap;
- *     - while a call other than a read runs on an image, no other call runs on it. Reads of one image may run side by side, each with its own
- *       answer area: pch_pic_read and pch_pic_table_read only load from the image. Calls on different images may always run side by side.
+ *     - the image, the answer area and the event buffer or the target of one call do not overlap;
+ *     - while a call other than a read or a conversion runs on an image, no other call runs on it. Reads and conversions of one image may run side by
+ *       side, each with its own answer area and target: they only load from the image. Calls on different images may always run side by side.
  */
 #ifndef PCH_PIC_H
 #define PCH_PIC_H
@@ -71,9 +81,9 @@
 
 /* The version of the header and of what it says about the library. */
 #define PCH_PIC_VERSION_MAJOR 0
-#define PCH_PIC_VERSION_MINOR 6
+#define PCH_PIC_VERSION_MINOR 7
 #define PCH_PIC_VERSION_PATCH 0
-#define PCH_PIC_VERSION "0.6.0"
+#define PCH_PIC_VERSION "0.7.0"
 
 #ifdef __cplusplus
 extern "C" {
@@ -81,11 +91,12 @@ extern "C" {
 
 /* Sizes. */
 enum {
-    PCH_PIC_IMAGE_LEN = 259, /* bytes of an image */
-    PCH_PIC_ANSWER_LEN = 16, /* bytes of an answer */
-    PCH_PIC_INPUTS = 64,     /* input lines, 0 to 63 */
-    PCH_PIC_EVENTS = 16,     /* events that wait at most */
-    PCH_PIC_EVENT_LEN = 2    /* bytes of a drained event */
+    PCH_PIC_IMAGE_LEN = 259,  /* bytes of an image of form 1, the longest */
+    PCH_PIC_IMAGE2_LEN = 251, /* bytes of an image of form 2 */
+    PCH_PIC_ANSWER_LEN = 16,  /* bytes of an answer */
+    PCH_PIC_INPUTS = 64,      /* input lines, 0 to 63 */
+    PCH_PIC_EVENTS = 16,      /* events that wait at most */
+    PCH_PIC_EVENT_LEN = 2     /* bytes of a drained event */
 };
 
 /* Places in an answer. */
@@ -121,11 +132,11 @@ enum pch_pic_number {
     PCH_PIC_OUTSIDE = 1,  /* not all bytes of the access are inside the window; the value is the address */
     PCH_PIC_WIDTH = 2,    /* the width is not 1, 2, 4 or 8 */
     PCH_PIC_INPUT = 3,    /* the input is 64 or more */
-    PCH_PIC_LENGTH = 4,   /* the image is not 259 bytes long */
-    PCH_PIC_CONTENTS = 5, /* the image's first 22 bytes are not those of form 1 */
+    PCH_PIC_LENGTH = 4,   /* an image, or a conversion's target, is neither 259 nor 251 bytes long */
+    PCH_PIC_CONTENTS = 5, /* the image's first 22 bytes are not those of the form that its length says */
     PCH_PIC_ROOM = 7,     /* the answer area is under 16 bytes, or the place of a drain is past the end of its buffer */
     /* A rule of the form is broken; the value is the place in the image of the byte that breaks it, the first where there are several. */
-    PCH_PIC_COPY = 8,     /* the copy of IRR differs from IRR; the place of its first byte */
+    PCH_PIC_COPY = 8,     /* of form 1 alone: the copy of IRR differs from IRR; the place of its first byte */
     PCH_PIC_COUNT = 9,    /* more than 16 events wait */
     PCH_PIC_FLAG = 10,    /* the flag of a waiting event is neither 0 nor 1 */
     PCH_PIC_UNUSED = 11   /* a byte behind the waiting events is not 0 */
@@ -139,8 +150,8 @@ static inline const char *pch_pic_why(int number)
     case PCH_PIC_OUTSIDE: return "the access is not wholly inside the window";
     case PCH_PIC_WIDTH: return "the width is not 1, 2, 4 or 8";
     case PCH_PIC_INPUT: return "the input is 64 or more";
-    case PCH_PIC_LENGTH: return "the image is not 259 bytes long";
-    case PCH_PIC_CONTENTS: return "the image does not begin as form 1 does";
+    case PCH_PIC_LENGTH: return "an image is neither 259 nor 251 bytes long";
+    case PCH_PIC_CONTENTS: return "the image does not begin as one of its length does";
     case PCH_PIC_ROOM: return "a buffer is too short";
     case PCH_PIC_COPY: return "the image's copy of IRR differs from IRR";
     case PCH_PIC_COUNT: return "the image says that more than 16 events wait";
@@ -168,7 +179,7 @@ enum {
     PCH_PIC_WINDOW_LEN = 0x400    /* the bytes that the registers take */
 };
 
-/* Makes image the device after reset, whatever its 259 bytes were. No value. Refusals: 7, 4. */
+/* Makes image the device after reset, whatever its bytes were, in the form that its length says. No value. Refusals: 7, 4. */
 uint8_t pch_pic_reset(uint8_t *image, size_t image_len, uint8_t *answer, size_t answer_len);
 
 /* The guest reads width bytes (1, 2, 4 or 8) at address. The window is the size bytes from base on, and ends before address 2^64 - 1; all
@@ -197,6 +208,11 @@ uint8_t pch_pic_poll(uint8_t *image, size_t image_len, uint64_t input, uint8_t *
  * many were moved, and is always present; 32 bytes have room for all. Refusals: 7, 4, 5, 8 to 11. */
 uint8_t pch_pic_drain(uint8_t *image, size_t image_len, uint8_t *events, size_t events_len, size_t place,
                       uint8_t *answer, size_t answer_len);
+
+/* Makes target the same device in the form that the target's length says, whatever its bytes were. The image stays as it is; where both have one
+ * form the target is a copy of it. There and back gives the same bytes. No value. A refusal leaves the target; 4 is told of the image or of the
+ * target. Refusals: 7, 4, 5, 8 to 11. */
+uint8_t pch_pic_convert(const uint8_t *image, size_t image_len, uint8_t *target, size_t target_len, uint8_t *answer, size_t answer_len);
 
 /* As pch_pic_read and pch_pic_write, in the number and in every byte, but decoded by a table of 1,024 entries, one for each byte offset, the one that
  * './run --map' prints. They take more time (docs/PERFORMANCE.md), and may be mixed with the other calls on one image. Refusals: 7, 4, 5, 8 to 11, 2, 1. */

@@ -11,7 +11,7 @@
 #include <sys/stat.h>
 #include <unistd.h>
 
-enum { BASE = 0x10000000, HEAD_LEN = 12, SUM_LEN = 4, SAVED_LEN = HEAD_LEN + PCH_PIC_IMAGE_LEN + SUM_LEN };
+enum { BASE = 0x10000000, HEAD_LEN = 12, SUM_LEN = 4, SAVED_LEN = HEAD_LEN + PCH_PIC_IMAGE2_LEN + SUM_LEN, SAVED1_LEN = HEAD_LEN + PCH_PIC_IMAGE_LEN + SUM_LEN };
 
 static int passed, failed;
 
@@ -158,6 +158,27 @@ static void a_shared_vector(void)
     expect("cleared together, it is off", NONE(&host));
 }
 
+/* Inputs that are latched, though no line of the wires is high: the unmask announces one of each half, and the sweep wakes the others. */
+static void one_sweep(void)
+{
+    static const uint64_t inputs[] = {3, 5, 40, 63};
+    struct host host;
+    struct pic_event event;
+    start(&host);
+    for (size_t i = 0; i < sizeof inputs / sizeof *inputs; i++) {
+        expect("masked, it is only latched", pic_level(&host.pic, inputs[i], true, &event) == PCH_PIC_DONE && event.change == PIC_NOTHING);
+    }
+    writes(&host, PCH_PIC_REG_MASK, 8, 0);
+    expect("all that was latched is on, each told once", ONLY(&host, 3, 5, 40, 63) && host.above.told == 4 && host.above.again == 0);
+    host.above.told = 0;
+    writes(&host, PCH_PIC_REG_ISR, 8, 0);
+    expect("taken out by a write of ISR, all go off and on", ONLY(&host, 3, 5, 40, 63) && host.above.told == 8 && host.above.again == 0);
+    host.above.told = 0;
+    expect("another sweep tells nothing", pic_settle(&host.pic, &host.wires) == PCH_PIC_DONE && host.above.told == 0);
+    writes(&host, PCH_PIC_REG_MASK, 8, UINT64_MAX);
+    expect("masked, all are off, and no sweep wakes them", NONE(&host) && host.above.told == 4);
+}
+
 static void dropped_events(void)
 {
     struct host host;
@@ -191,10 +212,12 @@ static void a_restore(const char *path)
     line(&old, 7, true);
     writes(&old, PCH_PIC_REG_ISR + PCH_PIC_REG_HIGH, 4, 0x100);
     expect("a write whose event waits", pic_write(&old.pic, BASE + PCH_PIC_REG_MASK, 4, 0xffffff00, NULL) == PCH_PIC_DONE && pic_waiting(&old.pic) == 1);
-    expect("the device is saved", pic_save(&old.pic, path) == PCH_PIC_DONE);
-    start(&fresh);
-    expect("and loaded", pic_load(&fresh.pic, path, NULL) == PCH_PIC_DONE);
-    expect("whole", memcmp(old.pic.image, fresh.pic.image, sizeof old.pic.image) == 0);
+    for (enum pic_form form = PIC_FORM_1; form <= PIC_FORM_2; form++) {
+        expect("the device is saved", pic_save(&old.pic, form, path) == PCH_PIC_DONE);
+        start(&fresh);
+        expect("and loaded", pic_load(&fresh.pic, path, NULL) == PCH_PIC_DONE);
+        expect("whole", memcmp(old.pic.image, fresh.pic.image, sizeof old.pic.image) == 0);
+    }
     expect("the fresh host goes on", pic_resume(&fresh.pic, &fresh.wires, 1 << 3 | 1 << 7) == PCH_PIC_DONE);
     expect("with what is in service, and no more", ONLY(&fresh, 3, 7, 40) && fresh.above.told == 3);
     expect("a line that fell is not latched", pic_latched(&fresh.pic) == (1 << 3 | 1 << 7));
@@ -249,10 +272,10 @@ static void any_guest(void)
         host.above.told = 0;
         any_step(&host);
         right = in_line(&host) && pic_read(&host.pic, BASE + PCH_PIC_REG_MASK, 8, &masked) == PCH_PIC_DONE;
-        right = right && (host.wires.high & ~masked & ~pic_service(&host.pic)) == 0;
+        right = right && ((host.wires.high | pic_latched(&host.pic)) & ~masked & ~pic_service(&host.pic)) == 0;
         most = host.above.told > most ? host.above.told : most;
     }
-    expect("any guest: what is on is in service, and what is high and unmasked is on", right);
+    expect("any guest: what is on is in service, and what is high or latched, and unmasked, is on", right);
     expect("no step tells more than the events, the vectors and the lines there are", most <= PCH_PIC_EVENTS + PIC_VECTORS + PCH_PIC_INPUTS);
 }
 
@@ -285,16 +308,16 @@ static bool refused(const char *path, int number)
 }
 
 /* With the checksum made anew, so that the library has to find it. */
-static bool forged(const char *path, const uint8_t saved[SAVED_LEN], size_t place, uint8_t byte, int number)
+static bool forged(const char *path, const uint8_t *saved, size_t len, size_t place, uint8_t byte, int number)
 {
-    uint8_t bytes[SAVED_LEN];
-    memcpy(bytes, saved, sizeof bytes);
+    uint8_t bytes[SAVED1_LEN];
+    memcpy(bytes, saved, len);
     bytes[HEAD_LEN + place] = byte;
-    uint32_t sum = checksum(bytes, sizeof bytes - SUM_LEN);
+    uint32_t sum = checksum(bytes, len - SUM_LEN);
     for (size_t i = 0; i < SUM_LEN; i++) {
-        bytes[sizeof bytes - SUM_LEN + i] = (uint8_t)(sum >> 8 * i);
+        bytes[len - SUM_LEN + i] = (uint8_t)(sum >> 8 * i);
     }
-    put_file(path, bytes, sizeof bytes);
+    put_file(path, bytes, len);
     return refused(path, number);
 }
 
@@ -304,7 +327,7 @@ static void files(const char *path)
     uint8_t saved[SAVED_LEN + 1] = {0}, bytes[SAVED_LEN + 1];
     char beside[5000];
     pic_init(&pic, BASE);
-    expect("a device is saved", pic_save(&pic, path) == PCH_PIC_DONE && pic_load(&pic, path, NULL) == PCH_PIC_DONE);
+    expect("a device is saved", pic_save(&pic, PIC_FORM_2, path) == PCH_PIC_DONE && pic_load(&pic, path, NULL) == PCH_PIC_DONE);
     FILE *file = fopen(path, "rb");
     expect("in as many bytes as the form says", file && fread(saved, 1, sizeof saved, file) == SAVED_LEN && fclose(file) == 0);
     snprintf(beside, sizeof beside, "%s.new", path);
@@ -324,16 +347,52 @@ static void files(const char *path)
     expect("so is a file that is cut short or too long", found);
     put_file(path, pic.image, sizeof pic.image);
     expect("a bare image is no saved device", refused(path, PIC_FOREIGN));
-    expect("another form is refused by the library", forged(path, saved, PCH_PIC_IMAGE_FORM, 9, PCH_PIC_CONTENTS));
-    expect("so is a broken rule", forged(path, saved, PCH_PIC_IMAGE_LEN - 1, 1, PCH_PIC_UNUSED));
+    expect("another form is refused by the library", forged(path, saved, SAVED_LEN, PCH_PIC_IMAGE_FORM, 1, PCH_PIC_CONTENTS));
+    expect("so is a broken rule", forged(path, saved, SAVED_LEN, PCH_PIC_IMAGE2_LEN - 1, 1, PCH_PIC_UNUSED));
     remove(path);
     expect("no file, no load", refused(path, PIC_FILE));
-    expect("what an earlier save left is no hindrance", mkfifo(beside, 0600) == 0 && pic_save(&pic, path) == PCH_PIC_DONE);
+    expect("what an earlier save left is no hindrance", mkfifo(beside, 0600) == 0 && pic_save(&pic, PIC_FORM_2, path) == PCH_PIC_DONE);
     remove(path);
-    expect("what is no plain file is not replaced", mkfifo(path, 0600) == 0 && pic_save(&pic, path) == PIC_FILE);
+    expect("what is no plain file is not replaced", mkfifo(path, 0600) == 0 && pic_save(&pic, PIC_FORM_2, path) == PIC_FILE);
     remove(path);
     snprintf(beside, sizeof beside, "%s/device", path);
-    expect("no folder, no save", pic_save(&pic, beside) == PIC_FILE);
+    expect("no folder, no save", pic_save(&pic, PIC_FORM_2, beside) == PIC_FILE);
+}
+
+/* The device in either form: there and back, in a file and in memory, and what is no image of a form. */
+static void forms(const char *path)
+{
+    struct host host;
+    struct pic other;
+    uint8_t one[PCH_PIC_IMAGE_LEN], two[PCH_PIC_IMAGE_LEN], again[PCH_PIC_IMAGE_LEN], saved[SAVED1_LEN + 1];
+    uint64_t place = 0;
+    start(&host);
+    writes(&host, PCH_PIC_REG_MASK, 8, 0xfffffffffffffff0);
+    line(&host, 2, true);
+    line(&host, 40, true);
+    expect("form 1 has 259 bytes and form 2 has 251", pic_image(&host.pic, PIC_FORM_1, one) == 259 && pic_image(&host.pic, PIC_FORM_2, two) == 251);
+    expect("each says which it is", one[PCH_PIC_IMAGE_FORM] == 1 && two[PCH_PIC_IMAGE_FORM] == 2 && memcmp(two, host.pic.image, 251) == 0);
+    expect("there is no other", pic_image(&host.pic, (enum pic_form)3, again) == 0 && pic_image(&host.pic, (enum pic_form)0, again) == 0);
+    pic_init(&other, BASE);
+    expect("form 1 is taken", pic_take(&other, one, 259, &place) == PCH_PIC_DONE && memcmp(other.image, host.pic.image, 251) == 0);
+    expect("and given back with the same bytes", pic_image(&other, PIC_FORM_1, again) == 259 && memcmp(again, one, 259) == 0 && place == 0);
+    expect("lengths between the two are refused", pic_take(&other, one, 258, &place) == PCH_PIC_LENGTH && pic_take(&other, one, 252, NULL) == PCH_PIC_LENGTH);
+    expect("so is one form in the other's length", pic_take(&other, one, 251, &place) == PCH_PIC_CONTENTS && place == 0);
+    one[46] ^= 1;
+    expect("form 1 has a copy of IRR to break", pic_take(&other, one, 259, &place) == PCH_PIC_COPY && place == 46);
+    one[46] ^= 1;
+    one[222] = two[214] = 17;
+    expect("a count stands elsewhere in each form", pic_take(&other, one, 259, &place) == PCH_PIC_COUNT && place == 222 &&
+                                                        pic_take(&other, two, 251, &place) == PCH_PIC_COUNT && place == 214);
+    expect("no refusal changed the device", memcmp(other.image, host.pic.image, 251) == 0);
+    expect("a file of form 1", pic_save(&host.pic, PIC_FORM_1, path) == PCH_PIC_DONE);
+    FILE *file = fopen(path, "rb");
+    expect("has the length of older hosts' files", file && fread(saved, 1, sizeof saved, file) == SAVED1_LEN && fclose(file) == 0);
+    expect("and is loaded", pic_init(&other, BASE) == PCH_PIC_DONE && pic_load(&other, path, NULL) == PCH_PIC_DONE &&
+                                memcmp(other.image, host.pic.image, 251) == 0);
+    expect("the copy of IRR in it is tested", forged(path, saved, SAVED1_LEN, 46, (uint8_t)(saved[HEAD_LEN + 46] ^ 1), PCH_PIC_COPY));
+    remove(path);
+    expect("what is no form is not saved", pic_save(&host.pic, (enum pic_form)0, path) == PIC_FILE && access(path, F_OK) != 0);
 }
 
 /* Why reads may run side by side: on pages that cannot be written, a read that stored anything would end this program. */
@@ -345,13 +404,19 @@ static void reads_only_load(void)
         perror("mmap");
         exit(2);
     }
-    pch_pic_reset(page, PCH_PIC_IMAGE_LEN, answer, sizeof answer);
-    mprotect(page, 4096, PROT_READ);
-    for (uint64_t address = 0; address <= PCH_PIC_WINDOW_LEN; address++) {
-        for (uint64_t width = 0; width <= 8; width++) {
-            numbers |= 1 << pch_pic_table_read(page, PCH_PIC_IMAGE_LEN, 0, PCH_PIC_WINDOW_LEN, address, width, answer, sizeof answer);
-            numbers |= 1 << pch_pic_read(page, PCH_PIC_IMAGE_LEN, 0, PCH_PIC_WINDOW_LEN, address, width, answer, sizeof answer);
+    for (size_t len = PCH_PIC_IMAGE2_LEN; len <= PCH_PIC_IMAGE_LEN; len += PCH_PIC_IMAGE_LEN - PCH_PIC_IMAGE2_LEN) {
+        uint8_t target[PCH_PIC_IMAGE_LEN];
+        mprotect(page, 4096, PROT_READ | PROT_WRITE);
+        pch_pic_reset(page, len, answer, sizeof answer);
+        mprotect(page, 4096, PROT_READ);
+        for (uint64_t address = 0; address <= PCH_PIC_WINDOW_LEN; address++) {
+            for (uint64_t width = 0; width <= 8; width++) {
+                numbers |= 1 << pch_pic_table_read(page, len, 0, PCH_PIC_WINDOW_LEN, address, width, answer, sizeof answer);
+                numbers |= 1 << pch_pic_read(page, len, 0, PCH_PIC_WINDOW_LEN, address, width, answer, sizeof answer);
+            }
         }
+        expect("a conversion only loads from the image", pch_pic_convert(page, len, target, PCH_PIC_IMAGE_LEN, answer, sizeof answer) == PCH_PIC_DONE &&
+                                                             pch_pic_convert(page, len, target, PCH_PIC_IMAGE2_LEN, answer, sizeof answer) == PCH_PIC_DONE);
     }
     expect("a read only loads from the image", numbers == (1 << PCH_PIC_DONE | 1 << PCH_PIC_OUTSIDE | 1 << PCH_PIC_WIDTH));
     munmap(page, 4096);
@@ -392,17 +457,17 @@ static void what_is_no_device(void)
     expect("numbers in words", strcmp(pic_why(PCH_PIC_COUNT), "the image says that more than 16 events wait") == 0 && strcmp(pic_why(99), "unknown number") == 0);
 }
 
-/* What an image holds is found by its contents, so a form with other places is read as well: here the registers have eight bytes less. */
+/* What an image holds is found by its contents, so a form with other places is read as well: here the routes are left out. */
 static void another_form(void)
 {
-    static const uint8_t contents[] = {2, 4, 1, 22, 0, 64, 0, 2, 86, 0, 64, 0, 3, 150, 0, 64, 0, 4, 214, 0, 37, 0};
+    static const uint8_t contents[] = {3, 3, 1, 17, 0, 64, 0, 3, 81, 0, 64, 0, 4, 145, 0, 37, 0};
     struct pic pic = {0};
     memcpy(pic.image, contents, sizeof contents);
-    pic.image[22 + 24] = 0x21;
-    pic.image[22 + 32] = 0x23;
-    pic.image[150 + 5] = 0x99;
-    pic.image[214] = 3;
-    pic.image[214 + 4] = 0x80;
+    pic.image[17 + 24] = 0x21;
+    pic.image[17 + 32] = 0x23;
+    pic.image[81 + 5] = 0x99;
+    pic.image[145] = 3;
+    pic.image[145 + 4] = 0x80;
     expect("IRR, ISR and a vector in another form", pic_latched(&pic) == 0x21 && pic_service(&pic) == 0x23 && pic_vector(&pic, 5) == 0x99);
     expect("how many wait and were dropped in it", pic_waiting(&pic) == 3 && pic_drops(&pic) == 0x80000000);
 }
@@ -417,10 +482,12 @@ int main(int argc, char **argv)
     a_vector_changed_in_service();
     a_write_of_isr();
     a_shared_vector();
+    one_sweep();
     dropped_events();
     a_restore(path);
     any_guest();
     files(path);
+    forms(path);
     reads_only_load();
     by_the_table();
     what_is_no_device();

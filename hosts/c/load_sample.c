@@ -1,7 +1,8 @@
 /* A guest's day with a PCH-PIC, told in plain words: start-up as Linux's driver does it, a load sample's line up and down, the device saved to a
  * file and loaded into a fresh host, what comes after sixteen events, and a guest that is unkind.
- *     load_sample FILE          plays it; the device goes to FILE
- *     load_sample --show FILE   tells what a saved device holds */
+ *     load_sample FILE              plays it; the device goes to FILE, in form 2
+ *     load_sample --show FILE       tells what a saved device holds
+ *     load_sample --form N FROM TO  saves what FROM holds to TO, in form 1 or 2: a host of before version 0.6.0 loads form 1 alone */
 #include "pic.h"
 
 #include <inttypes.h>
@@ -134,7 +135,7 @@ static void save_and_load(struct host *host, const char *path)
     printf("The guest clears and unmasks it. The event waits, and the device is saved.\n");
     guest_writes(host, PCH_PIC_REG_CLEAR, 4, UINT64_C(1) << SAMPLE);
     must(pic_write(&host->pic, BASE + PCH_PIC_REG_MASK, 4, mask_without(host, SAMPLE), NULL));
-    saved(path, pic_save(&host->pic, path));
+    saved(path, pic_save(&host->pic, PIC_FORM_2, path));
     printf("A fresh host loads it; line %d is still high there.\n", SAMPLE);
     *host = new_host();
     load(&host->pic, path);
@@ -150,7 +151,7 @@ static void after_sixteen(struct host *host)
     for (unsigned input = 0; input <= 16; input++) {
         line(host, input, true);
     }
-    printf("The guest unmasks them with one write: the device announces the lowest, the host asks for the others.\n");
+    printf("The guest unmasks them with one write: the device announces the lowest, one sweep wakes the others.\n");
     guest_writes(host, PCH_PIC_REG_MASK, 4, 0xfffe0000);
     printf("The guest masks them with one write: seventeen events, and sixteen can wait.\n");
     guest_writes(host, PCH_PIC_REG_MASK, 4, 0xffffffff);
@@ -202,6 +203,13 @@ static void show(const char *path)
     printf("Waiting events: %u. Dropped: %" PRIu32 ".\n", pic_waiting(&host.pic), pic_drops(&host.pic));
 }
 
+static void convert(enum pic_form form, const char *from, const char *to)
+{
+    struct host host = new_host();
+    load(&host.pic, from);
+    saved(to, pic_save(&host.pic, form, to));
+}
+
 int main(int argc, char **argv)
 {
     if (argc == 2 && argv[1][0] != '-') {
@@ -211,6 +219,10 @@ int main(int argc, char **argv)
         show(argv[2]);
         return 0;
     }
-    fprintf(stderr, "usage: load_sample FILE | load_sample --show FILE\n");
+    if (argc == 5 && strcmp(argv[1], "--form") == 0 && (strcmp(argv[2], "1") == 0 || strcmp(argv[2], "2") == 0)) {
+        convert(argv[2][0] == '1' ? PIC_FORM_1 : PIC_FORM_2, argv[3], argv[4]);
+        return 0;
+    }
+    fprintf(stderr, "usage: load_sample FILE | load_sample --show FILE | load_sample --form 1|2 FROM TO\n");
     return 2;
 }

@@ -106,6 +106,24 @@ int pic_drain(struct pic *pic, struct pic_event events[PCH_PIC_EVENTS], size_t *
     return number;
 }
 
+size_t pic_image(const struct pic *pic, enum pic_form form, uint8_t image[PCH_PIC_IMAGE_LEN])
+{
+    uint8_t answer[PCH_PIC_ANSWER_LEN];
+    size_t len = form == PIC_FORM_1 ? PCH_PIC_IMAGE_LEN : form == PIC_FORM_2 ? PCH_PIC_IMAGE2_LEN : 0;
+    return pch_pic_convert(pic->image, sizeof pic->image, image, len, answer, sizeof answer) == PCH_PIC_DONE ? len : 0;
+}
+
+/* The conversion tests the image, and leaves the device where it refuses. */
+int pic_take(struct pic *pic, const uint8_t *image, size_t image_len, uint64_t *place)
+{
+    uint8_t answer[PCH_PIC_ANSWER_LEN];
+    int number = pch_pic_convert(image, image_len, pic->image, sizeof pic->image, answer, sizeof answer);
+    if (place != NULL && number >= PCH_PIC_COPY && number <= PCH_PIC_UNUSED) {
+        *place = value_of(answer);
+    }
+    return number;
+}
+
 /* The len bytes at place of the body of that kind, as a number; counted back from the body's end if place is below 0. The body is found by the
  * contents, since it stands elsewhere in other forms. 0 where the image has no such bytes. */
 static uint64_t in_body(const struct pic *pic, unsigned kind, long place, size_t len)
@@ -204,22 +222,43 @@ static int catch_up(struct pic *pic, struct pic_wires *wires)
     return PCH_PIC_DONE;
 }
 
-static int move(struct pic *pic, struct pic_wires *wires, uint64_t input, bool high)
+/* What a call on an input returned, if it returned anything. */
+static void pass_back(struct pic *pic, struct pic_wires *wires, struct pic_event event)
 {
-    struct pic_event event;
     uint8_t held[PIC_VECTORS];
-    int number = pic_level(pic, input, high, &event);
     if (event.change != PIC_NOTHING) {
         pic_count(pic, held);
         pass_on(wires, held, event);
     }
+}
+
+static int move(struct pic *pic, struct pic_wires *wires, uint64_t input, bool high)
+{
+    struct pic_event event;
+    int number = pic_level(pic, input, high, &event);
+    pass_back(pic, wires, event);
     return number;
 }
 
-/* Waiting events are older than those of the lines, so they go first; and a line that a CLEAR took goes off above before it goes on again. */
+/* One sweep: each input is polled. Whatever the guest did, every latched and unmasked input is in service then, and each was asserted at most once. */
+static int sweep(struct pic *pic, struct pic_wires *wires)
+{
+    struct pic_event event;
+    int number = PCH_PIC_DONE;
+    for (unsigned input = 0; input < PCH_PIC_INPUTS && number == PCH_PIC_DONE; input++) {
+        number = pic_poll(pic, input, &event);
+        pass_back(pic, wires, event);
+    }
+    return number;
+}
+
+/* Waiting events are older than those of the inputs, so they go first; and a line that a CLEAR took goes off above before it goes on again. */
 int pic_settle(struct pic *pic, struct pic_wires *wires)
 {
     int number = catch_up(pic, wires);
+    if (number == PCH_PIC_DONE) {
+        number = sweep(pic, wires);
+    }
     for (unsigned input = 0; input < PCH_PIC_INPUTS && number == PCH_PIC_DONE; input++) {
         if (wires->high >> input & 1) {
             number = move(pic, wires, input, true);

@@ -22,8 +22,12 @@ enum {
 /* The vectors of the controller above. */
 enum { PIC_VECTORS = 256 };
 
+/* The forms that a device is saved in. Hosts of before version 0.6.0 load form 1 alone. */
+enum pic_form { PIC_FORM_1 = 1, PIC_FORM_2 = 2 };
+
+/* The image is kept in form 2; forms matter where a device comes and goes (pic_image, pic_take, pic_save, pic_load). */
 struct pic {
-    uint8_t image[PCH_PIC_IMAGE_LEN];
+    uint8_t image[PCH_PIC_IMAGE2_LEN];
     uint64_t base, size;
 };
 
@@ -71,7 +75,8 @@ uint32_t pic_drops(const struct pic *pic);
 void pic_count(const struct pic *pic, uint8_t held[PIC_VECTORS]);
 
 /* Brings the wires in line with the device, whatever the guest did: drains and passes on, counts afresh which vectors are on and passes on what no
- * event told, and raises each line again that is still high. Call it after each write and each reset. */
+ * event told, polls all 64 inputs, and raises each line again that is still high. Then every latched and unmasked input is in service. Call it after
+ * each write and each reset. */
 int pic_settle(struct pic *pic, struct pic_wires *wires);
 
 /* A device of the host moves a line, and what comes of it is passed on. */
@@ -80,10 +85,15 @@ int pic_line(struct pic *pic, struct pic_wires *wires, uint64_t input, bool high
 /* After a load: the lines are as high says, and the rest follows. wires->on says what the controller above has on: nothing where it is new. */
 int pic_resume(struct pic *pic, struct pic_wires *wires, uint64_t high);
 
-/* The device to a file and back (pic_file.c). The file has a magic, a length and a checksum, and is replaced whole or not at all. The window is not in
- * it: pic_init sets that, before a load too. A load that fails leaves pic as it was, and where its image breaks a rule of the form (8 to 11) *place,
- * if place is not NULL, is the byte of the image that does; after one that is done, pic_resume. */
-int pic_save(const struct pic *pic, const char *path);
+/* The device as an image of that form, and back from an image of either; its length says which. pic_image says how many bytes it wrote, 0 where pic
+ * or form is none. The window is not in an image: pic_init sets that, before a pic_take too. One that fails leaves pic as it was, and where the image
+ * breaks a rule of its form (8 to 11) *place, if place is not NULL, is the byte of the image that does; after one that is done, pic_resume. */
+size_t pic_image(const struct pic *pic, enum pic_form form, uint8_t image[PCH_PIC_IMAGE_LEN]);
+int pic_take(struct pic *pic, const uint8_t *image, size_t image_len, uint64_t *place);
+
+/* The same to a file and back (pic_file.c). The file has a magic, a length and a checksum, and is replaced whole or not at all. A file of either form
+ * is loaded, as pic_take takes its image. */
+int pic_save(const struct pic *pic, enum pic_form form, const char *path);
 int pic_load(struct pic *pic, const char *path, uint64_t *place);
 
 const char *pic_why(int number);

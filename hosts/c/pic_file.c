@@ -10,7 +10,7 @@
 #include <sys/stat.h>
 #include <unistd.h>
 
-enum { MAGIC_LEN = 8, HEAD_LEN = MAGIC_LEN + 4, SUM_LEN = 4, SAVED_LEN = HEAD_LEN + PCH_PIC_IMAGE_LEN + SUM_LEN, PATH_LEN = 4096 };
+enum { MAGIC_LEN = 8, HEAD_LEN = MAGIC_LEN + 4, SUM_LEN = 4, MOST_LEN = HEAD_LEN + PCH_PIC_IMAGE_LEN + SUM_LEN, PATH_LEN = 4096 };
 
 static const uint8_t magic[MAGIC_LEN] = {'P', 'C', 'H', '-', 'P', 'I', 'C', '\n'};
 
@@ -83,9 +83,9 @@ static bool sync_folder(const char *path)
 }
 
 /* The bytes go to a file beside the old one, which takes its name only when it is whole and on the disk. */
-int pic_save(const struct pic *pic, const char *path)
+int pic_save(const struct pic *pic, enum pic_form form, const char *path)
 {
-    uint8_t bytes[SAVED_LEN];
+    uint8_t bytes[MOST_LEN];
     char beside[PATH_LEN];
     struct stat old;
     int len = snprintf(beside, sizeof beside, "%s.new", path);
@@ -98,11 +98,15 @@ int pic_save(const struct pic *pic, const char *path)
         errno = S_ISDIR(old.st_mode) ? EISDIR : EINVAL;
         return PIC_FILE;
     }
+    size_t image_len = pic_image(pic, form, bytes + HEAD_LEN), summed = HEAD_LEN + image_len;
+    if (image_len == 0) {
+        errno = EINVAL;
+        return PIC_FILE;
+    }
     memcpy(bytes, magic, MAGIC_LEN);
-    put(bytes + MAGIC_LEN, sizeof pic->image);
-    memcpy(bytes + HEAD_LEN, pic->image, sizeof pic->image);
-    put(bytes + SAVED_LEN - SUM_LEN, checksum(bytes, SAVED_LEN - SUM_LEN));
-    if (!write_and_sync(beside, bytes, sizeof bytes) || rename(beside, path) != 0) {
+    put(bytes + MAGIC_LEN, (uint32_t)image_len);
+    put(bytes + summed, checksum(bytes, summed));
+    if (!write_and_sync(beside, bytes, summed + SUM_LEN) || rename(beside, path) != 0) {
         int why = errno;
         remove(beside);
         errno = why;
@@ -123,10 +127,10 @@ static int test(const uint8_t *bytes, size_t len)
     return get(bytes + len - SUM_LEN) == checksum(bytes, len - SUM_LEN) ? PCH_PIC_DONE : PIC_DAMAGED;
 }
 
-/* More is asked for than a device has, so that a longer file is seen. A read of ID tests the image and changes nothing. */
+/* More is asked for than a device has, so that a longer file is seen. */
 int pic_load(struct pic *pic, const char *path, uint64_t *place)
 {
-    uint8_t bytes[4096], answer[PCH_PIC_ANSWER_LEN];
+    uint8_t bytes[4096];
     FILE *file = fopen(path, "rb");
     if (!file) {
         return PIC_FILE;
@@ -140,14 +144,5 @@ int pic_load(struct pic *pic, const char *path, uint64_t *place)
         return PIC_FILE;
     }
     int number = test(bytes, len);
-    if (number == PCH_PIC_DONE) {
-        number = pch_pic_read(bytes + HEAD_LEN, len - HEAD_LEN - SUM_LEN, 0, PCH_PIC_WINDOW_LEN, PCH_PIC_REG_ID, 4, answer, sizeof answer);
-        if (place != NULL && number >= PCH_PIC_COPY && number <= PCH_PIC_UNUSED) {
-            *place = answer[8] | (uint64_t)answer[9] << 8; /* an image is shorter than 65,536 bytes */
-        }
-    }
-    if (number == PCH_PIC_DONE) {
-        memcpy(pic->image, bytes + HEAD_LEN, sizeof pic->image);
-    }
-    return number;
+    return number == PCH_PIC_DONE ? pic_take(pic, bytes + HEAD_LEN, len - HEAD_LEN - SUM_LEN, place) : number;
 }

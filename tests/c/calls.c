@@ -1,10 +1,11 @@
-/* Each call, and each refusal, once, from C: what is handed back, and which bytes change. Prints 'N passed, M failed' last. */
+/* Each call, and each refusal, once, from C, on images of both forms: what is handed back, and which bytes change. Prints
+ * 'N passed, M failed' last. */
 #include "pch_pic.h"
 
 #include <stdio.h>
 #include <string.h>
 
-enum { ANSWER = PCH_PIC_ANSWER_LEN, GUARD = 8, IMAGE = PCH_PIC_IMAGE_LEN };
+enum { ANSWER = PCH_PIC_ANSWER_LEN, GUARD = 8, IMAGE = PCH_PIC_IMAGE_LEN, IMAGE2 = PCH_PIC_IMAGE2_LEN };
 
 static int passed, failed;
 
@@ -58,6 +59,79 @@ static int untouched(void)
         }
     }
     return guarded();
+}
+
+/* Form 2: the same device in 251 bytes. The eight bytes behind them are guarded like the rest. */
+static void form_2(void)
+{
+    uint8_t one[IMAGE], n;
+
+    memset(image, 0x77, sizeof image);
+    guard();
+    n = pch_pic_reset(image, IMAGE2, answer, ANSWER);
+    expect("reset takes any 251 bytes", n == 0 && answers(0, 0, 0) && image[IMAGE2] == 0x77 && image[IMAGE - 1] == 0x77);
+    expect("the image says form 2, four bodies", image[0] == 2 && image[1] == 4 && image[3] == 22 && image[5] == 64);
+    expect("vector 63 is 63, 8 lower", image[150 + 63] == 63);
+    guard();
+    n = pch_pic_level(image, IMAGE2, 5, 1, answer, ANSWER);
+    expect("a masked input is latched", n == 0 && answers(0, 0, 0) && image[46] == 0x20 && image[54] == 0);
+    guard();
+    n = pch_pic_write(image, IMAGE2, 0, 0x400, 0x20, 4, 0xffffffdf, answer, ANSWER);
+    expect("an unmask puts it into service", n == 0 && answers(0, 1, 0) && image[54] == 0x20 && image[214] == 1 && image[219] == 5 && image[220] == 1);
+    guard();
+    n = pch_pic_read(image, IMAGE2, 0, 0x400, 0x3a0, 8, answer, ANSWER);
+    expect("ISR is read", n == 0 && answers(0, 1, 0x20));
+    guard();
+    n = pch_pic_poll(image, IMAGE2, 5, answer, ANSWER);
+    expect("a poll of it returns nothing", n == 0 && answers(0, 0, 0));
+    expect("it is still form 2, and no byte behind it was written", image[0] == 2 && image[IMAGE2] == 0x77 && image[IMAGE - 1] == 0x77);
+
+    guard();
+    memset(one, 0x66, sizeof one);
+    n = pch_pic_convert(image, IMAGE2, one, IMAGE, answer, ANSWER);
+    expect("form 2 to form 1", n == 0 && answers(0, 0, 0) && one[0] == 1 && one[46] == 0x20 && one[54] == 0x20 && one[62] == 0x20 && one[222] == 1);
+    guard();
+    n = pch_pic_drain(one, IMAGE, events, 8, 0, answer, ANSWER);
+    expect("what waits is drained there", n == 0 && answers(0, 1, 1) && events[0] == 5 && events[1] == 1 && one[0] == 1);
+    guard();
+    n = pch_pic_drain(image, IMAGE2, events, 8, 0, answer, ANSWER);
+    expect("and here alike", n == 0 && answers(0, 1, 1) && events[0] == 5 && events[1] == 1 && image[214] == 0 && image[219] == 0);
+    memset(image, 0x77, IMAGE);
+    guard();
+    n = pch_pic_convert(one, IMAGE, image, IMAGE2, answer, ANSWER);
+    expect("form 1 to form 2", n == 0 && answers(0, 0, 0) && image[0] == 2 && image[46] == 0x20 && image[54] == 0x20 && image[IMAGE2] == 0x77);
+    guard();
+    n = pch_pic_convert(image, IMAGE2, one, IMAGE - 1, answer, ANSWER);
+    expect("4: the target's length", n == 4 && answers(4, 0, 0) && one[0] == 1);
+    guard();
+    n = pch_pic_convert(image, IMAGE, one, IMAGE, answer, ANSWER);
+    expect("5: form 2 in form 1's length", n == 5 && answers(5, 0, 0) && one[0] == 1);
+    image[0] = 9;
+    guard();
+    n = pch_pic_convert(image, IMAGE2, NULL, 0, answer, ANSWER);
+    expect("4 before 5: an empty target", n == 4 && answers(4, 0, 0));
+    guard();
+    n = pch_pic_convert(image, IMAGE2, one, 0, answer, ANSWER - 1);
+    expect("7 before 4, and nothing is written", n == 7 && untouched());
+    image[0] = 2;
+    image[46] ^= 1;
+    guard();
+    n = pch_pic_read(image, IMAGE2, 0, 0x400, 0x380, 4, answer, ANSWER);
+    expect("there is no 8 in form 2: IRR is what it says", n == 0 && answers(0, 1, 0x21));
+    image[214] = 17;
+    guard();
+    n = pch_pic_poll(image, IMAGE2, 64, answer, ANSWER);
+    expect("9 before 3: at the count of form 2", n == 9 && answers(9, 1, 214));
+    image[214] = 3;
+    image[220 + 2] = 2;
+    guard();
+    n = pch_pic_convert(image, IMAGE2, one, IMAGE, answer, ANSWER);
+    expect("10: the first bad flag, by a conversion too", n == 10 && answers(10, 1, 222) && one[222] == 0);
+    image[220 + 2] = 1;
+    image[IMAGE2 - 1] = 1;
+    guard();
+    n = pch_pic_drain(image, IMAGE2, events, 8, 0, answer, ANSWER);
+    expect("11: a byte behind those that wait", n == 11 && answers(11, 1, 250));
 }
 
 int main(void)
@@ -124,7 +198,10 @@ int main(void)
     expect("3: no such input", n == 3 && answers(3, 0, 0));
     guard();
     n = pch_pic_level(image, IMAGE - 1, 64, 1, answer, ANSWER);
-    expect("4 before 3: not 259 bytes", n == 4 && answers(4, 0, 0));
+    expect("4 before 3: neither 259 nor 251 bytes", n == 4 && answers(4, 0, 0));
+    guard();
+    n = pch_pic_level(image, IMAGE2, 64, 1, answer, ANSWER);
+    expect("5 before 3: form 1 in form 2's length", n == 5 && answers(5, 0, 0));
     guard();
     n = pch_pic_reset(NULL, 0, answer, ANSWER);
     expect("4: an empty image", n == 4 && answers(4, 0, 0));
@@ -179,6 +256,8 @@ int main(void)
     guard();
     n = pch_pic_poll(image, IMAGE, 64, answer, ANSWER);
     expect("11 before 3: the first byte behind those that wait", n == 11 && answers(11, 1, 233));
+
+    form_2();
 
     printf("%d passed, %d failed\n", passed, failed);
     return failed != 0;

@@ -40,6 +40,7 @@ pub fn shares(calls: &[Call]) -> Vec<(&'static str, usize)> {
         Call::Level { .. } => "raise",
         Call::Poll { .. } => "poll",
         Call::Drain { .. } => "drain",
+        Call::Convert { .. } => "convert",
     };
     let mut shares: Vec<(&str, usize)> = Vec::new();
     for call in calls {

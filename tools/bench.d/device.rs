@@ -3,7 +3,7 @@
 
 use crate::call::Call;
 use crate::image;
-use crate::kinds::{BASE, Kind, SIZE, Slot};
+use crate::kinds::{BASE, Kind, LENGTH, LENGTH_2, SIZE, Slot};
 use oracle::{AccessWidth, DeviceError, GuestPhysAddr, LoongArchPchPic, PchPicOutputEvent, Plain};
 use std::hint::black_box;
 
@@ -26,12 +26,13 @@ impl Standing {
 
 /// Whether the Rust has this kind of call at all.
 pub fn has(kind: &Kind) -> bool {
-    matches!(kind.number, 0 | 1 | 3)
+    matches!(kind.number, 0 | 1 | 3) && !kind.alone
 }
 
 /// The state that the kind starts from.
 pub fn start(kind: &Kind) -> Plain {
-    image::decode(&kind.slot.image, 0).0
+    let length = if kind.image_len == LENGTH_2 { LENGTH_2 } else { LENGTH };
+    image::decode(&kind.slot.image[..length], 0).0
 }
 
 fn width_of(width: u64) -> AccessWidth {
@@ -86,6 +87,7 @@ fn make(call: &Call, standing: &mut Standing) -> Option<u64> {
         Call::Level { input, level } => standing.device.set_irq_level(input as usize, level != 0).map(|vector| vector as u64),
         Call::Poll { input } => standing.device.pending_vector(input as usize).map(|vector| vector as u64),
         Call::Drain { .. } => drain(standing),
+        Call::Convert { .. } => None,
     }
 }
 
@@ -112,6 +114,7 @@ pub fn bench_timed_each_c(kind: &Kind, devices: &mut [Standing]) {
         Call::Level { input, level } => all!(standing => standing.device.set_irq_level(input as usize, level != 0)),
         Call::Poll { input } => all!(standing => standing.device.pending_vector(input as usize)),
         Call::Drain { .. } => all!(standing => drain(standing)),
+        Call::Convert { .. } => {}
     }
 }
 

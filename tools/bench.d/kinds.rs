@@ -3,6 +3,9 @@
 use crate::call::Call;
 
 pub const LENGTH: usize = 259;
+/// Form 2 has no copy of IRR.
+pub const LENGTH_2: usize = 251;
+const CONTENTS_2: [u8; 22] = [2, 4, 1, 22, 0, 64, 0, 2, 86, 0, 64, 0, 3, 150, 0, 64, 0, 4, 214, 0, 37, 0];
 pub const CONTENTS: [u8; 22] = [1, 4, 1, 22, 0, 72, 0, 2, 94, 0, 64, 0, 3, 158, 0, 64, 0, 4, 222, 0, 37, 0];
 pub const BASE: u64 = 0x1000_0000;
 pub const SIZE: u64 = 0x400;
@@ -14,6 +17,12 @@ pub struct Slot {
     pub image: [u8; LENGTH],
     pub answer: [u8; 16],
     pub events: [u8; 32],
+}
+
+impl Slot {
+    pub fn new(image: [u8; LENGTH]) -> Self {
+        Slot { image, answer: [0xee; 16], events: [0xdd; 32] }
+    }
 }
 
 pub struct Kind {
@@ -28,6 +37,8 @@ pub struct Kind {
     pub number: u8,
     pub waiting: u8,
     pub drops: u32,
+    /// The library alone has it: the other sides know form 1 and no conversion.
+    pub alone: bool,
 }
 
 /// An image in the making.
@@ -81,8 +92,16 @@ impl Prepared {
 
 fn kind(name: &'static str, title: &'static str, image: Prepared, call: Call) -> Kind {
     let waiting = image.0[222];
-    let slot = Slot { image: image.0, answer: [0xee; 16], events: [0xdd; 32] };
-    Kind { name, title, call, slot, image_len: LENGTH, answer_len: 16, number: 0, waiting, drops: 0 }
+    let slot = Slot::new(image.0);
+    Kind { name, title, call, slot, image_len: LENGTH, answer_len: 16, number: 0, waiting, drops: 0, alone: false }
+}
+
+/// The kind on the same image in form 2.
+fn form_2(name: &'static str, title: &'static str, kind: Kind) -> Kind {
+    let mut slot = kind.slot.clone();
+    slot.image[..22].copy_from_slice(&CONTENTS_2);
+    slot.image.copy_within(54.., 46);
+    Kind { name, title, slot, image_len: LENGTH_2, alone: true, ..kind }
 }
 
 fn refused(name: &'static str, title: &'static str, number: u8, image: Prepared, call: Call) -> Kind {
@@ -105,7 +124,25 @@ pub fn all() -> Vec<Kind> {
     kinds.extend(writes(&busy));
     kinds.extend(inputs(&busy));
     kinds.extend(refusals(&busy));
+    kinds.extend(forms(&busy));
     kinds
+}
+
+/// Some kinds in form 2, and conversions.
+fn forms(busy: &dyn Fn() -> Prepared) -> Vec<Kind> {
+    let again = |name: &'static str, title: &'static str, kinds: Vec<Kind>, which: &str| {
+        form_2(name, title, kinds.into_iter().find(|kind| kind.name == which).expect("a kind of that name"))
+    };
+    let convert = |target| kind("convert-2", "convert, form 1 to 2", busy().waiting(3), Call::Convert { target });
+    vec![
+        again("form2-read", "form 2: read Dword, MASK", reads(busy), "read-mask"),
+        again("form2-mask-1", "form 2: write MASK, 1 event", writes(busy), "mask-1"),
+        again("form2-raise", "form 2: raise, vector returned", inputs(busy), "raise"),
+        again("form2-drain-1", "form 2: drain of 1", inputs(busy), "drain-1"),
+        Kind { alone: true, ..convert(LENGTH_2) },
+        form_2("convert-1", "convert, form 2 to 1", convert(LENGTH)),
+        Kind { name: "convert-same", title: "convert, form 1 to 1", alone: true, ..convert(LENGTH) },
+    ]
 }
 
 fn reads(busy: &dyn Fn() -> Prepared) -> Vec<Kind> {

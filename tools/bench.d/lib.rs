@@ -177,12 +177,13 @@ fn run(mut asked: Asked, kinds: Vec<Kind>, with_day: bool) -> Result<(), String>
     } else {
         Vec::new()
     };
-    let titles = kinds.iter().map(|kind| (kind.title, has_c(kind))).chain(day.map(|_| ("mixed day", true)));
-    let row = |(k, (title, c)): (usize, (&str, bool))| Row {
+    let titles = kinds.iter().map(|kind| (kind.title, has_c(kind), !kind.alone)).chain(day.map(|_| ("mixed day", true, true)));
+    let row = |(k, (title, c, plain)): (usize, (&str, bool, bool))| Row {
         title: title.into(),
         times: times.get(k).cloned().unwrap_or_default(),
         instructions: instructions.get(k).cloned().unwrap_or_default(),
         c,
+        plain,
     };
     let rows: Vec<Row> = titles.enumerate().map(row).collect();
     table::print(&rows, &asked.sides, asked.times, asked.instructions, asked.markdown);

@@ -25,6 +25,7 @@ mod library {
         pub fn pch_pic_level(image: *mut u8, il: usize, input: u64, level: u64, answer: *mut u8, al: usize) -> u8;
         pub fn pch_pic_poll(image: *mut u8, il: usize, input: u64, answer: *mut u8, al: usize) -> u8;
         pub fn pch_pic_drain(image: *mut u8, il: usize, events: *mut u8, el: usize, place: usize, answer: *mut u8, al: usize) -> u8;
+        pub fn pch_pic_convert(image: *const u8, il: usize, target: *mut u8, tl: usize, answer: *mut u8, al: usize) -> u8;
     }
 }
 pub use library::*;
@@ -32,7 +33,7 @@ pub use library::*;
 /// An area as C lends it.
 type Area = (*mut u8, usize);
 
-/// The six calls of a side.
+/// The calls of a side. Only the library converts: the plain sides know form 1 alone, and refuse it.
 ///
 /// SAFETY of each: the areas are there at the lengths said, apart from one another.
 pub trait Side {
@@ -42,6 +43,9 @@ pub trait Side {
     unsafe fn level(image: Area, input: u64, level: u64, answer: Area) -> u8;
     unsafe fn poll(image: Area, input: u64, answer: Area) -> u8;
     unsafe fn drain(image: Area, events: Area, place: usize, answer: Area) -> u8;
+    unsafe fn convert(_image: Area, _target: Area, _answer: Area) -> u8 {
+        4
+    }
 }
 
 pub struct Library;
@@ -70,6 +74,10 @@ impl Side for Library {
     #[inline(always)]
     unsafe fn drain(i: Area, e: Area, place: usize, a: Area) -> u8 {
         unsafe { pch_pic_drain(i.0, i.1, e.0, e.1, place, a.0, a.1) }
+    }
+    #[inline(always)]
+    unsafe fn convert(i: Area, t: Area, a: Area) -> u8 {
+        unsafe { pch_pic_convert(i.0, i.1, t.0, t.1, a.0, a.1) }
     }
 }
 
@@ -142,6 +150,10 @@ impl Side for Nothing {
     unsafe fn drain(i: Area, _: Area, _: usize, a: Area) -> u8 {
         nothing(i.0, a.0)
     }
+    #[inline(always)]
+    unsafe fn convert(i: Area, _: Area, a: Area) -> u8 {
+        nothing(i.0, a.0)
+    }
 }
 
 /// The call, made once, on the lengths said.
@@ -159,8 +171,20 @@ pub fn make<S: Side>(call: &Call, slot: &mut Slot, image_len: usize, answer_len:
             Call::Level { input, level } => S::level(image, input, level, answer),
             Call::Poll { input } => S::poll(image, input, answer),
             Call::Drain { place } => S::drain(image, (slot.events.as_mut_ptr(), slot.events.len()), place as usize, answer),
+            // What comes of it is looked at by converted.
+            Call::Convert { target } => S::convert(image, ([0; LENGTH].as_mut_ptr(), target.min(LENGTH)), answer),
         }
     }
+}
+
+/// A conversion by the library, and the target that it wrote.
+pub fn converted(slot: &mut Slot, image_len: usize, target_len: usize) -> (u8, [u8; LENGTH]) {
+    assert!(image_len <= LENGTH && target_len <= LENGTH);
+    let mut target = [0xcc; LENGTH];
+    let (image, answer) = ((slot.image.as_mut_ptr(), image_len), (slot.answer.as_mut_ptr(), slot.answer.len()));
+    // SAFETY: as in make.
+    let number = unsafe { Library::convert(image, (target.as_mut_ptr(), target_len), answer) };
+    (number, target)
 }
 
 /// The timed loop over prepared slots: one call on each. Each sort of call has a loop of its own, so that there is no match in it.
@@ -187,6 +211,14 @@ fn each<S: Side>(kind: &Kind, slots: &mut [Slot]) {
                 let events = (slot.events.as_mut_ptr(), slot.events.len());
                 // SAFETY: as in make.
                 black_box(unsafe { S::drain((slot.image.as_mut_ptr(), il), events, place as usize, (slot.answer.as_mut_ptr(), al)) });
+            }
+        }
+        Call::Convert { target } => {
+            let (mut bytes, tl) = ([0; LENGTH], target.min(LENGTH));
+            for slot in slots {
+                let target = (bytes.as_mut_ptr(), tl);
+                // SAFETY: as in make; one target serves all.
+                black_box(unsafe { S::convert((slot.image.as_mut_ptr(), il), target, (slot.answer.as_mut_ptr(), al)) });
             }
         }
     }

@@ -2,7 +2,7 @@
 
 use crate::call::Call;
 use crate::chance::Chance;
-use crate::kinds::{self, Slot};
+use crate::kinds::{self, LENGTH, Slot};
 use crate::sides;
 use crate::verify;
 use std::arch::asm;
@@ -14,7 +14,7 @@ const DEPTH: usize = 1 << 14;
 struct Painted([u8; DEPTH]);
 
 /// The C function and its numbers, in the order of the C prototype; those past its own are not looked at.
-fn numbers(call: &Call, slot: &mut Slot, il: usize, al: usize) -> (usize, [u64; 9]) {
+fn numbers(call: &Call, slot: &mut Slot, target: &mut [u8; LENGTH], il: usize, al: usize) -> (usize, [u64; 9]) {
     let (i, il) = (slot.image.as_mut_ptr() as u64, il as u64);
     let (a, al) = (slot.answer.as_mut_ptr() as u64, al as u64);
     match *call {
@@ -31,6 +31,10 @@ fn numbers(call: &Call, slot: &mut Slot, il: usize, al: usize) -> (usize, [u64; 
             let (e, el) = (slot.events.as_mut_ptr() as u64, slot.events.len() as u64);
             (sides::pch_pic_drain as *const () as usize, [i, il, e, el, place, a, al, 0, 0])
         }
+        Call::Convert { target: length } => {
+            let (t, tl) = (target.as_mut_ptr() as u64, length.min(LENGTH) as u64);
+            (sides::pch_pic_convert as *const () as usize, [i, il, t, tl, a, al, 0, 0, 0])
+        }
     }
 }
 
@@ -41,7 +45,8 @@ fn used(call: &Call, slot: &Slot, il: usize, al: usize, stack: &mut Painted) -> 
     for paint in [0xa5, 0x5a] {
         stack.0.fill(paint);
         let mut slot = slot.clone();
-        let (function, n) = numbers(call, &mut slot, il, al);
+        let mut target = [0; LENGTH];
+        let (function, n) = numbers(call, &mut slot, &mut target, il, al);
         let top = stack.0.as_mut_ptr().wrapping_add(DEPTH) as u64;
         // SAFETY: the stack is 16-aligned at the call, has room, and is left before the block ends. Numbers past the sixth go by the stack.
         unsafe {
@@ -74,13 +79,14 @@ fn name(call: &Call) -> &'static str {
         Call::Level { .. } => "pch_pic_level",
         Call::Poll { .. } => "pch_pic_poll",
         Call::Drain { .. } => "pch_pic_drain",
+        Call::Convert { .. } => "pch_pic_convert",
     }
 }
 
 /// How many random calls are made beside the kinds and the registers.
 const RANDOM: usize = 20_000;
 
-/// The most that each of the six uses: over all the kinds, every offset and width read and written, and random calls on random images.
+/// The most that each of the calls uses: over all the kinds, every offset and width read and written, and random calls on random images.
 pub fn print(markdown: bool) -> Result<(), String> {
     let mut stack = Box::new(Painted([0; DEPTH]));
     let mut most: Vec<(&str, usize)> = Vec::new();
@@ -106,8 +112,9 @@ pub fn print(markdown: bool) -> Result<(), String> {
     }
     let mut chance = Chance::new(3);
     for _ in 0..RANDOM {
-        let slot = Slot { image: verify::random_image(&mut chance), answer: [0; 16], events: [0; 32] };
+        let slot = Slot::new(verify::random_image(&mut chance));
         note(&verify::random_call(&mut chance), &slot, 259, 16);
+        note(&Call::Convert { target: chance.one_of(&[251, 259]) }, &slot, 259, 16);
     }
     if most.iter().any(|one| one.1 > DEPTH / 2) {
         return Err("the painted stack is too small".into());

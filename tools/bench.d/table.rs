@@ -5,8 +5,19 @@ pub struct Row {
     pub title: String,
     pub times: Vec<f64>,
     pub instructions: Vec<f64>,
-    /// Whether side c has this kind of call.
+    /// Whether side c has this kind of call, and whether b and d have it.
     pub c: bool,
+    pub plain: bool,
+}
+
+impl Row {
+    fn has(&self, side: char) -> bool {
+        match side {
+            'b' | 'd' => self.plain,
+            'c' => self.c,
+            _ => true,
+        }
+    }
 }
 
 /// The columns: a title, and how a row fills it.
@@ -19,12 +30,12 @@ fn columns<'a>(sides: &'a [char], times: bool, instructions: bool) -> Vec<Column
     for (_, unit, digits, of) in measures.into_iter().filter(|measure| measure.0) {
         let alone = sides == ['n'];
         for (place, &side) in sides.iter().enumerate().filter(|side| alone || *side.1 != 'n') {
-            let shown = move |row: &Row| (side != 'c' || row.c).then(|| format!("{:.digits$}", of(row)[place]));
+            let shown = move |row: &Row| row.has(side).then(|| format!("{:.digits$}", of(row)[place]));
             columns.push((format!("{unit} {side}"), Box::new(shown)));
         }
         let Some(a) = sides.iter().position(|&side| side == 'a') else { continue };
         for (place, &side) in sides.iter().enumerate().filter(|other| !['a', 'n'].contains(other.1)) {
-            let shown = move |row: &Row| (side != 'c' || row.c).then(|| format!("{:.2}", of(row)[a] / of(row)[place]));
+            let shown = move |row: &Row| row.has(side).then(|| format!("{:.2}", of(row)[a] / of(row)[place]));
             columns.push((format!("{unit} a/{side}"), Box::new(shown)));
         }
     }

@@ -2,8 +2,8 @@
 
 use crate::call::Call;
 use crate::chance::Chance;
-use crate::kinds::{BASE, Kind, LENGTH, Prepared, SIZE, Slot};
-use crate::sides::{Lean, Library, Plain, make};
+use crate::kinds::{BASE, Kind, LENGTH, LENGTH_2, Prepared, SIZE, Slot};
+use crate::sides::{Lean, Library, Plain, converted, make};
 
 /// The sides make the call; they must hand back the same number and leave the same bytes.
 fn same(what: &str, call: &Call, slot: &mut Slot, image_len: usize, answer_len: usize) -> Result<u8, String> {
@@ -30,9 +30,17 @@ fn same(what: &str, call: &Call, slot: &mut Slot, image_len: usize, answer_len: 
 /// A kind is what its name says, and the sides agree on it.
 pub fn kind(kind: &Kind) -> Result<(), String> {
     let mut slot = kind.slot.clone();
-    let number = same(kind.name, &kind.call, &mut slot, kind.image_len, kind.answer_len)?;
-    let drops = u32::from_le_bytes(slot.image[223..227].try_into().unwrap());
-    let told = (number, slot.image[222], drops);
+    let (number, left, length) = match kind.call {
+        Call::Convert { target } => {
+            let (number, left) = converted(&mut slot, kind.image_len, target);
+            (number, left, target)
+        }
+        _ if kind.alone => (make::<Library>(&kind.call, &mut slot, kind.image_len, kind.answer_len), slot.image, kind.image_len),
+        _ => (same(kind.name, &kind.call, &mut slot, kind.image_len, kind.answer_len)?, slot.image, kind.image_len),
+    };
+    let count = if length == LENGTH_2 { 214 } else { 222 };
+    let drops = u32::from_le_bytes(left[count + 1..count + 5].try_into().unwrap());
+    let told = (number, left[count], drops);
     let reset = kind.call == Call::Reset;
     if told != (kind.number, if reset { 0 } else { kind.waiting }, kind.drops) {
         return Err(format!("kind {} is not what it says: number, waiting, drops are {told:?}", kind.name));
@@ -59,7 +67,7 @@ fn device(what: &str, call: &Call, standing: &mut crate::device::Standing, drops
 }
 
 pub fn day(calls: &[Call]) -> Result<(), String> {
-    let mut slot = Slot { image: [0; LENGTH], answer: [0xee; 16], events: [0xdd; 32] };
+    let mut slot = Slot::new([0; LENGTH]);
     #[cfg(oracle)]
     let (mut standing, mut drops) = (crate::device::Standing::new(), 0);
     for call in calls {
@@ -80,7 +88,7 @@ pub const RANDOM: u64 = 300_000;
 pub fn random() -> Result<[u64; 12], String> {
     let mut chance = Chance::new(7);
     let mut numbers = [0; 12];
-    let mut slot = Slot { image: Prepared::new().0, answer: [0xee; 16], events: [0xdd; 32] };
+    let mut slot = Slot::new(Prepared::new().0);
     for k in 0..RANDOM {
         if k % 40 == 0 {
             slot.image = random_image(&mut chance);
@@ -90,7 +98,8 @@ pub fn random() -> Result<[u64; 12], String> {
         }
         slot.answer = chance.number().to_le_bytes().repeat(2).try_into().unwrap();
         slot.events = chance.number().to_le_bytes().repeat(4).try_into().unwrap();
-        let image_len = if chance.percent(1) { chance.below(260) as usize } else { LENGTH };
+        // form 2's length is left out: the plain sides know form 1 alone
+        let image_len = if chance.percent(1) { chance.below(LENGTH_2 as u64) as usize } else { LENGTH };
         let answer_len = if chance.percent(1) { chance.below(17) as usize } else { 16 };
         let number = same("random", &random_call(&mut chance), &mut slot, image_len, answer_len)?;
         numbers[number as usize] += 1;

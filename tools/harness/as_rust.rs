@@ -56,6 +56,17 @@ pub unsafe fn pch_pic_drain(
     unsafe { pch_pic::pch_pic_drain(area(image, image_len), area(events, events_len), place, area(answer, answer_len)) }
 }
 
+pub unsafe fn pch_pic_convert(
+    image: *const u8,
+    image_len: usize,
+    target: *mut u8,
+    target_len: usize,
+    answer: *mut u8,
+    answer_len: usize,
+) -> u8 {
+    unsafe { pch_pic::pch_pic_convert(area(image.cast_mut(), image_len), area(target, target_len), area(answer, answer_len)) }
+}
+
 pub unsafe fn pch_pic_table_read(
     image: *const u8,
     image_len: usize,

@@ -1,11 +1,11 @@
-//! One call made on both sides, and everything compared: the number handed back, and every byte of image, answer area, event buffer and
-//! of the edges around them.
+//! One call made on both sides, and everything compared: the number handed back, and every byte of image, answer area, event buffer, target and
+//! of the edges around them. Then it is made on the same image in the other form, and must come to the same.
 
 use crate::boundary::{Boundary, straddles};
 use crate::call::Call;
 use crate::caught::caught;
 use crate::fixed::{History, Says};
-use crate::image;
+use crate::image::{self, Form, Image, MASK, ONE};
 use crate::lent::Areas;
 use crate::text;
 use crate::under_test;
@@ -17,7 +17,7 @@ pub const FILL: u64 = 0x9d8c_7b6a_5948_3726;
 #[derive(Default)]
 pub struct Met {
     /// Calls by kind, in the order of `Call`.
-    pub kinds: [u64; 6],
+    pub kinds: [u64; 7],
     /// Calls by the number that 01 expects.
     pub numbers: [u64; 12],
     pub vectors_returned: u64,
@@ -31,6 +31,9 @@ pub struct Met {
     pub masked_isr: u64,
     /// Accesses over the window's end, where 02's rule is expected and not the Rust.
     pub straddling: u64,
+    /// Calls on an image of form 2, and calls that were made again in the other form.
+    pub form_2: u64,
+    pub again: u64,
 }
 
 pub struct Bench {
@@ -40,6 +43,10 @@ pub struct Bench {
     // The image as the call found it, and what answer area and event buffer were filled with.
     before: Vec<u8>,
     fill: u64,
+    // The call in the other form: what the library got and left, what is wanted, and the image that it found.
+    got_again: Areas,
+    want_again: Areas,
+    moved: Image,
     // The number and the areas that the library left in the last failure.
     wrong: Option<(u8, Areas)>,
     pub passed: u64,
@@ -55,10 +62,13 @@ impl Bench {
         // The image is lent whole, with no bytes behind it but the edge.
         let mut areas = Areas::new();
         areas.image.fill(0x5c5c_5c5c_5c5c_5c5c);
-        areas.image.len = image::LENGTH;
+        areas.image.len = ONE.length;
         Bench {
             got: areas.clone(),
-            want: areas,
+            want: areas.clone(),
+            got_again: areas.clone(),
+            want_again: areas,
+            moved: Vec::with_capacity(512),
             expected: Boundary::new(),
             before: Vec::with_capacity(512),
             fill: 0,
@@ -100,6 +110,12 @@ impl Bench {
         }
     }
 
+    /// The target of the last conversion becomes the image.
+    pub fn take_target(&mut self) {
+        let bytes = self.want.target.bytes().to_vec();
+        self.set_image(&bytes);
+    }
+
     pub fn set_head(&mut self, head: usize) {
         self.expected.head = head;
     }
@@ -124,13 +140,19 @@ impl Bench {
         for areas in [&mut self.got, &mut self.want] {
             areas.answer.fill(fill);
             areas.events.fill(fill.rotate_left(29));
+            if let Call::Convert { target } = *call {
+                areas.target.len = target;
+                areas.target.null = areas.answer.null;
+                areas.target.fill(fill.rotate_left(17));
+            }
         }
         let head = self.expected.head;
         let Bench { expected, got, want, .. } = self;
         // The library does not unwind, but a variant of it that was read as Rust may panic.
         let number = caught(|| under_test::call(call, got));
         // The Rust may panic; whatever it was doing is given up, and the call counts as failed.
-        let wanted = caught(|| expected.perform(call, want.image.slice(), want.answer.slice(), want.events.slice()));
+        let Areas { image, answer, events, target } = want;
+        let wanted = caught(|| expected.perform(call, image.slice(), answer.slice(), events.slice(), target.slice()));
         let (number, wanted) = match (number, wanted) {
             (Ok(number), Ok(wanted)) => (number, wanted),
             (number, wanted) => {
@@ -146,15 +168,66 @@ impl Bench {
             && self.got.image.same(&self.want.image)
             && self.got.answer.same(&self.want.answer)
             && self.got.events.same(&self.want.events)
+            && (!matches!(call, Call::Convert { .. }) || self.got.target.same(&self.want.target))
         {
+            if let Some((what, number)) = self.again(call, wanted) {
+                self.before.clone_from(&self.moved);
+                self.fail(call, head, format!("in the other form: {what}"));
+                self.wrong = Some((number, self.got_again.clone()));
+                return None;
+            }
             self.passed += 1;
             self.meet(call, wanted);
             return Some(wanted);
         }
-        let what = self.what(number, wanted);
+        let what = what(&self.got, &self.want, number, wanted);
         self.fail(call, head, what);
         self.wrong = Some((number, std::mem::replace(&mut self.got, self.want.clone())));
         None
+    }
+
+    /// Makes the call on the same image in the other form, from the same answer area and event buffer. It must come to the same number, value and events,
+    /// and leave the image that the first did, moved; the place of a broken rule is the moved one. What differs, and the number handed back.
+    fn again(&mut self, call: &Call, wanted: u8) -> Option<(String, u8)> {
+        let form = Form::of(self.before.len())?;
+        // Only form 1 has a copy of IRR, so that rule has no like in form 2; a conversion makes the other form itself.
+        if wanted == 8 || matches!(call, Call::Convert { .. }) {
+            return None;
+        }
+        image::moved(&self.before, &mut self.moved);
+        // Contents that were those of the other form are right there.
+        if wanted == 5 && self.moved[..22] == form.other().contents {
+            return None;
+        }
+        for areas in [&mut self.got_again, &mut self.want_again] {
+            areas.image.len = self.moved.len();
+            areas.image.slice().copy_from_slice(&self.moved);
+            areas.answer = self.want.answer.clone();
+            areas.answer.fill(self.fill);
+            areas.events = self.want.events.clone();
+            areas.events.fill(self.fill.rotate_left(29));
+        }
+        let got = &mut self.got_again;
+        let number = match caught(|| under_test::call(call, got)) {
+            Ok(number) => number,
+            Err(words) => return Some((format!("the library panicked: {words}"), 0)),
+        };
+        let mut after = Image::with_capacity(image::LONGEST);
+        image::moved(self.want.image.bytes(), &mut after);
+        self.want_again.image.slice().copy_from_slice(&after);
+        self.want_again.answer = self.want.answer.clone();
+        self.want_again.events = self.want.events.clone();
+        if (9..=11).contains(&wanted) {
+            let answer = self.want_again.answer.slice();
+            let place = u64::from_le_bytes(answer[8..16].try_into().unwrap()) + form.other().irr as u64 - form.irr as u64;
+            answer[8..16].copy_from_slice(&place.to_le_bytes());
+        }
+        self.met.again += 1;
+        let same = number == wanted
+            && self.got_again.image.same(&self.want_again.image)
+            && self.got_again.answer.same(&self.want_again.answer)
+            && self.got_again.events.same(&self.want_again.events);
+        if same { None } else { Some((what(&self.got_again, &self.want_again, number, wanted), number)) }
     }
 
     /// The bytes after the last call, on both sides where they differ.
@@ -164,6 +237,9 @@ impl Bench {
             println!("{whose} image {}", hex(areas.image.bytes()));
             println!("{whose} answer area {}", hex(areas.answer.bytes()));
             println!("{whose} event buffer {}", hex(areas.events.bytes()));
+            if areas.target.len > 0 {
+                println!("{whose} target {}", hex(areas.target.bytes()));
+            }
         };
         if let Some((number, areas)) = &self.wrong {
             println!("the library's number {number}");
@@ -172,9 +248,9 @@ impl Bench {
         tell("expected", &self.want);
     }
 
-    /// Plays a fixed history from reset, and holds both sides against what 01 says of its steps.
-    pub fn play(&mut self, history: &History) {
-        self.set_image(&[0; image::LENGTH]);
+    /// Plays a fixed history from reset in a form, and holds both sides against what 01 says of its steps.
+    pub fn play(&mut self, history: &History, form: Form) {
+        self.set_image(&vec![0; form.length]);
         if self.call(&Call::Reset, FILL).is_none() {
             return;
         }
@@ -198,11 +274,12 @@ impl Bench {
             Says::Refused(wanted) => number == *wanted,
             Says::Waiting(events, drops) => {
                 let image = self.image();
+                let form = Form::of(image.len()).expect("a form's image");
                 let pairs: Vec<u8> = events.iter().flat_map(|&(vector, flag)| [vector, flag]).collect();
                 number == 0
-                    && image[image::COUNT] as usize == events.len()
-                    && image[image::PAIRS..].starts_with(&pairs)
-                    && image[image::DROPS..image::DROPS + 4] == drops.to_le_bytes()
+                    && image[form.count] as usize == events.len()
+                    && image[form.pairs..].starts_with(&pairs)
+                    && image[form.drops..form.drops + 4] == drops.to_le_bytes()
             }
         }
     }
@@ -214,24 +291,6 @@ impl Bench {
         println!("  tools/differential --one {}", text::line(call, &self.before, &self.want, self.fill, head));
     }
 
-    fn what(&self, number: u8, wanted: u8) -> String {
-        let mut parts = Vec::new();
-        if number != wanted {
-            parts.push(format!("number {number}, expected {wanted}"));
-        }
-        let differences = [
-            ("image", self.got.image.difference(&self.want.image)),
-            ("answer area", self.got.answer.difference(&self.want.answer)),
-            ("event buffer", self.got.events.difference(&self.want.events)),
-        ];
-        for (name, difference) in differences {
-            if let Some((at, got, want)) = difference {
-                parts.push(format!("{name} byte {at}: {got:02x}, expected {want:02x}"));
-            }
-        }
-        parts.join("; ")
-    }
-
     fn meet(&mut self, call: &Call, number: u8) {
         let met = &mut self.met;
         let kind = match *call {
@@ -241,6 +300,7 @@ impl Bench {
             Call::Level { .. } => 3,
             Call::Poll { .. } => 4,
             Call::Drain { .. } => 5,
+            Call::Convert { .. } => 6,
         };
         met.kinds[kind] += 1;
         met.numbers[number as usize] += 1;
@@ -249,9 +309,11 @@ impl Bench {
         {
             met.straddling += u64::from(straddles(base, size, address, width));
         }
+        met.form_2 += u64::from(self.before.len() == image::TWO.length);
         if number != 0 {
             return;
         }
+        let form = Form::of(self.before.len()).expect("a done call's image has a form");
         let answer = self.want.answer.bytes();
         let after = self.want.image.bytes();
         match *call {
@@ -259,19 +321,39 @@ impl Bench {
             Call::Drain { .. } => met.events_drained += u64::from(answer[8]),
             _ => {}
         }
-        if self.before.len() == image::LENGTH && self.before[image::COUNT] == 16 {
+        if self.before[form.count] == 16 {
             met.full_ring += 1;
         }
-        let drops = |bytes: &[u8]| u32::from_le_bytes(bytes[image::DROPS..image::DROPS + 4].try_into().unwrap());
+        let drops = |bytes: &[u8]| u32::from_le_bytes(bytes[form.drops..form.drops + 4].try_into().unwrap());
         if !matches!(call, Call::Reset) && drops(after) != drops(&self.before) {
             met.dropping += 1;
         }
         if drops(after) == u32::MAX {
             met.at_stop += 1;
         }
-        let register = |k: usize| u64::from_le_bytes(after[22 + 8 * k..30 + 8 * k].try_into().unwrap());
-        if register(0) & register(5) != 0 {
+        let register = |place: usize| u64::from_le_bytes(after[place..place + 8].try_into().unwrap());
+        if register(MASK) & register(form.isr) != 0 {
             met.masked_isr += 1;
         }
     }
+}
+
+/// What differs between what the library left and what is wanted.
+fn what(got: &Areas, want: &Areas, number: u8, wanted: u8) -> String {
+    let mut parts = Vec::new();
+    if number != wanted {
+        parts.push(format!("number {number}, expected {wanted}"));
+    }
+    let differences = [
+        ("image", got.image.difference(&want.image)),
+        ("answer area", got.answer.difference(&want.answer)),
+        ("event buffer", got.events.difference(&want.events)),
+        ("target", got.target.difference(&want.target)),
+    ];
+    for (name, difference) in differences {
+        if let Some((at, got, want)) = difference {
+            parts.push(format!("{name} byte {at}: {got:02x}, expected {want:02x}"));
+        }
+    }
+    parts.join("; ")
 }

@@ -2,7 +2,7 @@
 //! comparison.
 
 use crate::call::Call;
-use crate::image::{self, Image, LENGTH};
+use crate::image::{self, Form, Image};
 use oracle::{AccessWidth, DeviceError, GuestPhysAddr, LoongArchPchPic, PchPicOutputEvent, PchPicOutputPort};
 
 pub struct Boundary {
@@ -21,10 +21,10 @@ impl Boundary {
     pub fn new() -> Self {
         // a call that was given up may have left some
         oracle::take_warnings();
-        Boundary { device: LoongArchPchPic::new(GuestPhysAddr::from_usize(0), 0), drops: 0, left: [0; LENGTH], head: 0 }
+        Boundary { device: LoongArchPchPic::new(GuestPhysAddr::from_usize(0), 0), drops: 0, left: Image::new(), head: 0 }
     }
 
-    pub fn perform(&mut self, call: &Call, image: &mut [u8], answer: &mut [u8], events: &mut [u8]) -> u8 {
+    pub fn perform(&mut self, call: &Call, image: &mut [u8], answer: &mut [u8], events: &mut [u8], target: &mut [u8]) -> u8 {
         if answer.len() < 16 {
             return 7;
         }
@@ -33,7 +33,8 @@ impl Boundary {
         {
             return 7;
         }
-        let (number, value) = match self.done(call, image, events) {
+        let done = if let Call::Convert { .. } = call { self.convert(image, target) } else { self.done(call, image, events) };
+        let (number, value) = match done {
             Ok(value) => (0, value),
             Err((number, value)) => (number, value),
         };
@@ -46,7 +47,7 @@ impl Boundary {
 
     fn done(&mut self, call: &Call, image: &mut [u8], events: &mut [u8]) -> Done {
         if let Call::Reset = call {
-            if image.len() != LENGTH {
+            if Form::of(image.len()).is_none() {
                 return Err((4, None));
             }
             self.device.reset();
@@ -58,12 +59,12 @@ impl Boundary {
             (0, _) => {}
             refused => return Err(refused),
         }
-        if *image != self.left {
+        if *image != *self.left {
             self.load(image);
         }
         let mut dropped = None;
         let value = match *call {
-            Call::Reset => unreachable!("reset was done above"),
+            Call::Reset | Call::Convert { .. } => unreachable!("these are done apart"),
             Call::Read { base, size, address, width } => Some(self.read(base, size, address, width_of(width)?)?),
             Call::Write { base, size, address, width, value } => {
                 self.write(base, size, address, width_of(width)?, value)?;
@@ -79,6 +80,20 @@ impl Boundary {
         self.drops = u64::from(self.drops).saturating_add(dropped).min(u64::from(u32::MAX)) as u32;
         self.save(image);
         Ok(value)
+    }
+
+    /// 02, C-17: what the image holds, written in the form of the target's length. The device does not take part, and it is no load.
+    fn convert(&self, image: &[u8], target: &mut [u8]) -> Done {
+        if Form::of(image.len()).is_none() || Form::of(target.len()).is_none() {
+            return Err((4, None));
+        }
+        match image::test(image) {
+            (0, _) => {}
+            refused => return Err(refused),
+        }
+        let (plain, drops) = image::decode(image, self.head);
+        image::encode(&plain, drops, target);
+        Ok(None)
     }
 
     fn read(&mut self, base: u64, size: u64, address: u64, width: AccessWidth) -> Result<u64, (u8, Option<u64>)> {
@@ -117,12 +132,17 @@ impl Boundary {
         let (plain, drops) = image::decode(image, self.head);
         self.device.set_plain(&plain);
         self.drops = drops;
-        self.left.copy_from_slice(image);
+        self.leave(image);
     }
 
     fn save(&mut self, image: &mut [u8]) {
         image::encode(&self.device.plain(), self.drops, image);
-        self.left.copy_from_slice(image);
+        self.leave(image);
+    }
+
+    fn leave(&mut self, image: &[u8]) {
+        self.left.clear();
+        self.left.extend_from_slice(image);
     }
 }
 

@@ -1,6 +1,6 @@
 //! A call of the boundary as data.
 
-/// The six calls, with their numbers in the order of the C prototypes.
+/// The calls, with their numbers in the order of the C prototypes. A conversion has the length of its target.
 #[derive(Clone, Copy, Debug, PartialEq, Eq)]
 pub enum Call {
     Reset,
@@ -9,4 +9,5 @@ pub enum Call {
     Level { input: u64, level: u64 },
     Poll { input: u64 },
     Drain { place: u64 },
+    Convert { target: usize },
 }

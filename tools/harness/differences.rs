@@ -3,7 +3,7 @@
 
 use crate::call::Call;
 use crate::caught::caught;
-use crate::image;
+use crate::image::ONE;
 use crate::lent::Areas;
 use crate::under_test;
 use oracle::{AccessWidth, GuestPhysAddr, LoongArchPchPic};
@@ -26,7 +26,7 @@ struct Library(Areas);
 impl Library {
     fn new() -> Self {
         let mut areas = Areas::new();
-        (areas.image.len, areas.answer.len, areas.events.len) = (image::LENGTH, 16, 32);
+        (areas.image.len, areas.answer.len, areas.events.len) = (ONE.length, 16, 32);
         let mut library = Library(areas);
         library.call(Call::Reset);
         library
@@ -44,11 +44,11 @@ impl Library {
     }
 
     fn waiting(&self) -> u8 {
-        self.0.image.bytes()[image::COUNT]
+        self.0.image.bytes()[ONE.count]
     }
 
     fn dropped(&self) -> u8 {
-        self.0.image.bytes()[image::DROPS]
+        self.0.image.bytes()[ONE.drops]
     }
 }
 

@@ -62,8 +62,10 @@ fn run(mut words: Vec<String>) -> Result<ExitCode, String> {
     if !random_only {
         let start = Instant::now();
         bench.set_lengths(16, 32, false);
-        for history in fixed::histories() {
-            bench.play(&history);
+        for form in image::FORMS {
+            for history in fixed::histories() {
+                bench.play(&history, form);
+            }
         }
         sweeps::run(&mut bench, &mut chance);
         eprintln!("differential: fixed histories and sweeps: {} calls in {:.1} s", bench.passed, start.elapsed().as_secs_f64());
@@ -94,8 +96,9 @@ fn one(words: &[String]) -> Result<ExitCode, String> {
 /// What the run met, so that one sees that nothing was left out.
 fn tell(bench: &Bench) {
     let met = &bench.met;
-    let [reset, read, write, level, poll, drain] = met.kinds;
-    eprintln!("differential: reset {reset}, read {read}, write {write}, level {level}, poll {poll}, drain {drain}");
+    let [reset, read, write, level, poll, drain, convert] = met.kinds;
+    eprintln!("differential: reset {reset}, read {read}, write {write}, level {level}, poll {poll}, drain {drain}, convert {convert}");
+    eprintln!("differential: calls on form 2 {}, calls made again in the other form {}", met.form_2, met.again);
     let numbers: Vec<String> = met.numbers.iter().enumerate().map(|(number, count)| format!("{number}: {count}")).collect();
     eprintln!("differential: numbers handed back {}", numbers.join(", "));
     eprintln!(

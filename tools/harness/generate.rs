@@ -3,7 +3,7 @@
 
 use crate::call::Call;
 use crate::chance::Chance;
-use crate::image::{self, Image};
+use crate::image::{FORMS, Form, Image};
 
 /// The low halves of 01's registers; each high half stands 4 above.
 pub const REGISTERS: [u64; 10] = [0x000, 0x020, 0x040, 0x060, 0x080, 0x0c0, 0x0e0, 0x380, 0x3a0, 0x3e0];
@@ -205,16 +205,18 @@ fn register_bits(chance: &mut Chance) -> u64 {
     }
 }
 
-/// An image that every rule accepts, masked bits in ISR, full rings and counts near the stop among them.
-pub fn accepted(chance: &mut Chance) -> Image {
-    let mut image = [0; image::LENGTH];
-    image[..22].copy_from_slice(&image::CONTENTS);
-    for k in 0..9 {
-        image[22 + 8 * k..30 + 8 * k].copy_from_slice(&register_bits(chance).to_le_bytes());
+/// An image of that form that every rule accepts, masked bits in ISR, full rings and counts near the stop among them.
+pub fn accepted(chance: &mut Chance, form: Form) -> Image {
+    let mut image = vec![0; form.length];
+    image[..22].copy_from_slice(&form.contents);
+    for place in form.registers() {
+        image[place..place + 8].copy_from_slice(&register_bits(chance).to_le_bytes());
     }
-    image.copy_within(image::LAST_IRR..image::LAST_IRR + 8, image::IRR);
+    if let Some(copy) = form.copy {
+        image.copy_within(form.irr..form.irr + 8, copy);
+    }
     let same = chance.percent(10).then(|| chance.number() as u8);
-    for byte in &mut image[image::ROUTES..image::VECTORS + 64] {
+    for byte in &mut image[form.routes..form.vectors + 64] {
         *byte = same.unwrap_or(chance.number() as u8);
     }
     let count = match chance.below(6) {
@@ -223,7 +225,7 @@ pub fn accepted(chance: &mut Chance) -> Image {
         2 => chance.between(13, 15),
         _ => chance.below(17),
     } as usize;
-    image[image::COUNT] = count as u8;
+    image[form.count] = count as u8;
     let drops = match chance.below(5) {
         0 => 0,
         1 => u32::MAX,
@@ -231,29 +233,39 @@ pub fn accepted(chance: &mut Chance) -> Image {
         3 => chance.one_of(&[0xff, 0xffff, 0xff_ffff, 0x7fff_ffff]),
         _ => chance.number() as u32,
     };
-    image[image::DROPS..image::DROPS + 4].copy_from_slice(&drops.to_le_bytes());
-    for pair in image[image::PAIRS..image::PAIRS + 2 * count].chunks_mut(2) {
+    image[form.drops..form.drops + 4].copy_from_slice(&drops.to_le_bytes());
+    for pair in image[form.pairs..form.pairs + 2 * count].chunks_mut(2) {
         pair.copy_from_slice(&[chance.number() as u8, chance.below(2) as u8]);
     }
     image
 }
 
-/// A damaged image: some bytes changed, or a length that is not 259. It may still be accepted.
-pub fn damage(chance: &mut Chance, bytes: &mut Vec<u8>) {
+/// A damaged image of a form: some bytes changed, or another length, that of the other form too. It may still be accepted.
+pub fn damage(chance: &mut Chance, bytes: &mut Vec<u8>, form: Form) {
     match chance.below(8) {
-        0 => bytes.truncate(chance.below(259) as usize),
-        1 => bytes.resize(chance.between(258, 300) as usize, chance.number() as u8),
-        // contents, copy of IRR, count, pairs: where the rules look
+        0 => bytes.truncate(chance.below(form.length as u64) as usize),
+        1 => bytes.resize(length(chance), chance.number() as u8),
+        // contents, copy of IRR and IRR, count, pairs: where the rules look
         2 => flip(chance, bytes, 0, 22),
-        3 => flip(chance, bytes, image::LAST_IRR, image::IRR + 8),
-        4 => bytes[image::COUNT] = chance.number() as u8,
-        5 => flip(chance, bytes, image::PAIRS, image::LENGTH),
-        6 => flip(chance, bytes, image::COUNT, image::COUNT + 1),
+        3 => flip(chance, bytes, form.copy.unwrap_or(form.irr), form.irr + 8),
+        4 => bytes[form.count] = chance.number() as u8,
+        5 => flip(chance, bytes, form.pairs, form.length),
+        6 => flip(chance, bytes, form.count, form.count + 1),
         _ => {
             for _ in 0..chance.between(1, 4) {
-                flip(chance, bytes, 0, image::LENGTH);
+                flip(chance, bytes, 0, form.length);
             }
         }
+    }
+}
+
+/// A length for an image or a target: mostly one of a form, else near to them, or that of no form yet.
+pub fn length(chance: &mut Chance) -> usize {
+    match chance.below(10) {
+        0..=5 => chance.one_of(&FORMS).length,
+        6..=7 => chance.between(249, 261) as usize,
+        8 => chance.one_of(&[0, 22, 290]),
+        _ => chance.below(301) as usize,
     }
 }
 

@@ -4,7 +4,7 @@ use crate::bench::Bench;
 use crate::call::Call;
 use crate::chance::Chance;
 use crate::generate;
-use crate::image;
+use crate::image::{FORMS, Form};
 use std::time::{Duration, Instant};
 
 pub fn run(bench: &mut Bench, chance: &mut Chance, calls: u64) {
@@ -23,11 +23,11 @@ pub fn run(bench: &mut Bench, chance: &mut Chance, calls: u64) {
 fn history(bench: &mut Bench, chance: &mut Chance, length: u64, good: &mut Vec<u8>, bad: &mut Vec<u8>) {
     let mut mood = generate::mood(chance);
     bench.set_head(chance.below(16) as usize);
-    let image = generate::accepted(chance);
-    bench.set_image(&image);
+    let form = chance.one_of(&FORMS);
+    bench.set_image(&generate::accepted(chance, form));
     let mut made = 0;
     if chance.percent(60) {
-        // any 259 bytes will do for a reset, accepted or not
+        // any bytes of a form's length will do for a reset, accepted or not
         bench.set_lengths(16, 0, false);
         if bench.call(&Call::Reset, chance.number()).is_none() {
             return;
@@ -45,13 +45,16 @@ fn history(bench: &mut Bench, chance: &mut Chance, length: u64, good: &mut Vec<u
             good.clear();
             good.extend_from_slice(bench.image());
             bad.clone_from(good);
-            generate::damage(chance, bad);
+            let form = Form::of(good.len()).expect("a good image has a form");
+            generate::damage(chance, bad, form);
             bench.set_image(bad);
         }
         match bench.call(&call, chance.number()) {
             None => return,
+            // What was moved to another form is a load, and the history goes on from there.
+            Some(0) if matches!(call, Call::Convert { .. }) && chance.percent(50) => bench.take_target(),
             // A damaged image that was accepted is a load, and the history goes on from it.
-            Some(0) if damaged && chance.percent(50) && bad.len() == image::LENGTH => {}
+            Some(0) if damaged && chance.percent(50) && Form::of(bad.len()).is_some() => {}
             Some(_) if damaged => bench.set_image(good),
             Some(_) => {}
         }
@@ -60,7 +63,11 @@ fn history(bench: &mut Bench, chance: &mut Chance, length: u64, good: &mut Vec<u
 
 /// Chooses a call, and lengths for what is lent to it.
 pub fn lend(bench: &mut Bench, chance: &mut Chance, mood: &generate::Mood) -> Call {
-    let mut call = if chance.percent(99) { generate::call(chance, mood) } else { Call::Reset };
+    let mut call = match chance.below(100) {
+        0 => Call::Reset,
+        1..=2 => Call::Convert { target: generate::length(chance) },
+        _ => generate::call(chance, mood),
+    };
     let mut events = 0;
     if let Call::Drain { place } = &mut call {
         events = if chance.percent(40) { chance.between(32, 64) } else { chance.below(40) } as usize;

@@ -54,16 +54,17 @@ impl<const N: usize> Area<N> {
     }
 }
 
-/// What is lent to a call. A call that is no drain is lent no event buffer.
+/// What is lent to a call. A call that is no drain is lent no event buffer, and one that is no conversion no target.
 #[derive(Clone)]
 pub struct Areas {
     pub image: Area<320>,
     pub answer: Area<48>,
     pub events: Area<96>,
+    pub target: Area<320>,
 }
 
 impl Areas {
     pub fn new() -> Self {
-        Areas { image: Area::new(), answer: Area::new(), events: Area::new() }
+        Areas { image: Area::new(), answer: Area::new(), events: Area::new(), target: Area::new() }
     }
 }

@@ -35,6 +35,14 @@ unsafe extern "C" {
         answer: *mut u8,
         answer_len: usize,
     ) -> u8;
+    pub fn pch_pic_convert(
+        image: *const u8,
+        image_len: usize,
+        target: *mut u8,
+        target_len: usize,
+        answer: *mut u8,
+        answer_len: usize,
+    ) -> u8;
     pub fn pch_pic_table_read(
         image: *const u8,
         image_len: usize,

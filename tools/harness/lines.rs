@@ -13,7 +13,7 @@ mod quiet;
 use boundary::Boundary;
 use call::Call;
 use chance::Chance;
-use image::LENGTH;
+use image::ONE;
 use std::process::ExitCode;
 
 const SIZE: u64 = 0x400;
@@ -21,12 +21,12 @@ const SIZE: u64 = 0x400;
 /// The device behind the expected answers.
 struct Device {
     rust: Boundary,
-    image: [u8; LENGTH],
+    image: image::Image,
 }
 
 impl Device {
     fn new() -> Self {
-        let mut device = Device { rust: Boundary::new(), image: [0; LENGTH] };
+        let mut device = Device { rust: Boundary::new(), image: vec![0; ONE.length] };
         device.answer(&Call::Reset);
         device
     }
@@ -34,7 +34,7 @@ impl Device {
     /// The call's answer as a line.
     fn answer(&mut self, call: &Call) -> String {
         let (mut answer, mut events) = ([0; 16], [0; 32]);
-        let number = self.rust.perform(call, &mut self.image, &mut answer, &mut events);
+        let number = self.rust.perform(call, &mut self.image, &mut answer, &mut events, &mut []);
         let value = u64::from_le_bytes(answer[8..].try_into().unwrap());
         match (number, call) {
             (0, Call::Read { .. }) => format!("= {value:016x}"),
@@ -144,7 +144,7 @@ fn write(words: &[String]) -> Result<(), String> {
             input.push(b'\n');
         }
     }
-    let drops = u32::from_le_bytes(device.image[image::DROPS..image::DROPS + 4].try_into().unwrap());
+    let drops = u32::from_le_bytes(device.image[ONE.drops..ONE.drops + 4].try_into().unwrap());
     output.push_str(&format!("drops {drops:08x}\n"));
     let put = |path: &String, bytes: &[u8]| std::fs::write(path, bytes).map_err(|error| format!("{path}: {error}"));
     put(lines, &input)?;

@@ -15,7 +15,7 @@ mod records;
 use boundary::Boundary;
 use call::Call;
 use chance::Chance;
-use image::LENGTH;
+use image::{FORMS, Form};
 use records::{
     ANSWER_AREA, ANSWER_FILL, Answered, BYTE, EVENT_BUFFER, EVENT_FILL, IMAGE, IMAGE_BUFFER, IMAGE_RECORDS, MAGIC, RECORD, WHOLE,
 };
@@ -41,9 +41,9 @@ impl Recorder {
         self.file.len() / RECORD - 1
     }
 
-    fn load(&mut self, image: &[u8; LENGTH]) {
+    fn load(&mut self, image: &[u8]) {
         self.image.fill(0);
-        self.image[..LENGTH].copy_from_slice(image);
+        self.image[..image.len()].copy_from_slice(image);
         self.with_image(IMAGE);
     }
 
@@ -68,7 +68,7 @@ impl Recorder {
         let mut answer_area = [ANSWER_FILL; ANSWER_AREA];
         let mut event_buffer = [EVENT_FILL; EVENT_BUFFER];
         let lent = &mut self.image[..image];
-        let number = self.rust.perform(&call, lent, &mut answer_area[..answer], &mut event_buffer[..events]);
+        let number = self.rust.perform(&call, lent, &mut answer_area[..answer], &mut event_buffer[..events], &mut []);
         let present = number != 7 && answer_area[1] == 1;
         let drain = matches!(call, Call::Drain { .. });
         let answered = Answered {
@@ -98,8 +98,8 @@ impl Recorder {
     }
 }
 
-/// The fixed histories, the read sweep, and random histories until there are so many records.
-const RECORDS: usize = 4500;
+/// The fixed histories, the read sweep and broken rules in both forms, and random histories, in one form after the other, until there are so many records.
+const RECORDS: usize = 6000;
 const SEED: u64 = 20;
 
 fn main() {
@@ -107,17 +107,21 @@ fn main() {
     let path = std::env::args().nth(1).expect("the path of the file to write");
     let mut recorder = Recorder::new();
     let mut chance = Chance::new(SEED);
-    for history in fixed::histories() {
-        recorder.call(Call::Reset, LENGTH, 16, 0);
-        for (call, _) in history.steps {
-            let events = if let Call::Drain { .. } = call { 32 } else { 0 };
-            recorder.call(call, LENGTH, 16, events);
+    for form in FORMS {
+        for history in fixed::histories() {
+            recorder.call(Call::Reset, form.length, 16, 0);
+            for (call, _) in history.steps {
+                let events = if let Call::Drain { .. } = call { 32 } else { 0 };
+                recorder.call(call, form.length, 16, events);
+            }
+            recorder.with_image(WHOLE);
         }
-        recorder.with_image(WHOLE);
+        read_sweep(&mut recorder, &mut chance, form);
+        broken_rules(&mut recorder, &mut chance, form);
     }
-    read_sweep(&mut recorder, &mut chance);
+    let mut forms = FORMS.into_iter().cycle();
     while recorder.records() < RECORDS {
-        history(&mut recorder, &mut chance);
+        history(&mut recorder, &mut chance, forms.next().unwrap());
     }
     let (records, calls) = (recorder.records(), recorder.calls);
     let [_, reset, read, write, level, poll, drain] = recorder.kinds;
@@ -134,25 +138,48 @@ fn main() {
 }
 
 /// Every register half and the ends of the tables, with their neighbours, by every width, on an image where much is set.
-fn read_sweep(recorder: &mut Recorder, chance: &mut Chance) {
-    recorder.load(&generate::accepted(chance));
+fn read_sweep(recorder: &mut Recorder, chance: &mut Chance, form: Form) {
+    recorder.load(&generate::accepted(chance, form));
     let mut offsets: Vec<u64> = generate::REGISTERS.iter().flat_map(|&low| [low, low + 3, low + 4, low + 8]).collect();
     offsets.extend([0x0fd, 0x0ff, 0x100, 0x120, 0x13c, 0x13d, 0x13e, 0x13f, 0x140, 0x1fd, 0x200, 0x23c, 0x23e, 0x23f, 0x240]);
     offsets.extend([0x37c, 0x37f, 0x39c, 0x39e, 0x39f, 0x3fc, 0x400, u64::MAX - 8, u64::MAX - 4, u64::MAX - 3, u64::MAX - 1]);
     for address in offsets {
         for width in [1, 2, 4, 8] {
-            recorder.call(Call::Read { base: 0, size: u64::MAX, address, width }, LENGTH, 16, 0);
+            recorder.call(Call::Read { base: 0, size: u64::MAX, address, width }, form.length, 16, 0);
         }
     }
 }
 
+/// Each rule of the form broken in turn, for a call of each kind.
+fn broken_rules(recorder: &mut Recorder, chance: &mut Chance, form: Form) {
+    let image = loop {
+        let image = generate::accepted(chance, form);
+        if (2..16).contains(&image[form.count]) {
+            break image;
+        }
+    };
+    recorder.load(&image);
+    let mut breaches = vec![(0, 9), (form.count, 17), (form.pairs + 3, 2), (form.length - 1, 1)];
+    breaches.extend(form.copy.map(|copy| (copy, image[copy] ^ 1)));
+    let (base, size) = (0, 0x400);
+    for (place, byte) in breaches {
+        recorder.set_byte(place, byte);
+        recorder.call(Call::Read { base, size, address: 0x3a0, width: 8 }, form.length, 16, 0);
+        recorder.call(Call::Write { base, size, address: 0x020, width: 4, value: 0 }, form.length, 16, 0);
+        recorder.call(Call::Level { input: 7, level: 0 }, form.length, 16, 0);
+        recorder.call(Call::Poll { input: 64 }, form.length, 16, 0);
+        recorder.call(Call::Drain { place: 0 }, form.length, 16, 32);
+        recorder.set_byte(place, image[place]);
+    }
+}
+
 /// A short random history, from reset or a random accepted image, with damage now and then.
-fn history(recorder: &mut Recorder, chance: &mut Chance) {
+fn history(recorder: &mut Recorder, chance: &mut Chance, form: Form) {
     let mood = generate::mood(chance);
     if chance.percent(60) {
-        recorder.call(Call::Reset, LENGTH, 16, 0);
+        recorder.call(Call::Reset, form.length, 16, 0);
     } else {
-        recorder.load(&generate::accepted(chance));
+        recorder.load(&generate::accepted(chance, form));
     }
     for _ in 0..chance.between(20, 90) {
         let mut call = generate::call(chance, &mood);
@@ -162,10 +189,10 @@ fn history(recorder: &mut Recorder, chance: &mut Chance) {
             *place = generate::place(chance, events);
         }
         let answer = if chance.percent(97) { chance.between(16, 32) } else { chance.below(16) } as usize;
-        let image = if chance.percent(98) { LENGTH } else { chance.below(IMAGE_BUFFER as u64 + 1) as usize };
+        let image = if chance.percent(98) { form.length } else { chance.below(IMAGE_BUFFER as u64 + 1) as usize };
         if chance.percent(4) {
             // one byte is damaged for one call, and then it is as it was, unless the image was accepted and the call changed it
-            let at = chance.below(LENGTH as u64) as usize;
+            let at = chance.below(form.length as u64) as usize;
             let byte = recorder.image[at];
             recorder.set_byte(at, byte ^ (1 << chance.below(8)));
             let damaged = recorder.image;

@@ -1,6 +1,9 @@
 //! A stand-in for the library under test: the C calls over the published Rust, by the same boundary that the harness expects. It shows
 //! that the harness runs without a proved library at hand, and tools/mutants breaks copies of it to show that the harness catches them.
 
+// the modules are shared with the harness, and not all of each is used here
+#![allow(dead_code)]
+
 mod boundary;
 mod call;
 mod image;
@@ -18,9 +21,11 @@ unsafe fn area<'a>(pointer: *mut u8, len: usize) -> &'a mut [u8] {
     if len == 0 { &mut [] } else { unsafe { std::slice::from_raw_parts_mut(pointer, len) } }
 }
 
-unsafe fn perform(call: Call, image: (*mut u8, usize), answer: (*mut u8, usize), events: (*mut u8, usize)) -> u8 {
-    let (image, answer, events) = unsafe { (area(image.0, image.1), area(answer.0, answer.1), area(events.0, events.1)) };
-    DEVICE.with_borrow_mut(|device| device.perform(&call, image, answer, events))
+/// What more is lent is the event buffer of a drain, or the target of a conversion.
+unsafe fn perform(call: Call, image: (*mut u8, usize), answer: (*mut u8, usize), more: (*mut u8, usize)) -> u8 {
+    let (image, answer, more) = unsafe { (area(image.0, image.1), area(answer.0, answer.1), area(more.0, more.1)) };
+    let (events, target): (&mut [u8], &mut [u8]) = if let Call::Convert { .. } = call { (&mut [], more) } else { (more, &mut []) };
+    DEVICE.with_borrow_mut(|device| device.perform(&call, image, answer, events, target))
 }
 
 const NONE: (*mut u8, usize) = (std::ptr::null_mut(), 0);
@@ -78,6 +83,18 @@ pub unsafe fn pch_pic_drain(
     answer_len: usize,
 ) -> u8 {
     unsafe { perform(Call::Drain { place: place as u64 }, (image, image_len), (answer, answer_len), (events, events_len)) }
+}
+
+pub unsafe fn pch_pic_convert(
+    image: *const u8,
+    image_len: usize,
+    target: *mut u8,
+    target_len: usize,
+    answer: *mut u8,
+    answer_len: usize,
+) -> u8 {
+    let call = Call::Convert { target: target_len };
+    unsafe { perform(call, (image.cast_mut(), image_len), (answer, answer_len), (target, target_len)) }
 }
 
 #[allow(clippy::too_many_arguments)]

@@ -4,11 +4,11 @@ use crate::bench::{Bench, FILL};
 use crate::call::Call;
 use crate::chance::Chance;
 use crate::generate;
-use crate::image::{self, Image};
+use crate::image::{self, FORMS, Form, Image, MASK, ONE, TWO};
 
 pub fn run(bench: &mut Bench, chance: &mut Chance) {
     let states = states(chance);
-    let parts: [(&str, Part); 9] = [
+    let parts: [(&str, Part); 10] = [
         ("registers", registers),
         ("widths", widths),
         ("inputs", inputs),
@@ -18,6 +18,7 @@ pub fn run(bench: &mut Bench, chance: &mut Chance) {
         ("lengths of the image", lengths),
         ("lengths of the answer area", answers),
         ("order of the refusals", orders),
+        ("conversions", conversions),
     ];
     let mut counts = Vec::new();
     for (name, part) in parts {
@@ -33,39 +34,49 @@ pub fn run(bench: &mut Bench, chance: &mut Chance) {
 type Part = fn(&mut Bench, &mut Chance, &[Image]);
 
 /// Reset; all latched and waiting behind the mask; all in service; masked bits in service; a full ring whose count is near its stop;
-/// and some random ones.
+/// and some random ones. All are of form 1; every call is made in form 2 as well.
 fn states(chance: &mut Chance) -> Vec<Image> {
     let reset = reset_image();
     let with = |mask: u64, irr: u64, isr: u64| {
-        let mut image = reset;
-        for (k, bits) in [(0, mask), (3, irr), (4, irr), (5, isr)] {
-            image[22 + 8 * k..30 + 8 * k].copy_from_slice(&bits.to_le_bytes());
+        let mut image = reset.clone();
+        for (place, bits) in [(MASK, mask), (46, irr), (ONE.irr, irr), (ONE.isr, isr)] {
+            image[place..place + 8].copy_from_slice(&bits.to_le_bytes());
         }
         image
     };
     let mut full = with(0x0f0f_0f0f_f0f0_f0f0, 0xffff_0000_ffff_00ff, 0x00ff_ff00_0ff0_3c3c);
-    full[image::COUNT] = 16;
-    full[image::DROPS..image::DROPS + 4].copy_from_slice(&(u32::MAX - 3).to_le_bytes());
-    for (k, pair) in full[image::PAIRS..].chunks_mut(2).enumerate() {
+    full[ONE.count] = 16;
+    full[ONE.drops..ONE.drops + 4].copy_from_slice(&(u32::MAX - 3).to_le_bytes());
+    for (k, pair) in full[ONE.pairs..].chunks_mut(2).enumerate() {
         pair.copy_from_slice(&[0xf0 - k as u8, (k % 3 == 0) as u8]);
     }
     let mut states = vec![
-        reset,
+        reset.clone(),
         with(u64::MAX, u64::MAX, 0),
         with(0, u64::MAX, u64::MAX),
         with(0xaaaa_aaaa_5555_5555, 0xffff_ffff_ffff_ffff, 0xcccc_cccc_cccc_cccc),
         full,
     ];
-    states.extend((0..4).map(|_| generate::accepted(chance)));
+    states.extend((0..4).map(|_| generate::accepted(chance, ONE)));
     states
 }
 
+/// Each of them in both forms.
+fn in_both(states: &[Image]) -> Vec<(Form, Image)> {
+    let both = states.iter().flat_map(|state| {
+        let mut moved = Image::new();
+        image::moved(state, &mut moved);
+        [(ONE, state.clone()), (TWO, moved)]
+    });
+    both.collect()
+}
+
 fn reset_image() -> Image {
-    let mut image = [0; image::LENGTH];
-    image[..22].copy_from_slice(&image::CONTENTS);
-    image[22..30].fill(0xff);
-    image[image::ROUTES..image::ROUTES + 64].fill(1);
-    for (input, byte) in image[image::VECTORS..image::VECTORS + 64].iter_mut().enumerate() {
+    let mut image = vec![0; ONE.length];
+    image[..22].copy_from_slice(&ONE.contents);
+    image[MASK..MASK + 8].fill(0xff);
+    image[ONE.routes..ONE.routes + 64].fill(1);
+    for (input, byte) in image[ONE.vectors..ONE.vectors + 64].iter_mut().enumerate() {
         *byte = input as u8;
     }
     image
@@ -144,8 +155,8 @@ fn windows(bench: &mut Bench, _: &mut Chance, states: &[Image]) {
 fn drains(bench: &mut Bench, chance: &mut Chance, _: &[Image]) {
     for count in 0..=16 {
         let mut state = reset_image();
-        state[image::COUNT] = count;
-        for pair in state[image::PAIRS..image::PAIRS + 2 * count as usize].chunks_mut(2) {
+        state[ONE.count] = count;
+        for pair in state[ONE.pairs..ONE.pairs + 2 * count as usize].chunks_mut(2) {
             pair.copy_from_slice(&[chance.number() as u8, chance.below(2) as u8]);
         }
         bench.set_head(chance.below(16) as usize);
@@ -177,12 +188,12 @@ fn one_of_each(k: u64) -> Call {
     }
 }
 
-/// Every byte of an image takes every value, over every state: accepted or refused as the rules say.
+/// Every byte of an image takes every value, over every state in both forms: accepted or refused as the rules say.
 fn damages(bench: &mut Bench, _: &mut Chance, states: &[Image]) {
-    for (k, state) in states.iter().enumerate() {
-        for at in 0..image::LENGTH {
+    for (k, (form, state)) in in_both(states).iter().enumerate() {
+        for at in 0..form.length {
             for value in 0..=255 {
-                let mut damaged = *state;
+                let mut damaged = state.clone();
                 damaged[at] = value;
                 bench.set_image(&damaged);
                 bench.call(&one_of_each((k + at) as u64 + u64::from(value)), FILL);
@@ -196,9 +207,9 @@ fn damages(bench: &mut Bench, _: &mut Chance, states: &[Image]) {
 
 /// Every length of an image from 0 to 300, for every call; a null image too.
 fn lengths(bench: &mut Bench, _: &mut Chance, states: &[Image]) {
-    for state in states {
+    for (form, state) in &in_both(states) {
         let mut longer = [0; 300];
-        longer[..image::LENGTH].copy_from_slice(state);
+        longer[..form.length].copy_from_slice(state);
         for kind in 0..6 {
             for length in 0..=300 {
                 bench.set_image(&longer[..length]);
@@ -215,7 +226,7 @@ fn lengths(bench: &mut Bench, _: &mut Chance, states: &[Image]) {
 
 /// Every length of the answer area from 0 to 48, for every call; a null one too.
 fn answers(bench: &mut Bench, _: &mut Chance, states: &[Image]) {
-    for state in states {
+    for (_, state) in &in_both(states) {
         for kind in 0..6 {
             for length in 0..=48 {
                 for null in [false, true] {
@@ -247,15 +258,28 @@ fn orders(bench: &mut Bench, _: &mut Chance, states: &[Image]) {
     for place in [32, 33] {
         calls.push(Call::Drain { place });
     }
-    for state in states {
+    calls.extend([0, TWO.length, TWO.length + 1, ONE.length].map(|target| Call::Convert { target }));
+    for (form, state) in &in_both(states) {
         for call in &calls {
-            for faults in 0..16 {
-                let mut bytes = state.to_vec();
+            for faults in 0..128 {
+                let mut bytes = state.clone();
                 if faults & 1 != 0 {
-                    bytes[image::COUNT] = 17;
+                    bytes[form.count] = 17;
+                }
+                if faults & 16 != 0 {
+                    bytes[46] ^= 0x40; // the copy of IRR in form 1, and IRR in form 2
+                }
+                if faults & 96 != 0 && bytes[form.count] == 0 {
+                    bytes[form.count] = 1;
+                }
+                if faults & 32 != 0 {
+                    bytes[form.pairs + 1] = 2; // the flag of the oldest
+                }
+                if faults & 64 != 0 {
+                    bytes[form.length - 1] = 3; // the last pair, unused or with a flag that is none
                 }
                 if faults & 2 != 0 {
-                    bytes[0] = 2;
+                    bytes[0] ^= 3;
                 }
                 if faults & 4 != 0 {
                     bytes.push(0);
@@ -263,6 +287,47 @@ fn orders(bench: &mut Bench, _: &mut Chance, states: &[Image]) {
                 bench.set_lengths(if faults & 8 != 0 { 15 } else { 16 }, 32, false);
                 bench.set_image(&bytes);
                 bench.call(call, FILL);
+            }
+        }
+        if bench.over() {
+            return;
+        }
+    }
+}
+
+/// Conversions: from every state in both forms to every length of a target, from every length of an image to those of and near the forms, with every
+/// length of the answer area, and with every byte of the image changed.
+fn conversions(bench: &mut Bench, chance: &mut Chance, states: &[Image]) {
+    let targets = [0, 1, 250, 251, 252, 258, 259, 260, 290];
+    for (form, state) in &in_both(states) {
+        bench.set_lengths(16, 0, false);
+        bench.set_head(chance.below(16) as usize);
+        for target in 0..=300 {
+            bench.set_image(state);
+            bench.call(&Call::Convert { target }, chance.number());
+        }
+        let mut longer = [0; 300];
+        longer[..form.length].copy_from_slice(state);
+        for length in 0..=300 {
+            bench.set_image(&longer[..length]);
+            bench.call(&Call::Convert { target: chance.one_of(&targets) }, chance.number());
+        }
+        for target in targets {
+            bench.null_image();
+            bench.call(&Call::Convert { target }, FILL);
+            for answer in 0..=48 {
+                bench.set_lengths(answer, 0, answer % 2 == 1);
+                bench.set_image(state);
+                bench.call(&Call::Convert { target }, chance.number());
+            }
+        }
+        bench.set_lengths(16, 0, false);
+        for at in 0..form.length {
+            for value in (0..4).chain([17, 0x80, 0xff, state[at] ^ 1 << chance.below(8)]) {
+                let mut damaged = state.clone();
+                damaged[at] = value;
+                bench.set_image(&damaged);
+                bench.call(&Call::Convert { target: chance.one_of(&FORMS).length }, chance.number());
             }
         }
         if bench.over() {

@@ -24,6 +24,7 @@ pub fn line(call: &Call, image: &[u8], lent: &Areas, fill: u64, head: usize) -> 
         Call::Level { input, level } => format!("level input={input:#x} level={level:#x}"),
         Call::Poll { input } => format!("poll input={input:#x}"),
         Call::Drain { place } => format!("drain place={place:#x}"),
+        Call::Convert { target } => format!("convert target={target:#x}"),
     };
     let null = lent.image.null || lent.answer.null || lent.events.null;
     let bytes: String = image.iter().map(|byte| format!("{byte:02x}")).collect();
@@ -41,8 +42,10 @@ pub fn parse(words: &[String]) -> Result<Line, String> {
         let (name, value) = word.split_once('=').ok_or(format!("'{word}' is no NAME=VALUE"))?;
         fields.insert(name, value);
     }
-    let known =
-        ["base", "size", "address", "width", "value", "input", "level", "place", "image", "answer", "events", "null", "fill", "head"];
+    let known = [
+        "base", "size", "address", "width", "value", "input", "level", "place", "target", "image", "answer", "events", "null", "fill",
+        "head",
+    ];
     if let Some(name) = fields.keys().find(|name| !known.contains(name)) {
         return Err(format!("'{name}=' is no name of a call's"));
     }
@@ -56,6 +59,9 @@ pub fn parse(words: &[String]) -> Result<Line, String> {
     };
     let need = |name: &str| number(name, None);
     let access = || -> Result<(u64, u64, u64, u64), String> { Ok((need("base")?, need("size")?, need("address")?, need("width")?)) };
+    let most = |name: &str, value: u64, most: usize| {
+        if value <= most as u64 { Ok(value as usize) } else { Err(format!("{name}= is over {most}")) }
+    };
     let call = match kind.as_str() {
         "reset" => Call::Reset,
         "read" => {
@@ -69,7 +75,8 @@ pub fn parse(words: &[String]) -> Result<Line, String> {
         "level" => Call::Level { input: need("input")?, level: need("level")? },
         "poll" => Call::Poll { input: need("input")? },
         "drain" => Call::Drain { place: need("place")? },
-        other => return Err(format!("'{other}' is none of reset, read, write, level, poll, drain")),
+        "convert" => Call::Convert { target: most("target", need("target")?, 320)? },
+        other => return Err(format!("'{other}' is none of reset, read, write, level, poll, drain, convert")),
     };
     let digits = fields.get("image").ok_or("image= is missing")?;
     let image = (0..digits.len())
@@ -77,9 +84,6 @@ pub fn parse(words: &[String]) -> Result<Line, String> {
         .map(|i| digits.get(i..i + 2).and_then(|pair| u8::from_str_radix(pair, 16).ok()))
         .collect::<Option<Vec<u8>>>()
         .ok_or("image= wants pairs of hex digits")?;
-    let most = |name: &str, value: u64, most: usize| {
-        if value <= most as u64 { Ok(value as usize) } else { Err(format!("{name}= is over {most}")) }
-    };
     Ok(Line {
         call,
         answer: most("answer", number("answer", Some(16))?, 48)?,

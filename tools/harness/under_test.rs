@@ -23,27 +23,30 @@ pub fn call(call: &Call, lent: &mut Areas) -> u8 {
         assert!(twin.image.same(&lent.image), "by the table it leaves another image: {:?}", twin.image.difference(&lent.image));
         assert!(twin.answer.same(&lent.answer), "by the table it leaves another answer area: {:?}", twin.answer.difference(&lent.answer));
         assert!(twin.events.same(&lent.events), "by the table it leaves another event buffer");
+        assert!(twin.target.same(&lent.target), "by the table it leaves another target");
     }
     number
 }
 
 type Area = (*mut u8, usize);
 
-fn on(call: &Call, lent: &mut Areas, make: fn(&Call, Area, Area, Area) -> u8) -> u8 {
-    let Areas { image, answer, events } = lent;
+fn on(call: &Call, lent: &mut Areas, make: fn(&Call, [Area; 4]) -> u8) -> u8 {
+    let Areas { image, answer, events, target } = lent;
     if !BOXED.load(Ordering::Relaxed) {
-        return make(call, (image.pointer(), image.len), (answer.pointer(), answer.len), (events.pointer(), events.len));
+        let lent =
+            [(image.pointer(), image.len), (answer.pointer(), answer.len), (events.pointer(), events.len), (target.pointer(), target.len)];
+        return make(call, lent);
     }
-    let mut boxes = [image.bytes(), answer.bytes(), events.bytes()].map(Box::<[u8]>::from);
-    let [i, a, e] = boxes.each_mut().map(|block| (block.as_mut_ptr(), block.len()));
-    let number = make(call, i, a, e);
+    let mut boxes = [image.bytes(), answer.bytes(), events.bytes(), target.bytes()].map(Box::<[u8]>::from);
+    let number = make(call, boxes.each_mut().map(|block| (block.as_mut_ptr(), block.len())));
     image.slice().copy_from_slice(&boxes[0]);
     answer.slice().copy_from_slice(&boxes[1]);
     events.slice().copy_from_slice(&boxes[2]);
+    target.slice().copy_from_slice(&boxes[3]);
     number
 }
 
-fn make(call: &Call, (i, il): Area, (a, al): Area, (e, el): Area) -> u8 {
+fn make(call: &Call, [(i, il), (a, al), (e, el), (t, tl)]: [Area; 4]) -> u8 {
     // SAFETY: each pointer and length is an area of its own that outlives the call; an empty one may be null, as the boundary says.
     unsafe {
         match *call {
@@ -53,11 +56,12 @@ fn make(call: &Call, (i, il): Area, (a, al): Area, (e, el): Area) -> u8 {
             Call::Level { input, level } => library::pch_pic_level(i, il, input, level, a, al),
             Call::Poll { input } => library::pch_pic_poll(i, il, input, a, al),
             Call::Drain { place } => library::pch_pic_drain(i, il, e, el, place as usize, a, al),
+            Call::Convert { .. } => library::pch_pic_convert(i, il, t, tl, a, al),
         }
     }
 }
 
-fn make_by_table(call: &Call, (i, il): Area, (a, al): Area, _: Area) -> u8 {
+fn make_by_table(call: &Call, [(i, il), (a, al), ..]: [Area; 4]) -> u8 {
     // SAFETY: as above.
     unsafe {
         match *call {

@@ -5,9 +5,12 @@ use Prim.Native.Nat.{ℕ}
 use Rattle.rules.specs.Access.{Width, readAt, writeActs}
 use Rattle.rules.specs.Device.{Call, none, some, actsOf, acted, step, value}
 use Rattle.rules.specs.Device as device
+use lib.ListN.{length}
+use Rattle.rules.specs.Form.{Form}
 use Rattle.rules.specs.Image.{decode}
 use Rattle.rules.specs.Calls.{noWidth, outside, pass, widthTest, addressTest, accessCall, Request, calls, askedBy, bufferOf, ending}
 use Rattle.rules.specs.Calls as asked
+use Rattle.rules.proofs.laws.Images.{encode-same}
 use Rattle.rules.proofs.laws.Outcomes.{call-refused, call-done, no-events, width-refused, address-refused, access-passed}
 use Rattle.rules.proofs.laws.Steps.{read-device, write-device}
 use Rattle.window.specs.Tests.{knownView, locatedView}
@@ -20,18 +23,18 @@ use Rattle.map.specs.declared.Width as code
 use Rattle.inplace.specs.Held.{Reads, Writes}
 use Rattle.refusals.proofs.Ends.{Passed, here}
 
-module _ {i : List ℕ} (p : Passed i) (base size address width : ℕ) {k : Known} (e : knownView k ≡ widthTest width) where
+module _ {f : Form} {i : List ℕ} (p : Passed f i) (base size address width : ℕ) {k : Known} (e : knownView k ≡ widthTest width) where
   -- ---- refused
 
-  module _ (q : Request) (f : Width → ℕ → Call) (asks : askedBy q ≡ calls (accessCall base size address width f)) where
+  module _ (q : Request) (g : Width → ℕ → Call) (asks : askedBy q ≡ calls (accessCall base size address width g)) where
     pub no-width : k ≡ Unknown → record { number = 2; value = none; image = i; events = bufferOf q } ≡ ending q i
-    no-width u = sym (call-refused q i _ asks (p .good) noWidth (width-refused base size address width f noWidth (sym e ∙ ap knownView u)))
+    no-width u = sym (call-refused q i _ asks (p .good) noWidth (width-refused base size address width g noWidth (sym e ∙ ap knownView u)))
 
     pub no-place : {w : code.Width} → k ≡ As w → {l : Located} → locatedView address l ≡ addressTest base size address width → l ≡ Outside
         → record { number = 1; value = some address; image = i; events = bufferOf q } ≡ ending q i
-    no-place {w} wide g u =
+    no-place {w} wide h u =
         sym (call-refused q i _ asks (p .good) (outside address)
-        (address-refused base size address width f (widthView w) (outside address) (sym e ∙ ap knownView wide) (sym g ∙ ap (locatedView address) u)))
+        (address-refused base size address width g (widthView w) (outside address) (sym e ∙ ap knownView wide) (sym h ∙ ap (locatedView address) u)))
 
   -- ---- done
 
@@ -46,9 +49,9 @@ module _ {i : List ℕ} (p : Passed i) (base size address width : ℕ) {k : Know
         call-done (asked.read base size address width) i _ refl (p .good) c (aimed device.read) (decode i) (some v) i []
         (here p .image) (sym (read-device (decode i) (widthView w) o)) (ap some (r (decode i) (here p))) (no-events (decode i) c refl)
 
-    pub write-done : (v : ℕ) {n : ℕ} {j : List ℕ} → Writes i j n (λ c. writeActs c (widthView w) o v) → record { number = 0; value = some n; image = j; events = [] } ≡ ending (asked.write base size address width v) i
+    pub write-done : (v : ℕ) {n : ℕ} {j : List ℕ} → length j ≡ length i → Writes i j n (λ c. writeActs c (widthView w) o v) → record { number = 0; value = some n; image = j; events = [] } ≡ ending (asked.write base size address width v) i
     unfolding value step actsOf
-    write-done v {n} {j} r =
+    write-done v {n} {j} s r =
         let c = device.write (widthView w) o v in
         call-done (asked.write base size address width v) i _ refl (p .good) c (aimed (λ w o. device.write w o v)) (acted (decode i) (writeActs (decode i .core) (widthView w) o v)) (some n) j []
-        (r .becomes (decode i) (here p) .image) (sym (write-device (decode i) (widthView w) o v)) (ap some (r .gives (decode i) (here p))) (no-events (decode i) c refl)
+        (r .becomes (decode i) (here p) .image ∙ encode-same j i s _) (sym (write-device (decode i) (widthView w) o v)) (ap some (r .gives (decode i) (here p))) (no-events (decode i) c refl)

@@ -37,7 +37,7 @@ pub fn read(image: &[u8], base: u64, size: u64, address: u64, width: u64) -> Tol
     ensures { λ r. ⌜ ends r (now (image .entry)) [] ≡ ending (asked.read base size address width) (now (image .entry)) ⌝ }
 {
     let checked = check(image);
-    let Verdict::Accepted = checked else {
+    let Verdict::Accepted(form) = checked else {
         return of_image(image);
     };
     let Known::As(known) = window::width_of(width) else {
@@ -47,10 +47,10 @@ pub fn read(image: &[u8], base: u64, size: u64, address: u64, width: u64) -> Tol
         return outside(address);
     };
     match known {
-        Width::Byte => gives(read_byte(image, offset) as u64),
-        Width::Word => gives(read_word(image, offset)),
-        Width::Dword => gives(read_dword(image, offset) as u64),
-        Width::Qword => gives(read_qword(image, offset)),
+        Width::Byte => gives(read_byte(image, form, offset) as u64),
+        Width::Word => gives(read_word(image, form, offset)),
+        Width::Dword => gives(read_dword(image, form, offset) as u64),
+        Width::Qword => gives(read_qword(image, form, offset)),
     }
 }
 
@@ -59,7 +59,7 @@ pub fn write(image: &mut [u8], base: u64, size: u64, address: u64, width: u64, v
     ensures { λ r. ⌜ ends r (now (image .exit)) [] ≡ ending (asked.write base size address width value) (now (image .entry)) ⌝ }
 {
     let checked = check(image);
-    let Verdict::Accepted = checked else {
+    let Verdict::Accepted(form) = checked else {
         return of_image(image);
     };
     let Known::As(known) = window::width_of(width) else {
@@ -70,9 +70,9 @@ pub fn write(image: &mut [u8], base: u64, size: u64, address: u64, width: u64, v
     };
     let low = bits::half(value, false);
     match known {
-        Width::Byte => gives(write_byte(image, offset, bits::byte_of(low, 0)) as u64),
-        Width::Word => gives(write_word(image, offset, low) as u64),
-        Width::Dword => gives(write_dword(image, offset, low) as u64),
-        Width::Qword => gives(write_qword(image, offset, value) as u64),
+        Width::Byte => gives(write_byte(image, form, offset, bits::byte_of(low, 0)) as u64),
+        Width::Word => gives(write_word(image, form, offset, low) as u64),
+        Width::Dword => gives(write_dword(image, form, offset, low) as u64),
+        Width::Qword => gives(write_qword(image, form, offset, value) as u64),
     }
 }

@@ -13,11 +13,15 @@ use Rattle.image.specs.Shown.{formView, formKnown}
 use Rattle.image.specs.declared.form.Form.{Form}
 use Rattle.image.specs.declared.form.KnownForm.{KnownForm}
 use Rattle.image.specs.declared.form.KnownForm.the-variants.{Unknown, As}
-use Rattle.checked.specs.Good.{isAccepted, headGood, isClear, bodiesGood}
+use Rattle.checked.specs.Good.{isAccepted, formIf, acceptedForm, headGood, isClear, bodiesGood}
 
 accepted-clear : (x : Finding) → isAccepted (bodyTest x) ≡ isClear x
 accepted-clear clear = refl
 accepted-clear (found k a) = refl
+
+-- an image that is refused has no form
+pub refused : (l : List ℕ) → false ≡ isAccepted (imageTest l) → unknown ≡ acceptedForm l
+refused l e = ap (λ b. formIf b (formOf (length l))) e
 
 module _ (l : List ℕ) (k : KnownForm) (e : formKnown k ≡ formOf (length l)) where
   pub no-form : k ≡ Unknown → wrongLength ≡ imageTest l
@@ -44,3 +48,7 @@ module _ (l : List ℕ) (k : KnownForm) (e : formKnown k ≡ formOf (length l)) 
 
       pub body-decides : good ≡ true → (body : Bool) → body ≡ bodiesGood (formView form) l → {t : Bool} → body ≡ t → t ≡ isAccepted (imageTest l)
       body-decides t body b u = sym u ∙ b ∙ sym (accepted-clear (firstFault (formView form) l (rules (formView form) l))) ∙ ap isAccepted (by-bodies t)
+
+      -- an accepted one has the form that its length tells
+      pub accepts : good ≡ true → (body : Bool) → body ≡ bodiesGood (formView form) l → body ≡ true → known (formView form) ≡ acceptedForm l
+      accepts t body b u = (λ i. formIf (body-decides t body b u i) (sym told i))

@@ -4,22 +4,31 @@ use mathlib.Core.List.{List, [], _∷_}
 use Prim.Native.Nat.{ℕ, zero, suc, _*_}
 use lib.Bits.{bitOr}
 use lib.Dec.{eqb, leb}
-use lib.ListN.{drop}
+use lib.ListN.{length, drop}
 use Rattle.rules.specs.Numbers.{part}
-use Rattle.rules.specs.Form.{Form, contentsLength, contentsOf}
-use Rattle.rules.specs.Image.{registerAt, Finding, clear, found, rules, firstFault, same, ImageTest, accepted, wrongLength, wrongContents, broken}
+use Rattle.rules.specs.Form.{Form, contentsLength, contentsOf, Known, unknown, known, formOf}
+use Rattle.rules.specs.Image.{registerAt, Finding, clear, found, rules, firstFault, same, ImageTest, accepted, wrongLength, wrongContents, broken, imageTest}
+use Rattle.image.specs.Shown.{formView}
 use Rattle.checked.specs.declared.Verdict.{Verdict}
 use Rattle.checked.specs.declared.Verdict.the-variants.{Accepted, Refused}
 
-abbrev pub verdictView : Verdict → Bool
-verdictView Accepted = true
-verdictView Refused = false
+abbrev pub verdictView : Verdict → Known
+verdictView (Accepted f) = known (formView f)
+verdictView Refused = unknown
 
 abbrev pub isAccepted : ImageTest → Bool
 isAccepted accepted = true
 isAccepted wrongLength = false
 isAccepted wrongContents = false
 isAccepted (broken k a) = false
+
+-- the form of an image, if it is accepted
+abbrev pub formIf : Bool → Known → Known
+formIf true k = k
+formIf false k = unknown
+
+abbrev pub acceptedForm : List ℕ → Known
+acceptedForm l = formIf (isAccepted (imageTest l)) (formOf (length l))
 
 -- the contents are those of a form; no rule of the bodies finds anything
 abbrev pub headGood : Form → List ℕ → Bool

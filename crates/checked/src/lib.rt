@@ -18,10 +18,11 @@ ghost use Rattle.rules.specs.Form.{formLength};
 ghost use Rattle.rules.specs.Image.{imageTest};
 ghost use Rattle.image.specs.Shown.{formView};
 ghost use Rattle.faults.specs.Found.{checkedView};
-ghost use Rattle.checked.specs.Good.{verdictView, isAccepted, bitsOf, allZero, pairsGood, headGood, bodiesGood};
+ghost use Rattle.checked.specs.Good.{verdictView, acceptedForm, bitsOf, allZero, pairsGood, headGood, bodiesGood};
 
+// An accepted image is one of a form.
 pub enum Verdict {
-    Accepted,
+    Accepted(Form),
     Refused,
 }
 
@@ -108,7 +109,7 @@ fn body_good(image: &[u8], form: Form) -> bool
 }
 
 pub fn check(image: &[u8]) -> Verdict
-    ensures { λ r. ⌜ verdictView r ≡ isAccepted (imageTest (now (image .entry))) ⌝ }
+    ensures { λ r. ⌜ verdictView r ≡ acceptedForm (now (image .entry)) ⌝ }
 {
     let KnownForm::As(form) = form_of(image.len()) else {
         return Verdict::Refused;
@@ -119,7 +120,7 @@ pub fn check(image: &[u8]) -> Verdict
     if !body_good(image, form) {
         return Verdict::Refused;
     }
-    Verdict::Accepted
+    Verdict::Accepted(form)
 }
 
 // What is wrong with an image. Apart from `check`, which is small so that each call has it in place.

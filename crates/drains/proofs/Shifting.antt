@@ -9,16 +9,20 @@ use lib.ListN.{length, take, drop, getD, set, replicate, length-append, length-t
 use lib.Dec.{leb}
 use borrow.Author.Tests.{leb-true, leb-false}
 use Rattle.rules.proofs.laws.Bits.{test}
-use lib.Seq.{take-suc, take-suc-set, drop-set-lt, drop-drop, getD-drop, take-at, drop-at, take-all, set-at, take-append-le}
+use lib.Seq.{take-suc, take-suc-set, drop-set-lt, drop-drop, getD-drop, length-take-le, take-at, drop-at, take-all, set-at, take-append-le}
 use borrow.Rule.Slice.PartMut.{putMid}
 use Rattle.rules.specs.Numbers.{bytesOf, part}
 use Rattle.rules.specs.Ring.{flag, Event, drawn, pairsOf}
 use Rattle.rules.specs.Device.{Device}
-use Rattle.rules.specs.Image.{countAt, pairsAt, contents, registersBody, ringBody, encode, countOf}
-use Rattle.rules.proofs.laws.Images.{length-pairsOf, unusedAfter, count-stands, encode-bodies}
+use Rattle.rules.specs.Form.{Form, count, place, formLength}
+use Rattle.rules.specs.Image.{ringLength, ringBody, encodeAs, countIn}
+use Rattle.rules.proofs.laws.Images.{length-pairsOf, unusedAfter}
+use Rattle.rules.proofs.laws.Saved.{length-encode, count-stands}
 use Rattle.rules.proofs.laws.Steps.{drain-well}
 use Rattle.inplace.specs.Held.{Holds, withRing}
-use Rattle.drains.specs.Drained.{Drains, Leaves}
+use Rattle.inplace.proofs.Doing.{holds-as, as-holds}
+use Rattle.inplace.proofs.Bodies.{ring-fits, ring-put}
+use Rattle.drains.specs.Drained.{RingAt, Drains, Leaves}
 
 -- ---- moved to the front
 
@@ -119,84 +123,101 @@ module _ (es : List Event) (k n : ℕ) (e : n ≡ min (length es) k) where
 
 -- ---- a drain
 
-module _ {i : List ℕ} {d : Device} (h : Holds i d) where
+module _ (f : Form) {i : List ℕ} (s : length i ≡ formLength f) {d : Device} (h : Holds i d) where
   abbrev es : List Event
   es = d .ring .waiting
 
+  abbrev drops : List ℕ
+  drops = bytesOf 4 (d .ring .drops)
+
+  abbrev room : List Event → List ℕ
+  room es = pairsOf es ++ unusedAfter (length es)
+
+  -- what stands before the ring's body, and what behind it
   abbrev ahead : List ℕ
-  ahead = contents ++ (registersBody d ++ (d .core .stored .routes ++ d .core .vectors))
+  ahead = take (place f count) (encodeAs f d)
 
-  abbrev pairs : List ℕ
-  pairs = pairsOf es ++ unusedAfter (length es)
+  abbrev behind : List ℕ
+  behind = drop ringLength (drop (place f count) (encodeAs f d))
 
-  length-ahead : length ahead ≡ 222
-  unfolding registersBody
-  length-ahead = simp length-append (omega (arith, h .well .routes, h .well .vectors))
+  length-ahead : length ahead ≡ place f count
+  length-ahead = length-take-le (place f count) (encodeAs f d) (omega (arith, ring-fits f, length-encode d (h .well) f))
 
-  length-head : length (ahead ++ (length es ∷ bytesOf 4 (d .ring .drops))) ≡ 227
-  length-head = length-append ahead (length es ∷ bytesOf 4 (d .ring .drops)) ∙ omega (arith, length-ahead)
+  apart : (es : List Event) → encodeAs f (withRing d (record { waiting = es; drops = d .ring .drops })) ≡ ahead ++ (length es ∷ (drops ++ (room es ++ behind)))
+  unfolding ringBody
+  apart es = sym (ring-put f d (h .well) (record { waiting = es; drops = d .ring .drops })) ∙ ap (λ l. ahead ++ (length es ∷ l)) (append-assoc drops (room es) behind)
 
-  apart : (es : List Event) → encode (withRing d (record { waiting = es; drops = d .ring .drops })) ≡ ahead ++ (length es ∷ (bytesOf 4 (d .ring .drops) ++ (pairsOf es ++ unusedAfter (length es))))
-  unfolding registersBody ringBody
-  apart es = encode-bodies (withRing d (record { waiting = es; drops = d .ring .drops })) ∙ simp append-assoc
+  whole : i ≡ (ahead ++ (length es ∷ drops)) ++ (room es ++ behind)
+  whole = holds-as f i s h ∙ apart es ∙ sym (append-assoc ahead (length es ∷ drops) (room es ++ behind))
 
-  from-pairs : drop 227 i ≡ pairs
-  from-pairs = ap (drop 227) (h .image ∙ apart es ∙ sym (append-assoc ahead (length es ∷ bytesOf 4 (d .ring .drops)) pairs)) ∙ drop-at (ahead ++ (length es ∷ bytesOf 4 (d .ring .drops))) pairs 227 length-head
+  length-head : length (ahead ++ (length es ∷ drops)) ≡ place f count + 5
+  length-head = length-append ahead (length es ∷ drops) ∙ omega (arith, length-ahead)
+
+  length-room : length (room es) ≡ 32
+  length-room = simp (length-append, length-pairsOf, length-replicate) (omega (arith, h .well .waiting))
+
+  from-pairs : drop (place f count + 5) i ≡ room es ++ behind
+  from-pairs = ap (drop (place f count + 5)) whole ∙ drop-at (ahead ++ (length es ∷ drops)) (room es ++ behind) (place f count + 5) length-head
+
+  counts : {m : ℕ} → m ≡ getD i (place f count) 0 → m ≡ length es
+  counts c = c ∙ ap (countIn f) (holds-as f i s h) ∙ count-stands d (h .well) f
 
   -- the pairs and the count as a drain leaves them
-  pub drained-image : (m n k : ℕ) (ps : List ℕ) → m ≡ getD i 222 0 → n ≡ min m k → Leaves (part 227 32 i) ps m n
-      → set (putMid 227 32 i ps) 222 (m - n) ≡ encode (withRing d (record { waiting = drop k es; drops = d .ring .drops }))
-  drained-image m n k ps c e f =
-      let head = length es ∷ bytesOf 4 (d .ring .drops) in
-      let count : m ≡ length es = c ∙ ap countOf (h .image) ∙ count-stands d (h .well) in
-      let fits : length pairs ≤ 32 = simp (length-append, length-pairsOf, length-replicate) (omega (arith, h .well .waiting)) in
-      let rest = pairsOf (drop n es) ++ unusedAfter (length (drop n es)) in
-      let left : ps ≡ rest = f es (sym count) (ap (take 32) from-pairs ∙ take-all 32 pairs fits) in
+  pub drained-image : (m n k : ℕ) (ps : List ℕ) → m ≡ getD i (place f count) 0 → n ≡ min m k → Leaves (part (place f count + 5) 32 i) ps m n
+      → set (putMid (place f count + 5) 32 i ps) (place f count) (m - n) ≡ encodeAs f (withRing d (record { waiting = drop k es; drops = d .ring .drops }))
+  drained-image m n k ps c e g =
+      let head = length es ∷ drops in
+      let at = place f count in
+      let count : m ≡ length es = counts c in
+      let rest = room (drop n es) in
+      let left : ps ≡ rest = g es (sym count) (ap (take 32) from-pairs ∙ take-at (room es) behind 32 length-room) in
       let many : m - n ≡ length (drop n es) = omega (arith, length-drop n es) in
-      let before : take 227 i ≡ ahead ++ head = ap (take 227) (h .image ∙ apart es ∙ sym (append-assoc ahead head pairs)) ∙ take-at (ahead ++ head) pairs 227 length-head in
-      let after : drop 32 (drop 227 i) ≡ [] = ap (drop 32) from-pairs ∙ drop-of-length-le pairs fits in
+      let before : take (at + 5) i ≡ ahead ++ head = ap (take (at + 5)) whole ∙ take-at (ahead ++ head) (room es ++ behind) (at + 5) length-head in
+      let after : drop 32 (drop (at + 5) i) ≡ behind = ap (drop 32) from-pairs ∙ drop-at (room es) behind 32 length-room in
       let same : drop n es ≡ drop k es = drop-fewer es k n (e ∙ ap (λ j. min j k) count) in
-      (λ t. set (before t ++ (left t ++ after t)) 222 (m - n))
-      ∙ (λ t. set ((ahead ++ head) ++ append-nil rest t) 222 (m - n))
-      ∙ ap (λ l. set l 222 (m - n)) (append-assoc ahead head rest)
-      ∙ set-at ahead (length es) (bytesOf 4 (d .ring .drops) ++ rest) (m - n) 222 length-ahead
-      ∙ ap (λ j. ahead ++ (j ∷ (bytesOf 4 (d .ring .drops) ++ rest))) many
-      ∙ sym (apart (drop n es)) ∙ ap (λ xs. encode (withRing d (record { waiting = xs; drops = d .ring .drops }))) same
+      (λ t. set (before t ++ (left t ++ after t)) at (m - n))
+      ∙ ap (λ l. set l at (m - n)) (append-assoc ahead head (rest ++ behind))
+      ∙ set-at ahead (length es) (drops ++ (rest ++ behind)) (m - n) at length-ahead
+      ∙ ap (λ j. ahead ++ (j ∷ (drops ++ (rest ++ behind)))) many
+      ∙ sym (apart (drop n es)) ∙ ap (λ xs. encodeAs f (withRing d (record { waiting = xs; drops = d .ring .drops }))) same
 
   -- the pairs that are copied out
-  pub drained-pairs : (m n k : ℕ) → m ≡ getD i 222 0 → n ≡ min m k → part 227 (2 * n) i ≡ pairsOf (take k es)
+  pub drained-pairs : (m n k : ℕ) → m ≡ getD i (place f count) 0 → n ≡ min m k → part (place f count + 5) (2 * n) i ≡ pairsOf (take k es)
   drained-pairs m n k c e =
-      let count : m ≡ length es = c ∙ ap countOf (h .image) ∙ count-stands d (h .well) in
+      let many = counts c in
       let long : 2 * n ≤ length (pairsOf es) = omega (arith, length-pairsOf es) in
-      ap (take (2 * n)) from-pairs ∙ take-append-le (2 * n) (pairsOf es) (unusedAfter (length es)) long ∙ take-pairs n es ∙ ap pairsOf (take-fewer es k n (e ∙ ap (λ j. min j k) count))
+      ap (take (2 * n)) (from-pairs ∙ append-assoc (pairsOf es) (unusedAfter (length es)) behind) ∙ take-append-le (2 * n) (pairsOf es) (unusedAfter (length es) ++ behind) long
+      ∙ take-pairs n es ∙ ap pairsOf (take-fewer es k n (e ∙ ap (λ j. min j k) many))
 
-  pub drained-count : (m n k : ℕ) → m ≡ getD i 222 0 → n ≡ min m k → n ≡ length (take k es)
-  drained-count m n k c e =
-      let count : m ≡ length es = c ∙ ap countOf (h .image) ∙ count-stands d (h .well) in
-      omega (arith, length-take k es)
+  pub drained-count : (m n k : ℕ) → m ≡ getD i (place f count) 0 → n ≡ min m k → n ≡ length (take k es)
+  drained-count m n k c e = let many = counts c in omega (arith, many, length-take k es)
 
-drains-here : (i entry ys ps : List ℕ) (m n : ℕ) → m ≡ getD i 222 0 → n ≡ min m (length entry / 2) → ys ≡ part 227 (227 + 2 * n - 227) i
-    → Leaves (part 227 32 i) ps m n → Drains i (set (putMid 227 32 i ps) 222 (m - n)) entry (putMid 0 (2 * n - 0) entry ys) n
+drains-here : (f : Form) (i : List ℕ) → length i ≡ formLength f → (entry ys ps : List ℕ) (m n at : ℕ) → at ≡ place f count + 5 → m ≡ getD i (place f count) 0 → n ≡ min m (length entry / 2)
+    → ys ≡ part at (at + 2 * n - at) i → Leaves (part at (at + 32 - at) i) ps m n
+    → Drains i (set (putMid at (at + 32 - at) i ps) (place f count) (m - n)) entry (putMid 0 (2 * n - 0) entry ys) n
 unfolding drawn
-drains-here i entry ys ps m n c e g f =
+drains-here f i s entry ys ps m n at p c e g q =
     let k = length entry / 2 in
-    let width : 227 + 2 * n - 227 ≡ 2 * n = omega arith in
-    let whole : 2 * n - 0 ≡ 2 * n = omega arith in
+    let width : at + 2 * n - at ≡ 2 * n = omega arith in
+    let all : at + 32 - at ≡ 32 = omega arith in
+    let none : 2 * n - 0 ≡ 2 * n = omega arith in
     record {
       does = record {
-        becomes = λ d h. record { well = drain-well d k (h .well); image = drained-image h m n k ps c e f };
-        gives = λ d h. drained-count h m n k c e;
+        becomes = λ d h.
+            as-holds f (drain-well d k (h .well))
+            ((λ t. set (putMid (p t) (all t) i ps) (place f count) (m - n)) ∙ drained-image f s h m n k ps c e (subst (λ (l : List ℕ). Leaves l ps m n) (λ t. part (p t) (all t) i) q));
+        gives = λ d h. drained-count f s h m n k c e;
       };
-      pairs = λ d h. λ t. (g ∙ ap (λ j. part 227 j i) width ∙ drained-pairs h m n k c e) t ++ drop (whole t) entry;
+      pairs = λ d h. λ t. (g ∙ (λ t. part (p t) (width t) i) ∙ drained-pairs f s h m n k c e) t ++ drop (none t) entry;
     }
 
 -- the same with the places of the count and of the pairs as they were asked for
-abbrev DrainsAt : (i entry ys ps : List ℕ) (m n count at : ℕ) → Type 0
-DrainsAt i entry ys ps m n count at =
-    m ≡ getD i count 0 → n ≡ min m (length entry / 2) → ys ≡ part at (at + 2 * n - at) i
+abbrev DrainsAt : (i entry ys ps : List ℕ) (m n at c : ℕ) → Type 0
+DrainsAt i entry ys ps m n at c =
+    m ≡ getD i c 0 → n ≡ min m (length entry / 2) → ys ≡ part at (at + 2 * n - at) i
     → Leaves (part at (at + 32 - at) i) ps m n
-    → Drains i (set (putMid at (at + 32 - at) i ps) count (m - n)) entry (putMid 0 (2 * n - 0) entry ys) n
+    → Drains i (set (putMid at (at + 32 - at) i ps) c (m - n)) entry (putMid 0 (2 * n - 0) entry ys) n
 
-pub drains : (i entry ys ps : List ℕ) (m n : ℕ) {count at : ℕ} → count ≡ countAt → at ≡ pairsAt → DrainsAt i entry ys ps m n count at
-drains i entry ys ps m n {count} e f =
-    subst (DrainsAt i entry ys ps m n count) (sym f) (subst (λ c. DrainsAt i entry ys ps m n c pairsAt) (sym e) (drains-here i entry ys ps m n))
+pub drains : (i entry ys ps : List ℕ) (m n : ℕ) {c at : ℕ} → RingAt i c at → DrainsAt i entry ys ps m n at c
+drains i entry ys ps m n {c} {at} r =
+    subst (DrainsAt i entry ys ps m n at) (sym (r .here)) (drains-here (r .form) i (r .sized) entry ys ps m n at (r .pairs ∙ ap (λ c. c + 5) (r .here)))

@@ -9,8 +9,10 @@ ghost use mathlib.Core.List.{_++_};
 ghost use Prim.Native.Nat.{_/_, _≤_, min};
 ghost use lib.ListN.{length, drop, getD, replicate};
 ghost use Rattle.rules.specs.Ring.{capacity};
-ghost use Rattle.rules.specs.Image.{imageLength, countAt, pairsAt, pairsLength, countOf};
-ghost use Rattle.drains.specs.Drained.{Drains, Leaves};
+ghost use Rattle.rules.specs.Form.{formLength};
+ghost use Rattle.rules.specs.Image.{pairsLength, countIn};
+ghost use Rattle.image.specs.Shown.{formView};
+ghost use Rattle.drains.specs.Drained.{RingAt, Drains, Leaves};
 
 // As many events as wait or as fit, whichever is fewer.
 fn fitting(waiting: usize, bytes: usize) -> usize
@@ -67,7 +69,7 @@ fn copy_out(dst: &mut [u8], src: &[u8])
 
 // With the places of the count and of the pairs.
 fn drain_from(image: &mut [u8], out: &mut [u8], count: usize, at: usize) -> usize
-    requires { ⌜ (length (now image) ≡ imageLength) × (getD (now image) count 0 ≤ capacity) × (count ≡ countAt) × (at ≡ pairsAt) ⌝ }
+    requires { ⌜ RingAt (now image) count at × (getD (now image) count 0 ≤ capacity) ⌝ }
     ensures { λ r. ⌜ Drains (now (image .entry)) (now (image .exit)) (now (out .entry)) (now (out .exit)) r ⌝ }
 {
     let len = image[count] as usize;
@@ -81,10 +83,10 @@ fn drain_from(image: &mut [u8], out: &mut [u8], count: usize, at: usize) -> usiz
     n
 }
 
-pub fn drain(image: &mut [u8], out: &mut [u8]) -> usize
-    requires { ⌜ (length (now image) ≡ imageLength) × (countOf (now image) ≤ capacity) ⌝ }
+pub fn drain(image: &mut [u8], form: Form, out: &mut [u8]) -> usize
+    requires { ⌜ (length (now image) ≡ formLength (formView form)) × (countIn (formView form) (now image) ≤ capacity) ⌝ }
     ensures { λ r. ⌜ Drains (now (image .entry)) (now (image .exit)) (now (out .entry)) (now (out .exit)) r ⌝ }
 {
-    let p = places_of(Form::One);
+    let p = places_of(form);
     drain_from(image, out, p.count, p.pairs)
 }

@@ -12,7 +12,7 @@ use Rattle.rules.specs.Device.{offers, returned}
 use Rattle.rules.proofs.laws.Bits.{without-common-is, on-none}
 use Rattle.rules.proofs.laws.Inputs.{enter-ext, leave-ext}
 use Rattle.rules.proofs.laws.Losses.{lost-few, enter-few}
-use Rattle.state.specs.View.{WellLines, WellRing, Pushes, linesView, ringView}
+use Rattle.state.specs.View.{WellRing, Pushes, linesView, ringView}
 use Rattle.state.specs.declared.Lines.{Lines}
 use Rattle.state.specs.declared.Ring.{Ring}
 use Rattle.state.specs.declared.Pushed.{Pushed}
@@ -34,7 +34,6 @@ module _ (vs : List ℕ) (l : Lines) (r : Ring) (new up : ℕ) (ups : (i : ℕ) 
 
   -- after the first stage
   pub record Entered (out : Lines) (q : Ring) (n : ℕ) : Type 0 where
-    pub well : WellLines out
     pub lines : linesView out ≡ first .after
     pub offers : Offers q n (ringView r) (first .made)
 
@@ -55,25 +54,22 @@ module _ (vs : List ℕ) (l : Lines) (r : Ring) (new up : ℕ) (ups : (i : ℕ) 
 
     pub entered-one : (v : ℕ) (p : Pushed) (n : ℕ) → a .answer ≡ Vector v → Pushes p (ringView r) (record { vector = v; asserted = true }) → n ≡ cond (p .kept) 0 1 → Entered (a .lines) (p .ring) n
     entered-one v p n e pushes lost = record {
-      well = answers .well;
       lines = after-same (answers .after);
       offers = one-offered p (ringView r) n _ (first .made) pushes lost (offers-one vs begun (inputs (pendingIn (newlyUnmasked (l .«int_mask») new) begun)) v (sym (gave ∙ ap answerValue e)));
     }
 
     pub entered-none : a .answer ≡ None → WellRing r → Entered (a .lines) r 0
     entered-none e well = record {
-      well = answers .well;
       lines = after-same (answers .after);
       offers = none-offered r (first .made) well (offers-none vs begun (inputs (pendingIn (newlyUnmasked (l .«int_mask») new) begun)) (sym (gave ∙ ap answerValue e)));
     }
 
   -- no input is newly unmasked
-  pub entered-skip : (out : Lines) → up ≡ 0 → WellLines out → WellRing r → linesView out ≡ begun → Entered out r 0
+  pub entered-skip : (out : Lines) → up ≡ 0 → WellRing r → linesView out ≡ begun → Entered out r 0
   unfolding offers
-  entered-skip out e wellOut well shows =
+  entered-skip out e well shows =
       let stays = enter-none vs true (newlyUnmasked (l .«int_mask») new) begun (λ i h. sym (ups i h) ∙ ap (λ (x : ℕ). on x i) e ∙ on-none i) in
       record {
-        well = wellOut;
         lines = shows ∙ sym (ap (λ (t : Turn). t .after) stays);
         offers = none-offered r (first .made) well (ap (λ (t : Turn). offers (t .made)) stays);
       }
@@ -99,12 +95,11 @@ module _ (vs : List ℕ) (l : Lines) (r : Ring) (new up : ℕ) (ups : (i : ℕ) 
     leaves = leave-ext vs true (on down) (newlyMasked (l .«int_mask») new) (linesView out) downs
 
     abbrev retracted : ℕ → Lines
-    retracted active = record { «int_mask» = out .«int_mask»; «last_intirr» = out .«last_intirr»; intirr = out .intirr; intisr = bitAnd (out .intisr) ((2 ^ 64 - 1) - active) }
+    retracted active = record { «int_mask» = out .«int_mask»; intirr = out .intirr; intisr = bitAnd (out .intisr) ((2 ^ 64 - 1) - active) }
 
     pub left-some : (active : ℕ) (s : Ring) (k : ℕ) → active ≡ register (servedOf down (out .intisr)) → Offers s k (ringView q) (eventsOf vs active false)
         → Moves (record { lines = retracted active; ring = s; dropped = n + k }) (ringView r) (masked vs (linesView l) new)
     left-some active s k e pushed = record {
-      well = entered .well;
       lines = lines-then
           (ap (withIsr (linesView out)) (ap (λ (x : ℕ). bitAnd (out .intisr) ((2 ^ 64 - 1) - x)) (e ∙ sym (served-is down (out .intisr) isr-lt)) ∙ without-common-is (out .intisr) down isr-lt) ∙ ap (λ (t : Turn). t .after) leaves);
       offers = offers-both s k _ pushed (ap (map (event vs true false)) (inputs-of (servedOf down (out .intisr)) e) ∙ ap (λ (t : Turn). t .made) leaves);
@@ -115,7 +110,6 @@ module _ (vs : List ℕ) (l : Lines) (r : Ring) (new up : ℕ) (ups : (i : ℕ) 
     left-none e =
         let stays = leave-none vs true (newlyMasked (l .«int_mask») new) (linesView out) isr-lt (λ i h. ap (λ (b : Bool). on (out .intisr) i && b) (sym (downs i h) ∙ ap (λ (x : ℕ). on x i) e ∙ on-none i) ∙ and-false (on (out .intisr) i)) in
         record {
-          well = entered .well;
           lines = lines-then (sym (ap (λ (t : Turn). t .after) stays));
           offers = offers-as
               (sym (append-nil (first .made)) ∙ ap (λ (ms : List Made). first .made ++ ms) (sym (ap (λ (t : Turn). t .made) stays) ∙ ap (λ (k : lines.Lines). last k .made) (entered .lines)))

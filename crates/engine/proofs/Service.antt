@@ -10,7 +10,7 @@ use Rattle.rules.specs.Inputs.{on, inputs, register}
 use Rattle.rules.specs.Lines.{withIsr, serve, pendingIn}
 use Rattle.rules.proofs.laws.Bits.{put-is, without-only-is, and-below, numberWith-lt}
 use Rattle.rules.proofs.laws.Inputs.{first-below, first-input, no-input, unlatched-is}
-use Rattle.state.specs.View.{WellLines, linesView}
+use Rattle.state.specs.View.{linesView}
 use Rattle.state.specs.declared.Lines.{Lines}
 use Rattle.decide.specs.Sets.{waitingOf}
 use Rattle.engine.specs.Moves.{Answers, retire, updated}
@@ -19,7 +19,7 @@ use Rattle.decide.proofs.Deciding.{inputs-of}
 use Rattle.engine.proofs.Turns.{bit}
 
 abbrev withService : Lines → ℕ → Lines
-withService l x = record { «int_mask» = l .«int_mask»; «last_intirr» = l .«last_intirr»; intirr = l .intirr; intisr = x }
+withService l x = record { «int_mask» = l .«int_mask»; intirr = l .intirr; intisr = x }
 
 -- x holds the inputs of m that wait
 module _ (l : Lines) (m x : ℕ) (e : x ≡ register (waitingOf m (l .intirr) (l .«int_mask») (l .intisr))) where
@@ -32,18 +32,18 @@ module _ (l : Lines) (m x : ℕ) (e : x ≡ register (waitingOf m (l .intirr) (l
   pub pending-below : (x ≡ 0 → ⊥) → trailingZeros 64 x < 64
   pending-below n = first-below x waiting-lt n
 
-  module _ (vs : List ℕ) (well : WellLines l) (hisr : l .intisr < 2 ^ 64) where
+  module _ (vs : List ℕ) (hisr : l .intisr < 2 ^ 64) where
     -- the lowest goes into service
     pub pending-some : (x ≡ 0 → ⊥)
         → Answers (record { lines = withService l (bitOr (l .intisr) (bit (trailingZeros 64 x))); answer = Vector (getD vs (trailingZeros 64 x) 0) }) (updated vs (linesView l) m true)
     pending-some n =
         subst (Answers _) (sym (ap (serve vs false (linesView l)) (sym waiting ∙ first-input x waiting-lt n)))
-        (record { well = well; after = ap (withIsr (linesView l)) (put-is (l .intisr) (trailingZeros 64 x) hisr (pending-below n)); gives = refl })
+        (record { after = ap (withIsr (linesView l)) (put-is (l .intisr) (trailingZeros 64 x) hisr (pending-below n)); gives = refl })
 
     pub pending-none : x ≡ 0 → Answers (record { lines = l; answer = None }) (updated vs (linesView l) m true)
     pending-none z =
         subst (Answers _) (sym (ap (serve vs false (linesView l)) (sym waiting ∙ no-input x z)))
-        (record { well = well; after = refl; gives = refl })
+        (record { after = refl; gives = refl })
 
 module _ (l : Lines) (m : ℕ) (hm : m < 2 ^ 64) where
   abbrev pub inactive : ℕ
@@ -55,16 +55,16 @@ module _ (l : Lines) (m : ℕ) (hm : m < 2 ^ 64) where
   pub inactive-below : (inactive ≡ 0 → ⊥) → trailingZeros 64 inactive < 64
   inactive-below n = first-below inactive inactive-lt n
 
-  module _ (vs : List ℕ) (well : WellLines l) (hirr : l .intirr < 2 ^ 64) (hisr : l .intisr < 2 ^ 64) where
+  module _ (vs : List ℕ) (hirr : l .intirr < 2 ^ 64) (hisr : l .intisr < 2 ^ 64) where
     -- the lowest that is in service and not latched leaves it
     pub inactive-some : (inactive ≡ 0 → ⊥)
         → Answers (record { lines = withService l (bitAnd (l .intisr) ((2 ^ 64 - 1) - bit (trailingZeros 64 inactive))); answer = Vector (getD vs (trailingZeros 64 inactive) 0) }) (updated vs (linesView l) m false)
     inactive-some n =
         let first = sym (unlatched-is m (linesView l) hirr) ∙ first-input inactive inactive-lt n in
         subst (Answers _) (sym (ap (retire vs (linesView l)) first))
-        (record { well = well; after = ap (withIsr (linesView l)) (without-only-is (l .intisr) (trailingZeros 64 inactive) hisr (inactive-below n)); gives = refl })
+        (record { after = ap (withIsr (linesView l)) (without-only-is (l .intisr) (trailingZeros 64 inactive) hisr (inactive-below n)); gives = refl })
 
     pub inactive-none : inactive ≡ 0 → Answers (record { lines = l; answer = None }) (updated vs (linesView l) m false)
     inactive-none e =
         subst (Answers _) (sym (ap (retire vs (linesView l)) (sym (unlatched-is m (linesView l) hirr) ∙ no-input inactive e)))
-        (record { well = well; after = refl; gives = refl })
+        (record { after = refl; gives = refl })

@@ -13,7 +13,7 @@ use Rattle.rules.specs.Device.{Value, none, some, offers, returned, lost}
 use Rattle.state.specs.declared.Ring.{Ring}
 use Rattle.state.specs.declared.Taken.{Taken}
 use Rattle.state.specs.declared.Taken.the-variants.{Nothing, One}
-use Rattle.state.specs.View.{WellLines, WellRing, linesView, ringView}
+use Rattle.state.specs.View.{WellRing, linesView, ringView}
 use Rattle.engine.specs.declared.Answer.{Answer}
 use Rattle.engine.specs.declared.Answer.the-variants.{None, Vector}
 use Rattle.engine.specs.declared.Routed.{Routed}
@@ -40,7 +40,6 @@ eventsOf vs m asserted = map (event vs true asserted) (inputs (on m))
 
 -- a move that returns its event
 pub record Answers (r : Routed) (t : Turn) : Type 0 where
-  pub well : WellLines (r .lines)
   pub after : linesView (r .lines) ≡ t .after
   pub gives : answerValue (r .answer) ≡ returned (t .made)
 
@@ -52,7 +51,6 @@ pub record Offers (r : Ring) (n : ℕ) (before : ring.Ring) (ms : List Made) : T
 
 -- a move that offers its events
 pub record Moves (m : Moved) (before : ring.Ring) (t : Turn) : Type 0 where
-  pub well : WellLines (m .lines)
   pub lines : linesView (m .lines) ≡ t .after
   pub offers : Offers (m .ring) (m .dropped) before (t .made)
 

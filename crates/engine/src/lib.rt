@@ -12,7 +12,7 @@ ghost use Prim.Native.Nat.{_+_, _*_, _/_, _<_, min};
 ghost use lib.ListN.{length};
 ghost use Rattle.rules.specs.Inputs.{withHalf};
 ghost use Rattle.rules.specs.Lines.{polled, levelled, cleared, masked};
-ghost use Rattle.state.specs.View.{WellLines, WellRing, linesView, ringView};
+ghost use Rattle.state.specs.View.{WellRing, linesView, ringView};
 ghost use Rattle.engine.specs.Moves.{Answers, Offers, Moves, Drains, updated, eventsOf, pairPut};
 
 // What update_irq hands back: the vector of the input that went into service or left it, if one did.
@@ -46,24 +46,22 @@ pub fn set_irq_level(
     irq: usize,
     level: bool,
 ) -> Routed
-    requires { ⌜ WellLines lines × (irq < 64) ⌝ }
+    requires { ⌜ irq < 64 ⌝ }
     ensures { λ r. ⌜ Answers r (levelled (now (vectors .entry)) (linesView lines) irq level) ⌝ }
 {
     let mut out = lines;
     let mask = 1u64 << irq;
     if level {
         out.intirr |= mask;
-        out.last_intirr |= mask;
     } else {
         out.intirr &= !mask;
-        out.last_intirr &= !mask;
     }
     update_irq(out, vectors, mask, level)
 }
 
 // The vector of an input that is latched already.
 pub fn pending_vector(lines: Lines, vectors: &[u8; PchPicState::IRQ_COUNT], irq: usize) -> Routed
-    requires { ⌜ WellLines lines × (irq < 64) ⌝ }
+    requires { ⌜ irq < 64 ⌝ }
     ensures { λ r. ⌜ Answers r (polled (now (vectors .entry)) (linesView lines) irq) ⌝ }
 {
     update_irq(lines, vectors, 1u64 << irq, true)
@@ -119,7 +117,6 @@ pub fn update_irq(
     mask: u64,
     level: bool,
 ) -> Routed
-    requires { ⌜ WellLines lines ⌝ }
     ensures { λ r. ⌜ Answers r (updated (now (vectors .entry)) (linesView lines) mask level) ⌝ }
 {
     let mut out = lines;
@@ -159,13 +156,12 @@ pub fn clear_irq(
     vectors: &[u8; PchPicState::IRQ_COUNT],
     mask: u64,
 ) -> Moved
-    requires { ⌜ WellLines lines × WellRing ring ⌝ }
+    requires { ⌜ WellRing ring ⌝ }
     ensures { λ r. ⌜ Moves r (ringView ring) (cleared (now (vectors .entry)) (linesView lines) mask) ⌝ }
 {
     let mut out = lines;
     let active = decide::served(mask, out.intisr);
     out.intirr &= !mask;
-    out.last_intirr &= !mask;
     out.intisr &= !mask;
     let queued = queue_events_for_mask(ring, vectors, active, false);
     let queue = queued.ring;
@@ -184,7 +180,7 @@ pub fn update_int_mask(
     val: u32,
     high: bool,
 ) -> Moved
-    requires { ⌜ WellLines lines × WellRing ring ⌝ }
+    requires { ⌜ WellRing ring ⌝ }
     ensures { λ r. ⌜ Moves r (ringView ring) (masked (now (vectors .entry)) (linesView lines) (withHalf high (lines .«int_mask») val)) ⌝ }
 {
     let mut out = lines;

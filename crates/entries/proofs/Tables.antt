@@ -10,15 +10,16 @@ use borrow.Rule.Slice.PartMut.{putMid}
 use Rattle.rules.specs.Numbers.{numberOf, bytesOf, part, Bytes}
 use Rattle.rules.specs.Core.{withRoutes, htmsiEn, edge, pol, auto0, auto1}
 use Rattle.rules.specs.Device.{Device, WellFormed}
-use Rattle.rules.specs.Form.{Field, routes, vectors, one, size, has, place}
-use Rattle.rules.specs.Image.{bytesLength, fieldOf, encode}
+use Rattle.rules.specs.Form.{Field, routes, vectors, Form, size, has, place, formLength}
+use Rattle.rules.specs.Image.{bytesLength, fieldOf, encodeAs}
 use Rattle.rules.proofs.laws.Bytes.{bytes-append, bytes-take, bytes-drop, bytes-bytesOf, length-bytesOf}
 use Rattle.rules.proofs.laws.Lists.{part-part}
-use Rattle.rules.proofs.laws.Layout.{always}
+use Rattle.rules.proofs.laws.Layout.{always, has-all}
 use Rattle.rules.proofs.laws.Saved.{fields-sized, field-stands}
 use Rattle.rules.proofs.laws.InPlace.{within, Apart, part-written, routes-apart, vectors-apart}
 use Rattle.bytes.specs.Put.{withBytes}
 use Rattle.inplace.specs.Held.{Holds, Reads, Becomes, withVectors, withStored}
+use Rattle.inplace.proofs.Doing.{holds-as, as-holds}
 
 -- ---- some of a list's bytes replaced
 
@@ -76,44 +77,38 @@ element : (l : List ℕ) (a n : ℕ) → n < 64 → getD l (a + n) 0 ≡ getD (p
 element l a n h = sym (getD-drop a l n 0) ∙ sym (getD-take 64 (drop a l) n 0 h)
 
 -- of a field of 64 bytes that every form has: one, and some as a number
-module _ (i : List ℕ) (p : Field) (a : always p ≡ true) (s : 64 ≡ size p) {at : ℕ} (e : at ≡ place one p) where
+module _ (f : Form) (i : List ℕ) (long : length i ≡ formLength f) (p : Field) (a : always p ≡ true) (s : 64 ≡ size p) {at : ℕ} (e : at ≡ place f p) where
   stands : (d : Device) → Holds i d → part at 64 i ≡ fieldOf d p
-  unfolding encode
-  stands d h = (λ t. part (e t) (s t) (h .image t)) ∙ field-stands d (h .well) one p a
+  stands d h = (λ t. part (e t) (s t) (holds-as f i long h t)) ∙ field-stands d (h .well) f p a
 
   pub entry-read : (n : ℕ) → n < 64 → Reads i (getD i (at + n) 0) (λ d. getD (fieldOf d p) n 0)
   entry-read n k d h = element i at n k ∙ ap (λ l. getD l n 0) (stands d h)
 
   pub entries-read : (n m : ℕ) → n + m ≤ 64 → {x : ℕ} → x ≡ numberOf (part (at + n) (at + n + m - (at + n)) i) → Reads i x (λ d. numberOf (part n m (fieldOf d p)))
-  entries-read n m k f d h =
+  entries-read n m k g d h =
       let size : at + n + m - (at + n) ≡ m = omega arith in
-      f ∙ ap (λ z. numberOf (part (at + n) z i)) size ∙ ap numberOf (sym (part-part i at 64 n m k)) ∙ ap (λ l. numberOf (part n m l)) (stands d h)
+      g ∙ ap (λ z. numberOf (part (at + n) z i)) size ∙ ap numberOf (sym (part-part i at 64 n m k)) ∙ ap (λ l. numberOf (part n m l)) (stands d h)
 
 -- ---- stored
 
 -- some bytes of a field, put over the image of a device
-entries-put : (d : Device) → WellFormed d → (c : Device) (p : Field) (at n x : ℕ) → has one p ≡ true → at + n ≤ size p → length (fieldOf d p) ≡ size p → fieldOf c p ≡ withBytes at n x (fieldOf d p)
-    → (fieldOf c p ≡ putMid at n (fieldOf d p) (part at n (fieldOf c p)) → Apart one (fieldOf d) (fieldOf c) (within p at n)) → withBytes (place one p + at) n x (encode d) ≡ encode c
-unfolding encode
-entries-put d w c p at n x a h s g apart =
+entries-put : (f : Form) (d : Device) → WellFormed d → (c : Device) (p : Field) (at n x : ℕ) → has f p ≡ true → at + n ≤ size p → length (fieldOf d p) ≡ size p → fieldOf c p ≡ withBytes at n x (fieldOf d p)
+    → (fieldOf c p ≡ putMid at n (fieldOf d p) (part at n (fieldOf c p)) → Apart f (fieldOf d) (fieldOf c) (within p at n)) → withBytes (place f p + at) n x (encodeAs f d) ≡ encodeAs f c
+entries-put f d w c p at n x a h s g apart =
     let l = fieldOf d p in
     let new : part at n (fieldOf c p) ≡ bytesOf n x = ap (part at n) g ∙ there at n x l (omega arith) in
-    over (place one p + at) n x (encode d) ∙ ap (putMid (place one p + at) n (encode d)) (sym new)
-    ∙ part-written one (fieldOf d) (fieldOf c) (fields-sized d w) (within p at n) (a, h) (apart (g ∙ over at n x l ∙ ap (putMid at n l) (sym new)))
+    over (place f p + at) n x (encodeAs f d) ∙ ap (putMid (place f p + at) n (encodeAs f d)) (sym new)
+    ∙ part-written f (fieldOf d) (fieldOf c) (fields-sized d w) (within p at n) (a, h) (apart (g ∙ over at n x l ∙ ap (putMid at n l) (sym new)))
 
-module _ (i : List ℕ) (n m x : ℕ) (k : n + m ≤ 64) {at : ℕ} {j : List ℕ} (f : j ≡ withBytes (at + n) m x i) where
-  pub routes-stored : at ≡ place one routes → Becomes i j (λ d. withStored d (withRoutes (d .core .stored) (withBytes n m x (d .core .stored .routes))))
+module _ (f : Form) (i : List ℕ) (s : length i ≡ formLength f) (n m x : ℕ) (k : n + m ≤ 64) {at : ℕ} {j : List ℕ} (g : j ≡ withBytes (at + n) m x i) where
+  pub routes-stored : at ≡ place f routes → Becomes i j (λ d. withStored d (withRoutes (d .core .stored) (withBytes n m x (d .core .stored .routes))))
   routes-stored e d h =
       let after = withStored d (withRoutes (d .core .stored) (withBytes n m x (d .core .stored .routes))) in
-      record {
-        well = routes-well (h .well) n m x k;
-        image = f ∙ (λ t. withBytes (e t + n) m x (h .image t)) ∙ entries-put d (h .well) after routes n m x refl k (h .well .routes) refl (routes-apart one d _ n m);
-      }
+      as-holds f (routes-well (h .well) n m x k)
+      (g ∙ (λ t. withBytes (e t + n) m x (holds-as f i s h t)) ∙ entries-put f d (h .well) after routes n m x (has-all f routes refl) k (h .well .routes) refl (routes-apart f d _ n m))
 
-  pub vectors-stored : at ≡ place one vectors → Becomes i j (λ d. withVectors d (withBytes n m x (d .core .vectors)))
+  pub vectors-stored : at ≡ place f vectors → Becomes i j (λ d. withVectors d (withBytes n m x (d .core .vectors)))
   vectors-stored e d h =
       let after = withVectors d (withBytes n m x (d .core .vectors)) in
-      record {
-        well = vectors-well (h .well) n m x k;
-        image = f ∙ (λ t. withBytes (e t + n) m x (h .image t)) ∙ entries-put d (h .well) after vectors n m x refl k (h .well .vectors) refl (vectors-apart one d _ n m);
-      }
+      as-holds f (vectors-well (h .well) n m x k)
+      (g ∙ (λ t. withBytes (e t + n) m x (holds-as f i s h t)) ∙ entries-put f d (h .well) after vectors n m x (has-all f vectors refl) k (h .well .vectors) refl (vectors-apart f d _ n m))

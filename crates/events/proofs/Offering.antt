@@ -13,7 +13,6 @@ use Rattle.rules.specs.Lines as lines
 use Rattle.rules.specs.Ring.{RingAct}
 use Rattle.rules.specs.Core.{Core}
 use Rattle.rules.specs.Device.{offers}
-use Rattle.rules.specs.Image.{imageLength}
 use Rattle.rules.proofs.laws.Bits.{test}
 use Rattle.rules.proofs.laws.Inputs.{first-input, lowest-dropped, no-input}
 use Rattle.inplace.specs.Held.{Reads, Offers}
@@ -36,10 +35,10 @@ pub record Offering (i j : List ℕ) (n set left : ℕ) : Type 0 where
   pub rest : (c : Core) → sofar c ++ deasserts c left ≡ deasserts c set
   pub below : left < 2 ^ 64
   pub few : n + length (inputs (on left)) ≤ length (inputs (on set))
-  pub sized : length j ≡ imageLength
+  pub sized : length j ≡ length i
 
-pub offering-starts : (i : List ℕ) (x : ℕ) → x < 2 ^ 64 → length i ≡ imageLength → Offering i i 0 x x
-offering-starts i x h e = record { sofar = λ c. []; does = offers-none i; rest = λ c. refl; below = h; few = omega arith; sized = e }
+pub offering-starts : (i : List ℕ) (x : ℕ) → x < 2 ^ 64 → Offering i i 0 x x
+offering-starts i x h = record { sofar = λ c. []; does = offers-none i; rest = λ c. refl; below = h; few = omega arith; sized = refl }
 
 module _ {i j : List ℕ} {n set x : ℕ} (q : Offering i j n set x) where
   pub offering-done : x ≡ 0 → (n ≤ length (inputs (on set))) × Offers i j n (λ d. deasserts (d .core) set)
@@ -79,7 +78,7 @@ module _ {i j : List ℕ} {n set x : ℕ} (q : Offering i j n set x) where
         ap (λ y. one c ++ deasserts c y) (lowest-dropped x (q .below) some)
         ∙ ap (λ ns. offers (map (lines.event (c .vectors) true false) ns)) (sym (first-input x (q .below) some))
 
-    pub offering-next : (k : List ℕ) (m v : ℕ) → Reads j v (λ d. getD (d .core .vectors) lowest 0) → m ≤ 1 → Offers j k m (λ d. offering v false) → length k ≡ imageLength → Offering i k (n + m) set (bitAnd x (x - 1))
+    pub offering-next : (k : List ℕ) (m v : ℕ) → Reads j v (λ d. getD (d .core .vectors) lowest 0) → m ≤ 1 → Offers j k m (λ d. offering v false) → length k ≡ length i → Offering i k (n + m) set (bitAnd x (x - 1))
     offering-next k m v e h o s = record {
       sofar = λ c. q .sofar c ++ one c;
       does = offers-then (λ d. q .sofar (d .core)) (λ d. one (d .core)) (q .does) (offers-same (λ d. offering v false) (λ d. one (d .core)) o (λ d g. ap (λ u. offering u false) (e d g))) (λ d r. refl);

@@ -1,6 +1,6 @@
 -- The premises of the theorems over exported calls can be met, and what they count is not nothing: requests, each given the image that the one before it
 -- left, with what they hand back computed.
-use mathlib.Core.Path.{_≡_, refl}
+use mathlib.Core.Path.{_≡_, refl, sym, _∙_}
 use mathlib.Core.Bool.{Bool, true, false, not, _&&_, and-eq-true-iff}
 use mathlib.Core.List.{List, [], _∷_, _++_}
 use Prim.Native.Nat.{ℕ, _+_, _-_}
@@ -8,18 +8,23 @@ use native.Mathlib.Omega.{arith}
 use lib.Dec.{lit<, lit≤}
 use lib.ListN.{take, drop, getD, replicate}
 use borrow.Author.Tests.{not-true}
+use Rattle.rules.specs.Numbers.{Bytes}
 use Rattle.rules.specs.Access.{dword}
 use Rattle.rules.specs.Ring.{dropped}
 use Rattle.rules.specs.Device.{Device, WellFormed, Call, level, poll, write, drain, none, step, reset, withRing}
-use Rattle.rules.specs.Image.{encode, decode}
-use Rattle.rules.specs.Calls.{Request, askedBy, answered, outcome}
+use Rattle.rules.specs.Form.{Form, one, two, copy}
+use Rattle.rules.specs.Image.{wordIn, encodeAs, decode}
+use Rattle.rules.specs.Calls.{pass, Request, askedBy, answered, outcome}
 use Rattle.rules.specs.Calls as request
+use Rattle.rules.specs.Convert.{converted}
 use Rattle.rules.specs.History.{history, fromReset}
+use Rattle.rules.specs.Copy.{copyActed, copyThrough}
 use Rattle.histories.specs.Premises.{Along, Admitted}
 use Rattle.rules.specs.Account.{tally, asserts, deasserts, carrying, assertsAmong, deassertsAmong}
 use Rattle.histories.specs.Demands.{inService, someAct, ringActs}
 use Rattle.histories.specs.Exported.{Exported, leftBy, isReset, isLoad, Underway, carriedOn, carriedThrough, NoLoads, HandedOn, doneCalls}
 use Rattle.histories.specs.Exported.{inImage, Faithful, afterReset, atLoad, returnedBy, drainedBy, lossesRead, Balances}
+use Rattle.histories.specs.Alike.{Asking, madeOn, AllAlike}
 use Rattle.rules.proofs.laws.Computing.{computing}
 use Rattle.histories.proofs.laws.WellFormed.{history-well}
 use Rattle.histories.proofs.laws.Chains.{faithful-after-reset, faithful-at-load}
@@ -28,23 +33,26 @@ use Rattle.histories.proofs.demands.FromCalls.{handed-on-is-no-load}
 use Rattle.histories.proofs.demands.HandedBack.{account-from-load, drops-of-calls, service-of-calls, service-once-raised, account-since-load, account-under-way}
 use Rattle.histories.proofs.demands.Losses.{losses-of-calls, losses-below-the-stop, losses-up-to-the-stop, losses-from-load}
 use Rattle.histories.proofs.demands.ClearedCalls.{cleared-polled-in-vain, cleared-asserts-had-waited}
+use Rattle.histories.proofs.demands.Copy.{copy-of-calls}
+use Rattle.histories.proofs.demands.Convert.{converted-answers-alike}
+use Rattle.histories.proofs.demands.ReadAlike.{converted-read-alike}
 use Rattle.rules.proofs.demands.Refused.{Unchanged, refused-changes-nothing}
 use Rattle.examples.proofs.PremisesMet.{all-admitted, all-spared, all-undisturbed, all-unraised, all-carried-alone, begun, seventeen}
 
 -- ---- exported calls
 
 -- requests with an answer area of zeros, each given the image that the one before it left
-abbrev handedOn : List ℕ → List Request → List Exported
+abbrev pub handedOn : List ℕ → List Request → List Exported
 handedOn i [] = []
 handedOn i (q ∷ qs) =
     let x : Exported = record { given = i; asked = q; answer = replicate 16 0 } in
     x ∷ handedOn (leftBy x .image) qs
 
-abbrev noReset : List Request → Bool
+abbrev pub noReset : List Request → Bool
 noReset [] = true
 noReset (q ∷ qs) = not (isReset (askedBy q)) && noReset qs
 
-handed-on : (i : List ℕ) (qs : List Request) → noReset qs ≡ true → HandedOn i (handedOn i qs)
+pub handed-on : (i : List ℕ) (qs : List Request) → noReset qs ≡ true → HandedOn i (handedOn i qs)
 unfolding HandedOn
 handed-on i [] e = tt
 handed-on i (q ∷ qs) e =
@@ -55,75 +63,78 @@ handed-on i (q ∷ qs) e =
 abbrev asked : List Request
 asked = request.level 5 1 ∷ request.write 0 0x400 0x020 4 0xffffffdf ∷ request.level 64 1 ∷ request.level 5 0 ∷ request.drain (replicate 7 0xee) 1 ∷ []
 
-abbrev exported : List Exported
-exported = handedOn (encode reset) asked
+abbrev exported : Form → List Exported
+exported f = handedOn (encodeAs f reset) asked
 
-exported-carried-on : NoLoads afterReset exported
-exported-carried-on = handed-on-is-no-load afterReset exported (handed-on (encode reset) asked refl)
+exported-carried-on : (f : Form) → NoLoads (afterReset f) (exported f)
+exported-carried-on f = handed-on-is-no-load (afterReset f) (exported f) (handed-on (encodeAs f reset) asked refl)
 
 -- the refused call is no call of the history
-exported-calls : doneCalls exported ≡ level 5 true ∷ write dword 0x020 0xffffffdf ∷ level 5 false ∷ drain 3 ∷ []
+exported-calls : (f : Form) → doneCalls (exported f) ≡ level 5 true ∷ write dword 0x020 0xffffffdf ∷ level 5 false ∷ drain 3 ∷ []
 unfolding computing doneCalls
-exported-calls = refl
+exported-calls one = refl
+exported-calls two = refl
 
 -- a deassert of 5 comes back in an answer area, its assert in the event buffer
-exported-returned : returnedBy exported ≡ record { vector = 5; asserted = false } ∷ []
+exported-returned : (f : Form) → returnedBy (exported f) ≡ record { vector = 5; asserted = false } ∷ []
 unfolding computing returnedBy
-exported-returned = refl
+exported-returned one = refl
+exported-returned two = refl
 
-exported-drained : drainedBy exported ≡ record { vector = 5; asserted = true } ∷ []
+exported-drained : (f : Form) → drainedBy (exported f) ≡ record { vector = 5; asserted = true } ∷ []
 unfolding computing drainedBy
-exported-drained = refl
+exported-drained one = refl
+exported-drained two = refl
 
 -- the history that an image of calls from reset begins
-abbrev imageOf : List Call → List ℕ
-imageOf cs = encode (fromReset cs .after)
+abbrev imageOf : Form → List Call → List ℕ
+imageOf f cs = encodeAs f (fromReset cs .after)
 
-begins : (cs : List Call) → Faithful (atLoad (imageOf cs))
-begins cs =
+begins : (f : Form) (cs : List Call) → Faithful (atLoad (imageOf f cs))
+begins f cs =
     let well = history-well reset cs reset-can-be-saved in
-    faithful-at-load (imageOf cs) (saved-is-bytes (fromReset cs .after) well) (saved-is-accepted (fromReset cs .after) well)
+    faithful-at-load (imageOf f cs) (saved-is-bytes (fromReset cs .after) well f) (saved-is-accepted (fromReset cs .after) well f)
 
 -- ---- the account from a load
 
--- a saved image in which 5 is in service and its assert waits
+-- a saved image of form 2 in which 5 is in service and its assert waits
 abbrev savedCalls : List Call
 savedCalls = level 5 true ∷ write dword 0x020 0xffffffdf ∷ []
 
 abbrev savedDevice : Device
 savedDevice = fromReset savedCalls .after
 
--- it is loaded after a reset by a call that lowers 5; then a drain
+-- it is loaded after a reset in form 1 by a call that lowers 5; then a drain
 abbrev loading : Exported
-loading = record { given = encode savedDevice; asked = request.level 5 0; answer = replicate 16 0 }
+loading = record { given = encodeAs two savedDevice; asked = request.level 5 0; answer = replicate 16 0 }
 
 abbrev thenDrained : List Exported
 thenDrained = handedOn (leftBy loading .image) (request.drain (replicate 7 0xee) 1 ∷ [])
 
-loading-loads : isLoad (afterReset .left) loading ≡ true
+loading-loads : isLoad ((afterReset one) .left) loading ≡ true
 unfolding computing
 loading-loads = refl
 
-drained-handed-on : NoLoads (carriedOn afterReset loading) thenDrained
+drained-handed-on : NoLoads (carriedOn (afterReset one) loading) thenDrained
 unfolding computing carriedOn
-drained-handed-on = handed-on-is-no-load (carriedOn afterReset loading) thenDrained (handed-on (leftBy loading .image) (request.drain (replicate 7 0xee) 1 ∷ []) refl)
+drained-handed-on = handed-on-is-no-load (carriedOn (afterReset one) loading) thenDrained (handed-on (leftBy loading .image) (request.drain (replicate 7 0xee) 1 ∷ []) refl)
 
 -- an assert is read that no call made, and a deassert of an input that no call put into service: both were loaded
-loaded-balances : Balances 5 (decode (encode savedDevice)) (loading ∷ thenDrained) [] (inImage (carriedThrough afterReset (loading ∷ thenDrained)))
+loaded-balances : Balances 5 (decode (encodeAs two savedDevice)) (loading ∷ thenDrained) [] (inImage (carriedThrough (afterReset one) (loading ∷ thenDrained)))
 unfolding computing doneCalls dropped ringActs
 loaded-balances =
-    account-from-load 5 afterReset loading loading-loads refl (saved-is-bytes savedDevice (history-well reset savedCalls reset-can-be-saved)) thenDrained drained-handed-on
-    (all-admitted (decode (encode savedDevice)) (doneCalls (loading ∷ thenDrained)) refl) [] refl
+    account-from-load 5 (afterReset one) loading loading-loads refl (saved-is-bytes savedDevice (history-well reset savedCalls reset-can-be-saved) two) thenDrained drained-handed-on
+    (all-admitted (decode (encodeAs two savedDevice)) (doneCalls (loading ∷ thenDrained)) refl) [] refl
 
 -- the same of the history that is under way once it is loaded, and of the events made since
-under-way-balances : Balances 5 (decode (encode savedDevice)) (loading ∷ thenDrained) [] (inImage (carriedThrough (atLoad (imageOf savedCalls)) (loading ∷ thenDrained)))
+under-way-balances : Balances 5 (decode (encodeAs two savedDevice)) (loading ∷ thenDrained) [] (inImage (carriedThrough (atLoad (imageOf two savedCalls)) (loading ∷ thenDrained)))
 unfolding computing doneCalls dropped ringActs NoLoads carriedOn
 under-way-balances =
-    account-under-way 5 (atLoad (imageOf savedCalls)) (begins savedCalls) (loading ∷ thenDrained) (refl, drained-handed-on)
-    (all-admitted (decode (encode savedDevice)) (doneCalls (loading ∷ thenDrained)) refl) [] refl
+    account-under-way 5 (atLoad (imageOf two savedCalls)) (begins two savedCalls) (loading ∷ thenDrained) (refl, drained-handed-on)
+    (all-admitted (decode (encodeAs two savedDevice)) (doneCalls (loading ∷ thenDrained)) refl) [] refl
 
 abbrev once : Underway
-once = carriedThrough afterReset (loading ∷ [])
+once = carriedThrough (afterReset one) (loading ∷ [])
 
 once-admitted : Along Admitted (once .began) (once .calls)
 unfolding computing carriedThrough carriedOn
@@ -132,7 +143,7 @@ once-admitted = all-admitted (once .began) (once .calls) refl
 since-load : asserts 5 (history (once .began) (once .calls) .made) + carrying 5 (once .began .core)
     ≡ deasserts 5 (history (once .began) (once .calls) .made) + carrying 5 (inImage once .core)
 since-load =
-    account-since-load 5 afterReset (loading ∷ []) faithful-after-reset (saved-is-bytes savedDevice (history-well reset savedCalls reset-can-be-saved), tt)
+    account-since-load 5 (afterReset one) (loading ∷ []) (faithful-after-reset one) (saved-is-bytes savedDevice (history-well reset savedCalls reset-can-be-saved) two, tt)
     once-admitted
 
 loaded-returned : deassertsAmong 5 (returnedBy (loading ∷ thenDrained)) ≡ 1
@@ -143,11 +154,11 @@ loaded-drained : assertsAmong 5 (drainedBy (loading ∷ thenDrained)) ≡ 1
 unfolding computing drainedBy tally
 loaded-drained = refl
 
-loaded-waiting : assertsAmong 5 (decode (encode savedDevice) .ring .waiting) ≡ 1
+loaded-waiting : assertsAmong 5 (decode (encodeAs two savedDevice) .ring .waiting) ≡ 1
 unfolding computing tally
 loaded-waiting = refl
 
-loaded-carrying : carrying 5 (decode (encode savedDevice) .core) ≡ 1
+loaded-carrying : carrying 5 (decode (encodeAs two savedDevice) .core) ≡ 1
 unfolding computing
 loaded-carrying = refl
 
@@ -155,13 +166,13 @@ loaded-carrying = refl
 
 -- seventeen are in service: a MASK write offers seventeen deasserts, and a refused call nothing
 abbrev masking : List Exported
-masking = handedOn (imageOf seventeen) (request.write 0 0x400 0x020 4 0xffffffff ∷ request.poll 64 ∷ [])
+masking = handedOn (imageOf one seventeen) (request.write 0 0x400 0x020 4 0xffffffff ∷ request.poll 64 ∷ [])
 
-one-dropped : inImage (carriedThrough (atLoad (imageOf seventeen)) masking) .ring .drops ≡ 1
+one-dropped : inImage (carriedThrough (atLoad (imageOf one seventeen)) masking) .ring .drops ≡ 1
 unfolding computing doneCalls dropped ringActs
 one-dropped =
-    drops-of-calls (atLoad (imageOf seventeen)) (begins seventeen) masking
-    (handed-on-is-no-load (atLoad (imageOf seventeen)) masking (handed-on (imageOf seventeen) (request.write 0 0x400 0x020 4 0xffffffff ∷ request.poll 64 ∷ []) refl))
+    drops-of-calls (atLoad (imageOf one seventeen)) (begins one seventeen) masking
+    (handed-on-is-no-load (atLoad (imageOf one seventeen)) masking (handed-on (imageOf one seventeen) (request.write 0 0x400 0x020 4 0xffffffff ∷ request.poll 64 ∷ []) refl))
 
 -- ---- what writes say that they dropped
 
@@ -172,23 +183,23 @@ losing =
     request.write 0 0x400 0x080 4 7 ∷ []
 
 abbrev losingCalls : List Exported
-losingCalls = handedOn (imageOf seventeen) losing
+losingCalls = handedOn (imageOf one seventeen) losing
 
 -- the three writes say 1, 1 and 3, and that is the rise
 five-told : lossesRead losingCalls ≡ 5
 unfolding computing dropped lossesRead
 five-told = refl
 
-losing-handed-on : NoLoads (atLoad (imageOf seventeen)) losingCalls
-losing-handed-on = handed-on-is-no-load (atLoad (imageOf seventeen)) losingCalls (handed-on (imageOf seventeen) losing refl)
+losing-handed-on : NoLoads (atLoad (imageOf one seventeen)) losingCalls
+losing-handed-on = handed-on-is-no-load (atLoad (imageOf one seventeen)) losingCalls (handed-on (imageOf one seventeen) losing refl)
 
-five-dropped : inImage (carriedThrough (atLoad (imageOf seventeen)) losingCalls) .ring .drops ≡ 5
+five-dropped : inImage (carriedThrough (atLoad (imageOf one seventeen)) losingCalls) .ring .drops ≡ 5
 unfolding computing dropped lossesRead
-five-dropped = losses-of-calls (atLoad (imageOf seventeen)) (begins seventeen) losingCalls losing-handed-on
+five-dropped = losses-of-calls (atLoad (imageOf one seventeen)) (begins one seventeen) losingCalls losing-handed-on
 
-told-is-the-rise : inImage (atLoad (imageOf seventeen)) .ring .drops + lossesRead losingCalls
-    ≡ inImage (carriedThrough (atLoad (imageOf seventeen)) losingCalls) .ring .drops
-told-is-the-rise = losses-below-the-stop (atLoad (imageOf seventeen)) (begins seventeen) losingCalls losing-handed-on (rw five-dropped (lit< tt))
+told-is-the-rise : inImage (atLoad (imageOf one seventeen)) .ring .drops + lossesRead losingCalls
+    ≡ inImage (carriedThrough (atLoad (imageOf one seventeen)) losingCalls) .ring .drops
+told-is-the-rise = losses-below-the-stop (atLoad (imageOf one seventeen)) (begins one seventeen) losingCalls losing-handed-on (rw five-dropped (lit< tt))
 
 -- the same device with its count one below the stop, loaded after a reset by the first of these calls: they say 5 again, and the count rises by 1
 abbrev nearStop : Device
@@ -212,34 +223,34 @@ near-stop-well =
     }
 
 abbrev stopping : Exported
-stopping = record { given = encode nearStop; asked = request.write 0 0x400 0x020 4 0xffffffff; answer = replicate 16 0 }
+stopping = record { given = encodeAs one nearStop; asked = request.write 0 0x400 0x020 4 0xffffffff; answer = replicate 16 0 }
 
 abbrev afterStopping : List Exported
 afterStopping = handedOn (leftBy stopping .image) (drop 1 losing)
 
-stopping-loads : isLoad (afterReset .left) stopping ≡ true
+stopping-loads : isLoad ((afterReset one) .left) stopping ≡ true
 unfolding computing
 stopping-loads = refl
 
-stopping-handed-on : NoLoads (carriedOn afterReset stopping) afterStopping
+stopping-handed-on : NoLoads (carriedOn (afterReset one) stopping) afterStopping
 unfolding computing carriedOn
-stopping-handed-on = handed-on-is-no-load (carriedOn afterReset stopping) afterStopping (handed-on (leftBy stopping .image) (drop 1 losing) refl)
+stopping-handed-on = handed-on-is-no-load (carriedOn (afterReset one) stopping) afterStopping (handed-on (leftBy stopping .image) (drop 1 losing) refl)
 
 five-told-at-the-stop : lossesRead (stopping ∷ afterStopping) ≡ 5
 unfolding computing dropped lossesRead
 five-told-at-the-stop = refl
 
-one-counted : inImage (carriedThrough afterReset (stopping ∷ afterStopping)) .ring .drops ≡ 4294967295
+one-counted : inImage (carriedThrough (afterReset one) (stopping ∷ afterStopping)) .ring .drops ≡ 4294967295
 unfolding computing dropped lossesRead
 one-counted =
-    losses-from-load afterReset stopping stopping-loads refl (saved-is-bytes nearStop near-stop-well) afterStopping stopping-handed-on
+    losses-from-load (afterReset one) stopping stopping-loads refl (saved-is-bytes nearStop near-stop-well one) afterStopping stopping-handed-on
 
-rise-fits : inImage (atLoad (encode nearStop)) .ring .drops + (4294967295 - inImage (atLoad (encode nearStop)) .ring .drops)
-    ≡ inImage (carriedThrough (atLoad (encode nearStop)) (handedOn (encode nearStop) losing)) .ring .drops
+rise-fits : inImage (atLoad (encodeAs one nearStop)) .ring .drops + (4294967295 - inImage (atLoad (encodeAs one nearStop)) .ring .drops)
+    ≡ inImage (carriedThrough (atLoad (encodeAs one nearStop)) (handedOn (encodeAs one nearStop) losing)) .ring .drops
 unfolding computing dropped lossesRead
 rise-fits =
-    losses-up-to-the-stop (atLoad (encode nearStop)) (faithful-at-load (encode nearStop) (saved-is-bytes nearStop near-stop-well) (saved-is-accepted nearStop near-stop-well))
-    (handedOn (encode nearStop) losing) (handed-on-is-no-load (atLoad (encode nearStop)) (handedOn (encode nearStop) losing) (handed-on (encode nearStop) losing refl)) (lit≤ tt)
+    losses-up-to-the-stop (atLoad (encodeAs one nearStop)) (faithful-at-load (encodeAs one nearStop) (saved-is-bytes nearStop near-stop-well one) (saved-is-accepted nearStop near-stop-well one))
+    (handedOn (encodeAs one nearStop) losing) (handed-on-is-no-load (atLoad (encodeAs one nearStop)) (handedOn (encodeAs one nearStop) losing) (handed-on (encodeAs one nearStop) losing refl)) (lit≤ tt)
 
 -- ---- service
 
@@ -249,19 +260,19 @@ polling =
     request.write 0 0x400 0x3a0 4 0x28 ∷ request.level 3 0 ∷ request.write 0 0x400 0x3a0 4 0 ∷ request.poll 5 ∷ request.write 0 0x400 0x080 4 0x8 ∷ []
 
 abbrev pollingCalls : List Exported
-pollingCalls = handedOn (imageOf begun) polling
+pollingCalls = handedOn (imageOf one begun) polling
 
 abbrev thePoll : Exported
 thePoll = getD pollingCalls 3 loading
 
 abbrev fromBegun : Underway
-fromBegun = atLoad (imageOf begun)
+fromBegun = atLoad (imageOf one begun)
 
 five-polled : inService 5 (inImage (carriedThrough fromBegun pollingCalls) .core .lines) ≡ true
 unfolding computing doneCalls
 five-polled =
-    service-of-calls fromBegun (begins begun) 5 (lit< tt) (record { latched = refl; unmasked = refl }) (take 3 pollingCalls) thePoll (drop 4 pollingCalls) (poll 5)
-    (handed-on-is-no-load fromBegun pollingCalls (handed-on (imageOf begun) polling refl)) (all-spared 5 (inImage fromBegun) (doneCalls (take 3 pollingCalls)) refl) refl refl
+    service-of-calls fromBegun (begins one begun) 5 (lit< tt) (record { latched = refl; unmasked = refl }) (take 3 pollingCalls) thePoll (drop 4 pollingCalls) (poll 5)
+    (handed-on-is-no-load fromBegun pollingCalls (handed-on (imageOf one begun) polling refl)) (all-spared 5 (inImage fromBegun) (doneCalls (take 3 pollingCalls)) refl) refl refl
     (all-undisturbed 5 (history (inImage fromBegun) (doneCalls (take 3 pollingCalls) ++ (poll 5 ∷ [])) .after) (doneCalls (drop 4 pollingCalls)) refl)
 
 -- 7 is unmasked there: raise it; clear 3
@@ -269,14 +280,53 @@ abbrev raising : List Request
 raising = request.level 7 1 ∷ request.write 0 0x400 0x080 4 0x8 ∷ []
 
 abbrev raisingCalls : List Exported
-raisingCalls = handedOn (imageOf begun) raising
+raisingCalls = handedOn (imageOf one begun) raising
 
 seven-raised : inService 7 (inImage (carriedThrough fromBegun raisingCalls) .core .lines) ≡ true
 unfolding computing doneCalls
 seven-raised =
-    service-once-raised fromBegun (begins begun) 7 (lit< tt) refl (getD raisingCalls 0 loading) (drop 1 raisingCalls)
-    (handed-on-is-no-load fromBegun raisingCalls (handed-on (imageOf begun) raising refl)) refl
+    service-once-raised fromBegun (begins one begun) 7 (lit< tt) refl (getD raisingCalls 0 loading) (drop 1 raisingCalls)
+    (handed-on-is-no-load fromBegun raisingCalls (handed-on (imageOf one begun) raising refl)) refl
     (all-undisturbed 7 (step (inImage fromBegun) (level 7 true) .after) (doneCalls (drop 1 raisingCalls)) refl)
+
+-- ---- the copy of IRR
+
+-- 3 and 5 are latched there: with 7 raised and 3 cleared the copy has 5 and 7
+five-and-seven-copied : wordIn one (carriedThrough fromBegun raisingCalls .left) copy ≡ 0xa0
+unfolding computing doneCalls copyActed copyThrough
+five-and-seven-copied =
+    copy-of-calls fromBegun (begins one begun) refl raisingCalls (handed-on-is-no-load fromBegun raisingCalls (handed-on (imageOf one begun) raising refl))
+
+-- ---- two forms
+
+abbrev asks : Request → Asking
+asks q = record { asked = q; answer = replicate 16 0 }
+
+-- raise 7, clear 3, a poll with 15 bytes for its answer, one of an input that is none, drain into eight bytes; then a reset, and 5 raised and polled
+abbrev asking : List Asking
+asking =
+    asks (request.level 7 1) ∷ asks (request.write 0 0x400 0x080 4 0x8) ∷ record { asked = request.poll 5; answer = replicate 15 0 } ∷ asks (request.poll 64) ∷
+    asks (request.drain (replicate 8 0xee) 0) ∷ asks request.reset ∷ asks (request.level 5 1) ∷ asks (request.poll 5) ∷ []
+
+-- the image of begun in form 1, moved to form 2
+moved : converted (imageOf one begun) (replicate 251 0) ≡ pass (imageOf two begun)
+unfolding computing converted
+moved = refl
+
+begun-bytes : Bytes (imageOf one begun)
+begun-bytes = saved-is-bytes (fromReset begun .after) (history-well reset begun reset-can-be-saved) one
+
+begun-alike : AllAlike (madeOn (imageOf one begun) asking) (madeOn (imageOf two begun) asking)
+begun-alike = converted-answers-alike (imageOf one begun) (replicate 251 0) (imageOf two begun) begun-bytes moved asking
+
+-- the assert of 3 waits there, its deassert comes behind it, and both are drained; so they are of form 2
+drained-from-one : drainedBy (madeOn (imageOf one begun) asking) ≡ record { vector = 3; asserted = true } ∷ record { vector = 3; asserted = false } ∷ []
+unfolding computing madeOn drainedBy
+drained-from-one = refl
+
+drained-from-two : drainedBy (madeOn (imageOf two begun) asking) ≡ record { vector = 3; asserted = true } ∷ record { vector = 3; asserted = false } ∷ []
+drained-from-two =
+    sym (converted-read-alike (imageOf one begun) (replicate 251 0) (imageOf two begun) begun-bytes moved asking .drained) ∙ drained-from-one
 
 -- ---- a cleared input
 
@@ -285,7 +335,7 @@ abbrev clearing : List Request
 clearing = request.write 0 0x400 0x080 4 0x8 ∷ request.poll 3 ∷ request.write 0 0x400 0x020 4 0x8 ∷ request.write 0 0x400 0x020 4 0 ∷ request.poll 3 ∷ []
 
 abbrev clearingCalls : List Exported
-clearingCalls = handedOn (imageOf begun) clearing
+clearingCalls = handedOn (imageOf one begun) clearing
 
 abbrev clearing3 : Exported
 clearing3 = getD clearingCalls 0 loading
@@ -295,30 +345,30 @@ after3 = take 3 (drop 1 clearingCalls)
 
 none-loads : NoLoads fromBegun (clearing3 ∷ after3)
 unfolding computing
-none-loads = handed-on-is-no-load fromBegun (take 4 clearingCalls) (handed-on (imageOf begun) (take 4 clearing) refl)
+none-loads = handed-on-is-no-load fromBegun (take 4 clearingCalls) (handed-on (imageOf one begun) (take 4 clearing) refl)
 
 three-polled-in-vain : leftBy (getD clearingCalls 4 loading) .answer ≡ answered 0 none (replicate 16 0)
 unfolding computing doneCalls someAct carriedThrough carriedOn
 three-polled-in-vain =
-    cleared-polled-in-vain fromBegun (begins begun) 3 (lit< tt) clearing3 after3 (write dword 0x080 0x8) none-loads refl refl
+    cleared-polled-in-vain fromBegun (begins one begun) 3 (lit< tt) clearing3 after3 (write dword 0x080 0x8) none-loads refl refl
     (all-unraised 3 (inImage (carriedOn fromBegun clearing3)) (doneCalls after3) refl) (getD clearingCalls 4 loading) refl refl refl
 
 -- its assert waited before the CLEAR, and is the only one that waits at last
 three-had-waited : assertsAmong 3 (inImage (carriedThrough fromBegun (clearing3 ∷ after3)) .ring .waiting) ≡ 1
 unfolding computing doneCalls someAct dropped ringActs returnedBy drainedBy tally carriedThrough carriedOn
 three-had-waited =
-    cleared-asserts-had-waited fromBegun (begins begun) 3 (lit< tt) clearing3 after3 (write dword 0x080 0x8) none-loads refl refl
+    cleared-asserts-had-waited fromBegun (begins one begun) 3 (lit< tt) clearing3 after3 (write dword 0x080 0x8) none-loads refl refl
     (all-unraised 3 (inImage (carriedOn fromBegun clearing3)) (doneCalls after3) refl) 3
     (all-carried-alone 3 3 (inImage fromBegun) (doneCalls (clearing3 ∷ after3)) refl) [] refl
 
 -- ---- refusals
 
 -- an answer area of 20 bytes, and one of 15
-input-refused : Unchanged (request.level 64 1) (imageOf begun) (replicate 20 0xaa)
+input-refused : Unchanged (request.level 64 1) (imageOf one begun) (replicate 20 0xaa)
 unfolding computing
-input-refused = refused-changes-nothing (request.level 64 1) (imageOf begun) (replicate 20 0xaa) (λ e. let z : _≡_ {A = ℕ} 3 0 = e in omega arith)
+input-refused = refused-changes-nothing (request.level 64 1) (imageOf one begun) (replicate 20 0xaa) (λ e. let z : _≡_ {A = ℕ} 3 0 = e in omega arith)
 
-room-refused : outcome (request.poll 5) (imageOf begun) (replicate 15 0xaa) .answer ≡ replicate 15 0xaa
+room-refused : outcome (request.poll 5) (imageOf one begun) (replicate 15 0xaa) .answer ≡ replicate 15 0xaa
 unfolding computing
 room-refused =
-    refused-changes-nothing (request.poll 5) (imageOf begun) (replicate 15 0xaa) (λ e. let z : _≡_ {A = ℕ} 7 0 = e in omega arith) .seven refl
+    refused-changes-nothing (request.poll 5) (imageOf one begun) (replicate 15 0xaa) (λ e. let z : _≡_ {A = ℕ} 7 0 = e in omega arith) .seven refl

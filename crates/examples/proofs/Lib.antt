@@ -1,4 +1,6 @@
--- Computed examples: that the premises of the demands on histories can be met, of calls of the device and of exported calls. They stand apart from what
--- they are examples of, which is checked once for each must-fail edit.
+-- Computed examples: that the premises of the demands on histories, and those of a sweep, can be met, of calls of the device and of exported calls; and a
+-- day of the plain engine. They stand apart from what they are examples of, which is checked once for each must-fail edit.
 pub mod PremisesMet
 pub mod ExportedMet
+pub mod SweepMet
+pub mod WorkedDay

@@ -31,11 +31,11 @@ use Rattle.histories.proofs.demands.Order.{drained-in-turn, else-dropped}
 
 -- ---- tests that decide the premises
 
-abbrev allBelow : ℕ → (ℕ → Bool) → Bool
+abbrev pub allBelow : ℕ → (ℕ → Bool) → Bool
 allBelow zero f = true
 allBelow (suc k) f = f k && allBelow k f
 
-all-below : (k : ℕ) (f : ℕ → Bool) → allBelow k f ≡ true → (i : ℕ) → i < k → f i ≡ true
+pub all-below : (k : ℕ) (f : ℕ → Bool) → allBelow k f ≡ true → (i : ℕ) → i < k → f i ≡ true
 all-below zero f e i h = absurd (omega arith)
 all-below (suc k) f e i h =
     let both = and-eq-true-iff (f k) (allBelow k f) .0 e in

@@ -1,6 +1,6 @@
 -- From how a call ends to what it leaves: what it tells stands in the answer area, and a drain was lent the event buffer from its place on.
 use mathlib.Core.Path.{_≡_, sym, ap, _∙_}
-use mathlib.Core.List.{List, _++_, append-nil}
+use mathlib.Core.List.{List, [], _++_, append-nil}
 use Prim.Native.Nat.{ℕ, _-_, _≤_}
 use native.Mathlib.Omega.{arith}
 use lib.ListN.{length, take, drop, length-drop, drop-of-length-le}
@@ -9,6 +9,8 @@ use borrow.Rule.Slice.PartMut.{putMid}
 use Rattle.rules.specs.Numbers.{part}
 use Rattle.rules.specs.Calls.{Request, answered, bufferOf, placeOf, leaves, ending, outcome}
 use Rattle.rules.specs.Calls as asked
+use Rattle.rules.specs.Convert.{convertEnding, conversion}
+use Rattle.rules.proofs.laws.Conversions.{conversion-room}
 use Rattle.rules.proofs.laws.Outcomes.{room, behind, drain-behind}
 use Rattle.answer.specs.Given.{valueView, ends}
 use Rattle.answer.specs.declared.Told.{Told}
@@ -32,3 +34,8 @@ module _ (i a : List ℕ) (roomy : 16 ≤ length a) (t : Told) {r : ℕ} {b : Li
   told-behind ev place within {j} {exit} d =
       told (asked.drain ev place) within
       (ap (ends t j) (put-back ev place exit) ∙ ap (behind (take place ev)) (d ∙ ap (λ (l : List ℕ). ending (asked.drain l 0) i) (whole ev place)) ∙ sym (drain-behind ev place i))
+
+-- the same of a conversion, which leaves the target in place of an image
+pub told-of-convert : (i t a : List ℕ) → 16 ≤ length a → (x : Told) {r : ℕ} {b : List ℕ} → (r ≡ x .number) × (b ≡ answered (x .number) (valueView (x .value)) a)
+    → {j : List ℕ} → ends x j [] ≡ convertEnding i t → leaves r j b [] ≡ conversion i t a
+told-of-convert i t a roomy x {b} tells {j} d = ap (λ (n : ℕ). leaves n j b []) (tells .0) ∙ conversion-room i t a roomy (ends x j []) d (tells .1)

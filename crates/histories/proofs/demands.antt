@@ -7,3 +7,6 @@ pub mod FromCalls
 pub mod HandedBack
 pub mod ClearedCalls
 pub mod Losses
+pub mod Copy
+pub mod Convert
+pub mod ReadAlike

@@ -9,7 +9,8 @@ use Rattle.rules.specs.Numbers.{Bytes}
 use Rattle.rules.specs.Ring.{Event}
 use Rattle.rules.specs.Device.{Device, WellFormed, Call, step, value}
 use Rattle.rules.specs.Device as device
-use Rattle.rules.specs.Image.{same, encode, decode, eventsOf}
+use Rattle.rules.specs.Form.{Form}
+use Rattle.rules.specs.Image.{same, encodeAs, encodeLike, decode, eventsOf}
 use Rattle.rules.specs.Calls as request
 use Rattle.rules.specs.Calls.{Request, pass, refuse, Asked, afresh, calls, askedBy, answered, presentIn, valueIn, bufferOf, placeOf, written, Outcome, outcome}
 use Rattle.rules.specs.History.{history}
@@ -80,6 +81,11 @@ unfoldable pub HandedOn : List ℕ → List Exported → Type 0
 HandedOn left [] = Unit {0}
 HandedOn left (x ∷ xs) = (x .given ≡ left) × (isReset (askedBy (x .asked)) ≡ false) × HandedOn (leftBy x .image) xs
 
+-- the image left at last, done or refused, where each call is given the image that the one before it left
+unfoldable pub leftAfter : List ℕ → List Exported → List ℕ
+leftAfter i [] = i
+leftAfter i (x ∷ xs) = leftAfter (leftBy x .image) xs
+
 -- the call of the device that an exported call is, if it is one; a refused call counts as no call (01, Saved image)
 abbrev pub doneCall : Exported → List Call
 doneCall x = cond (isDone x) (callOf (askedBy (x .asked))) []
@@ -88,13 +94,13 @@ unfoldable pub doneCalls : List Exported → List Call
 doneCalls [] = []
 doneCalls (x ∷ xs) = doneCall x ++ doneCalls xs
 
--- an exported call is one call of the device d: it is done, its image is that of d after the call, its answer area has the call's value, and its event
--- buffer the pairs that the call drained (01, The boundary; 01, The ring)
+-- an exported call is one call of the device d: it is done, its image is that of d after the call, in the form that it was given, its answer area has the
+-- call's value, and its event buffer the pairs that the call drained (01, The boundary; 01, The ring; 02, C-17)
 pub record IsStep (d : Device) (x : Exported) : Type 0 where
   pub call : Call
   pub is : doneCall x ≡ call ∷ []
   pub number : leftBy x .number ≡ 0
-  pub image : leftBy x .image ≡ encode (step d call .after)
+  pub image : leftBy x .image ≡ encodeLike (x .given) (step d call .after)
   pub answer : leftBy x .answer ≡ answered 0 (value d call) (x .answer)
   pub events : leftBy x .events ≡ written (bufferOf (x .asked)) (placeOf (x .asked)) (step d call .drained)
 
@@ -111,14 +117,16 @@ current h = history (h .began) (h .calls) .after
 abbrev pub inImage : Underway → Device
 inImage h = decode (h .left)
 
--- a history under way is that of the image left last: it began with a device that an image can hold, and that image holds the device to which it has come
+-- a history under way is that of the image left last: it began with a device that an image can hold, and that image is the device to which it has come, in
+-- one of the forms
 pub record Faithful (h : Underway) : Type 0 where
+  pub form : Form
   pub began : WellFormed (h .began)
-  pub left : h .left ≡ encode (current h)
+  pub left : h .left ≡ encodeAs form (current h)
 
--- the history that a done reset begins
-abbrev pub afterReset : Underway
-afterReset = record { began = device.reset; calls = []; left = encode device.reset }
+-- the history that a done reset begins, in the form that its image is given (01, Saved image; 02, C-17)
+abbrev pub afterReset : Form → Underway
+afterReset f = record { began = device.reset; calls = []; left = encodeAs f device.reset }
 
 -- the history that a load of the image i begins: the load's own call is the first of it (01, Saved image)
 abbrev pub atLoad : List ℕ → Underway

@@ -2,3 +2,4 @@
 pub mod Premises
 pub mod Demands
 pub mod Exported
+pub mod Alike

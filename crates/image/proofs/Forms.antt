@@ -5,19 +5,20 @@ use mathlib.Core.List.{List}
 use Prim.Native.Nat.{ℕ, _+_, _≤_}
 use native.Mathlib.Omega.{arith}
 use lib.ListN.{length}
-use Rattle.rules.specs.Form.{one, Word, Field, word, copy, irr, has, size, place, formLength}
+use Rattle.rules.specs.Form.{Word, Field, word, copy, irr, has, size, place, formLength}
 use Rattle.rules.specs.Form as rules-form
 use Rattle.rules.specs.Image.{registerAt, wordIn}
 use Rattle.rules.proofs.laws.Bits.{test}
 use Rattle.rules.proofs.laws.Layout.{always, has-all, field-fits}
-use Rattle.image.specs.Shown.{formView, placeIn, PlacesOf}
-use Rattle.image.specs.declared.form.Form.{Form}
-use Rattle.image.specs.declared.form.Form.the-variants.{One}
+use Rattle.image.specs.Shown.{placeIn, PlacesOf}
 use Rattle.image.specs.declared.form.Places.{Places}
 
--- there is one form
-pub only : (k : Form) → formView k ≡ one
-only One = refl
+-- where a field stands that every form has
+pub placed : {f : rules-form.Form} {p : Places} → PlacesOf f p → (q : Field) → always q ≡ true → placeIn p q ≡ place f q
+placed {f} o q h = o .fields q (has-all f q h)
+
+pub always-fits : (f : rules-form.Form) (q : Field) → always q ≡ true → place f q + size q ≤ formLength f
+always-fits f q h = field-fits f q (has-all f q h)
 
 -- a field ends within the image
 module _ (f : rules-form.Form) (l : List ℕ) (s : length l ≡ formLength f) (p : Places) (o : PlacesOf f p) where
@@ -26,7 +27,7 @@ module _ (f : rules-form.Form) (l : List ℕ) (s : length l ≡ formLength f) (p
 
   -- those that every form has
   pub always-at : (q : Field) → always q ≡ true → placeIn p q ≡ place f q
-  always-at q h = o .fields q (has-all f q h)
+  always-at q h = placed o q h
 
   pub always-within : (q : Field) → always q ≡ true → placeIn p q + size q ≤ length l
   always-within q h = field-within q (has-all f q h)

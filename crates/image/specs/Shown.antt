@@ -3,11 +3,11 @@ use mathlib.Core.Path.{_≡_}
 use mathlib.Core.Bool.{true, false}
 use Prim.Native.Nat.{ℕ, _+_, _≤_}
 use Rattle.rules.specs.Core.{htmsiEn, edge, pol, auto0, auto1}
-use Rattle.rules.specs.Form.{mask, irr, isr, copy, stored, Field, word, routes, vectors, count, drops, pairs, one, has, place, contentsLength, contentsOf, unknown, known}
+use Rattle.rules.specs.Form.{mask, irr, isr, copy, stored, Field, word, routes, vectors, count, drops, pairs, one, two, has, place, contentsLength, contentsOf, unknown, known}
 use Rattle.rules.specs.Form as rules-form
 use Rattle.rules.specs.Image.{registerAt}
 use Rattle.image.specs.declared.form.Form.{Form}
-use Rattle.image.specs.declared.form.Form.the-variants.{One}
+use Rattle.image.specs.declared.form.Form.the-variants.{One, Two}
 use Rattle.image.specs.declared.form.KnownForm.{KnownForm}
 use Rattle.image.specs.declared.form.KnownForm.the-variants.{Unknown, As}
 use Rattle.image.specs.declared.form.Places.{Places}
@@ -15,6 +15,7 @@ use Rattle.image.specs.declared.form.Contents.{Contents}
 
 abbrev pub formView : Form → rules-form.Form
 formView One = one
+formView Two = two
 
 abbrev pub formKnown : KnownForm → rules-form.Known
 formKnown Unknown = unknown

@@ -3,8 +3,10 @@ ghost use mathlib.Core.Path.{_≡_};
 ghost use Rattle.rules.specs.Form.{formOf};
 ghost use Rattle.image.specs.Shown.{formView, formKnown, PlacesOf, ContentsOf};
 
+// Form 1, and form 2, which has no copy of IRR.
 pub enum Form {
     One,
+    Two,
 }
 
 pub enum KnownForm {
@@ -17,11 +19,12 @@ pub fn form_of(length: usize) -> KnownForm
 {
     match length {
         259 => KnownForm::As(Form::One),
+        251 => KnownForm::As(Form::Two),
         _ => KnownForm::Unknown,
     }
 }
 
-// By value, so that a caller that knows the form has constants.
+// Where the fields of a form stand; a form that has no copy of IRR has IRR's own place for it.
 pub struct Places {
     pub int_mask: usize,
     pub htmsi_en: usize,
@@ -38,6 +41,9 @@ pub struct Places {
     pub drops: usize,
     pub pairs: usize,
 }
+
+// Form 2 has no copy of IRR.
+const IRR_OF_TWO: usize = 46;
 
 pub fn places_of(form: Form) -> Places
     ensures { λ r. ⌜ PlacesOf (formView form) r ⌝ }
@@ -58,6 +64,22 @@ pub fn places_of(form: Form) -> Places
             count: 222,
             drops: 223,
             pairs: 227,
+        },
+        Form::Two => Places {
+            int_mask: 22,
+            htmsi_en: 30,
+            intedge: 38,
+            last_intirr: IRR_OF_TWO,
+            intirr: IRR_OF_TWO,
+            intisr: 54,
+            int_polarity: 62,
+            auto_ctrl0: 70,
+            auto_ctrl1: 78,
+            routes: 86,
+            vectors: 150,
+            count: 214,
+            drops: 215,
+            pairs: 219,
         },
     }
 }
@@ -97,6 +119,12 @@ pub fn contents_of(form: Form) -> Contents
             first: 0x0200_4800_1601_0401,
             second: 0x4000_9e03_0040_005e,
             last: 0x0025_00de_0400_4000,
+            last_at: 14,
+        },
+        Form::Two => Contents {
+            first: 0x0200_4000_1601_0402,
+            second: 0x4000_9603_0040_0056,
+            last: 0x0025_00d6_0400_4000,
             last_at: 14,
         },
     }

@@ -7,25 +7,28 @@ use lib.Dec.{eqb}
 use Rattle.rules.specs.Core.{Act, Move, move, poll, raise, lower, turns}
 use Rattle.rules.specs.Device.{Call, Value, none, actsOf, draws, acted, step, value, returned}
 use Rattle.rules.specs.Device as device
+use lib.ListN.{length}
+use Rattle.rules.specs.Form.{Form}
 use Rattle.rules.specs.Image.{decode}
 use Rattle.rules.specs.Calls.{noInput, inputCall, Request, calls, askedBy, bufferOf, placeOf, written, ending}
 use Rattle.rules.specs.Calls as asked
 use Rattle.rules.proofs.laws.Acts.{step-acted}
+use Rattle.rules.proofs.laws.Images.{encode-same}
 use Rattle.rules.proofs.laws.Outcomes.{call-refused, call-done, no-events, input-refused, input-passed}
 use Rattle.inplace.specs.Held.{Returns}
 use Rattle.service.specs.Offered.{levelMove}
 use Rattle.refusals.proofs.Ends.{Passed, here}
 
-module _ {i : List ℕ} (p : Passed i) (n : ℕ) where
+module _ {f : Form} {i : List ℕ} (p : Passed f i) (n : ℕ) where
   pub no-input : (q : Request) (c : Call) → askedBy q ≡ calls (inputCall n c) → 64 ≤ n → record { number = 3; value = none; image = i; events = bufferOf q } ≡ ending q i
   no-input q c asks h = sym (call-refused q i _ asks (p .good) noInput (input-refused n c h))
 
-  module _ (below : n < 64) {j : List ℕ} {v w : Value} (told : w ≡ v) where
+  module _ (below : n < 64) {j : List ℕ} (s : length j ≡ length i) {v w : Value} (told : w ≡ v) where
     input-done : (q : Request) (c : Call) (m : Move) → askedBy q ≡ calls (inputCall n c) → draws c ≡ [] → actsOf (decode i .core) c ≡ move m ∷ []
         → value (decode i) c ≡ returned (step (decode i) c .made) → [] ≡ written (bufferOf q) (placeOf q) (step (decode i) c .drained) → Returns i j v m → record { number = 0; value = w; image = j; events = [] } ≡ ending q i
     unfolding step
     input-done q c m asks none-drawn acts val events r =
-        call-done q i _ asks (p .good) c (input-passed n c below) (acted (decode i) (move m ∷ [])) w j [] (r .becomes (decode i) (here p) .image)
+        call-done q i _ asks (p .good) c (input-passed n c below) (acted (decode i) (move m ∷ [])) w j [] (r .becomes (decode i) (here p) .image ∙ encode-same j i s _)
         (sym (step-acted (decode i) c none-drawn ∙ ap (acted (decode i)) acts))
         (told ∙ r .gives (decode i) (here p) ∙ ap (λ (xs : List Act). returned (turns (decode i .core) xs .made)) (sym acts) ∙ sym val) events
 

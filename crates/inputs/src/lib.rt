@@ -27,13 +27,13 @@ pub fn level(image: &mut [u8], input: u64, level: u64) -> Told
     ensures { λ r. ⌜ ends r (now (image .exit)) [] ≡ ending (asked.level input level) (now (image .entry)) ⌝ }
 {
     let checked = check(image);
-    let Verdict::Accepted = checked else {
+    let Verdict::Accepted(form) = checked else {
         return of_image(image);
     };
     if 64 <= input {
         return no_input();
     }
-    let returned = service::set_level(image, input as usize, level != 0);
+    let returned = service::set_level(image, form, input as usize, level != 0);
     done(vector_value(returned))
 }
 
@@ -41,12 +41,12 @@ pub fn poll(image: &mut [u8], input: u64) -> Told
     ensures { λ r. ⌜ ends r (now (image .exit)) [] ≡ ending (asked.poll input) (now (image .entry)) ⌝ }
 {
     let checked = check(image);
-    let Verdict::Accepted = checked else {
+    let Verdict::Accepted(form) = checked else {
         return of_image(image);
     };
     if 64 <= input {
         return no_input();
     }
-    let returned = service::poll(image, input as usize);
+    let returned = service::poll(image, form, input as usize);
     done(vector_value(returned))
 }

@@ -2,14 +2,13 @@
 use mathlib.Core.Path.{_≡_}
 use Rattle.rules.specs.Lines as rules-lines
 use Rattle.rules.specs.Core as rules-core
-use Rattle.state.specs.View.{linesView, storedView, WellLines}
+use Rattle.state.specs.View.{linesView, storedView}
 use Rattle.state.specs.declared.Lines.{Lines}
 use Rattle.state.specs.declared.Stored.{Stored}
 
--- what a function that hands back a part of the state promises, beside IsRing and Is: it is well formed, and shows what the rules say
-pub record IsLines (l : Lines) (shown : rules-lines.Lines) : Type 0 where
-  pub well : WellLines l
-  pub shows : linesView l ≡ shown
+-- what a function that hands back a part of the state promises, beside IsRing and Is: it shows what the rules say
+abbrev pub IsLines : Lines → rules-lines.Lines → Type 0
+IsLines l shown = linesView l ≡ shown
 
 abbrev pub IsStored : Stored → rules-core.Stored → Type 0
 IsStored s shown = storedView s (shown .routes) ≡ shown

@@ -17,7 +17,7 @@ ghost use lib.ListN.{length};
 ghost use Rattle.rules.specs.Numbers.{numberOf, part};
 ghost use Rattle.rules.specs.Ring.{capacity};
 ghost use Rattle.rules.specs.Form.{formLength};
-ghost use Rattle.rules.specs.Image.{imageLength, countOf, countIn, decodeAs, decode};
+ghost use Rattle.rules.specs.Image.{countIn, decodeAs};
 ghost use Rattle.state.specs.View.{IsRing, Is};
 ghost use Rattle.image.specs.Shown.{formView};
 ghost use Rattle.loaded.specs.Shown.{IsLines, IsStored};
@@ -32,7 +32,6 @@ pub fn load_lines(image: &[u8], form: Form) -> Lines
     let intisr = word_at(image, p.intisr);
     Lines {
         int_mask,
-        last_intirr: intirr,
         intirr,
         intisr,
     }
@@ -99,16 +98,26 @@ pub fn load_ring(image: &[u8], form: Form) -> Ring
     ring_of(&image[at..end], len, drops)
 }
 
-// The vector body is handed on to the leaf that fills 64 entries.
-pub fn load(image: &[u8]) -> PchPicState
-    requires { ⌜ (length (now image) ≡ imageLength) × (countOf (now image) ≤ capacity) ⌝ }
-    ensures { λ r. ⌜ Is r (decode (now (image .entry))) ⌝ }
+// The vector body, a part that starts at byte 158 or, in form 2, 150, is handed on to the leaf that fills 64 entries.
+fn load_vectors(image: &[u8], form: Form) -> [u8; 64]
+    requires { ⌜ length (now image) ≡ formLength (formView form) ⌝ }
+    ensures { λ r. ⌜ r ≡ decodeAs (formView form) (now (image .entry)) .core .vectors ⌝ }
 {
-    let lines = load_lines(image, Form::One);
-    let stored = load_stored(image, Form::One);
-    let route_entry = load_routes(image, Form::One);
-    let htmsi_vector = fill_entries(&image[158..222]);
-    let ring = load_ring(image, Form::One);
+    match form {
+        Form::One => fill_entries(&image[158..222]),
+        Form::Two => fill_entries(&image[150..214]),
+    }
+}
+
+pub fn load(image: &[u8], form: Form) -> PchPicState
+    requires { ⌜ (length (now image) ≡ formLength (formView form)) × (countIn (formView form) (now image) ≤ capacity) ⌝ }
+    ensures { λ r. ⌜ Is r (decodeAs (formView form) (now (image .entry))) ⌝ }
+{
+    let lines = load_lines(image, form);
+    let stored = load_stored(image, form);
+    let route_entry = load_routes(image, form);
+    let htmsi_vector = load_vectors(image, form);
+    let ring = load_ring(image, form);
     PchPicState {
         lines,
         stored,

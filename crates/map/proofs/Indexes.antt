@@ -1,14 +1,12 @@
 -- What an index that came, or did not come, tells of the offset.
 use mathlib.Core.Path.{_≡_, refl}
 use mathlib.Core.Bool.{Bool, true, false}
-use Prim.Native.Nat.{ℕ, _-_, _<_, _≤_}
+use Prim.Native.Nat.{ℕ}
 use native.Mathlib.Omega.{arith}
-use lib.Dec.{ltb}
-use borrow.Author.Tests.{ltb-true, ltb-false}
 use Rattle.rules.specs.Map.{inByteArea}
 use Rattle.map.specs.declared.Index.{Index}
 use Rattle.map.specs.declared.Index.the-variants.{None, At}
-use Rattle.map.specs.Views.{indexIf, byteIndex, irqIndex}
+use Rattle.map.specs.Views.{indexIf, byteIndex}
 
 came : (b : Bool) (i : ℕ) {j : ℕ} {x : Index} → x ≡ indexIf b i → x ≡ At j → (b ≡ true) × (i ≡ j)
 came true i e f = (refl, cc)
@@ -27,13 +25,3 @@ module _ (offset : ℕ) {x : Index} (e : x ≡ byteIndex offset) where
   pub no-byte : x ≡ None → inByteArea offset ≡ false
   unfolding byteIndex
   no-byte f = none-came (inByteArea offset) offset e f
-
--- what pch_pic_irq_index tells
-module _ (offset base : ℕ) {x : Index} (e : x ≡ irqIndex offset base) where
-  pub irq-came : {irq : ℕ} → x ≡ At irq → (offset - base ≡ irq) × (irq < 64)
-  unfolding irqIndex
-  irq-came f = let r = came (ltb (offset - base) 64) (offset - base) e f in (r .1, omega (arith, ltb-true (offset - base) 64 (r .0)))
-
-  pub no-irq : x ≡ None → 64 ≤ offset - base
-  unfolding irqIndex
-  no-irq f = ltb-false (offset - base) 64 (none-came (ltb (offset - base) 64) (offset - base) e f)

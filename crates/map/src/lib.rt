@@ -3,9 +3,8 @@ pub mod low;
 
 use state::PchPicState;
 ghost use mathlib.Core.Path.{_≡_};
-ghost use Prim.Native.Nat.{_≤_};
 ghost use Rattle.rules.specs.Map.{cellAt};
-ghost use Rattle.map.specs.Views.{byteIndex, irqIndex, cellView};
+ghost use Rattle.map.specs.Views.{byteIndex, cellView};
 
 // An index, where there is one: the Rust's Option<usize>.
 pub enum Index {
@@ -73,19 +72,6 @@ pub fn decode(offset: usize) -> Cell
         PchPicState::ROUTE_ENTRY_BASE..=PchPicState::ROUTE_ENTRY_LAST
         | PchPicState::HTMSI_VEC_BASE..=PchPicState::HTMSI_VEC_LAST => Cell::Bytes,
         _ => Cell::Nothing,
-    }
-}
-
-// The input of a route or vector byte.
-pub fn pch_pic_irq_index(offset: usize, base: usize) -> Index
-    requires { ⌜ base ≤ offset ⌝ }
-    ensures { λ r. ⌜ r ≡ irqIndex offset base ⌝ }
-{
-    let irq = offset - base;
-    if irq < PchPicState::IRQ_COUNT {
-        Index::At(irq)
-    } else {
-        Index::None
     }
 }
 

@@ -1,4 +1,5 @@
 // Bytes and Words, in place on an image.
+use image::form::Form;
 use cells::read_dword;
 use cells::read_entry;
 use cells::write_dword;
@@ -8,7 +9,8 @@ ghost use Prim.Native.Nat.{_+_, _-_, _^_, _≤_};
 ghost use lib.ListN.{length};
 ghost use Rattle.rules.specs.Map.{inByteArea};
 ghost use Rattle.rules.specs.Access.{word, readByte, readAt, byteActs, writeActs};
-ghost use Rattle.rules.specs.Image.{imageLength};
+ghost use Rattle.rules.specs.Form.{formLength};
+ghost use Rattle.image.specs.Shown.{formView};
 ghost use Rattle.inplace.specs.Held.{Reads, Writes};
 
 // In 0x100..0x39f a Byte meets only route and vector bytes.
@@ -21,49 +23,49 @@ fn in_byte_area(offset: usize) -> bool
 // ---- Byte
 
 // In 0x100..0x39f a route or vector byte; elsewhere a byte of the Dword that it lies in.
-pub fn read_byte(image: &[u8], offset: usize) -> u8
-    requires { ⌜ length (now image) ≡ imageLength ⌝ }
+pub fn read_byte(image: &[u8], form: Form, offset: usize) -> u8
+    requires { ⌜ length (now image) ≡ formLength (formView form) ⌝ }
     ensures { λ r. ⌜ Reads (now (image .entry)) r (λ d. readByte (d .core) offset) ⌝ }
 {
     if in_byte_area(offset) {
-        return read_entry(image, offset);
+        return read_entry(image, form, offset);
     }
     let place = offset & 0x3;
-    bits::byte_of(read_dword(image, offset & !0x3), place)
+    bits::byte_of(read_dword(image, form, offset & !0x3), place)
 }
 
 // The byte's part of the Dword is known before the Dword is read, so that little is kept meanwhile: a route or vector byte then pays for none of it.
-pub fn write_byte(image: &mut [u8], offset: usize, val: u8) -> u32
-    requires { ⌜ length (now image) ≡ imageLength ⌝ }
+pub fn write_byte(image: &mut [u8], form: Form, offset: usize, val: u8) -> u32
+    requires { ⌜ length (now image) ≡ formLength (formView form) ⌝ }
     ensures { λ r. ⌜ (r ≤ 65) × Writes (now (image .entry)) (now (image .exit)) r (λ c. byteActs c offset val) ⌝ }
 {
     if in_byte_area(offset) {
-        write_entry(image, offset, val);
+        write_entry(image, form, offset, val);
         return 0;
     }
     let shift = (offset & 0x3) * 8;
     let others = !(0xff << shift);
     let placed = (val as u32) << shift;
-    let old = read_dword(image, offset & !0x3);
-    write_dword(image, offset & !0x3, (old & others) | placed)
+    let old = read_dword(image, form, offset & !0x3);
+    write_dword(image, form, offset & !0x3, (old & others) | placed)
 }
 
 // ---- Word
 
-pub fn read_word(image: &[u8], offset: usize) -> u64
-    requires { ⌜ (length (now image) ≡ imageLength) × (offset + 2 ≤ 2 ^ 64 - 1) ⌝ }
+pub fn read_word(image: &[u8], form: Form, offset: usize) -> u64
+    requires { ⌜ (length (now image) ≡ formLength (formView form)) × (offset + 2 ≤ 2 ^ 64 - 1) ⌝ }
     ensures { λ r. ⌜ Reads (now (image .entry)) r (λ d. readAt (d .core) word offset) ⌝ }
 {
-    let low = read_byte(image, offset) as u64;
-    let high = read_byte(image, offset + 1) as u64;
+    let low = read_byte(image, form, offset) as u64;
+    let high = read_byte(image, form, offset + 1) as u64;
     low + 256 * high
 }
 
 // The second Byte meets what the first left.
-pub fn write_word(image: &mut [u8], offset: usize, low: u32) -> u32
-    requires { ⌜ (length (now image) ≡ imageLength) × (offset + 2 ≤ 2 ^ 64 - 1) ⌝ }
+pub fn write_word(image: &mut [u8], form: Form, offset: usize, low: u32) -> u32
+    requires { ⌜ (length (now image) ≡ formLength (formView form)) × (offset + 2 ≤ 2 ^ 64 - 1) ⌝ }
     ensures { λ r. ⌜ (r ≤ 130) × Writes (now (image .entry)) (now (image .exit)) r (λ c. writeActs c word offset low) ⌝ }
 {
-    let first = write_byte(image, offset, bits::byte_of(low, 0));
-    first + write_byte(image, offset + 1, bits::byte_of(low, 1))
+    let first = write_byte(image, form, offset, bits::byte_of(low, 0));
+    first + write_byte(image, form, offset + 1, bits::byte_of(low, 1))
 }

@@ -7,7 +7,7 @@ use window::Located;
 ghost use Prim.Native.Nat.{_<_, _≤_};
 ghost use lib.ListN.{length};
 ghost use Rattle.rules.specs.Session.{playedLine, played, ending};
-ghost use Rattle.state.specs.View.{view, Well, WellLines};
+ghost use Rattle.state.specs.View.{view, Well};
 ghost use Rattle.request.specs.Requests.{requestView};
 ghost use Rattle.reply.specs.Says.{Says};
 ghost use Rattle.play.specs.Plays.{Plays, refusedWith, routedWith};
@@ -35,7 +35,7 @@ fn refused(state: PchPicState, number: u8, out: &mut [u8]) -> Played
 
 // What a call on an input moved and returned.
 fn routed(state: PchPicState, moved: Routed, out: &mut [u8]) -> Played
-    requires { ⌜ Well state × WellLines (moved .lines) × (4 ≤ length (now out)) ⌝ }
+    requires { ⌜ Well state × (4 ≤ length (now out)) ⌝ }
     ensures { λ r. ⌜ Plays r (now (out .entry)) (now (out .exit)) (routedWith (view state) moved) ⌝ }
 {
     let mut next = state;

@@ -55,16 +55,12 @@ fn read_entry(state: PchPicState, index: usize) -> u8
     let tables = state.tables;
     match index {
         PchPicState::ROUTE_ENTRY_BASE..=PchPicState::ROUTE_ENTRY_LAST => {
-            match map::pch_pic_irq_index(index, PchPicState::ROUTE_ENTRY_BASE) {
-                Index::At(irq) => tables.route_entry[irq],
-                Index::None => 0,
-            }
+            let irq = index - PchPicState::ROUTE_ENTRY_BASE;
+            tables.route_entry[irq]
         }
         PchPicState::HTMSI_VEC_BASE..=PchPicState::HTMSI_VEC_LAST => {
-            match map::pch_pic_irq_index(index, PchPicState::HTMSI_VEC_BASE) {
-                Index::At(irq) => tables.htmsi_vector[irq],
-                Index::None => 0,
-            }
+            let irq = index - PchPicState::HTMSI_VEC_BASE;
+            tables.htmsi_vector[irq]
         }
         _ => 0,
     }

@@ -12,16 +12,15 @@ use borrow.Rule.Slice.PartMut.{putMid}
 use Rattle.rules.specs.Numbers.{numberOf, bytesOf, part, Bytes}
 use Rattle.rules.specs.Ring.{capacity, stop, flag, pairsOf, Event, Ring, offer, offered, ringStep, ringRun, droppedBy, dropped, lostOf}
 use Rattle.rules.specs.Device.{Device, WellFormed, reset}
-use Rattle.rules.specs.Form.{one}
-use Rattle.rules.specs.Image.{fieldOf, ringAt, ringLength, contents, registersBody, ringBody, encode}
+use Rattle.rules.specs.Form.{Form, count, place, formLength}
+use Rattle.rules.specs.Image.{ringLength, ringBody}
 use Rattle.rules.proofs.laws.Bytes.{numberOf-bytesOf}
 use Rattle.rules.proofs.laws.Bits.{test}
-use Rattle.rules.proofs.laws.Images.{encode-bodies, length-registersBody, length-ringBody}
-use Rattle.rules.proofs.laws.Saved.{fields-sized}
-use Rattle.rules.proofs.laws.InPlace.{ringPart, part-written, ring-apart}
 use Rattle.rules.proofs.laws.Rings.{offered-room, offered-full}
 use Rattle.bytes.specs.Put.{withBytes}
 use Rattle.inplace.specs.Held.{Holds, Offers, withRing}
+use Rattle.inplace.proofs.Doing.{holds-as, as-holds}
+use Rattle.inplace.proofs.Bodies.{ring-part, ring-put}
 use Rattle.ring.specs.Fields.{RingOffered, event, offering}
 
 -- a pair is stored over two bytes behind the pairs that wait
@@ -66,30 +65,6 @@ module _ (r : Ring) (v : ℕ) (a : Bool) {i : List ℕ} (n : ℕ) (e : i ≡ rin
         rw (le-ltb (length (r .waiting)) capacity full) refl,
       )
 
--- ---- body 4 in an image
-
-module _ (d : Device) (w : WellFormed d) where
-  -- everything before it
-  abbrev ahead : List ℕ
-  ahead = contents ++ (registersBody d ++ (d .core .stored .routes ++ d .core .vectors))
-
-  length-ahead : length ahead ≡ ringAt
-  length-ahead = simp length-append (omega (arith, length-registersBody d, w .routes, w .vectors))
-
-  -- it comes last
-  ring-last : (r : Ring) → encode (withRing d r) ≡ ahead ++ ringBody (withRing d r)
-  unfolding registersBody
-  ring-last r = encode-bodies (withRing d r) ∙ simp append-assoc
-
-  pub ring-part : part ringAt ringLength (encode d) ≡ ringBody d
-  ring-part =
-      let short : length (ringBody d) ≤ ringLength = omega (arith, length-ringBody d (w .waiting)) in
-      ap (part ringAt ringLength) (ring-last (d .ring)) ∙ ap (take ringLength) (drop-at ahead (ringBody d) ringAt length-ahead) ∙ take-all ringLength (ringBody d) short
-
-  pub ring-put : (r : Ring) → putMid ringAt ringLength (encode d) (ringBody (withRing d r)) ≡ encode (withRing d r)
-  unfolding encode ringBody
-  ring-put r = part-written one (fieldOf d) (fieldOf (withRing d r)) (fields-sized d w) ringPart refl (ring-apart one d r)
-
 -- a device stays well formed with another ring of its sizes
 pub ring-well : {d : Device} → WellFormed d → (r : Ring) → Bytes (map (λ e. e .vector) (r .waiting)) → length (r .waiting) ≤ capacity → r .drops ≤ stop → WellFormed (withRing d r)
 ring-well w r h k m = record {
@@ -123,18 +98,18 @@ offered-well {d} e h w =
     (λ t. rw t (ring-well w _ (w .eventBytes) (w .waiting) (omega arith)))
 
 -- to body 4, lent from its place on
-pub ring-offered : (i ys : List ℕ) (at n v : ℕ) (a : Bool) → at ≡ ringAt → v < 256 → RingOffered (part at (at + 37 - at) i) ys n (event v a) → Offers i (putMid at (at + 37 - at) i ys) n (λ d. offering v a)
+pub ring-offered : (f : Form) (i : List ℕ) → length i ≡ formLength f → (ys : List ℕ) (at n v : ℕ) (a : Bool) → at ≡ place f count → v < 256 → RingOffered (part at (at + 37 - at) i) ys n (event v a)
+    → Offers i (putMid at (at + 37 - at) i ys) n (λ d. offering v a)
 unfolding dropped ringRun ringStep ringBody
-ring-offered i ys at n v a e h f = record {
-  becomes = λ d k. record {
-    well = offered-well (event v a) h (k .well);
-    image = (λ t. putMid (e t) (long t) (k .image t) (f (d .ring) (k .well .waiting) (k .well .drops) (spells d k) .0 t)) ∙ ring-put d (k .well) (offered (d .ring) (event v a));
-  };
-  gives = λ d k. f (d .ring) (k .well .waiting) (k .well .drops) (spells d k) .1 ∙ sym (ap length (append-nil (droppedBy (d .ring) (offer (event v a)))));
+ring-offered f i s ys at n v a e h g = record {
+  becomes = λ d k.
+      as-holds f (offered-well (event v a) h (k .well))
+      ((λ t. putMid (e t) (long t) (holds-as f i s k t) (g (d .ring) (k .well .waiting) (k .well .drops) (spells d k) .0 t)) ∙ ring-put f d (k .well) (offered (d .ring) (event v a)));
+  gives = λ d k. g (d .ring) (k .well .waiting) (k .well .drops) (spells d k) .1 ∙ sym (ap length (append-nil (droppedBy (d .ring) (offer (event v a)))));
 }
   where
     long : at + 37 - at ≡ ringLength
     long = omega arith
 
     spells : (d : Device) → Holds i d → part at (at + 37 - at) i ≡ ringBody (withRing reset (d .ring))
-    spells d k = (λ t. part (e t) (long t) (k .image t)) ∙ ring-part d (k .well)
+    spells d k = (λ t. part (e t) (long t) (holds-as f i s k t)) ∙ ring-part f d (k .well)

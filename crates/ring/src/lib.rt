@@ -8,7 +8,9 @@ ghost use mathlib.Core.Path.{_≡_};
 ghost use Prim.Native.Nat.{_+_, _≤_, min};
 ghost use lib.ListN.{length};
 ghost use Rattle.rules.specs.Ring.{stop, flag};
-ghost use Rattle.rules.specs.Image.{imageLength, ringLength};
+ghost use Rattle.rules.specs.Form.{formLength};
+ghost use Rattle.rules.specs.Image.{ringLength};
+ghost use Rattle.image.specs.Shown.{formView};
 ghost use Rattle.inplace.specs.Held.{Offers};
 ghost use Rattle.ring.specs.Fields.{RingOffered, event, offering};
 
@@ -47,12 +49,12 @@ fn offer_to(body: &mut [u8], vector: u8, asserted: bool) -> u32
     0
 }
 
-// An event is offered to the ring of an image.
-pub fn offer(image: &mut [u8], vector: u8, asserted: bool) -> u32
-    requires { ⌜ length (now image) ≡ imageLength ⌝ }
+// An event is offered to the ring of an image of a form.
+pub fn offer(image: &mut [u8], form: Form, vector: u8, asserted: bool) -> u32
+    requires { ⌜ length (now image) ≡ formLength (formView form) ⌝ }
     ensures { λ r. ⌜ (r ≤ 1) × Offers (now (image .entry)) (now (image .exit)) r (λ d. offering vector asserted) ⌝ }
 {
-    let p = places_of(Form::One);
+    let p = places_of(form);
     let at = p.count;
     let end = at + form::RING_LENGTH;
     offer_to(&mut image[at..end], vector, asserted)

@@ -8,3 +8,5 @@ pub mod OneOutcome
 pub mod Refused
 pub mod Losses
 pub mod Broken
+pub mod Copy
+pub mod Convert

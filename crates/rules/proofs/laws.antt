@@ -17,6 +17,7 @@ pub mod Rings
 pub mod Acts
 pub mod Steps
 pub mod Outcomes
+pub mod Conversions
 pub mod Refusals
 pub mod Maps
 pub mod Widths

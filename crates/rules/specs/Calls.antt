@@ -11,7 +11,8 @@ use Rattle.rules.specs.Access.{Width, byte, word, dword, qword}
 use Rattle.rules.specs.Device.{Device, Call, Value, none, some, step, value}
 use Rattle.rules.specs.Device as device
 use Rattle.rules.specs.Window.{inside, offset}
-use Rattle.rules.specs.Image.{Fault, copyDiffers, manyWait, badFlag, unusedSet, imageLength, ImageTest, imageTest, encode, decode}
+use Rattle.rules.specs.Form.{Known, unknown, known, formOf}
+use Rattle.rules.specs.Image.{Fault, copyDiffers, manyWait, badFlag, unusedSet, ImageTest, imageTest, encodeLike, decode}
 use Rattle.rules.specs.Image as image
 
 -- ---- refusals
@@ -131,9 +132,14 @@ pub record Done : Type 0 where
 abbrev pub doneOn : Device → Call → Done
 doneOn d c = record { device = step d c .after; value = value d c; drained = step d c .drained }
 
--- reset takes any 259 bytes; a call wants an accepted image, and then what it asks is tested (01, Numbers handed back: 4, 5, 8 to 11, then 3, or 2 before 1)
+-- reset takes any bytes that have the length of a form (01, Saved image; 02, C-17)
+abbrev pub resetAs : Known → Tested Done
+resetAs unknown = refuse wrongLength
+resetAs (known f) = pass (record { device = device.reset; value = none; drained = [] })
+
+-- a call wants an accepted image, and then what it asks is tested (01, Numbers handed back: 4, 5, 8 to 11, then 3, or 2 before 1)
 unfoldable pub performed : Asked → List ℕ → Tested Done
-performed afresh i = cond (eqb (length i) imageLength) (pass (record { device = device.reset; value = none; drained = [] })) (refuse wrongLength)
+performed afresh i = resetAs (formOf (length i))
 performed (calls t) i = onPass (imageAnswer (imageTest i) (decode i)) (λ d. onPass t (λ c. pass (doneOn d c)))
 
 -- ---- the bytes afterwards
@@ -201,9 +207,9 @@ pub record Ending : Type 0 where
   pub image : List ℕ
   pub events : List ℕ
 
--- done: the image and the drained pairs are written; refused: neither (01, Numbers handed back)
+-- done: the image, in the form that it was given in, and the drained pairs are written; refused: neither (01, Numbers handed back; 02, C-17)
 abbrev pub ended : Request → List ℕ → Tested Done → Ending
-ended q i (pass x) = record { number = 0; value = x .value; image = encode (x .device); events = written (bufferOf q) (placeOf q) (x .drained) }
+ended q i (pass x) = record { number = 0; value = x .value; image = encodeLike i (x .device); events = written (bufferOf q) (placeOf q) (x .drained) }
 ended q i (refuse r) = record { number = refusalNumber r; value = refusalValue r; image = i; events = bufferOf q }
 
 abbrev pub ending : Request → List ℕ → Ending

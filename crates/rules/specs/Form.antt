@@ -37,33 +37,40 @@ pub record Body : Type 0 where
   pub kind : ℕ
   pub fields : List Field
 
+-- form 1 as 01 has it, and form 2, which has no copy of IRR (02, C-17)
 pub data Form : Type 0 where
-  one : Form
+  one two : Form
 
 -- the first byte of the contents
 abbrev pub firstByte : Form → ℕ
 firstByte one = 1
+firstByte two = 2
 
 -- the words of body 1
 abbrev pub words : Form → List Word
 words one = mask ∷ stored htmsiEn ∷ stored edge ∷ copy ∷ irr ∷ isr ∷ stored pol ∷ stored auto0 ∷ stored auto1 ∷ []
+words two = mask ∷ stored htmsiEn ∷ stored edge ∷ irr ∷ isr ∷ stored pol ∷ stored auto0 ∷ stored auto1 ∷ []
 
 -- the fields of body 4: the waiting count, the drop count, sixteen pairs
 abbrev pub ringFields : List Field
 ringFields = count ∷ drops ∷ pairs ∷ []
 
--- the bodies
-abbrev pub bodies : Form → List Body
-bodies one =
-    record { kind = 1; fields = map word (words one) }
+-- the bodies: the registers, the route bytes, the vector bytes, the ring
+abbrev pub fourBodies : List Word → List Body
+fourBodies ws =
+    record { kind = 1; fields = map word ws }
     ∷ record { kind = 2; fields = routes ∷ [] }
     ∷ record { kind = 3; fields = vectors ∷ [] }
     ∷ record { kind = 4; fields = ringFields }
     ∷ []
 
+abbrev pub bodies : Form → List Body
+bodies one = fourBodies (words one)
+bodies two = fourBodies (words two)
+
 -- all forms
 abbrev pub forms : List Form
-forms = one ∷ []
+forms = one ∷ two ∷ []
 
 -- ---- fields in a list
 

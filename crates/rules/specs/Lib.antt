@@ -25,3 +25,5 @@ pub mod History
 pub mod Account
 pub mod Session
 pub mod Dozen
+pub mod Copy
+pub mod Convert

@@ -90,17 +90,17 @@ module _ (f : Form) (d : Device) (p : Places) (o : PlacesOf f p) where
       puts-at f d q (placeIn p q) (size q) e (has-all f q h) (at q h) refl y s (g ∙ whole-put (placeIn p q) (size q) l ys)
 
   -- IRR and its copy, which is IRR again in a form without one
-  pub puts-latched : {l m n : List ℕ} (x y : ℕ) → length l ≡ formLength f → x ≡ d .core .lines .irr → y ≡ d .core .lines .irr
-      → m ≡ withBytes (p .«last_intirr») 8 x l → n ≡ withBytes (p .intirr) 8 y m → Puts f d (word irr ∷ word copy ∷ []) l n
-  puts-latched {l} {m} {n} x y e ex ey g k =
+  pub puts-latched : {l m n : List ℕ} (x : ℕ) → length l ≡ formLength f → x ≡ d .core .lines .irr
+      → m ≡ withBytes (p .«last_intirr») 8 x l → n ≡ withBytes (p .intirr) 8 x m → Puts f d (word irr ∷ word copy ∷ []) l n
+  puts-latched {l} {m} {n} x e y g k =
       test (has f (word copy))
-      (λ h. let first = puts-at f d (word copy) (p .«last_intirr») 8 e h (o .fields (word copy) h) refl (ap (bytesOf 8) ex) refl (g ∙ bytes-put (p .«last_intirr») 8 x l) in
+      (λ h. let first = puts-at f d (word copy) (p .«last_intirr») 8 e h (o .fields (word copy) h) refl (ap (bytesOf 8) y) refl (g ∙ bytes-put (p .«last_intirr») 8 x l) in
       puts-then f d first (second first))
-      (λ h. let first = puts-at f d (word irr) (p .«last_intirr») 8 e (has-all f (word irr) refl) (o .copy h ∙ at (word irr) refl) refl (ap (bytesOf 8) ex) refl (g ∙ bytes-put (p .«last_intirr») 8 x l) in
+      (λ h. let first = puts-at f d (word irr) (p .«last_intirr») 8 e (has-all f (word irr) refl) (o .copy h ∙ at (word irr) refl) refl (ap (bytesOf 8) y) refl (g ∙ bytes-put (p .«last_intirr») 8 x l) in
       puts-lacking f d (word irr ∷ word copy ∷ []) (lacks h) (puts-then f d first (second first)))
     where
       second : {ps : List Field} → Puts f d ps l m → Puts f d (word irr ∷ []) m n
-      second first = puts-number (word irr) refl y (first .size ∙ e) (ap (bytesOf 8) ey) k
+      second first = puts-number (word irr) refl x (first .size ∙ e) (ap (bytesOf 8) y) k
 
       lacks : has f (word copy) ≡ false → (q : Field) → has f q ≡ true → listed q (word irr ∷ word copy ∷ []) ≡ listed q (word irr ∷ word irr ∷ [])
       lacks h q t =

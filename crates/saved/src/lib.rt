@@ -16,8 +16,8 @@ ghost use mathlib.Core.Path.{_≡_};
 ghost use mathlib.Core.List.{_++_};
 ghost use lib.ListN.{length, drop};
 ghost use Rattle.rules.specs.Form.{formLength, contentsLength, contentsOf};
-ghost use Rattle.rules.specs.Image.{imageLength, encode};
-ghost use Rattle.state.specs.View.{WellLines, WellRing, Well, view};
+ghost use Rattle.rules.specs.Image.{encodeAs};
+ghost use Rattle.state.specs.View.{WellRing, Well, view};
 ghost use Rattle.image.specs.Shown.{formView};
 ghost use Rattle.saved.specs.Shown.{SavesLines, SavesStored, SavesTables, SavesRing};
 
@@ -32,12 +32,12 @@ fn put_contents(image: &mut [u8], form: Form)
 }
 
 pub fn save_lines(image: &mut [u8], form: Form, lines: Lines)
-    requires { ⌜ (length (now image) ≡ formLength (formView form)) × WellLines lines ⌝ }
+    requires { ⌜ length (now image) ≡ formLength (formView form) ⌝ }
     ensures { λ _. ⌜ SavesLines (formView form) lines (now (image .entry)) (now (image .exit)) ⌝ }
 {
     let p = places_of(form);
     put_word(image, p.int_mask, lines.int_mask);
-    put_word(image, p.last_intirr, lines.last_intirr);
+    put_word(image, p.last_intirr, lines.intirr);
     put_word(image, p.intirr, lines.intirr);
     put_word(image, p.intisr, lines.intisr);
 }
@@ -79,13 +79,13 @@ pub fn save_ring(image: &mut [u8], form: Form, ring: Ring)
     put_pairs(&mut image[at..end], ring);
 }
 
-pub fn save(image: &mut [u8], state: PchPicState)
-    requires { ⌜ (length (now image) ≡ imageLength) × Well state ⌝ }
-    ensures { λ _. ⌜ now (image .exit) ≡ encode (view state) ⌝ }
+pub fn save(image: &mut [u8], form: Form, state: PchPicState)
+    requires { ⌜ (length (now image) ≡ formLength (formView form)) × Well state ⌝ }
+    ensures { λ _. ⌜ now (image .exit) ≡ encodeAs (formView form) (view state) ⌝ }
 {
-    put_contents(image, Form::One);
-    save_lines(image, Form::One, state.lines);
-    save_stored(image, Form::One, state.stored);
-    save_tables(image, Form::One, state.tables);
-    save_ring(image, Form::One, state.ring);
+    put_contents(image, form);
+    save_lines(image, form, state.lines);
+    save_stored(image, form, state.stored);
+    save_tables(image, form, state.tables);
+    save_ring(image, form, state.ring);
 }

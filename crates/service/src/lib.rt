@@ -1,5 +1,6 @@
 // The calls on an input, in place on an image: which go into service and leave it, as the rules say it. Of a set the lowest that waits enters. Crate
 // decide says which they are.
+use image::form::Form;
 use engine::Answer;
 use entries::vector;
 ghost use mathlib.Core.Path.{_≡_};
@@ -9,76 +10,77 @@ ghost use lib.ListN.{length};
 ghost use Rattle.rules.specs.Inputs.{on, only};
 ghost use Rattle.rules.specs.Lines as lines;
 ghost use Rattle.rules.specs.Core as core;
-ghost use Rattle.rules.specs.Image.{imageLength};
+ghost use Rattle.rules.specs.Form.{formLength};
+ghost use Rattle.image.specs.Shown.{formView};
 ghost use Rattle.engine.specs.Moves.{answerValue};
 ghost use Rattle.inplace.specs.Held.{MovesIn, Returns, given};
 ghost use Rattle.service.specs.Offered.{levelMove};
 
 // The lowest of a set that waits goes into service; the answer is its vector.
-pub fn enter(image: &mut [u8], set: u64) -> Answer
-    requires { ⌜ length (now image) ≡ imageLength ⌝ }
+pub fn enter(image: &mut [u8], form: Form, set: u64) -> Answer
+    requires { ⌜ length (now image) ≡ formLength (formView form) ⌝ }
     ensures { λ r. ⌜ MovesIn (now (image .entry)) (now (image .exit)) (answerValue r) given (λ vs. lines.enter vs false (on set)) ⌝ }
 {
-    let isr = words::isr(image);
-    let waiting = decide::pending(set, words::irr(image), words::mask(image), isr);
+    let isr = words::isr(image, form);
+    let waiting = decide::pending(set, words::irr(image, form), words::mask(image, form), isr);
     if waiting == 0 {
         return Answer::None;
     }
     let irq = u64::trailing_zeros(waiting) as usize;
-    words::put_isr(image, isr | 1u64 << irq);
-    Answer::Vector(vector(image, irq))
+    words::put_isr(image, form, isr | 1u64 << irq);
+    Answer::Vector(vector(image, form, irq))
 }
 
 // An input that is in service leaves it; the answer is its vector.
-fn leave_one(image: &mut [u8], irq: usize) -> Answer
-    requires { ⌜ (length (now image) ≡ imageLength) × (irq < 64) ⌝ }
+fn leave_one(image: &mut [u8], form: Form, irq: usize) -> Answer
+    requires { ⌜ (length (now image) ≡ formLength (formView form)) × (irq < 64) ⌝ }
     ensures { λ r. ⌜ MovesIn (now (image .entry)) (now (image .exit)) (answerValue r) given (λ vs. lines.leave vs false (only irq)) ⌝ }
 {
-    let isr = words::isr(image);
+    let isr = words::isr(image, form);
     let bit = 1u64 << irq;
     if decide::served(bit, isr) == 0 {
         return Answer::None;
     }
-    words::put_isr(image, isr & !bit);
-    Answer::Vector(vector(image, irq))
+    words::put_isr(image, form, isr & !bit);
+    Answer::Vector(vector(image, form, irq))
 }
 
 // ---- the calls on an input
 
-pub fn poll(image: &mut [u8], irq: usize) -> Answer
-    requires { ⌜ (length (now image) ≡ imageLength) × (irq < 64) ⌝ }
+pub fn poll(image: &mut [u8], form: Form, irq: usize) -> Answer
+    requires { ⌜ (length (now image) ≡ formLength (formView form)) × (irq < 64) ⌝ }
     ensures { λ r. ⌜ Returns (now (image .entry)) (now (image .exit)) (answerValue r) (core.poll irq) ⌝ }
 {
-    enter(image, 1u64 << irq)
+    enter(image, form, 1u64 << irq)
 }
 
 // It is latched, and then polled.
-fn raise(image: &mut [u8], irq: usize) -> Answer
-    requires { ⌜ (length (now image) ≡ imageLength) × (irq < 64) ⌝ }
+fn raise(image: &mut [u8], form: Form, irq: usize) -> Answer
+    requires { ⌜ (length (now image) ≡ formLength (formView form)) × (irq < 64) ⌝ }
     ensures { λ r. ⌜ Returns (now (image .entry)) (now (image .exit)) (answerValue r) (core.raise irq) ⌝ }
 {
-    let irr = words::irr(image);
+    let irr = words::irr(image, form);
     let bit = 1u64 << irq;
-    words::put_irr(image, irr | bit);
-    enter(image, bit)
+    words::put_irr(image, form, irr | bit);
+    enter(image, form, bit)
 }
 
 // Its latch goes off, and it leaves service, masked or not.
-fn lower(image: &mut [u8], irq: usize) -> Answer
-    requires { ⌜ (length (now image) ≡ imageLength) × (irq < 64) ⌝ }
+fn lower(image: &mut [u8], form: Form, irq: usize) -> Answer
+    requires { ⌜ (length (now image) ≡ formLength (formView form)) × (irq < 64) ⌝ }
     ensures { λ r. ⌜ Returns (now (image .entry)) (now (image .exit)) (answerValue r) (core.lower irq) ⌝ }
 {
-    let irr = words::irr(image);
-    words::put_irr(image, irr & !(1u64 << irq));
-    leave_one(image, irq)
+    let irr = words::irr(image, form);
+    words::put_irr(image, form, irr & !(1u64 << irq));
+    leave_one(image, form, irq)
 }
 
-pub fn set_level(image: &mut [u8], irq: usize, level: bool) -> Answer
-    requires { ⌜ (length (now image) ≡ imageLength) × (irq < 64) ⌝ }
+pub fn set_level(image: &mut [u8], form: Form, irq: usize, level: bool) -> Answer
+    requires { ⌜ (length (now image) ≡ formLength (formView form)) × (irq < 64) ⌝ }
     ensures { λ r. ⌜ Returns (now (image .entry)) (now (image .exit)) (answerValue r) (levelMove irq level) ⌝ }
 {
     if level {
-        return raise(image, irq);
+        return raise(image, form, irq);
     }
-    lower(image, irq)
+    lower(image, form, irq)
 }

@@ -52,12 +52,7 @@ pub record WellRing (r : Ring) : Type 0 where
   pub head : r .«output_head» < 16
   pub len : r .«output_len» ≤ 16
 
--- the copy of IRR is one
-abbrev pub WellLines : Lines → Type 0
-WellLines l = l .«last_intirr» ≡ l .intirr
-
 pub record Well (s : PchPicState) : Type 0 where
-  pub copy : WellLines (s .lines)
   pub ring : WellRing (s .ring)
 
 -- what a function that hands back a ring, or a state, promises: it is well formed, and shows what the rules say

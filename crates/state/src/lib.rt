@@ -6,7 +6,6 @@ ghost use Rattle.state.specs.View.{eventOf, ringView, WellRing, Pushes, 
 // The registers that move, of all 64 inputs.
 pub struct Lines {
     pub int_mask: u64,
-    pub last_intirr: u64,
     pub intirr: u64,
     pub intisr: u64,
 }
@@ -112,7 +111,6 @@ impl PchPicState {
         PchPicState {
             lines: Lines {
                 int_mask: 0xffff_ffff_ffff_ffff,
-                last_intirr: 0,
                 intirr: 0,
                 intisr: 0,
             },

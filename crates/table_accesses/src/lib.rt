@@ -19,7 +19,7 @@ pub fn read(image: &[u8], base: u64, size: u64, address: u64, width: u64) -> Tol
     ensures { λ r. ⌜ ends r (now (image .entry)) [] ≡ ending (asked.read base size address width) (now (image .entry)) ⌝ }
 {
     let checked = check(image);
-    let Verdict::Accepted = checked else {
+    let Verdict::Accepted(form) = checked else {
         return of_image(image);
     };
     let Known::As(known) = window::width_of(width) else {
@@ -29,7 +29,7 @@ pub fn read(image: &[u8], base: u64, size: u64, address: u64, width: u64) -> Tol
         return outside(address);
     };
     let table = table::whole();
-    let value = table_access::read_access(image, &table, known, offset);
+    let value = table_access::read_access(image, form, &table, known, offset);
     done(Value::Present(value))
 }
 
@@ -37,7 +37,7 @@ pub fn write(image: &mut [u8], base: u64, size: u64, address: u64, width: u64, v
     ensures { λ r. ⌜ ends r (now (image .exit)) [] ≡ ending (asked.write base size address width value) (now (image .entry)) ⌝ }
 {
     let checked = check(image);
-    let Verdict::Accepted = checked else {
+    let Verdict::Accepted(form) = checked else {
         return of_image(image);
     };
     let Known::As(known) = window::width_of(width) else {
@@ -47,6 +47,6 @@ pub fn write(image: &mut [u8], base: u64, size: u64, address: u64, width: u64, v
         return outside(address);
     };
     let table = table::whole();
-    let dropped = table_access::write_access(image, &table, known, offset, value);
+    let dropped = table_access::write_access(image, form, &table, known, offset, value);
     done(Value::Present(dropped as u64))
 }

@@ -1,4 +1,5 @@
 // Dwords by the table, in place on an image: a half at its lowest byte; among the route and vector bytes four Bytes, low first.
+use image::form::Form;
 use halves::value_of;
 use halves::write_half;
 use table::Place;
@@ -10,23 +11,24 @@ ghost use Prim.Native.Nat.{_≤_};
 ghost use lib.ListN.{length};
 ghost use Rattle.rules.specs.Map.{bytes, cellAt};
 ghost use Rattle.rules.specs.Access.{readDword, dwordActs};
-ghost use Rattle.rules.specs.Image.{imageLength};
+ghost use Rattle.rules.specs.Form.{formLength};
+ghost use Rattle.image.specs.Shown.{formView};
 ghost use Rattle.inplace.specs.Held.{Reads, Writes};
 ghost use Rattle.table.specs.Meaning.{Agrees};
 
-fn read_four(image: &[u8], table: &[[u8; 32]; 32], offset: usize) -> u32
-    requires { ⌜ (length (now image) ≡ imageLength) × Agrees (now table) × (cellAt offset ≡ bytes) ⌝ }
+fn read_four(image: &[u8], form: Form, table: &[[u8; 32]; 32], offset: usize) -> u32
+    requires { ⌜ (length (now image) ≡ formLength (formView form)) × Agrees (now table) × (cellAt offset ≡ bytes) ⌝ }
     ensures { λ r. ⌜ Reads (now (image .entry)) r (λ d. readDword (d .core) offset) ⌝ }
 {
-    let a = read_byte(image, table, offset) as u32;
-    let b = read_byte(image, table, offset + 1) as u32;
-    let c = read_byte(image, table, offset + 2) as u32;
-    let d = read_byte(image, table, offset + 3) as u32;
+    let a = read_byte(image, form, table, offset) as u32;
+    let b = read_byte(image, form, table, offset + 1) as u32;
+    let c = read_byte(image, form, table, offset + 2) as u32;
+    let d = read_byte(image, form, table, offset + 3) as u32;
     a + 256 * (b + 256 * (c + 256 * d))
 }
 
-pub fn read_dword(image: &[u8], table: &[[u8; 32]; 32], offset: usize) -> u32
-    requires { ⌜ (length (now image) ≡ imageLength) × Agrees (now table) ⌝ }
+pub fn read_dword(image: &[u8], form: Form, table: &[[u8; 32]; 32], offset: usize) -> u32
+    requires { ⌜ (length (now image) ≡ formLength (formView form)) × Agrees (now table) ⌝ }
     ensures { λ r. ⌜ Reads (now (image .entry)) r (λ d. readDword (d .core) offset) ⌝ }
 {
     match look(table, offset) {
@@ -34,27 +36,27 @@ pub fn read_dword(image: &[u8], table: &[[u8; 32]; 32], offset: usize) -> u32
             if byte != 0 {
                 return 0;
             }
-            bits::half(value_of(image, register), high)
+            bits::half(value_of(image, form, register), high)
         }
-        Place::Route(input) => read_four(image, table, offset),
-        Place::Vector(input) => read_four(image, table, offset),
+        Place::Route(input) => read_four(image, form, table, offset),
+        Place::Vector(input) => read_four(image, form, table, offset),
         Place::Nothing => 0,
     }
 }
 
 // No Byte among them drops an event.
-fn write_four(image: &mut [u8], table: &[[u8; 32]; 32], offset: usize, val: u32)
-    requires { ⌜ (length (now image) ≡ imageLength) × Agrees (now table) × (cellAt offset ≡ bytes) ⌝ }
+fn write_four(image: &mut [u8], form: Form, table: &[[u8; 32]; 32], offset: usize, val: u32)
+    requires { ⌜ (length (now image) ≡ formLength (formView form)) × Agrees (now table) × (cellAt offset ≡ bytes) ⌝ }
     ensures { λ _. ⌜ Writes (now (image .entry)) (now (image .exit)) 0 (λ c. dwordActs offset val) ⌝ }
 {
-    write_byte(image, table, offset, bits::byte_of(val, 0));
-    write_byte(image, table, offset + 1, bits::byte_of(val, 1));
-    write_byte(image, table, offset + 2, bits::byte_of(val, 2));
-    write_byte(image, table, offset + 3, bits::byte_of(val, 3));
+    write_byte(image, form, table, offset, bits::byte_of(val, 0));
+    write_byte(image, form, table, offset + 1, bits::byte_of(val, 1));
+    write_byte(image, form, table, offset + 2, bits::byte_of(val, 2));
+    write_byte(image, form, table, offset + 3, bits::byte_of(val, 3));
 }
 
-pub fn write_dword(image: &mut [u8], table: &[[u8; 32]; 32], offset: usize, val: u32) -> u32
-    requires { ⌜ (length (now image) ≡ imageLength) × Agrees (now table) ⌝ }
+pub fn write_dword(image: &mut [u8], form: Form, table: &[[u8; 32]; 32], offset: usize, val: u32) -> u32
+    requires { ⌜ (length (now image) ≡ formLength (formView form)) × Agrees (now table) ⌝ }
     ensures { λ r. ⌜ (r ≤ 65) × Writes (now (image .entry)) (now (image .exit)) r (λ c. dwordActs offset val) ⌝ }
 {
     match look(table, offset) {
@@ -62,14 +64,14 @@ pub fn write_dword(image: &mut [u8], table: &[[u8; 32]; 32], offset: usize, val:
             if byte != 0 {
                 return 0;
             }
-            write_half(image, register, val, high)
+            write_half(image, form, register, val, high)
         }
         Place::Route(input) => {
-            write_four(image, table, offset, val);
+            write_four(image, form, table, offset, val);
             0
         }
         Place::Vector(input) => {
-            write_four(image, table, offset, val);
+            write_four(image, form, table, offset, val);
             0
         }
         Place::Nothing => 0,

@@ -15,15 +15,15 @@ ghost use Rattle.rules.specs.Calls.{ending};
 ghost use Rattle.rules.specs.Calls as asked;
 ghost use Rattle.answer.specs.Given.{ends};
 
-// Any bytes will do that have the length of an image.
+// Any bytes will do that have the length of a form; the reset device is saved in that form.
 pub fn reset(image: &mut [u8]) -> Told
     ensures { λ r. ⌜ ends r (now (image .exit)) [] ≡ ending asked.reset (now (image .entry)) ⌝ }
 {
     let length = image.len();
-    let KnownForm::As(_) = form_of(length) else {
+    let KnownForm::As(form) = form_of(length) else {
         return wrong_length();
     };
-    saved::save(image, PchPicState::reset());
+    saved::save(image, form, PchPicState::reset());
     done(Value::Absent)
 }
 
@@ -32,9 +32,9 @@ pub fn drain(image: &mut [u8], events: &mut [u8]) -> Told
     ensures { λ r. ⌜ ends r (now (image .exit)) (now (events .exit)) ≡ ending (asked.drain (now (events .entry)) 0) (now (image .entry)) ⌝ }
 {
     let checked = check(image);
-    let Verdict::Accepted = checked else {
+    let Verdict::Accepted(form) = checked else {
         return of_image(image);
     };
-    let count = drains::drain(image, events);
+    let count = drains::drain(image, form, events);
     done(Value::Present(count as u64))
 }

@@ -1,4 +1,5 @@
 // Qwords, in place on an image.
+use image::form::Form;
 use cells::read_dword;
 use cells::read_run;
 use cells::write_dword;
@@ -8,7 +9,8 @@ ghost use mathlib.Core.Bool.{true};
 ghost use Prim.Native.Nat.{_+_, _-_, _^_, _≤_};
 ghost use lib.ListN.{length};
 ghost use Rattle.rules.specs.Access.{qword, readAt, writeActs};
-ghost use Rattle.rules.specs.Image.{imageLength};
+ghost use Rattle.rules.specs.Form.{formLength};
+ghost use Rattle.image.specs.Shown.{formView};
 ghost use Rattle.inplace.specs.Held.{Reads, Writes};
 ghost use Rattle.cells.specs.Runs.{Run};
 
@@ -23,25 +25,25 @@ fn eight_together(offset: usize) -> bool
     }
 }
 
-pub fn read_qword(image: &[u8], offset: usize) -> u64
-    requires { ⌜ (length (now image) ≡ imageLength) × (offset + 8 ≤ 2 ^ 64 - 1) ⌝ }
+pub fn read_qword(image: &[u8], form: Form, offset: usize) -> u64
+    requires { ⌜ (length (now image) ≡ formLength (formView form)) × (offset + 8 ≤ 2 ^ 64 - 1) ⌝ }
     ensures { λ r. ⌜ Reads (now (image .entry)) r (λ d. readAt (d .core) qword offset) ⌝ }
 {
     if eight_together(offset) {
-        return read_run(image, offset, 8);
+        return read_run(image, form, offset, 8);
     }
-    let low = read_dword(image, offset) as u64;
-    low | ((read_dword(image, offset + 4) as u64) << 32)
+    let low = read_dword(image, form, offset) as u64;
+    low | ((read_dword(image, form, offset + 4) as u64) << 32)
 }
 
-pub fn write_qword(image: &mut [u8], offset: usize, value: u64) -> u32
-    requires { ⌜ (length (now image) ≡ imageLength) × (offset + 8 ≤ 2 ^ 64 - 1) ⌝ }
+pub fn write_qword(image: &mut [u8], form: Form, offset: usize, value: u64) -> u32
+    requires { ⌜ (length (now image) ≡ formLength (formView form)) × (offset + 8 ≤ 2 ^ 64 - 1) ⌝ }
     ensures { λ r. ⌜ (r ≤ 130) × Writes (now (image .entry)) (now (image .exit)) r (λ c. writeActs c qword offset value) ⌝ }
 {
     if eight_together(offset) {
-        write_run(image, offset, 8, value);
+        write_run(image, form, offset, 8, value);
         return 0;
     }
-    let first = write_dword(image, offset, bits::half(value, false));
-    first + write_dword(image, offset + 4, bits::half(value, true))
+    let first = write_dword(image, form, offset, bits::half(value, false));
+    first + write_dword(image, form, offset + 4, bits::half(value, true))
 }

@@ -1,4 +1,4 @@
--- The words of an image, read and stored where they stand: one law over the word, from the declared form.
+-- The words of an image, read and stored where they stand: one law over the form and the word.
 use mathlib.Core.Path.{_≡_, refl, sym, ap, subst, _∙_}
 use mathlib.Core.Bool.{Bool, true, false, cond, false≢true}
 use mathlib.Core.List.{List, _++_}
@@ -11,12 +11,16 @@ use Rattle.rules.specs.Numbers.{bytesOf, Bytes}
 use Rattle.rules.specs.Lines.{Lines}
 use Rattle.rules.specs.Core.{Core, Stored, Plain, htmsiEn, edge, pol, auto0, auto1, plain, withPlain}
 use Rattle.rules.specs.Device.{Device, WellFormed}
-use Rattle.rules.specs.Form.{Word, mask, irr, isr, copy, stored, Field, word, pairs, one, is, has, place}
-use Rattle.rules.specs.Image.{wordOf, fieldOf, registerAt, encode}
+use Rattle.rules.specs.Form.{Word, mask, irr, isr, copy, stored, Field, word, pairs, Form, is, has, place, formLength, image}
+use Rattle.rules.specs.Image.{wordOf, fieldOf, registerAt, encodeAs}
+use Rattle.rules.proofs.laws.Bits.{test}
 use Rattle.rules.proofs.laws.Layout.{Sized, never, by-word, by-field, always, has-all, field-fits}
 use Rattle.rules.proofs.laws.Saved.{fields-sized, word-stands}
 use Rattle.rules.proofs.laws.InPlace.{withCore, coreWord, field-written, word-apart}
 use Rattle.bytes.specs.Put.{withWord}
+use Rattle.image.specs.Shown.{PlacesOf}
+use Rattle.image.specs.declared.form.Places.{Places}
+use Rattle.inplace.proofs.Doing.{holds-as, as-holds}
 use Rattle.inplace.specs.Held.{Holds, Reads, Becomes, withLines}
 
 -- ---- sizes
@@ -69,19 +73,10 @@ module _ {d : Device} (w : WellFormed d) where
       each auto1 = elim [ htmsiEn ↦ w .plains htmsiEn | edge ↦ w .plains edge | pol ↦ w .plains pol | auto0 ↦ w .plains auto0 | auto1 ↦ h ]
 
 -- a word ends within the image
-pub word-within : (w : Word) {at : ℕ} → at ≡ place one (word w) → has one (word w) ≡ true → at + 8 ≤ 259
-word-within w e h = omega (arith, e, field-fits one (word w) h)
+pub word-within : (f : Form) (w : Word) {at : ℕ} → at ≡ place f (word w) → always (word w) ≡ true → at + 8 ≤ formLength f
+word-within f w e h = omega (arith, e, field-fits f (word w) (has-all f (word w) h))
 
--- ---- read
-
-module _ (i : List ℕ) (w : Word) {x at : ℕ} (e : at ≡ place one (word w)) where
-  pub word-read : always (word w) ≡ true → x ≡ registerAt at i → Reads i x (λ d. wordOf (d .core) w)
-  unfolding encode
-  word-read a f d h = f ∙ (λ t. registerAt (e t) (h .image t)) ∙ word-stands d (h .well) one w a (word-small (h .well) w)
-
--- ---- stored
-
--- a word put over eight bytes
+-- a word put over eight bytes; put twice
 over : (at x : ℕ) (l : List ℕ) → withWord at x l ≡ putMid at 8 l (bytesOf 8 x)
 over at x l t = take at l ++ (bytesOf 8 x ++ sym (drop-drop 8 at l) t)
 
@@ -92,30 +87,42 @@ isIrr isr = false
 isIrr copy = false
 isIrr (stored p) = false
 
--- a word that has no copy
-module _ (i : List ℕ) (w : Word) {x at : ℕ} (e : at ≡ place one (word w)) {j : List ℕ} (f : j ≡ withWord at x i) where
-  word-put : isIrr w ≡ false → has one (word w) ≡ true → ((c : Core) → wordOf (coreWord w x c) w ≡ x) → (d : Device) → Holds i d → j ≡ encode (withCore (coreWord w x (d .core)) d)
-  unfolding encode
-  word-put n a g d h =
+-- of an image of the form f
+module _ (f : Form) (i : List ℕ) (s : length i ≡ formLength f) where
+  -- ---- read
+
+  pub word-read : (w : Word) {x at : ℕ} → at ≡ place f (word w) → always (word w) ≡ true → x ≡ registerAt at i → Reads i x (λ d. wordOf (d .core) w)
+  word-read w e a g d h = g ∙ (λ t. registerAt (e t) (holds-as f i s h t)) ∙ word-stands d (h .well) f w a (word-small (h .well) w)
+
+  -- ---- stored
+
+  -- a word that has no copy
+  word-put : (w : Word) {x at : ℕ} → at ≡ place f (word w) → {j : List ℕ} → j ≡ withWord at x i → isIrr w ≡ false → always (word w) ≡ true
+      → ((c : Core) → wordOf (coreWord w x c) w ≡ x) → (d : Device) → Holds i d → j ≡ encodeAs f (withCore (coreWord w x (d .core)) d)
+  word-put w {x} e g n a back d h =
       let after = fieldOf (withCore (coreWord w x (d .core)) d) in
-      f ∙ (λ t. withWord (e t) x (h .image t)) ∙ over (place one (word w)) x (encode d) ∙ ap (λ y. putMid (place one (word w)) 8 (encode d) (bytesOf 8 y)) (sym (g (d .core)))
-      ∙ field-written one (fieldOf d) after (fields-sized d (h .well)) (word w) a (word-apart one d w x (λ q. false≢true (sym n ∙ ap isIrr q)))
+      g ∙ (λ t. withWord (e t) x (holds-as f i s h t)) ∙ over (place f (word w)) x (encodeAs f d) ∙ ap (λ y. putMid (place f (word w)) 8 (encodeAs f d) (bytesOf 8 y)) (sym (back (d .core)))
+      ∙ field-written f (fieldOf d) after (fields-sized d (h .well)) (word w) (has-all f (word w) a) (word-apart f d w x (λ q. false≢true (sym n ∙ ap isIrr q)))
 
-module _ (i : List ℕ) {x at : ℕ} (below : x < 2 ^ 64) {j : List ℕ} (f : j ≡ withWord at x i) where
-  pub mask-stored : at ≡ place one (word mask) → Becomes i j (λ d. withCore (coreWord mask x (d .core)) d)
-  mask-stored e d h = record { well = lines-well (h .well) _ below (h .well .irr) (h .well .isr); image = word-put i mask e f refl refl (λ c. refl) d h }
+  module _ {x at : ℕ} (below : x < 2 ^ 64) {j : List ℕ} (g : j ≡ withWord at x i) where
+    pub mask-stored : at ≡ place f (word mask) → Becomes i j (λ d. withCore (coreWord mask x (d .core)) d)
+    mask-stored e d h = as-holds f (lines-well (h .well) _ below (h .well .irr) (h .well .isr)) (word-put mask e g refl refl (λ c. refl) d h)
 
-  pub isr-stored : at ≡ place one (word isr) → Becomes i j (λ d. withCore (coreWord isr x (d .core)) d)
-  isr-stored e d h = record { well = lines-well (h .well) _ (h .well .mask) (h .well .irr) below; image = word-put i isr e f refl refl (λ c. refl) d h }
+    pub isr-stored : at ≡ place f (word isr) → Becomes i j (λ d. withCore (coreWord isr x (d .core)) d)
+    isr-stored e d h = as-holds f (lines-well (h .well) _ (h .well .mask) (h .well .irr) below) (word-put isr e g refl refl (λ c. refl) d h)
 
-  pub plain-stored : (p : Plain) → at ≡ place one (word (stored p)) → Becomes i j (λ d. withCore (coreWord (stored p) x (d .core)) d)
-  plain-stored p e d h = record { well = plain-well (h .well) p x below; image = word-put i (stored p) e f refl (has-all one (word (stored p)) refl) (λ c. put-back p (c .stored)) d h }
-    where
-      put-back : (p : Plain) (s : Stored) → plain (withPlain s p x) p ≡ x
-      put-back = elim [ htmsiEn ↦ λ s. refl | edge ↦ λ s. refl | pol ↦ λ s. refl | auto0 ↦ λ s. refl | auto1 ↦ λ s. refl ]
+    pub plain-stored : (p : Plain) → at ≡ place f (word (stored p)) → Becomes i j (λ d. withCore (coreWord (stored p) x (d .core)) d)
+    plain-stored p e d h = as-holds f (plain-well (h .well) p x below) (word-put (stored p) e g refl refl (λ c. put-back p (c .stored)) d h)
+      where
+        put-back : (p : Plain) (s : Stored) → plain (withPlain s p x) p ≡ x
+        put-back = elim [ htmsiEn ↦ λ s. refl | edge ↦ λ s. refl | pol ↦ λ s. refl | auto0 ↦ λ s. refl | auto1 ↦ λ s. refl ]
 
--- IRR, and then its copy
-module _ (d : Device) (w : WellFormed d) (x : ℕ) where
+-- ---- IRR, and then its copy; in a form that has none, IRR twice
+
+module _ (f : Form) (d : Device) (w : WellFormed d) (x : ℕ) where
+  abbrev after : Device
+  after = withCore (coreWord irr x (d .core)) d
+
   -- the fields when IRR is stored and its copy is not
   abbrev between : Field → List ℕ
   between q = cond (is q (word irr)) (bytesOf 8 x) (fieldOf d q)
@@ -123,16 +130,30 @@ module _ (d : Device) (w : WellFormed d) (x : ℕ) where
   between-sized : Sized between
   between-sized = by-field _ (by-word _ refl refl refl refl (λ p. refl)) (w .routes) (w .vectors) (refl, refl, fields-sized d w pairs)
 
-  irr-put : putMid (place one (word copy)) 8 (putMid (place one (word irr)) 8 (encode d) (bytesOf 8 x)) (bytesOf 8 x) ≡ encode (withCore (coreWord irr x (d .core)) d)
-  unfolding encode
-  irr-put =
-      let after = fieldOf (withCore (coreWord irr x (d .core)) d) in
-      ap (λ l. putMid (place one (word copy)) 8 l (bytesOf 8 x)) (field-written one (fieldOf d) between (fields-sized d w) (word irr) refl (λ q a t. rw t))
-      ∙ field-written one between after between-sized (word copy) refl (by-field _ (by-word _ (λ a t. refl) (λ a t. refl) (λ a t. refl) (λ a. never) (λ p a t. refl)) (λ a t. refl) (λ a t. refl) (λ a t. refl, λ a t. refl, λ a t. refl))
+  irr-first : putMid (place f (word irr)) 8 (encodeAs f d) (bytesOf 8 x) ≡ image f between
+  irr-first = field-written f (fieldOf d) between (fields-sized d w) (word irr) (has-all f (word irr) refl) (λ q a t. rw t)
 
-pub irr-stored : (i : List ℕ) {x at to : ℕ} → x < 2 ^ 64 → at ≡ place one (word irr) → to ≡ place one (word copy) → {j k : List ℕ} → j ≡ withWord at x i → k ≡ withWord to x j → Becomes i k (λ d. withCore (coreWord irr x (d .core)) d)
-irr-stored i {x} below e g f q d h = record {
-  well = lines-well (h .well) _ (h .well .mask) below (h .well .isr);
-  image = q ∙ (λ t. withWord (g t) x ((f ∙ (λ s. withWord (e s) x (h .image s))) t)) ∙ over (place one (word copy)) x (withWord (place one (word irr)) x (encode d))
-      ∙ ap (λ l. putMid (place one (word copy)) 8 l (bytesOf 8 x)) (over (place one (word irr)) x (encode d)) ∙ irr-put d (h .well) x;
-}
+  -- with a copy
+  copied : has f (word copy) ≡ true → putMid (place f (word copy)) 8 (image f between) (bytesOf 8 x) ≡ encodeAs f after
+  copied h =
+      field-written f between (fieldOf after) between-sized (word copy) h
+      (by-field _ (by-word _ (λ a t. refl) (λ a t. refl) (λ a t. refl) (λ a. never) (λ p a t. refl)) (λ a t. refl) (λ a t. refl) (λ a t. refl, λ a t. refl, λ a t. refl))
+
+  -- without: IRR's bytes are those that are there
+  twice : has f (word copy) ≡ false → putMid (place f (word irr)) 8 (image f between) (bytesOf 8 x) ≡ encodeAs f after
+  twice h =
+      field-written f between (fieldOf after) between-sized (word irr) (has-all f (word irr) refl)
+      (by-field _ (by-word _ (λ a t. refl) (λ a. never) (λ a t. refl) (λ a. absurd (false≢true (sym h ∙ a))) (λ p a t. refl)) (λ a t. refl) (λ a t. refl) (λ a t. refl, λ a t. refl, λ a t. refl))
+
+  irr-put : {at to : ℕ} → at ≡ place f (word irr) → (has f (word copy) ≡ true → to ≡ place f (word copy)) → (has f (word copy) ≡ false → to ≡ at)
+      → withWord to x (withWord at x (encodeAs f d)) ≡ encodeAs f after
+  irr-put {at} {to} e g k =
+      over to x (withWord at x (encodeAs f d)) ∙ ap (λ l. putMid to 8 l (bytesOf 8 x)) (over at x (encodeAs f d) ∙ ap (λ a. putMid a 8 (encodeAs f d) (bytesOf 8 x)) e ∙ irr-first)
+      ∙ test (has f (word copy)) (λ h. ap (λ a. putMid a 8 (image f between) (bytesOf 8 x)) (g h) ∙ copied h) (λ h. ap (λ a. putMid a 8 (image f between) (bytesOf 8 x)) (k h ∙ e) ∙ twice h)
+
+pub irr-stored : (f : Form) (i : List ℕ) → length i ≡ formLength f → {x : ℕ} → x < 2 ^ 64 → (p : Places) → PlacesOf f p → {j k : List ℕ}
+    → j ≡ withWord (p .intirr) x i → k ≡ withWord (p .«last_intirr») x j → Becomes i k (λ d. withCore (coreWord irr x (d .core)) d)
+irr-stored f i s {x} below p o g q d h =
+    as-holds f (lines-well (h .well) _ (h .well .mask) below (h .well .isr))
+    (q ∙ ap (λ l. withWord (p .«last_intirr») x l) (g ∙ ap (λ l. withWord (p .intirr) x l) (holds-as f i s h))
+    ∙ irr-put f d (h .well) x (o .fields (word irr) (has-all f (word irr) refl)) (o .fields (word copy)) (o .copy))

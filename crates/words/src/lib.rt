@@ -1,4 +1,4 @@
-// The registers of an image.
+// The registers of an image of a form.
 use bytes::put_word;
 use bytes::word_at;
 use image::form::Form;
@@ -8,67 +8,67 @@ ghost use mathlib.Core.Path.{_≡_};
 ghost use lib.ListN.{length};
 ghost use Rattle.rules.specs.Lines.{withMask, withIrr, withIsr};
 ghost use Rattle.rules.specs.Core.{plain, withPlain};
-ghost use Rattle.rules.specs.Form.{one, word, stored, place};
-ghost use Rattle.rules.specs.Image.{imageLength};
+ghost use Rattle.rules.specs.Form.{word, stored, place, formLength};
+ghost use Rattle.image.specs.Shown.{formView};
 ghost use Rattle.map.specs.Views.{plainView};
 ghost use Rattle.inplace.specs.Held.{Reads, Becomes, withLines, withStored};
 
-pub fn mask(image: &[u8]) -> u64
-    requires { ⌜ length (now image) ≡ imageLength ⌝ }
+pub fn mask(image: &[u8], form: Form) -> u64
+    requires { ⌜ length (now image) ≡ formLength (formView form) ⌝ }
     ensures { λ r. ⌜ Reads (now (image .entry)) r (λ d. d .core .lines .mask) ⌝ }
 {
-    let p = places_of(Form::One);
+    let p = places_of(form);
     word_at(image, p.int_mask)
 }
 
-pub fn irr(image: &[u8]) -> u64
-    requires { ⌜ length (now image) ≡ imageLength ⌝ }
+pub fn irr(image: &[u8], form: Form) -> u64
+    requires { ⌜ length (now image) ≡ formLength (formView form) ⌝ }
     ensures { λ r. ⌜ Reads (now (image .entry)) r (λ d. d .core .lines .irr) ⌝ }
 {
-    let p = places_of(Form::One);
+    let p = places_of(form);
     word_at(image, p.intirr)
 }
 
-pub fn isr(image: &[u8]) -> u64
-    requires { ⌜ length (now image) ≡ imageLength ⌝ }
+pub fn isr(image: &[u8], form: Form) -> u64
+    requires { ⌜ length (now image) ≡ formLength (formView form) ⌝ }
     ensures { λ r. ⌜ Reads (now (image .entry)) r (λ d. d .core .lines .isr) ⌝ }
 {
-    let p = places_of(Form::One);
+    let p = places_of(form);
     word_at(image, p.intisr)
 }
 
-pub fn put_mask(image: &mut [u8], x: u64)
-    requires { ⌜ length (now image) ≡ imageLength ⌝ }
+pub fn put_mask(image: &mut [u8], form: Form, x: u64)
+    requires { ⌜ length (now image) ≡ formLength (formView form) ⌝ }
     ensures { λ _. ⌜ Becomes (now (image .entry)) (now (image .exit)) (λ d. withLines d (withMask (d .core .lines) x)) ⌝ }
 {
-    let p = places_of(Form::One);
+    let p = places_of(form);
     put_word(image, p.int_mask, x);
 }
 
-// IRR and its copy.
-pub fn put_irr(image: &mut [u8], x: u64)
-    requires { ⌜ length (now image) ≡ imageLength ⌝ }
+// IRR and its copy; in a form that has none, IRR twice.
+pub fn put_irr(image: &mut [u8], form: Form, x: u64)
+    requires { ⌜ length (now image) ≡ formLength (formView form) ⌝ }
     ensures { λ _. ⌜ Becomes (now (image .entry)) (now (image .exit)) (λ d. withLines d (withIrr (d .core .lines) x)) ⌝ }
 {
-    let p = places_of(Form::One);
+    let p = places_of(form);
     put_word(image, p.intirr, x);
     put_word(image, p.last_intirr, x);
 }
 
-pub fn put_isr(image: &mut [u8], x: u64)
-    requires { ⌜ length (now image) ≡ imageLength ⌝ }
+pub fn put_isr(image: &mut [u8], form: Form, x: u64)
+    requires { ⌜ length (now image) ≡ formLength (formView form) ⌝ }
     ensures { λ _. ⌜ Becomes (now (image .entry)) (now (image .exit)) (λ d. withLines d (withIsr (d .core .lines) x)) ⌝ }
 {
-    let p = places_of(Form::One);
+    let p = places_of(form);
     put_word(image, p.intisr, x);
 }
 
 // ---- the registers that are only stored
 
-fn place_of(register: Plain) -> usize
-    ensures { λ r. ⌜ r ≡ place one (word (stored (plainView register))) ⌝ }
+fn place_of(form: Form, register: Plain) -> usize
+    ensures { λ r. ⌜ r ≡ place (formView form) (word (stored (plainView register))) ⌝ }
 {
-    let p = places_of(Form::One);
+    let p = places_of(form);
     match register {
         Plain::HtmsiEn => p.htmsi_en,
         Plain::Edge => p.intedge,
@@ -78,16 +78,16 @@ fn place_of(register: Plain) -> usize
     }
 }
 
-pub fn plain(image: &[u8], register: Plain) -> u64
-    requires { ⌜ length (now image) ≡ imageLength ⌝ }
+pub fn plain(image: &[u8], form: Form, register: Plain) -> u64
+    requires { ⌜ length (now image) ≡ formLength (formView form) ⌝ }
     ensures { λ r. ⌜ Reads (now (image .entry)) r (λ d. plain (d .core .stored) (plainView register)) ⌝ }
 {
-    word_at(image, place_of(register))
+    word_at(image, place_of(form, register))
 }
 
-pub fn put_plain(image: &mut [u8], register: Plain, x: u64)
-    requires { ⌜ length (now image) ≡ imageLength ⌝ }
+pub fn put_plain(image: &mut [u8], form: Form, register: Plain, x: u64)
+    requires { ⌜ length (now image) ≡ formLength (formView form) ⌝ }
     ensures { λ _. ⌜ Becomes (now (image .entry)) (now (image .exit)) (λ d. withStored d (withPlain (d .core .stored) (plainView register) x)) ⌝ }
 {
-    put_word(image, place_of(register), x);
+    put_word(image, place_of(form, register), x);
 }

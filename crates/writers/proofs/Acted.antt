@@ -91,7 +91,7 @@ module _ (s : PchPicState) (w : Well s) where
   writes-moved m x r =
       record {
         is = record {
-          well = record { copy = r .well; ring = r .offers .well };
+          well = record { ring = r .offers .well };
           shows = (λ i. deviceOf (r .lines i) (s .tables .«htmsi_vector») (storedView (s .stored) (s .tables .«route_entry»)) (r .offers .ring i)) ∙ sym (acted-move (view s) x);
         };
         dropped = r .offers .dropped ∙ ap (λ (t : CoreTurn). lost (ringView (s .ring)) (t .made)) (sym (turns-one (view s .core) (move x)));
@@ -100,11 +100,11 @@ module _ (s : PchPicState) (w : Well s) where
   -- a route byte, a vector byte
   pub is-route : (n v : ℕ) → Is (record { lines = s .lines; stored = s .stored; tables = record { «route_entry» = set (s .tables .«route_entry») n v; «htmsi_vector» = s .tables .«htmsi_vector» }; ring = s .ring })
       (acted (view s) (store (setRoute n v) ∷ []))
-  is-route n v = record { well = record { copy = w .copy; ring = w .ring }; shows = sym (acted-store (view s) (setRoute n v)) }
+  is-route n v = record { well = record { ring = w .ring }; shows = sym (acted-store (view s) (setRoute n v)) }
 
   pub is-vector : (n v : ℕ) → Is (record { lines = s .lines; stored = s .stored; tables = record { «route_entry» = s .tables .«route_entry»; «htmsi_vector» = set (s .tables .«htmsi_vector») n v }; ring = s .ring })
       (acted (view s) (setVector n v ∷ []))
-  is-vector n v = record { well = record { copy = w .copy; ring = w .ring }; shows = sym (acted-vector (view s) n v) }
+  is-vector n v = record { well = record { ring = w .ring }; shows = sym (acted-vector (view s) n v) }
 
   -- x, which is the plain register q with a half replaced, is put for the register p that q is
   pub is-plain : (t : Stored) (p : Plain) {q : Plain} (h : Bool) (v : ℕ) {x y : ℕ} → storedView t (s .tables .«route_entry») ≡ withPlain (view s .core .stored) p x
@@ -113,7 +113,7 @@ module _ (s : PchPicState) (w : Well s) where
   is-plain t p {q} h v {x} {y} shown e f g =
       let new : x ≡ withHalf h (plain (view s .core .stored) p) v = g ∙ ap (λ (z : ℕ). withHalf h z v) (f ∙ ap (plain (view s .core .stored)) e) in
       record {
-        well = record { copy = w .copy; ring = w .ring };
+        well = record { ring = w .ring };
         shows =
             ap (λ (k : core.Stored). deviceOf (linesView (s .lines)) (s .tables .«htmsi_vector») k (ringView (s .ring))) (shown ∙ ap (withPlain (view s .core .stored) p) new)
             ∙ sym (acted-store (view s) (setPlain p h v)) ∙ ap (λ (z : Plain). acted (view s) (store (setPlain z h v) ∷ [])) (sym e);

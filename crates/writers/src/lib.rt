@@ -81,24 +81,16 @@ fn write_entry(state: PchPicState, index: usize, val: u8) -> PchPicState
     let mut tables = out.tables;
     match index {
         PchPicState::ROUTE_ENTRY_BASE..=PchPicState::ROUTE_ENTRY_LAST => {
-            match map::pch_pic_irq_index(index, PchPicState::ROUTE_ENTRY_BASE) {
-                Index::At(irq) => {
-                    tables.route_entry[irq] = val;
-                    out.tables = tables;
-                    out
-                }
-                Index::None => out,
-            }
+            let irq = index - PchPicState::ROUTE_ENTRY_BASE;
+            tables.route_entry[irq] = val;
+            out.tables = tables;
+            out
         }
         PchPicState::HTMSI_VEC_BASE..=PchPicState::HTMSI_VEC_LAST => {
-            match map::pch_pic_irq_index(index, PchPicState::HTMSI_VEC_BASE) {
-                Index::At(irq) => {
-                    tables.htmsi_vector[irq] = val;
-                    out.tables = tables;
-                    out
-                }
-                Index::None => out,
-            }
+            let irq = index - PchPicState::HTMSI_VEC_BASE;
+            tables.htmsi_vector[irq] = val;
+            out.tables = tables;
+            out
         }
         _ => out,
     }

@@ -1,10 +1,11 @@
 //! A guest's day with a PCH-PIC, told in plain words: start-up as Linux's driver does it, a load sample's line up and down, the device saved
 //! to a file and loaded into a fresh host, what comes after sixteen events, and a guest that is unkind.
 //!
-//! `load_sample FILE` plays it, and the device goes to FILE; `load_sample --show FILE` tells what a saved device holds. It prints the same as
+//! `load_sample FILE` plays it, and the device goes to FILE, in form 2; `load_sample --show FILE` tells what a saved device holds; `load_sample
+//! --form N FROM TO` saves what FROM holds to TO, in form 1 or 2: a host of before version 0.6.0 loads form 1 alone. It prints the same as
 //! `hosts/c/load_sample.c`.
 
-use pch_pic::{file, reg, Error, Event, PchPic, Width, Window, Wires};
+use pch_pic::{file, reg, Error, Event, Form, PchPic, Width, Window, Wires};
 use std::process::ExitCode;
 
 const WINDOW: Window = Window::at(0x1000_0000);
@@ -90,6 +91,10 @@ fn loaded(path: &str) -> Result<PchPic, Failure> {
     file::load(path).map_err(|why| format!("cannot load {path}: {why}").into())
 }
 
+fn save(pic: &PchPic, form: Form, path: &str) -> Result<(), Failure> {
+    file::save(pic, form, path).map_err(|why| format!("cannot save {path}: {why}").into())
+}
+
 /// A sample comes while its input is masked. The unmask announces it, and that event waits in the image while it is saved.
 fn save_and_load(host: &mut Host, path: &str) -> Result<(), Failure> {
     println!("The guest masks input {SAMPLE}, and the next sample comes: the line goes up.");
@@ -99,7 +104,7 @@ fn save_and_load(host: &mut Host, path: &str) -> Result<(), Failure> {
     host.guest_writes(reg::CLEAR, Width::Dword, SAMPLE_BIT)?;
     let mask = mask_without_sample(host)?;
     host.pic.write(WINDOW, WINDOW.base + reg::MASK, Width::Dword, mask)?;
-    file::save(&host.pic, path).map_err(|why| format!("cannot save {path}: {why}"))?;
+    save(&host.pic, Form::Two, path)?;
     println!("A fresh host loads it; line {SAMPLE} is still high there.");
     *host = Host::new(loaded(path)?);
     host.wires.resume(&mut host.pic, SAMPLE_BIT, route);
@@ -113,7 +118,7 @@ fn after_sixteen(host: &mut Host) -> Result<(), Error> {
     for input in 0..=16 {
         host.line(input, true)?;
     }
-    println!("The guest unmasks them with one write: the device announces the lowest, the host asks for the others.");
+    println!("The guest unmasks them with one write: the device announces the lowest, one sweep wakes the others.");
     host.guest_writes(reg::MASK, Width::Dword, 0xfffe_0000)?;
     println!("The guest masks them with one write: seventeen events, and sixteen can wait.");
     host.guest_writes(reg::MASK, Width::Dword, 0xffff_ffff)?;
@@ -160,14 +165,21 @@ fn show(path: &str) -> Result<ExitCode, Failure> {
     Ok(ExitCode::SUCCESS)
 }
 
+fn convert(form: Form, from: &str, to: &str) -> Result<ExitCode, Failure> {
+    save(&loaded(from)?, form, to)?;
+    Ok(ExitCode::SUCCESS)
+}
+
 fn main() -> ExitCode {
     let words: Vec<String> = std::env::args().skip(1).collect();
     let words: Vec<&str> = words.iter().map(String::as_str).collect();
     let done = match words[..] {
         [path] if !path.starts_with('-') => play(path),
         ["--show", path] => show(path),
+        ["--form", "1", from, to] => convert(Form::One, from, to),
+        ["--form", "2", from, to] => convert(Form::Two, from, to),
         _ => {
-            eprintln!("usage: load_sample FILE | load_sample --show FILE");
+            eprintln!("usage: load_sample FILE | load_sample --show FILE | load_sample --form 1|2 FROM TO");
             return ExitCode::from(2);
         }
     };

@@ -1,12 +1,14 @@
 //! The device: an image of its own, and the calls on it.
 
-use crate::{contents, ffi, reg, Error, Event, Events, Returned, Width, Window, EVENTS, EVENT_LEN, IMAGE_LEN, INPUTS, VECTORS};
+use crate::{
+    contents, ffi, reg, Error, Event, Events, Form, Image, Returned, Width, Window, EVENTS, EVENT_LEN, IMAGE2_LEN, INPUTS, VECTORS,
+};
 use core::fmt;
 
 /// A LoongArch PCH-PIC.
 ///
-/// It owns its image, so a clone is a snapshot, and equal devices answer every later call alike. It is `Send` and `Sync`: reads of one
-/// device may run side by side, since they only load from its image; all else takes `&mut`.
+/// It owns its image, so a clone is a snapshot, and devices are equal just where every later call answers alike, whatever form they were loaded
+/// from. It is `Send` and `Sync`: reads of one device may run side by side, since they only load from its image; all else takes `&mut`.
 ///
 /// ```
 /// fn shared<T: Send + Sync>(_: &T) {}
@@ -14,8 +16,8 @@ use core::fmt;
 /// ```
 #[derive(Clone, PartialEq, Eq, Hash)]
 pub struct PchPic {
-    /// An accepted image: made by reset or tested by load, and every call keeps it so.
-    image: [u8; IMAGE_LEN],
+    /// An accepted image of form 2: made by reset or tested by load, and every call keeps it so.
+    image: [u8; IMAGE2_LEN],
 }
 
 impl Default for PchPic {
@@ -49,8 +51,8 @@ impl PchPic {
     ///
     /// It is not `const`: the bytes come from the proved reset, which runs. A `static` takes a `LazyLock`.
     pub fn new() -> Self {
-        let mut image = [0; IMAGE_LEN];
-        ffi::reset(&mut image).expect("a reset takes any 259 bytes");
+        let mut image = [0; IMAGE2_LEN];
+        ffi::reset(&mut image).expect("a reset takes any 251 bytes");
         PchPic { image }
     }
 
@@ -273,23 +275,28 @@ impl PchPic {
         held
     }
 
-    /// The image: the whole device as bytes, to be kept or sent elsewhere. Most images with one byte changed are those of another device and
-    /// are loaded, so a checksum is kept beside it, as [`file`](crate::file) does.
-    pub fn save(&self) -> [u8; IMAGE_LEN] {
-        self.image
+    /// The image in this form: the whole device as bytes, to be kept or sent elsewhere. Most images with one byte changed are those of another
+    /// device and are loaded, so a checksum is kept beside it, as [`file`](crate::file) does.
+    pub fn save(&self, form: Form) -> Image {
+        Image::converted(&self.image, form).expect("a device's image is accepted")
     }
 
-    /// The device of a saved image. It answers every later call as the saved one would.
+    /// The device of an image that was saved in this form. It answers every later call as the saved one would. Where the form is not known, the
+    /// image's length says it: `PchPic::try_from` takes either form.
     ///
     /// ```
-    /// use pch_pic::{reg, Error, PchPic, Width, Window};
+    /// use pch_pic::{reg, Error, Form, PchPic, Width, Window};
     ///
     /// let mut pic = PchPic::new();
     /// pic.write(Window::at(0), reg::VECTORS + 7, Width::Byte, 0x77)?;
-    /// let mut image = pic.save();
-    /// assert_eq!(PchPic::load(&image)?, pic);
-    /// image[0] = 9; // no such form
-    /// assert_eq!(PchPic::load(&image), Err(Error::Contents));
+    /// for form in [Form::One, Form::Two] {
+    ///     let mut image = pic.save(form).to_vec();
+    ///     assert_eq!(PchPic::load(form, &image)?, pic);
+    ///     assert_eq!(PchPic::try_from(&image[..])?, pic);
+    ///     image[0] = 9; // no such form
+    ///     assert_eq!(PchPic::load(form, &image), Err(Error::Contents));
+    /// }
+    /// assert_eq!(PchPic::load(Form::One, &pic.save(Form::Two)), Err(Error::Length));
     /// # Ok::<(), Error>(())
     /// ```
     ///
@@ -297,43 +304,31 @@ impl PchPic {
     ///
     /// [`Error::Length`], [`Error::Contents`], or, with the place of the byte that breaks a rule of the form, [`Error::Copy`], [`Error::Count`],
     /// [`Error::Flag`] or [`Error::Unused`].
-    pub fn load(image: &[u8]) -> Result<Self, Error> {
-        let image: [u8; IMAGE_LEN] = image.try_into().map_err(|_| Error::Length)?;
-        // A read tests the image and changes nothing.
-        ffi::read(&image, Window::at(0), reg::ID, Width::Dword.bytes())?;
-        Ok(PchPic { image })
+    pub fn load(form: Form, image: &[u8]) -> Result<Self, Error> {
+        if image.len() == form.image_len() {
+            PchPic::try_from(image)
+        } else {
+            Err(Error::Length)
+        }
     }
 }
 
 impl TryFrom<&[u8]> for PchPic {
     type Error = Error;
 
-    /// The same as [`PchPic::load`].
+    /// As [`PchPic::load`], in the form that the image's length says.
     fn try_from(image: &[u8]) -> Result<Self, Error> {
-        PchPic::load(image)
+        // A conversion tests the image.
+        let mut pic = PchPic { image: [0; IMAGE2_LEN] };
+        ffi::convert(image, &mut pic.image)?;
+        Ok(pic)
     }
 }
 
-impl TryFrom<[u8; IMAGE_LEN]> for PchPic {
-    type Error = Error;
-
-    /// The same as [`PchPic::load`].
-    fn try_from(image: [u8; IMAGE_LEN]) -> Result<Self, Error> {
-        PchPic::load(&image)
-    }
-}
-
-impl From<PchPic> for [u8; IMAGE_LEN] {
-    /// The same as [`PchPic::save`].
-    fn from(pic: PchPic) -> Self {
-        pic.image
-    }
-}
-
-impl AsRef<[u8]> for PchPic {
-    /// The image.
-    fn as_ref(&self) -> &[u8] {
-        &self.image
+impl From<Image> for PchPic {
+    /// The device of an image that was accepted.
+    fn from(image: Image) -> Self {
+        PchPic::try_from(&image[..]).expect("an image is accepted")
     }
 }
 

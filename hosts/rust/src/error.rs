@@ -7,11 +7,11 @@ use core::fmt;
 /// Each case has a [number](Error::number), the same as in C. Later versions add cases.
 ///
 /// ```
-/// use pch_pic::{Error, PchPic};
+/// use pch_pic::{Error, Form, PchPic};
 ///
-/// assert_eq!(PchPic::load(&[0; 100]), Err(Error::Length));
+/// assert_eq!(PchPic::load(Form::One, &[0; 100]), Err(Error::Length));
 /// assert_eq!(Error::Length.number(), 4);
-/// assert_eq!(Error::Length.to_string(), "the image is not 259 bytes long");
+/// assert_eq!(Error::Length.to_string(), "an image is neither 259 nor 251 bytes long");
 /// ```
 #[derive(Clone, Copy, Debug, PartialEq, Eq, Hash)]
 #[non_exhaustive]
@@ -22,13 +22,13 @@ pub enum Error {
     Width,
     /// 3: the input is 64 or more.
     Input,
-    /// 4: the image is not 259 bytes long.
+    /// 4: an image is neither 259 nor 251 bytes long, or is not as long as the form that was named.
     Length,
-    /// 5: the image's first 22 bytes are not those of form 1.
+    /// 5: the image's first 22 bytes are not those of the form that its length says.
     Contents,
     /// 7: the place of a drain is past the end of its buffer.
     Room,
-    /// 8: the image's copy of IRR differs from IRR; the place of its first byte.
+    /// 8: the image, of form 1, has a copy of IRR that differs from IRR; the place of its first byte.
     Copy(u64),
     /// 9: the image says that more than 16 events wait; the place of the count.
     Count(u64),
@@ -87,8 +87,8 @@ impl fmt::Display for Error {
             Error::Outside(address) => write!(f, "the access at {address:#x} is not wholly inside the window"),
             Error::Width => f.write_str("the width is not 1, 2, 4 or 8"),
             Error::Input => f.write_str("the input is 64 or more"),
-            Error::Length => f.write_str("the image is not 259 bytes long"),
-            Error::Contents => f.write_str("the image does not begin as form 1 does"),
+            Error::Length => f.write_str("an image is neither 259 nor 251 bytes long"),
+            Error::Contents => f.write_str("the image does not begin as one of its length does"),
             Error::Room => f.write_str("a buffer is too short"),
             Error::Copy(place) => write!(f, "the image's copy of IRR differs from IRR, at byte {place}"),
             Error::Count(place) => write!(f, "the image says that more than 16 events wait, at byte {place}"),

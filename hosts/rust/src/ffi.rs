@@ -1,8 +1,9 @@
 //! The calls of libpch_pic.a (include/pch_pic.h), over slices. All that is unsafe stands here.
 //!
 //! What the library asks of its host holds by the types: a slice's length is true, and a mutable slice overlaps no other. So a call that
-//! changes an image is alone with it. Reads of one image may run side by side, and `PchPic` may be `Sync`: `pch_pic_read` gets the image
-//! as `const` and only loads from it, `pch_pic_table_read` too, writes to nothing but its own answer area, and the library has no memory of its own.
+//! changes an image is alone with it. Reads and conversions of one image may run side by side, and `PchPic` may be `Sync`: `pch_pic_read`,
+//! `pch_pic_table_read` and `pch_pic_convert` get the image as `const` and only load from it, write to nothing but their own answer area and target,
+//! and the library has no memory of its own.
 
 use crate::{Error, Window};
 
@@ -65,6 +66,7 @@ extern "C" {
         answer: *mut u8,
         answer_len: usize,
     ) -> u8;
+    fn pch_pic_convert(image: *const u8, image_len: usize, target: *mut u8, target_len: usize, answer: *mut u8, answer_len: usize) -> u8;
 }
 
 /// What a call gives: the value, if one is present, or why it was refused.
@@ -169,6 +171,14 @@ pub fn drain(image: &mut [u8], events: &mut [u8], place: usize) -> Outcome {
     outcome(number, &answer)
 }
 
+pub fn convert(image: &[u8], target: &mut [u8]) -> Outcome {
+    let mut answer: Answer = [0; ANSWER_LEN];
+    // SAFETY: the three slices are valid for their lengths and apart; the library only reads the image.
+    let number =
+        unsafe { pch_pic_convert(image.as_ptr(), image.len(), target.as_mut_ptr(), target.len(), answer.as_mut_ptr(), ANSWER_LEN) };
+    outcome(number, &answer)
+}
+
 #[cfg(test)]
 mod tests {
     use super::*;
@@ -202,5 +212,18 @@ mod tests {
         assert_eq!(level(&mut image, 0, true), Err(Error::Length));
         assert_eq!(poll(&mut image, 0), Err(Error::Length));
         assert_eq!(drain(&mut image, &mut [], 0), Err(Error::Length));
+        assert_eq!(convert(&image, &mut [0; crate::IMAGE_LEN]), Err(Error::Length));
+    }
+
+    #[test]
+    fn a_refused_conversion_leaves_its_target() {
+        let mut image = [0; crate::IMAGE2_LEN];
+        let mut target = [0xa5; crate::IMAGE_LEN + 1];
+        assert_eq!(convert(&image, &mut target[..crate::IMAGE_LEN]), Err(Error::Contents));
+        assert_eq!(reset(&mut image), Ok(None));
+        assert_eq!(convert(&image, &mut target), Err(Error::Length));
+        assert_eq!(target, [0xa5; crate::IMAGE_LEN + 1]);
+        assert_eq!(convert(&image, &mut target[..crate::IMAGE_LEN]), Ok(None));
+        assert_eq!((target[0], target[crate::IMAGE_LEN]), (1, 0xa5));
     }
 }

@@ -1,15 +1,16 @@
 //! A device in a file, which is replaced whole or not at all.
 //!
 //! A file has 8 bytes of magic, the image's length (4 bytes), the image, and a checksum of all before it (4 bytes); numbers have the
-//! little end first. The checksum is the usual CRC-32, as in gzip. `hosts/c/pic_file.c` writes and reads the same files.
+//! little end first. The checksum is the usual CRC-32, as in gzip. `hosts/c/pic_file.c` writes and reads the same files. A file of either form is
+//! loaded, those of older hosts too; hosts of before version 0.6.0 load form 1 alone.
 //!
 //! ```
-//! use pch_pic::{file, PchPic, Wires};
+//! use pch_pic::{file, Form, PchPic, Wires};
 //!
 //! # let folder = std::env::temp_dir().join(format!("pch-pic-{}", std::process::id()));
 //! # std::fs::create_dir_all(&folder)?;
 //! # let path = folder.join("device");
-//! file::save(&PchPic::new(), &path)?;
+//! file::save(&PchPic::new(), Form::Two, &path)?;
 //! let mut pic = file::load(&path)?;
 //! let high = 0; // the lines as the host's other devices hold them now
 //! Wires::new().resume(&mut pic, high, |event| println!("{event}"));
@@ -17,7 +18,7 @@
 //! # Ok::<(), Box<dyn std::error::Error>>(())
 //! ```
 
-use crate::{contents, Error, PchPic};
+use crate::{contents, Error, Form, PchPic};
 use core::fmt;
 use std::ffi::OsString;
 use std::fs::{self, File};
@@ -132,25 +133,25 @@ fn sync_folder(path: &Path) -> io::Result<()> {
     }
 }
 
-/// Saves a device. The bytes go to a file beside the old one, which takes its name only when it is whole and on the disk.
+/// Saves a device in this form. The bytes go to a file beside the old one, which takes its name only when it is whole and on the disk.
 ///
 /// # Errors
 ///
 /// Those of the file system; and what is there and no plain file is not replaced.
-pub fn save(pic: &PchPic, path: impl AsRef<Path>) -> io::Result<()> {
+pub fn save(pic: &PchPic, form: Form, path: impl AsRef<Path>) -> io::Result<()> {
     let path = path.as_ref();
     if fs::metadata(path).is_ok_and(|old| !old.is_file()) {
         return Err(io::Error::new(io::ErrorKind::InvalidInput, "what is there is no plain file"));
     }
     let beside = beside(path);
-    let written = write_and_sync(&beside, &sealed(pic.as_ref())).and_then(|()| fs::rename(&beside, path));
+    let written = write_and_sync(&beside, &sealed(&pic.save(form))).and_then(|()| fs::rename(&beside, path));
     if written.is_err() {
         let _ = fs::remove_file(&beside);
     }
     written.and_then(|()| sync_folder(path))
 }
 
-/// Loads a device. What comes next is [`Wires::resume`](crate::Wires::resume).
+/// Loads a device from a file of either form. What comes next is [`Wires::resume`](crate::Wires::resume).
 ///
 /// # Errors
 ///
@@ -159,7 +160,7 @@ pub fn load(path: impl AsRef<Path>) -> Result<PchPic, LoadError> {
     let mut bytes = Vec::new();
     // More is asked for than a device has, so that a longer file is seen.
     File::open(path)?.take(MOST).read_to_end(&mut bytes)?;
-    Ok(PchPic::load(opened(&bytes)?)?)
+    Ok(PchPic::try_from(opened(&bytes)?)?)
 }
 
 #[cfg(test)]
@@ -173,14 +174,14 @@ mod tests {
 
     #[test]
     fn what_is_sealed_is_opened() {
-        for len in [0, 1, 259, 290] {
+        for len in [0, 1, 251, 259, 290] {
             assert_eq!(opened(&sealed(&vec![0xa5; len])).unwrap(), vec![0xa5; len]);
         }
     }
 
     #[test]
     fn a_changed_byte_is_found() {
-        let saved = sealed(PchPic::new().as_ref());
+        let saved = sealed(&PchPic::new().save(Form::Two));
         for place in 0..saved.len() {
             let mut bytes = saved.clone();
             bytes[place] ^= 1 << (place % 8);
@@ -195,7 +196,7 @@ mod tests {
 
     #[test]
     fn so_is_another_length() {
-        let mut saved = sealed(PchPic::new().as_ref());
+        let mut saved = sealed(&PchPic::new().save(Form::One));
         for len in 0..saved.len() {
             let want = if len < 8 { "Foreign" } else { "Torn" };
             assert_eq!(format!("{:?}", opened(&saved[..len]).unwrap_err()), want, "{len}");

@@ -25,7 +25,8 @@
 //! [counted](PchPic::drops). Inputs may share a vector. An unmask announces only the lowest input that waits, and a write to CLEAR takes the
 //! latch of a line though it is still high. A guest that changes a vector in service gets a deassert of a vector that was never asserted,
 //! and a write to ISR makes no event at all. [`Wires`] does what is to be done about all of it: [`Wires::settle`] after every write of the
-//! guest, [`Wires::line`] for every line that moves, and [`Wires::resume`] after a load.
+//! guest, [`Wires::line`] for every line that moves, and [`Wires::resume`] after a load. To settle is also to poll all 64 inputs, and that one
+//! sweep wakes every input that is latched and unmasked.
 //!
 //! ```
 //! use pch_pic::{reg, PchPic, Width, Window, Wires};
@@ -55,6 +56,7 @@ mod event;
 mod ffi;
 #[cfg(feature = "std")]
 pub mod file;
+mod form;
 pub mod reg;
 mod wires;
 
@@ -62,10 +64,14 @@ pub use access::{Width, Window};
 pub use device::PchPic;
 pub use error::Error;
 pub use event::{Event, Events, Returned};
+pub use form::{Form, Image};
 pub use wires::Wires;
 
-/// The bytes of a saved image.
+/// The bytes of a saved image of [`Form::One`], the longest.
 pub const IMAGE_LEN: usize = 259;
+
+/// The bytes of a saved image of [`Form::Two`].
+pub const IMAGE2_LEN: usize = 251;
 
 /// The input lines, 0 to 63.
 pub const INPUTS: usize = 64;

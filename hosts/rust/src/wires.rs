@@ -75,10 +75,23 @@ impl Wires {
     }
 
     /// Brings the wires in line with the device, whatever the guest did: drains and passes on, counts afresh which vectors are on and passes
-    /// on what no event told, and raises each line again that is still high. To be called after each write and each reset.
+    /// on what no event told, polls all 64 inputs, and raises each line again that is still high. Then every latched and unmasked input is in
+    /// service. To be called after each write and each reset.
+    ///
+    /// ```
+    /// use pch_pic::{reg, PchPic, Width, Window, Wires};
+    ///
+    /// let (mut pic, mut wires) = (PchPic::new(), Wires::new());
+    /// let _ = (pic.set_level(3, true)?, pic.set_level(9, true)?, pic.set_level(40, true)?); // masked: only latched
+    /// pic.write(Window::at(0), reg::MASK, Width::Qword, 0)?; // announces 3, and 40 in the other half
+    /// wires.settle(&mut pic, |event| println!("{event}"));
+    /// assert!(wires.vectors_on().eq([3, 9, 40]));
+    /// # Ok::<(), pch_pic::Error>(())
+    /// ```
     pub fn settle(&mut self, pic: &mut PchPic, mut route: impl FnMut(Event)) {
-        // Waiting events are older than those of the lines. And a line that a CLEAR took goes off above before it goes on again.
+        // Waiting events are older than those of the inputs. And a line that a CLEAR took goes off above before it goes on again.
         self.catch_up(pic, &mut route);
+        self.sweep(pic, &mut route);
         for input in inputs(self.high) {
             self.shift(pic, input, true, &mut route);
         }
@@ -123,6 +136,16 @@ impl Wires {
         for (vector, held) in (0..=u8::MAX).zip(held) {
             if self.is_on(vector) != (held != 0) {
                 self.tell(Event { vector, asserted: held != 0 }, route);
+            }
+        }
+    }
+
+    /// One sweep: each input is polled. Whatever the guest did, every latched and unmasked input is in service then, and each was asserted at
+    /// most once.
+    fn sweep(&mut self, pic: &mut PchPic, route: &mut impl FnMut(Event)) {
+        for input in inputs(u64::MAX) {
+            for event in pic.poll(input).into_iter().flatten() {
+                self.pass_on(&pic.held(), event, route);
             }
         }
     }

@@ -1,11 +1,12 @@
 //! The device through its safe type: what it answers, what it refuses, and what it keeps.
 
-use pch_pic::{reg, Error, Event, PchPic, Returned, Width, Window, EVENTS, IMAGE_LEN, INPUTS};
+use pch_pic::{reg, Error, Event, Form, Image, PchPic, Returned, Width, Window, EVENTS, INPUTS};
 use std::collections::HashSet;
 use std::sync::{Arc, Mutex};
 use std::thread;
 
 const WINDOW: Window = Window::at(0);
+const FORMS: [Form; 2] = [Form::One, Form::Two];
 
 fn assert_event(vector: u8) -> Event {
     Event { vector, asserted: true }
@@ -165,14 +166,32 @@ fn a_loaded_device_goes_on_where_it_was() {
     let mut pic = overflown();
     pic.write(WINDOW, reg::VECTORS + 20, Width::Byte, 0xee).unwrap();
     pic.write(WINDOW, reg::MASK, Width::Dword, 0).unwrap();
-    let mut loaded = PchPic::load(&pic.save()).unwrap();
-    assert_eq!(loaded, pic);
-    for device in [&mut pic, &mut loaded] {
+    let mut loaded = FORMS.map(|form| PchPic::load(form, &pic.save(form)).unwrap());
+    assert_eq!(loaded, [pic.clone(), pic.clone()]);
+    for device in loaded.iter_mut().chain([&mut pic]) {
         assert_eq!(event(device.set_level(20, true)), Ok(Some(assert_event(0xee))));
         assert_eq!(device.drops(), 2);
         assert_eq!(device.drain_events().count(), EVENTS);
     }
-    assert_eq!(loaded, pic);
+    assert_eq!(loaded, [pic.clone(), pic]);
+}
+
+#[test]
+fn one_form_becomes_the_other() {
+    let mut pic = overflown();
+    pic.write(WINDOW, reg::ISR, Width::Qword, 0x8000_0000_0000_0003).unwrap();
+    let [one, two] = FORMS.map(|form| pic.save(form));
+    assert_eq!((one.len(), one.form(), two.len(), two.form()), (259, Form::One, 251, Form::Two));
+    assert_eq!((one[0], two[0]), (1, 2));
+    // Form 2 is form 1 without the copy of IRR, which stands before IRR; the contents differ beside.
+    assert_eq!(one[46..54], one[54..62]);
+    assert_eq!([&one[22..46], &one[54..]].concat(), two[22..]);
+    for (from, to) in [(&one, &two), (&two, &one), (&one, &one), (&two, &two)] {
+        assert_eq!(&Image::converted(from, to.form()).unwrap(), to);
+        assert_eq!(PchPic::from(from.clone()), pic);
+    }
+    assert_ne!(one, two);
+    assert!(format!("{two:?}").starts_with("Image { form: Two, bytes: [02, 04, 01, "));
 }
 
 /// Where the body of that kind begins, as the contents say.
@@ -183,30 +202,40 @@ fn offset_of(image: &[u8], kind: u8) -> usize {
 
 #[test]
 fn what_is_no_image_is_refused() {
-    let image = PchPic::new().save();
-    for len in (0..IMAGE_LEN).chain([IMAGE_LEN + 1, 1000]) {
-        assert_eq!(PchPic::load(&vec![1; len]), Err(Error::Length));
-    }
-    for place in 0..22 {
-        let mut other = image;
-        other[place] ^= 0x80;
-        assert_eq!(PchPic::load(&other), Err(Error::Contents));
-    }
-    // The copy of IRR, the count, a waiting event's flag, an unused pair: places in the bodies of the registers and of the events.
-    let (registers, events) = (offset_of(&image, 1), offset_of(&image, 4));
-    let broken = |breach: &[(usize, u8)], why: fn(u64) -> Error, place: usize| {
-        let mut broken = image;
-        for (place, byte) in breach {
-            broken[*place] = *byte;
+    for len in (0..300).chain([1000]) {
+        let why = if Form::of_len(len).is_some() { Error::Contents } else { Error::Length };
+        assert_eq!(PchPic::try_from(&vec![9; len][..]), Err(why));
+        assert_eq!(Image::converted(&vec![9; len], Form::One), Err(why));
+        for form in FORMS {
+            let why = if len == form.image_len() { Error::Contents } else { Error::Length };
+            assert_eq!(PchPic::load(form, &vec![9; len]), Err(why));
         }
-        assert_eq!(PchPic::try_from(&broken[..]), Err(why(place as u64)), "{breach:?}");
-        assert_eq!(PchPic::try_from(broken), Err(why(place as u64)), "{breach:?}");
-    };
-    broken(&[(registers + 26, 1)], Error::Copy, registers + 24);
-    broken(&[(events, 17)], Error::Count, events);
-    broken(&[(events, 2), (events + 6, 1), (events + 8, 2)], Error::Flag, events + 8);
-    broken(&[(events, 1), (events + 6, 2), (IMAGE_LEN - 1, 1)], Error::Flag, events + 6);
-    broken(&[(IMAGE_LEN - 1, 1)], Error::Unused, IMAGE_LEN - 1);
+    }
+    for form in FORMS {
+        let image = PchPic::new().save(form).to_vec();
+        for place in 0..22 {
+            let mut other = image.clone();
+            other[place] ^= 0x80;
+            assert_eq!(PchPic::load(form, &other), Err(Error::Contents));
+        }
+        // The copy of IRR, the count, a waiting event's flag, an unused pair: places in the bodies of the registers and of the events.
+        let (registers, events, last) = (offset_of(&image, 1), offset_of(&image, 4), image.len() - 1);
+        let broken = |breach: &[(usize, u8)], why: fn(u64) -> Error, place: usize| {
+            let mut broken = image.clone();
+            for (place, byte) in breach {
+                broken[*place] = *byte;
+            }
+            assert_eq!(PchPic::load(form, &broken), Err(why(place as u64)), "{breach:?}");
+            assert_eq!(Image::converted(&broken, Form::Two), Err(why(place as u64)), "{breach:?}");
+        };
+        if form == Form::One {
+            broken(&[(registers + 26, 1)], Error::Copy, registers + 24);
+        }
+        broken(&[(events, 17)], Error::Count, events);
+        broken(&[(events, 2), (events + 6, 1), (events + 8, 2)], Error::Flag, events + 8);
+        broken(&[(events, 1), (events + 6, 2), (last, 1)], Error::Flag, events + 6);
+        broken(&[(last, 1)], Error::Unused, last);
+    }
 }
 
 #[test]
@@ -246,9 +275,10 @@ fn what_the_device_holds() {
 #[test]
 fn it_is_bytes_and_a_key() {
     let pic = unmasked();
-    assert_eq!(pic.as_ref(), pic.save());
-    assert_eq!(<[u8; IMAGE_LEN]>::from(pic.clone()), pic.save());
-    assert_eq!(PchPic::try_from(pic.save()), Ok(pic.clone()));
+    for form in FORMS {
+        assert_eq!(PchPic::from(pic.save(form)), pic);
+        assert_eq!(PchPic::try_from(pic.save(form).as_ref()), Ok(pic.clone()));
+    }
     assert_eq!(HashSet::from([pic.clone(), PchPic::new(), pic]).len(), 2);
 }
 

@@ -2,7 +2,7 @@
 #![cfg(feature = "std")]
 
 use pch_pic::file::{self, LoadError};
-use pch_pic::{reg, Error, PchPic, Width, Window};
+use pch_pic::{reg, Error, Form, PchPic, Width, Window};
 use std::fs;
 use std::path::PathBuf;
 
@@ -32,18 +32,34 @@ fn there_and_back() {
     let folder = Folder::new("back");
     let path = folder.0.join("device");
     let mut pic = PchPic::new();
-    file::save(&pic, &path).unwrap();
+    file::save(&pic, Form::Two, &path).unwrap();
     pic.write(Window::at(0), reg::VECTORS, Width::Byte, 0x77).unwrap();
-    file::save(&pic, &path).unwrap();
-    assert_eq!(file::load(&path).unwrap(), pic);
+    for (form, len) in [(Form::One, 275), (Form::Two, 267)] {
+        file::save(&pic, form, &path).unwrap();
+        assert_eq!(fs::metadata(&path).unwrap().len(), len);
+        assert_eq!(file::load(&path).unwrap(), pic);
+    }
     assert_eq!(folder.names(), ["device"]);
+}
+
+/// What the example of version 0.5.0 saved, which knew form 1 alone.
+#[test]
+fn a_file_of_an_older_host_is_loaded() {
+    let folder = Folder::new("older");
+    let path = folder.0.join("device");
+    let older = include_bytes!("../../saved-0.5.0.device");
+    fs::write(&path, older).unwrap();
+    let pic = file::load(&path).unwrap();
+    assert_eq!((pic.latched(), pic.in_service(), pic.waiting(), pic.vector(21)), (1 << 21, 1 << 21, 1, Some(0x55)));
+    file::save(&pic, Form::One, &path).unwrap();
+    assert_eq!(fs::read(&path).unwrap(), older);
 }
 
 #[test]
 fn what_is_damaged_is_not_loaded() {
     let folder = Folder::new("damaged");
     let path = folder.0.join("device");
-    file::save(&PchPic::new(), &path).unwrap();
+    file::save(&PchPic::new(), Form::Two, &path).unwrap();
     let saved = fs::read(&path).unwrap();
     let with = |bytes: &[u8]| {
         fs::write(&path, bytes).unwrap();
@@ -56,7 +72,7 @@ fn what_is_damaged_is_not_loaded() {
     }
     assert!(matches!(with(&saved[..saved.len() - 1]), LoadError::Torn));
     assert!(matches!(with(&[&saved[..], &[0]].concat()), LoadError::Torn));
-    assert!(matches!(with(PchPic::new().as_ref()), LoadError::Foreign));
+    assert!(matches!(with(&PchPic::new().save(Form::Two)), LoadError::Foreign));
     assert!(matches!(with(&[]), LoadError::Foreign));
     // An empty image, whole and with its checksum.
     assert!(matches!(with(b"PCH-PIC\n\0\0\0\0\x22\x62\x1e\xb1"), LoadError::Image(Error::Length)));
@@ -65,10 +81,10 @@ fn what_is_damaged_is_not_loaded() {
 #[test]
 fn what_is_no_plain_file_is_not_replaced() {
     let folder = Folder::new("plain");
-    assert!(file::save(&PchPic::new(), &folder.0).is_err());
+    assert!(file::save(&PchPic::new(), Form::Two, &folder.0).is_err());
     assert!(folder.names().is_empty());
     assert!(matches!(file::load(folder.0.join("nothing")), Err(LoadError::Io(_))));
-    assert!(file::save(&PchPic::new(), folder.0.join("nothing/device")).is_err());
+    assert!(file::save(&PchPic::new(), Form::Two, folder.0.join("nothing/device")).is_err());
 }
 
 #[test]
@@ -77,7 +93,7 @@ fn what_an_earlier_save_left_is_no_hindrance() {
     let path = folder.0.join("device");
     fs::write(folder.0.join("kept"), "kept").unwrap();
     std::os::unix::fs::symlink(folder.0.join("kept"), folder.0.join("device.new")).unwrap();
-    file::save(&PchPic::new(), &path).unwrap();
+    file::save(&PchPic::new(), Form::One, &path).unwrap();
     assert_eq!(file::load(&path).unwrap(), PchPic::new());
     assert_eq!(fs::read(folder.0.join("kept")).unwrap(), b"kept");
 }

@@ -6,14 +6,14 @@ use lib.ListN.{length}
 use Rattle.rules.specs.Form.{formLength}
 use Rattle.image.specs.Shown.{formView}
 use Rattle.checked.specs.Good.{isAccepted}
-use Rattle.checked.proofs.Orders.{no-form, sized, bad-contents, body-decides}
+use Rattle.checked.proofs.Orders.{refused, no-form, sized, bad-contents, body-decides, accepts}
 use Rattle.checked.proofs.check.Statement.{statement}
 use Rattle.checked.proofs.check.Tie as tie
 
 returns : tie.Need-returns
 returns c =
     let k = c .before .before in
-    ap isAccepted (no-form (k .before .before .args .image .now) (k .form-of .result) (k .form-of .ensures) (c .enum-told .given .1))
+    refused (k .before .before .args .image .now) (ap isAccepted (no-form (k .before .before .args .image .now) (k .form-of .result) (k .form-of .ensures) (c .enum-told .given .1)))
 
 -- the form that is known, and the image has its length
 fits : (c : tie.After-known-told) → length (c .before .before .before .before .before .args .image .now) ≡ formLength (formView (c .before .form .given .0 .0))
@@ -26,8 +26,8 @@ returns-2 c =
     let g = c .before in
     let m = g .before .before in
     let k = m .before .before in
-    ap isAccepted (bad-contents (k .before .before .args .image .now) (k .form-of .result) (k .form-of .ensures) (m .form .given .0 .0) (m .form .given .1) (g .contents-good .result) (g .contents-good .ensures)
-    (not-true _ (c .if1 .taken)))
+    refused (k .before .before .args .image .now) (ap isAccepted (bad-contents (k .before .before .args .image .now) (k .form-of .result) (k .form-of .ensures) (m .form .given .0 .0) (m .form .given .1) (g .contents-good .result) (g .contents-good .ensures)
+    (not-true _ (c .if1 .taken))))
 
 returns-3 : tie.Need-returns-3
 returns-3 c =
@@ -35,8 +35,8 @@ returns-3 c =
     let g = b .before .before in
     let m = g .before .before in
     let k = m .before .before in
-    body-decides (k .before .before .args .image .now) (k .form-of .result) (k .form-of .ensures) (m .form .given .0 .0) (m .form .given .1) (g .contents-good .result) (g .contents-good .ensures)
-    (not-false _ (b .before .if1 .left)) (b .body-good .result) (b .body-good .ensures) (not-true _ (c .if2 .taken))
+    refused (k .before .before .args .image .now) (body-decides (k .before .before .args .image .now) (k .form-of .result) (k .form-of .ensures) (m .form .given .0 .0) (m .form .given .1) (g .contents-good .result) (g .contents-good .ensures)
+    (not-false _ (b .before .if1 .left)) (b .body-good .result) (b .body-good .ensures) (not-true _ (c .if2 .taken)))
 
 returns-4 : tie.Need-returns-4
 returns-4 c =
@@ -44,7 +44,7 @@ returns-4 c =
     let g = b .before .before in
     let m = g .before .before in
     let k = m .before .before in
-    body-decides (k .before .before .args .image .now) (k .form-of .result) (k .form-of .ensures) (m .form .given .0 .0) (m .form .given .1) (g .contents-good .result) (g .contents-good .ensures)
+    accepts (k .before .before .args .image .now) (k .form-of .result) (k .form-of .ensures) (m .form .given .0 .0) (m .form .given .1) (g .contents-good .result) (g .contents-good .ensures)
     (not-false _ (b .before .if1 .left)) (b .body-good .result) (b .body-good .ensures) (not-false _ (c .if2 .left))
 
 pub check-spec : {M : Type 1} → statement M

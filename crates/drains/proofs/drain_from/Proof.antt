@@ -35,4 +35,4 @@ drain-from-spec =
     let p = f .before .before .before .before in
     let g = p .before .before .before .before in
     let s = g .before .before .before .before in
-    drains (s .args .image .now) (s .args .out .now) _ _ _ (g .fitting .result) (s .pre .2) (s .pre .3) refl (g .fitting .ensures) (p .copy-out .ensures) (f .leave .ensures)))
+    drains (s .args .image .now) (s .args .out .now) _ _ _ (g .fitting .result) (s .pre .0) refl (g .fitting .ensures) (p .copy-out .ensures) (f .leave .ensures)))

@@ -7,7 +7,7 @@ use lib.Bits.{bitAnd}
 use Rattle.rules.specs.Inputs.{register}
 use Rattle.rules.specs.Lines.{event, cleared}
 use Rattle.rules.proofs.laws.Bits.{without-is}
-use Rattle.state.specs.View.{WellLines, linesView, ringView}
+use Rattle.state.specs.View.{linesView, ringView}
 use Rattle.state.specs.declared.Lines.{Lines}
 use Rattle.state.specs.declared.Ring.{Ring}
 use Rattle.decide.specs.Sets.{servedOf}
@@ -21,16 +21,15 @@ use Rattle.engine.proofs.clear_irq.Tie as tie
 abbrev off : ℕ → ℕ → ℕ
 off x m = bitAnd x ((2 ^ 64 - 1) - m)
 
-clear-moves : (vs : List ℕ) (l : Lines) (r s : Ring) (n m x : ℕ) → x ≡ register (servedOf m (l .intisr)) → WellLines l → m < 2 ^ 64 → l .intirr < 2 ^ 64 → l .intisr < 2 ^ 64
+clear-moves : (vs : List ℕ) (l : Lines) (r s : Ring) (n m x : ℕ) → x ≡ register (servedOf m (l .intisr)) → m < 2 ^ 64 → l .intirr < 2 ^ 64 → l .intisr < 2 ^ 64
     → Offers s n (ringView r) (eventsOf vs x false)
-    → Moves (record { lines = record { «int_mask» = l .«int_mask»; «last_intirr» = off (l .«last_intirr») m; intirr = off (l .intirr) m; intisr = off (l .intisr) m }; ring = s; dropped = n }) (ringView r)
+    → Moves (record { lines = record { «int_mask» = l .«int_mask»; intirr = off (l .intirr) m; intisr = off (l .intisr) m }; ring = s; dropped = n }) (ringView r)
     (cleared vs (linesView l) m)
 unfolding cleared
-clear-moves vs l r s n m x e well hm hirr hisr pushed =
+clear-moves vs l r s n m x e hm hirr hisr pushed =
     let irr = without-is (l .intirr) m hirr hm in
     let isr = without-is (l .intisr) m hisr hm in
     record {
-      well = ap (λ (x : ℕ). off x m) well;
       lines = λ t. record { mask = l .«int_mask»; irr = irr t; isr = isr t };
       offers = offers-as (ap (map (event vs true false)) (inputs-of (servedOf m (l .intisr)) e)) pushed;
     }
@@ -46,6 +45,6 @@ clear-irq-spec =
     (λ c κs. search needs)
     (λ c.
     let q = c .before in
-    let s = q .before .before .before .before .before in
+    let s = q .before .before .before .before in
     let a = s .args in
-    clear-moves (a .vectors .now) (a .lines) (a .ring) _ _ (a .mask) _ (q .before .before .before .before .served .ensures) (s .pre .0) (search needs) (search needs) (isr-fits s) (q .queue-events-for-mask .ensures)))
+    clear-moves (a .vectors .now) (a .lines) (a .ring) _ _ (a .mask) _ (q .before .before .before .served .ensures) (search needs) (search needs) (isr-fits s) (q .queue-events-for-mask .ensures)))

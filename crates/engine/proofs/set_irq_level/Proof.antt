@@ -16,19 +16,19 @@ use borrow.Author.Needs.{needs}
 use Rattle.engine.proofs.set_irq_level.Statement.{statement}
 use Rattle.engine.proofs.set_irq_level.Tie as tie
 
-abbrev withLatches : Lines → ℕ → ℕ → Lines
-withLatches l x y = record { «int_mask» = l .«int_mask»; «last_intirr» = x; intirr = y; intisr = l .intisr }
+abbrev withLatches : Lines → ℕ → Lines
+withLatches l y = record { «int_mask» = l .«int_mask»; intirr = y; intisr = l .intisr }
 
 -- what the poll, or the leave, of the changed lines comes to
-module _ (vs : List ℕ) (l out : Lines) (n x : ℕ) (r : Routed) (level : Bool) (h : n < 64) (hirr : l .intirr < 2 ^ 64) (hisr : l .intisr < 2 ^ 64)
+module _ (vs : List ℕ) (l out : Lines) (n : ℕ) (r : Routed) (level : Bool) (h : n < 64) (hirr : l .intirr < 2 ^ 64) (hisr : l .intisr < 2 ^ 64)
     (answers : Answers r (updated vs (linesView out) (bit n) level)) where
-  raise-answers : level ≡ true → out ≡ withLatches l x (bitOr (l .intirr) (bit n)) → Answers r (levelled vs (linesView l) n level)
+  raise-answers : level ≡ true → out ≡ withLatches l (bitOr (l .intirr) (bit n)) → Answers r (levelled vs (linesView l) n level)
   raise-answers e f =
       rw e
       (subst (Answers r) (raise-is vs n h (linesView l) (linesView out) (ap linesView f ∙ ap (withIrr (linesView l)) (put-is (l .intirr) n hirr h)))
       (rw e at answers))
 
-  lower-answers : level ≡ false → out ≡ withLatches l x (bitAnd (l .intirr) ((2 ^ 64 - 1) - bit n)) → Answers r (levelled vs (linesView l) n level)
+  lower-answers : level ≡ false → out ≡ withLatches l (bitAnd (l .intirr) ((2 ^ 64 - 1) - bit n)) → Answers r (levelled vs (linesView l) n level)
   lower-answers e f =
       rw e
       (subst (Answers r) (lower-is vs n h (linesView l) (linesView out) hisr (ap linesView f ∙ ap (withIrr (linesView l)) (without-only-is (l .intirr) n hirr h)))
@@ -39,13 +39,10 @@ set-irq-level-spec =
     tie.close
     (tie.spec
     (λ c. search needs)
-    (λ c κs.
-    let s = c .before in
-    ⊎-elim (λ w. rw (w .3) (ap (λ (x : ℕ). bitOr x (bit (s .args .irq))) (s .pre .0)))
-    (λ w. rw (w .3) (ap (λ (x : ℕ). bitAnd x ((2 ^ 64 - 1) - bit (s .args .irq))) (s .pre .0))) (c .if1 .came))
+    (λ c κs. search needs)
     (λ c.
     let a = c .before .before .args in
     ⊎-elim
-    (λ w. raise-answers (a .vectors .now) (a .lines) (c .before .if1 .out) (a .irq) _ (c .update-irq .result) (a .level) (search needs) (search needs) (search needs) (c .update-irq .ensures) (w .0 .taken) (w .3))
-    (λ w. lower-answers (a .vectors .now) (a .lines) (c .before .if1 .out) (a .irq) _ (c .update-irq .result) (a .level) (search needs) (search needs) (search needs) (c .update-irq .ensures) (w .0 .left) (w .3))
+    (λ w. raise-answers (a .vectors .now) (a .lines) (c .before .if1 .out) (a .irq) (c .update-irq .result) (a .level) (search needs) (search needs) (search needs) (c .update-irq .ensures) (w .0 .taken) (w .2))
+    (λ w. lower-answers (a .vectors .now) (a .lines) (c .before .if1 .out) (a .irq) (c .update-irq .result) (a .level) (search needs) (search needs) (search needs) (c .update-irq .ensures) (w .0 .left) (w .2))
     (c .before .if1 .came)))

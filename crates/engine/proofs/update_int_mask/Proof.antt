@@ -34,8 +34,8 @@ entered c =
     let answers : (a : Routed) → Answers a (enter vs false (on up) (withMask (linesView l) (c .before .before .replace-u32 .result))) → Answers a (enter vs false (on up) (withMask (linesView l) new))
     = λ a e. subst (λ (x : ℕ). Answers a (enter vs false (on up) (withMask (linesView l) x))) stored e in
     ⊎-elim (λ w. rw (w .9, w .10, w .11) (entered-one vs l r new up ups (isr-fits s) (w .1 .result) (answers _ (w .1 .ensures)) _ (w .6 .result) (w .8 .result) (w .4 .given .1) (w .6 .ensures) (w .8 .ensures)))
-    (⊎-elim (λ w. rw (w .5, w .6, w .7) (entered-none vs l r new up ups (isr-fits s) (w .1 .result) (answers _ (w .1 .ensures)) (w .4 .given .1) (s .pre .1)))
-    (λ w. rw (w .1, w .2, w .3) (entered-skip vs l r new up ups (isr-fits s) _ (w .0 .left) (s .pre .0) (s .pre .1) (ap (withMask (linesView l)) stored))))
+    (⊎-elim (λ w. rw (w .5, w .6, w .7) (entered-none vs l r new up ups (isr-fits s) (w .1 .result) (answers _ (w .1 .ensures)) (w .4 .given .1) (s .pre)))
+    (λ w. rw (w .1, w .2, w .3) (entered-skip vs l r new up ups (isr-fits s) _ (w .0 .left) (s .pre) (ap (withMask (linesView l)) stored))))
     (c .if1 .came)
 
 pub update-int-mask-spec : {M : Type 1} → statement M

@@ -20,7 +20,7 @@ update-irq-spec =
     let p = t .before in
     let s = p .before .before in
     rw (p .before .if1 .taken)
-    (pending-some (s .args .lines) (s .args .mask) _ (p .pending .ensures) (s .args .vectors .now) (s .pre) (search needs) (t .if2 .taken)))
+    (pending-some (s .args .lines) (s .args .mask) _ (p .pending .ensures) (s .args .vectors .now) (search needs) (t .if2 .taken)))
     (λ c. record { fits = lt-of-le-of-lt (trailing-le 64 _) (omega arith) })
     (λ c. let a = c .before .before .before .before .args in inactive-below (a .lines) (a .mask) (search needs) (c .if3 .taken))
     (λ c. let t = c .before in let a = t .before .before .before .before .args in inactive-below (a .lines) (a .mask) (search needs) (t .if3 .taken))
@@ -28,13 +28,13 @@ update-irq-spec =
     let t = c .before .before in
     let s = t .before .before .before .before in
     rw (t .before .before .before .if1 .left)
-    (inactive-some (s .args .lines) (s .args .mask) (search needs) (s .args .vectors .now) (s .pre) (search needs) (search needs) (t .if3 .taken)))
+    (inactive-some (s .args .lines) (s .args .mask) (search needs) (s .args .vectors .now) (search needs) (search needs) (t .if3 .taken)))
     (λ c.
     let p = c .before in
     let s = p .before .before in
     rw (p .before .if1 .taken)
-    (pending-none (s .args .lines) (s .args .mask) _ (p .pending .ensures) (s .args .vectors .now) (s .pre) (search needs) (c .if2 .left)))
+    (pending-none (s .args .lines) (s .args .mask) _ (p .pending .ensures) (s .args .vectors .now) (search needs) (c .if2 .left)))
     (λ c.
     let s = c .before .before .before .before in
     rw (c .before .before .before .if1 .left)
-    (inactive-none (s .args .lines) (s .args .mask) (search needs) (s .args .vectors .now) (s .pre) (search needs) (search needs) (c .if3 .left))))
+    (inactive-none (s .args .lines) (s .args .mask) (search needs) (s .args .vectors .now) (search needs) (search needs) (c .if3 .left))))

@@ -2,6 +2,8 @@
 use mathlib.Core.Path.{refl}
 use native.Mathlib.Omega.{arith}
 use Rattle.rules.specs.Form.{vectors}
+use Rattle.image.specs.Shown.{formView}
+use Rattle.image.proofs.Forms.{placed, always-fits}
 use Rattle.entries.proofs.Tables.{vectors-stored}
 use borrow.Author.Needs.{needs}
 use Rattle.entries.proofs.put_vectors.Statement.{statement}
@@ -12,10 +14,10 @@ put-vectors-spec =
     tie.close
     (tie.spec
     (λ c κs. search needs)
-    (λ c. omega (arith, c .before .before .places-of .ensures .fields vectors refl))
-    (λ c κs. omega (arith, c .before .before .places-of .ensures .fields vectors refl))
+    (λ c. (let p = c .before .before in omega (arith, placed (p .places-of .ensures) vectors refl, always-fits (formView (p .before .before .args .form)) vectors refl)))
+    (λ c κs. (let p = c .before .before in omega (arith, placed (p .places-of .ensures) vectors refl, always-fits (formView (p .before .before .args .form)) vectors refl)))
     (λ c. search needs)
     (λ c. let q = c .before .before in
     let p = q .before .before .before in
     let s = p .before .before in
-    vectors-stored (s .args .image .now) (s .args .input) (s .args .n) (s .args .x) (s .pre .1) (q .put-bytes .ensures) (p .places-of .ensures .fields vectors refl)))
+    vectors-stored (formView (s .args .form)) (s .args .image .now) (s .pre .0) (s .args .input) (s .args .n) (s .args .x) (s .pre .1) (q .put-bytes .ensures) (placed (p .places-of .ensures) vectors refl)))

@@ -2,6 +2,8 @@
 use mathlib.Core.Path.{refl}
 use native.Mathlib.Omega.{arith}
 use Rattle.rules.specs.Form.{routes}
+use Rattle.image.specs.Shown.{formView}
+use Rattle.image.proofs.Forms.{placed, always-fits}
 use Rattle.entries.proofs.Tables.{entries-read}
 use borrow.Author.Needs.{needs}
 use Rattle.entries.proofs.routes.Statement.{statement}
@@ -12,12 +14,12 @@ routes-spec =
     tie.close
     (tie.spec
     (λ c κs. search needs)
-    (λ c. omega (arith, c .before .places-of .ensures .fields routes refl))
-    (λ c. omega (arith, c .before .places-of .ensures .fields routes refl))
+    (λ c. (let p = c .before in omega (arith, placed (p .places-of .ensures) routes refl, always-fits (formView (p .before .before .args .form)) routes refl)))
+    (λ c. (let p = c .before in omega (arith, placed (p .places-of .ensures) routes refl, always-fits (formView (p .before .before .args .form)) routes refl)))
     (λ c. search needs)
     (λ c. search needs)
-    (λ c. omega (arith, c .before .places-of .ensures .fields routes refl))
+    (λ c. (let p = c .before in omega (arith, placed (p .places-of .ensures) routes refl, always-fits (formView (p .before .before .args .form)) routes refl)))
     (λ c κs. search needs)
     (λ c. let p = c .before .before .before in
     let s = p .before .before in
-    entries-read (s .args .image .now) routes refl refl (p .places-of .ensures .fields routes refl) (s .args .input) (s .args .n) (s .pre .1) (c .number .ensures)))
+    entries-read (formView (s .args .form)) (s .args .image .now) (s .pre .0) routes refl refl (placed (p .places-of .ensures) routes refl) (s .args .input) (s .args .n) (s .pre .1) (c .number .ensures)))

@@ -2,6 +2,8 @@
 use mathlib.Core.Path.{refl}
 use native.Mathlib.Omega.{arith}
 use Rattle.rules.specs.Form.{vectors}
+use Rattle.image.specs.Shown.{formView}
+use Rattle.image.proofs.Forms.{placed, always-fits}
 use Rattle.entries.proofs.Tables.{entry-read}
 use borrow.Author.Needs.{needs}
 use Rattle.entries.proofs.vector.Statement.{statement}
@@ -12,6 +14,6 @@ vector-spec =
     tie.close
     (tie.spec
     (λ c κs. search needs)
-    (λ c. omega (arith, c .places-of .ensures .fields vectors refl))
-    (λ c. omega (arith, c .before .places-of .ensures .fields vectors refl))
-    (λ c. let s = c .before .before .before in entry-read (s .args .image .now) vectors refl refl (c .before .places-of .ensures .fields vectors refl) (s .args .input) (s .pre .1)))
+    (λ c. (let p = c in omega (arith, placed (p .places-of .ensures) vectors refl, always-fits (formView (p .before .before .args .form)) vectors refl)))
+    (λ c. (let p = c .before in omega (arith, placed (p .places-of .ensures) vectors refl, always-fits (formView (p .before .before .args .form)) vectors refl)))
+    (λ c. let s = c .before .before .before in entry-read (formView (s .args .form)) (s .args .image .now) (s .pre .0) vectors refl refl (placed (c .before .places-of .ensures) vectors refl) (s .args .input) (s .pre .1)))

@@ -14,10 +14,10 @@ use Rattle.events.proofs.offer_each.Statement.{statement}
 use Rattle.events.proofs.offer_each.Tie as tie
 
 abbrev Inv-loop : tie.InvT-loop
-Inv-loop image₀ set left₀ image left = Offering image₀ image 0 set left
+Inv-loop image₀ form set left₀ image left = Offering image₀ image 0 set left
 
 abbrev μ-loop : tie.MeasureT-loop
-μ-loop image₀ set left₀ image left = length (inputs (on left))
+μ-loop image₀ form set left₀ image left = length (inputs (on left))
 
 below : (c : tie.In-loop Inv-loop μ-loop) → trailingZeros 64 (c .before .loop .left) < 64
 below c = first-below (c .before .loop .left) (c .before .loop .inv .below) (c .loop-test .taken)
@@ -28,10 +28,10 @@ offer-each-spec =
     (tie.spec
     Inv-loop
     μ-loop
-    (λ c. offering-starts (c .before .args .image .now) (c .before .args .set) (search needs) (search needs))
+    (λ c. offering-starts (c .before .args .image .now) (c .before .args .set) (search needs))
     (λ c. record { fits = lt-of-le-of-lt (trailing-le 64 _) (omega arith) })
-    (λ c κs. (c .before .before .loop .inv .sized, below (c .before)))
-    (λ c κs. c .before .before .before .before .loop .inv .sized)
+    (λ c κs. let l = c .before .before in (l .loop .inv .sized ∙ l .before .before .pre, below (c .before)))
+    (λ c κs. let l = c .before .before .before .before in l .loop .inv .sized ∙ l .before .before .pre)
     (λ c. let t = c .before .before .before .before .before .before in omega (arith, t .loop-test .taken))
     (λ c κs. search needs)
     (λ c. let x = c .before .before .before .before .before .before .before .before .before .before .before .before .loop .left in omega (arith, c .before .before .before .before .before .before .before .offer .ensures .0, c .before .before .offer-rest .ensures .0, inputs-few (bitAnd x (x - 1))))
@@ -48,5 +48,5 @@ offer-each-spec =
     let v = o .before .before in
     let t = v .before .before in
     offering-told (offering-next (t .before .loop .inv) (t .loop-test .taken) _ _ _ (v .vector .ensures) (o .offer .ensures .0) (o .offer .ensures .1) (search needs)) (zero-add (o .offer .result) ∙ c .if1 .left))
-    (λ c. c .before .loop .inv .sized ∙ sym (c .before .before .before .pre))
+    (λ c. c .before .loop .inv .sized)
     (λ c. let o = offering-done (c .before .loop .inv) (c .loop-test .left) in (omega arith, o .1)))

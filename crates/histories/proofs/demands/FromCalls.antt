@@ -4,27 +4,29 @@
 use mathlib.Core.Path.{_≡_, refl, sym, ap, _∙_}
 use mathlib.Core.Bool.{true, false, cond, true≢false, and-false, and-eq-true-iff}
 use mathlib.Core.List.{List, [], _∷_, _++_, append-nil, append-assoc}
+use lib.ListN.{length}
 use Rattle.rules.specs.Device.{Device, WellFormed, Call, Step, value, reset}
-use Rattle.rules.specs.Image.{encode, decode, imageTest, accepted}
+use Rattle.rules.specs.Form.{Form, formLength}
+use Rattle.rules.specs.Image.{encodeAs, encodeLike, decode, imageTest, accepted}
 use Rattle.rules.specs.Calls.{afresh, askedBy, Outcome}
 use Rattle.rules.specs.History.{history, fromReset}
 use Rattle.histories.specs.Exported.{Exported, leftBy, isDone, isReset, isLoad, callOf, Underway, carriedOn, carriedThrough, NoLoads}
 use Rattle.histories.specs.Exported.{HandedOn, doneCall, doneCalls, IsStep, GivenBytes, current, inImage, Faithful, afterReset, atLoad}
 use Rattle.rules.proofs.laws.Lists.{equal-same}
-use Rattle.rules.proofs.laws.Images.{decode-encode}
+use Rattle.rules.proofs.laws.Images.{encode-as, decode-encode}
 use Rattle.histories.proofs.laws.Folds.{history-append}
 use Rattle.histories.proofs.laws.WellFormed.{history-well}
-use Rattle.histories.proofs.laws.Chains.{handed, faithful-on, carried-on, left-last, reset-leaves, reset-begins, faithful-after-reset, done-accepted, own-image, load-begins}
+use Rattle.histories.proofs.laws.Chains.{left-length, handed, carried-on, faithful-kept, faithful-on, left-last, reset-leaves, reset-begins, faithful-after-reset, done-accepted, own-image, load-begins}
 
 -- ---- one call
 
--- An exported call that is given the image of d, is no reset and is done, is one call of d: it hands back what that call's step gives.
-pub a-call-is-a-step : (d : Device) → WellFormed d → (x : Exported) → x .given ≡ encode d → isReset (askedBy (x .asked)) ≡ false → isDone x ≡ true → IsStep d x
+-- An exported call that is given the image of d, in either form, is no reset and is done, is one call of d: it hands back what that call's step gives.
+pub a-call-is-a-step : (d : Device) → WellFormed d → (f : Form) (x : Exported) → x .given ≡ encodeAs f d → isReset (askedBy (x .asked)) ≡ false → isDone x ≡ true → IsStep d x
 unfolding history
-a-call-is-a-step d w x g n t =
-    let h : Underway = record { began = d; calls = []; left = encode d } in
-    let no : isLoad (encode d) x ≡ false = rw (n, equal-same (encode d) (x .given) (sym g)) (and-false (isDone x)) in
-    let r = handed h x (record { began = w; left = refl }) t no in
+a-call-is-a-step d w f x g n t =
+    let h : Underway = record { began = d; calls = []; left = encodeAs f d } in
+    let no : isLoad (encodeAs f d) x ≡ false = rw (n, equal-same (encodeAs f d) (x .given) (sym g)) (and-false (isDone x)) in
+    let r = handed h x (record { form = f; began = w; left = refl }) t no in
     record {
       call = r .call;
       is = (λ i. cond (t i) (callOf (r .passes i)) []);
@@ -34,10 +36,13 @@ a-call-is-a-step d w x g n t =
       events = ap (λ (o : Outcome). o .events) (r .left);
     }
 
--- A done reset leaves the image of the reset device and begins the history from reset, whatever was under way and whatever bytes it is given.
+-- A done reset leaves the image of the reset device and begins the history from reset, whatever was under way and whatever bytes it is given: they have the
+-- length of a form, and that is the image's.
 pub a-reset-begins : (h : Underway) (x : Exported) → askedBy (x .asked) ≡ afresh → isDone x ≡ true
-    → (leftBy x .image ≡ encode reset) × (carriedOn h x ≡ afterReset)
-a-reset-begins h x e t = (reset-leaves x t e, reset-begins h x t e)
+    → (f : Form) × (length (x .given) ≡ formLength f) × (leftBy x .image ≡ encodeAs f reset) × (carriedOn h x ≡ afterReset f)
+a-reset-begins h x e t =
+    let r = reset-leaves x t e in
+    (r .0, r .1, r .2, reset-begins h x t e)
 
 -- A load, whatever was under way, is given an image that is accepted, and begins the history from it: its own call is the first.
 pub a-load-begins : (h : Underway) (x : Exported) → isLoad (h .left) x ≡ true → isReset (askedBy (x .asked)) ≡ false
@@ -48,23 +53,23 @@ a-load-begins h x l n =
 
 -- The image left last, loaded, is the device to which the history under way has come.
 pub image-holds-device : (h : Underway) → Faithful h → inImage h ≡ current h
-image-holds-device h f = ap decode (f .left) ∙ decode-encode (current h) (history-well (h .began) (h .calls) (f .began))
+image-holds-device h f = ap decode (f .left) ∙ decode-encode (current h) (history-well (h .began) (h .calls) (f .began)) (f .form)
 
 -- ---- calls, one after another
 
-record Chain (h : Underway) (xs : List Exported) : Type 0 where
-  faithful : Faithful (carriedThrough h xs)
+record Chain (f : Form) (h : Underway) (xs : List Exported) : Type 0 where
+  left : carriedThrough h xs .left ≡ encodeAs f (current (carriedThrough h xs))
   began : carriedThrough h xs .began ≡ h .began
   calls : carriedThrough h xs .calls ≡ h .calls ++ doneCalls xs
 
-chain : (h : Underway) (xs : List Exported) → Faithful h → NoLoads h xs → Chain h xs
+chain : (h : Underway) (xs : List Exported) (f : Faithful h) → NoLoads h xs → Chain (f .form) h xs
 unfolding carriedThrough NoLoads doneCalls
-chain h [] f n = record { faithful = f; began = refl; calls = sym (append-nil (h .calls)) }
+chain h [] f n = record { left = f .left; began = refl; calls = sym (append-nil (h .calls)) }
 chain h (x ∷ xs) f n =
     let one = carried-on h x f (n .0) in
-    let two = chain (carriedOn h x) xs (faithful-on h x f (λ t. absurd (true≢false (sym t ∙ n .0)))) (n .1) in
+    let two = chain (carriedOn h x) xs (faithful-kept h x f (n .0)) (n .1) in
     record {
-      faithful = two .faithful;
+      left = two .left;
       began = two .began ∙ one .began;
       calls = two .calls ∙ ap (λ cs. cs ++ doneCalls xs) (one .calls) ∙ append-assoc (h .calls) (doneCall x) (doneCalls xs);
     }
@@ -79,35 +84,48 @@ handed-on-is-no-load h (x ∷ xs) c = (
   handed-on-is-no-load (carriedOn h x) xs (rw (left-last h x (c .0)) (c .2)),
 )
 
--- Exported calls, none of them a load, carry a history on by the calls that were done, and the image left last is that of the device to which it comes.
-pub calls-carry-on : (h : Underway) → Faithful h → (xs : List Exported) → NoLoads h xs
-    → carriedThrough h xs ≡ record { began = h .began; calls = h .calls ++ doneCalls xs; left = encode (history (current h) (doneCalls xs) .after) }
+-- Exported calls, none of them a load, carry a history on by the calls that were done, and the image left last is that of the device to which it comes, in
+-- the form of the image left at first.
+pub calls-carry-on : (h : Underway) (f : Faithful h) (xs : List Exported) → NoLoads h xs
+    → carriedThrough h xs ≡ record { began = h .began; calls = h .calls ++ doneCalls xs; left = encodeAs (f .form) (history (current h) (doneCalls xs) .after) }
 calls-carry-on h f xs n =
     let c = chain h xs f n in
-    let whole = ap (λ (s : Step). encode (s .after)) (history-append (h .began) (h .calls) (doneCalls xs)) in
-    let left-is = c .faithful .left ∙ (λ j. encode (history (c .began j) (c .calls j) .after)) ∙ whole in
+    let whole = ap (λ (s : Step). encodeAs (f .form) (s .after)) (history-append (h .began) (h .calls) (doneCalls xs)) in
+    let left-is = c .left ∙ (λ j. encodeAs (f .form) (history (c .began j) (c .calls j) .after)) ∙ whole in
     (λ i. record { began = c .began i; calls = c .calls i; left = left-is i })
+
+abbrev through : (h : Underway) → Faithful h → (xs : List Exported) → NoLoads h xs → Faithful (carriedThrough h xs)
+through h f xs n =
+    let c = chain h xs f n in
+    record { form = f .form; began = rw (c .began) (f .began); left = c .left }
 
 -- after them the history is still that of the image left last
 pub faithful-through : (h : Underway) → Faithful h → (xs : List Exported) → NoLoads h xs → Faithful (carriedThrough h xs)
-faithful-through h f xs n = chain h xs f n .faithful
+faithful-through = through
+
+-- and that image has the length of the one left at first, since it has its form
+pub length-through : (h : Underway) → Faithful h → (xs : List Exported) → NoLoads h xs → length (carriedThrough h xs .left) ≡ length (h .left)
+length-through h f xs n = left-length (carriedThrough h xs) (through h f xs n) ∙ sym (left-length h f)
 
 -- and that image, loaded, is the device
 pub image-holds-history : (h : Underway) → Faithful h → (xs : List Exported) → NoLoads h xs
     → inImage (carriedThrough h xs) ≡ history (current h) (doneCalls xs) .after
 image-holds-history h f xs n =
     let well = history-well (current h) (doneCalls xs) (history-well (h .began) (h .calls) (f .began)) in
-    ap (λ (u : Underway). decode (u .left)) (calls-carry-on h f xs n) ∙ decode-encode (history (current h) (doneCalls xs) .after) well
+    ap (λ (u : Underway). decode (u .left)) (calls-carry-on h f xs n) ∙ decode-encode (history (current h) (doneCalls xs) .after) well (f .form)
 
 -- So a done reset x, and after it exported calls each given the image that the one before it left, are the history from reset of the calls that were
--- done; and the image left last is that of the history's device.
+-- done; and the image left last is that of the history's device, in the form that the reset was given.
 pub calls-are-a-history : (h : Underway) (x : Exported) → askedBy (x .asked) ≡ afresh → isDone x ≡ true → (xs : List Exported) → HandedOn (leftBy x .image) xs
-    → carriedThrough h (x ∷ xs) ≡ record { began = reset; calls = doneCalls xs; left = encode (fromReset (doneCalls xs) .after) }
-unfolding history carriedThrough
+    → carriedThrough h (x ∷ xs) ≡ record { began = reset; calls = doneCalls xs; left = encodeLike (x .given) (fromReset (doneCalls xs) .after) }
+unfolding history carriedThrough faithful-after-reset
 calls-are-a-history h x e t xs o =
     let begins = a-reset-begins h x e t in
-    ap (λ u. carriedThrough u xs) (begins .1)
-    ∙ calls-carry-on afterReset faithful-after-reset xs (handed-on-is-no-load afterReset xs (rw (begins .0) at o))
+    let f = begins .0 in
+    let like : encodeAs f (fromReset (doneCalls xs) .after) ≡ encodeLike (x .given) (fromReset (doneCalls xs) .after) = sym (encode-as f (x .given) (begins .1) (fromReset (doneCalls xs) .after)) in
+    ap (λ u. carriedThrough u xs) (begins .3)
+    ∙ calls-carry-on (afterReset f) (faithful-after-reset f) xs (handed-on-is-no-load (afterReset f) xs (rw (begins .2) at o))
+    ∙ (λ i. record { began = reset; calls = doneCalls xs; left = like i })
 
 -- With loads and resets among them, exported calls are what Exported says: whatever they are, the image left last is that of the device to which the
 -- history under way has come since it began, at the last load or reset. A load has to be given bytes.
@@ -118,11 +136,11 @@ history-since-load h (x ∷ xs) f b = history-since-load (carriedOn h x) xs (fai
 
 -- ---- 'A state saved and loaded answers every later call as the unsaved one would' (01, Saved image)
 
--- s: the device after any calls from d, which is reset or a loaded device (RoundTrip). Saved and loaded it is the same device, so that later calls make,
--- drain and leave the same, and each answers the same value.
-pub saved-answers-alike : (d : Device) → WellFormed d → (before later : List Call)
+-- s: the device after any calls from d, which is reset or a loaded device (RoundTrip). Saved in either form and loaded it is the same device, so that later
+-- calls make, drain and leave the same, and each answers the same value.
+pub saved-answers-alike : (d : Device) → WellFormed d → (f : Form) (before later : List Call)
     → let s = history d before .after in
-    (history (decode (encode s)) later ≡ history s later) × ((c : Call) → value (history (decode (encode s)) later .after) c ≡ value (history s later .after) c)
-saved-answers-alike d w before later =
-    let same = decode-encode (history d before .after) (history-well d before w) in
+    (history (decode (encodeAs f s)) later ≡ history s later) × ((c : Call) → value (history (decode (encodeAs f s)) later .after) c ≡ value (history s later .after) c)
+saved-answers-alike d w f before later =
+    let same = decode-encode (history d before .after) (history-well d before w) f in
     (ap (λ s. history s later) same, λ c. ap (λ s. value (history s later .after) c) same)

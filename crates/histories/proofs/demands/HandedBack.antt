@@ -12,6 +12,7 @@ use Rattle.rules.specs.Inputs.{on}
 use Rattle.rules.specs.Lines.{Made}
 use Rattle.rules.specs.Ring.{Event, dropped}
 use Rattle.rules.specs.Device.{Device, Call, level, step, reset}
+use Rattle.rules.specs.Form.{Form}
 use Rattle.rules.specs.Image.{decode}
 use Rattle.rules.specs.Calls.{askedBy}
 use Rattle.rules.specs.History.{history}
@@ -84,11 +85,11 @@ account-from-load v h x l s b xs n p lost is =
     let whole = account v d (atLoad (x .given)) (faithful-at-load (x .given) b (r .0)) refl (x ∷ xs) (r .1, later) p lost is in
     subst (λ u. Balances v d (x ∷ xs) lost (inImage (carriedThrough u xs))) (sym (r .2)) whole
 
-module _ (v : ℕ) (xs : List Exported) (n : NoLoads afterReset xs) (p : Along Admitted reset (doneCalls xs)) where
-  -- From a reset on, for each vector: the asserts read in answer areas, those read in event buffers, those that wait in the image left last and those
+module _ (v : ℕ) (form : Form) (xs : List Exported) (n : NoLoads (afterReset form) xs) (p : Along Admitted reset (doneCalls xs)) where
+  -- From a reset on, in either form, for each vector: the asserts read in answer areas, those read in event buffers, those that wait in the image left last and those
   -- dropped come to as many deasserts, and the inputs that in that image are in service and carry it.
   pub account-of-calls : (lost : List Event) → lost ≡ dropped (reset .ring) (ringActs reset (doneCalls xs))
-      → let left = inImage (carriedThrough afterReset xs) in
+      → let left = inImage (carriedThrough (afterReset form) xs) in
       assertsAmong v (returnedBy xs) + assertsAmong v (drainedBy xs) + assertsAmong v (left .ring .waiting) + assertsAmong v lost
       ≡ deassertsAmong v (returnedBy xs) + deassertsAmong v (drainedBy xs) + deassertsAmong v (left .ring .waiting) + deassertsAmong v lost
       + carrying v (left .core)
@@ -96,17 +97,17 @@ module _ (v : ℕ) (xs : List Exported) (n : NoLoads afterReset xs) (p : Along A
   account-of-calls lost is =
       let no-assert = tally-nil (λ (x : Event). x .asserted && eqb (x .vector) v) in
       let no-deassert = tally-nil (λ (x : Event). not (x .asserted) && eqb (x .vector) v) in
-      omega (arith, account v reset afterReset faithful-after-reset refl xs n p lost is, none-served v, no-assert, no-deassert)
+      omega (arith, account v reset (afterReset form) (faithful-after-reset form) refl xs n p lost is, none-served v, no-assert, no-deassert)
 
   -- While the drop count is 0 none was dropped: every event is in what was handed back or in the image.
   pub account-without-drops :
-      let left = inImage (carriedThrough afterReset xs) in
+      let left = inImage (carriedThrough (afterReset form) xs) in
       left .ring .drops ≡ 0
       → assertsAmong v (returnedBy xs) + assertsAmong v (drainedBy xs) + assertsAmong v (left .ring .waiting)
       ≡ deassertsAmong v (returnedBy xs) + deassertsAmong v (drainedBy xs) + deassertsAmong v (left .ring .waiting) + carrying v (left .core)
   unfolding history
   account-without-drops e =
-      let none-dropped = sym (ap (λ d. d .ring .drops) (image-holds-history afterReset faithful-after-reset xs n)) ∙ e in
+      let none-dropped = sym (ap (λ d. d .ring .drops) (image-holds-history (afterReset form) (faithful-after-reset form) xs n)) ∙ e in
       let none = nothing (dropped (reset .ring) (ringActs reset (doneCalls xs))) (omega (arith, drops-counted reset (doneCalls xs) (lit≤ tt), none-dropped)) in
       let no-assert = tally-nil (λ (x : Event). x .asserted && eqb (x .vector) v) in
       let no-deassert = tally-nil (λ (x : Event). not (x .asserted) && eqb (x .vector) v) in

@@ -8,6 +8,7 @@ use native.Mathlib.Omega.{arith}
 use lib.Dec.{lit≤}
 use Rattle.rules.specs.Numbers.{Bytes}
 use Rattle.rules.specs.Device.{Device, Call, value, reset}
+use Rattle.rules.specs.Form.{Form, one}
 use Rattle.rules.specs.Image.{decode}
 use Rattle.rules.specs.Calls.{askedBy, answered, presentIn, valueIn, Outcome}
 use Rattle.rules.specs.Calls as request
@@ -44,7 +45,7 @@ pub write-tells : (x : Exported) (base size address width v : ℕ) → x .asked 
 unfolding lossesIn
 write-tells x base size address width v q t =
     let d = decode (x .given) in
-    let r = done-call afterReset x t (ap (λ k. isReset (askedBy k)) q) in
+    let r = done-call (afterReset one) x t (ap (λ k. isReset (askedBy k)) q) in
     let answer : leftBy x .answer ≡ answered 0 (value d (r .call)) (x .answer) = ap (λ (o : Outcome). o .answer) (r .left) in
     let says = tells d base size address width v (r .call) (x .answer) (sym (ap askedBy q) ∙ r .passes) in
     (rw answer (says .present), rw (answer, t, r .passes) (omega (arith, says .amount)))
@@ -74,11 +75,11 @@ module _ (h : Underway) (f : Faithful h) (xs : List Exported) (n : NoLoads h xs)
       → inImage h .ring .drops + (4294967295 - inImage h .ring .drops) ≡ inImage (carriedThrough h xs) .ring .drops
   losses-up-to-the-stop full = omega (arith, losses-of-calls, first-not-past)
 
--- From a reset on, where the count is 0.
-pub losses-from-reset : (xs : List Exported) → NoLoads afterReset xs → inImage (carriedThrough afterReset xs) .ring .drops ≡ min (lossesRead xs) 4294967295
+-- From a reset on, in either form, where the count is 0.
+pub losses-from-reset : (form : Form) (xs : List Exported) → NoLoads (afterReset form) xs → inImage (carriedThrough (afterReset form) xs) .ring .drops ≡ min (lossesRead xs) 4294967295
 unfolding history
-losses-from-reset xs n =
-    rw (image-holds-history afterReset faithful-after-reset xs n, losses-read afterReset faithful-after-reset xs n)
+losses-from-reset form xs n =
+    rw (image-holds-history (afterReset form) (faithful-after-reset form) xs n, losses-read (afterReset form) (faithful-after-reset form) xs n)
     (omega (arith, losses-counted reset (doneCalls xs) (lit≤ tt)))
 
 -- From a load on, whatever count the loaded image holds; the load's own call is the first that is read.

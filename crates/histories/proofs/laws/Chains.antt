@@ -10,7 +10,8 @@ use lib.ListN.{length}
 use borrow.Author.Tests.{leb-true}
 use Rattle.rules.specs.Numbers.{Bytes}
 use Rattle.rules.specs.Device.{Device, Call, value, step, reset}
-use Rattle.rules.specs.Image.{copyDiffers, manyWait, badFlag, unusedSet, imageLength, ImageTest, imageTest, same, encode, decode}
+use Rattle.rules.specs.Form.{Form, forms, Known, unknown, known, formOf, formLength}
+use Rattle.rules.specs.Image.{copyDiffers, manyWait, badFlag, unusedSet, ImageTest, imageTest, same, encodeAs, encodeLike, decode}
 use Rattle.rules.specs.Image as image
 use Rattle.rules.specs.Calls.{Refusal, outside, noWidth, noInput, wrongLength, wrongContents, noRoom, broken, refusalNumber}
 use Rattle.rules.specs.Calls.{Tested, pass, refuse, Request, Asked, afresh, calls, askedBy, Done, doneOn, performed}
@@ -19,7 +20,9 @@ use Rattle.rules.specs.History.{history}
 use Rattle.histories.specs.Exported.{Exported, leftBy, isDone, isReset, isLoad, callOf, Underway, carriedOn, doneCall, doneCalls, afterReset, atLoad, current, Faithful}
 use Rattle.rules.proofs.laws.Bits.{test}
 use Rattle.rules.proofs.laws.Lists.{same-self, same-equal}
-use Rattle.rules.proofs.laws.Images.{decode-encode, encode-decode, decode-well-formed, reset-well-formed}
+use Rattle.rules.proofs.laws.Tests.{form-known}
+use Rattle.rules.proofs.laws.Saved.{length-encode}
+use Rattle.rules.proofs.laws.Images.{accepted-has, encode-as, decode-encode, encode-decode, decode-well-formed, reset-well-formed}
 use Rattle.histories.proofs.laws.Folds.{history-append}
 use Rattle.histories.proofs.laws.WellFormed.{history-well}
 
@@ -39,17 +42,17 @@ refused-not-done (broken badFlag a) = refl
 refused-not-done (broken unusedSet a) = refl
 
 -- its tests passed, and it left what it gives
-record DidPass (x : Exported) : Type 0 where
-  room : hasRoom (x .asked) (x .answer) ≡ true
-  gives : Done
-  passed : performed (askedBy (x .asked)) (x .given) ≡ pass gives
-  left : leftBy x ≡ settled (x .answer) (ended (x .asked) (x .given) (pass gives))
+pub record DidPass (x : Exported) : Type 0 where
+  pub room : hasRoom (x .asked) (x .answer) ≡ true
+  pub gives : Done
+  pub passed : performed (askedBy (x .asked)) (x .given) ≡ pass gives
+  pub left : leftBy x ≡ settled (x .answer) (ended (x .asked) (x .given) (pass gives))
 
 place-fits : (q : Request) (a : List ℕ) → hasRoom q a ≡ true → placeOf q ≤ length (bufferOf q)
 place-fits q a t =
     leb-true (placeOf q) (length (bufferOf q)) (and-eq-true-iff (leb answerLength (length a)) (leb (placeOf q) (length (bufferOf q))) .0 t .1)
 
-did-pass : (x : Exported) → isDone x ≡ true → DidPass x
+pub did-pass : (x : Exported) → isDone x ≡ true → DidPass x
 unfolding outcome
 did-pass x e =
     test (hasRoom (x .asked) (x .answer)) (λ t. go t (performed (askedBy (x .asked)) (x .given)) refl)
@@ -93,16 +96,27 @@ did-call t i y e = go (imageTest i) refl t refl
     go image.wrongContents f u g = never wrongContents y (rw f at e)
     go (image.broken k a) f u g = never (broken k a) y (rw f at e)
 
-did-reset : (i : List ℕ) (y : Done) → performed afresh i ≡ pass y → y .device ≡ reset
-unfolding performed
-did-reset i y e =
-    test (eqb (length i) imageLength) (λ t. ap (λ (z : Done). z .device) (sym (passed (rw t at e)))) (λ t. never wrongLength y (rw t at e))
+-- a done reset: its image has the length of a form, and it gives the reset device
+record DidReset (i : List ℕ) (y : Done) : Type 0 where
+  form : Form
+  sized : length i ≡ formLength form
+  device : y .device ≡ reset
 
--- a done reset leaves the image of the reset device
-pub reset-leaves : (x : Exported) → isDone x ≡ true → askedBy (x .asked) ≡ afresh → leftBy x .image ≡ encode reset
+did-reset : (i : List ℕ) (y : Done) → performed afresh i ≡ pass y → DidReset i y
+unfolding performed
+did-reset i y e = go (formOf (length i)) refl
+  where
+    go : (k : Known) → formOf (length i) ≡ k → DidReset i y
+    go unknown h = never wrongLength y (rw h at e)
+    go (known f) h = record { form = f; sized = form-known forms (length i) f h; device = ap (λ (z : Done). z .device) (sym (passed (rw h at e))) }
+
+-- it leaves the image of the reset device, in that form
+pub reset-leaves : (x : Exported) → isDone x ≡ true → askedBy (x .asked) ≡ afresh
+    → (f : Form) × (length (x .given) ≡ formLength f) × (leftBy x .image ≡ encodeAs f reset)
 reset-leaves x t e =
     let p = did-pass x t in
-    ap (λ (o : Outcome). o .image) (p .left) ∙ ap encode (did-reset (x .given) (p .gives) (rw e at (p .passed)))
+    let r = did-reset (x .given) (p .gives) (rw e at (p .passed)) in
+    (r .form, r .sized, ap (λ (o : Outcome). o .image) (p .left) ∙ ap (encodeLike (x .given)) (r .device) ∙ encode-as (r .form) (x .given) (r .sized) reset)
 
 -- ---- loads
 
@@ -122,13 +136,19 @@ abbrev continued : (done load reset : Bool) → List Call → Underway → Expor
 continued d n r cs h x =
     cond d (record { began = cond n (cond r reset (decode (x .given))) (h .began); calls = cond n [] (h .calls) ++ cs; left = leftBy x .image }) h
 
-pub faithful-after-reset : Faithful afterReset
+unfoldable pub faithful-after-reset : (f : Form) → Faithful (afterReset f)
 unfolding history
-faithful-after-reset = record { began = reset-well-formed; left = refl }
+faithful-after-reset f = record { form = f; began = reset-well-formed; left = refl }
 
 pub faithful-at-load : (i : List ℕ) → Bytes i → imageTest i ≡ image.accepted → Faithful (atLoad i)
 unfolding history
-faithful-at-load i b e = record { began = decode-well-formed i b e; left = sym (encode-decode i b e) }
+faithful-at-load i b e =
+    let h = accepted-has i e in
+    record { form = h .form; began = decode-well-formed i b e; left = sym (encode-decode i b e) ∙ encode-as (h .form) i (h .has .sized) (decode i) }
+
+-- the image left last has the length of its form
+pub left-length : (h : Underway) (f : Faithful h) → length (h .left) ≡ formLength (f .form)
+left-length h f = ap length (f .left) ∙ length-encode (current h) (history-well (h .began) (h .calls) (f .began)) (f .form)
 
 history-snoc : (d : Device) (cs : List Call) (c : Call) → history d (cs ++ (c ∷ [])) .after ≡ step (history d cs .after) c .after
 unfolding history
@@ -150,8 +170,8 @@ module _ (h : Underway) (x : Exported) where
       test (isDone x) (λ t. ap (λ (u : Underway). u .left) (carried-done t refl refl))
       (λ t. ap (λ (u : Underway). u .left) (carried-refused t) ∙ sym g ∙ sym (refused-leaves x t))
 
-  pub reset-begins : isDone x ≡ true → askedBy (x .asked) ≡ afresh → carriedOn h x ≡ afterReset
-  reset-begins t e = carried-done t (reset-loads (h .left) x t e) e ∙ (λ i. record { began = reset; calls = []; left = reset-leaves x t e i })
+  pub reset-begins : (t : isDone x ≡ true) (e : askedBy (x .asked) ≡ afresh) → carriedOn h x ≡ afterReset (reset-leaves x t e .0)
+  reset-begins t e = carried-done t (reset-loads (h .left) x t e) e ∙ (λ i. record { began = reset; calls = []; left = reset-leaves x t e .2 i })
 
   -- a done call that is no reset: what it asks of the device, and what it leaves
   pub record Did : Type 0 where
@@ -185,35 +205,26 @@ module _ (h : Underway) (x : Exported) where
 
   -- given the image that the history left, it meets the history's device
   meets : Faithful h → h .left ≡ x .given → decode (x .given) ≡ current h
-  meets f e = ap decode (sym e ∙ f .left) ∙ decode-encode (current h) (history-well (h .began) (h .calls) (f .began))
+  meets f e = ap decode (sym e ∙ f .left) ∙ decode-encode (current h) (history-well (h .began) (h .calls) (f .began)) (f .form)
 
-  faithful-call : Faithful h → (isLoad (h .left) x ≡ true → Bytes (x .given)) → isDone x ≡ true → Did → Faithful (carriedOn h x)
+  -- a load of bytes begins a history of the image's form
+  faithful-load : isLoad (h .left) x ≡ true → Bytes (x .given) → isDone x ≡ true → Did → Faithful (carriedOn h x)
   unfolding history
-  faithful-call f b t r =
-      let c = r .call in
-      let image-is : leftBy x .image ≡ encode (step (decode (x .given)) c .after) = ap (λ (o : Outcome). o .image) (r .left) in
-      test (isLoad (h .left) x)
-      (λ n. rw (carried-done t n (r .passes)) (record { began = decode-well-formed (x .given) (b n) (r .accepted); left = image-is }))
-      (λ n. rw (carried-done t n (r .passes)) (record {
-        began = f .began;
-        left =
-            let met = meets f (given-left (h .left) x t (pass c) (r .passes) n) in
-            image-is ∙ ap (λ d. encode (step d c .after)) met ∙ ap encode (sym (history-snoc (h .began) (h .calls) c));
-      }))
-
-  -- any exported call, refused, a load or neither; only a load has to be given bytes
-  pub faithful-on : Faithful h → (isLoad (h .left) x ≡ true → Bytes (x .given)) → Faithful (carriedOn h x)
-  faithful-on f b = test (isDone x) (λ t. go t (askedBy (x .asked)) refl) (λ t. rw (carried-refused t) f)
-    where
-      go : isDone x ≡ true → (k : Asked) → askedBy (x .asked) ≡ k → Faithful (carriedOn h x)
-      go t afresh e = rw (reset-begins t e) faithful-after-reset
-      go t (calls u) e = faithful-call f b t (did t u e)
+  faithful-load n b t r =
+      let its = accepted-has (x .given) (r .accepted) in
+      let image-is : leftBy x .image ≡ encodeLike (x .given) (step (decode (x .given)) (r .call) .after) = ap (λ (o : Outcome). o .image) (r .left) in
+      rw (carried-done t n (r .passes)) (record {
+        form = its .form;
+        began = decode-well-formed (x .given) b (r .accepted);
+        left = image-is ∙ encode-as (its .form) (x .given) (its .has .sized) (step (decode (x .given)) (r .call) .after);
+      })
 
   -- a done call that is no load: it is given the history's image, is one call more of it, and hands back what that call's step gives
   pub record Handed : Type 0 where
     pub call : Call
     pub passes : askedBy (x .asked) ≡ calls (pass call)
-    pub left : leftBy x ≡ leaves 0 (encode (step (current h) call .after)) (answered 0 (value (current h) call) (x .answer))
+    pub given : x .given ≡ h .left
+    pub left : leftBy x ≡ leaves 0 (encodeLike (x .given) (step (current h) call .after)) (answered 0 (value (current h) call) (x .answer))
         (written (bufferOf (x .asked)) (placeOf (x .asked)) (step (current h) call .drained))
     pub fits : placeOf (x .asked) ≤ length (bufferOf (x .asked))
     pub carried : carriedOn h x ≡ record { began = h .began; calls = h .calls ++ (call ∷ []); left = leftBy x .image }
@@ -225,11 +236,12 @@ module _ (h : Underway) (x : Exported) where
       go afresh e = absurd (true≢false (sym (reset-loads (h .left) x t e) ∙ n))
       go (calls u) e =
           let r = did t u e in
-          let met = meets f (given-left (h .left) x t u e n) in
+          let is = given-left (h .left) x t u e n in
           record {
             call = r .call;
             passes = r .passes;
-            left = r .left ∙ ap (λ d. settled (x .answer) (ended (x .asked) (x .given) (pass (doneOn d (r .call))))) met;
+            given = sym is;
+            left = r .left ∙ ap (λ d. settled (x .answer) (ended (x .asked) (x .given) (pass (doneOn d (r .call))))) (meets f is);
             fits = place-fits (x .asked) (x .answer) (did-pass x t .room);
             carried = carried-done t n (r .passes);
           }
@@ -259,6 +271,29 @@ module _ (h : Underway) (x : Exported) where
         calls = rw none (ap (λ (u : Underway). u .calls) (carried-refused t) ∙ sym (append-nil (h .calls)));
         current = rw none (ap current (carried-refused t));
       })
+
+  -- and its image keeps the form
+  pub kept : (f : Faithful h) → isLoad (h .left) x ≡ false → carriedOn h x .left ≡ encodeAs (f .form) (current (carriedOn h x))
+  kept f n =
+      test (isDone x)
+      (λ t.
+      let r = handed f t n in
+      let after = step (current h) (r .call) .after in
+      ap (λ (u : Underway). u .left) (r .carried) ∙ ap (λ (o : Outcome). o .image) (r .left)
+      ∙ encode-as (f .form) (x .given) (ap length (r .given) ∙ left-length h f) after
+      ∙ ap (encodeAs (f .form)) (sym (ap current (r .carried) ∙ history-snoc (h .began) (h .calls) (r .call))))
+      (λ t. rw (carried-refused t) (f .left))
+
+  abbrev pub faithful-kept : Faithful h → isLoad (h .left) x ≡ false → Faithful (carriedOn h x)
+  faithful-kept f n = record { form = f .form; began = rw (carried-on f n .began) (f .began); left = kept f n }
+
+  -- any exported call, refused, a load or neither; only a load has to be given bytes
+  pub faithful-on : Faithful h → (isLoad (h .left) x ≡ true → Bytes (x .given)) → Faithful (carriedOn h x)
+  faithful-on f b = test (isLoad (h .left) x) (λ n. go n (and-eq-true-iff (isDone x) _ .0 n .0) (askedBy (x .asked)) refl) (λ n. faithful-kept f n)
+    where
+      go : isLoad (h .left) x ≡ true → isDone x ≡ true → (k : Asked) → askedBy (x .asked) ≡ k → Faithful (carriedOn h x)
+      go n t afresh e = rw (reset-begins t e) (faithful-after-reset (reset-leaves x t e .0))
+      go n t (calls u) e = faithful-load n (b n) t (did t u e)
 
 -- ---- a load
 

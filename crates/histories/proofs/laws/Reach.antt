@@ -40,7 +40,7 @@ each-so f (also {a = a} t e) = also (f a t) (each-so f e)
 -- ---- what stands at an offset
 
 -- a test holds of every half that a table lists, at its offset
-abbrev allRows : (ℕ → Cell → Bool) → List Row → Bool
+abbrev pub allRows : (ℕ → Cell → Bool) → List Row → Bool
 allRows t [] = true
 allRows t (r ∷ rs) = (t (r .low) (halfOf (r .register) false) && t (r .high) (halfOf (r .register) true)) && allRows t rs
 
@@ -53,12 +53,12 @@ lookup-has t (r ∷ rs) other o a h =
     (λ e. rw e (test (eqb o (r .high)) (λ f. rw f (rw (eqb-true o (r .high) f) (here .1))) (λ f. rw f (lookup-has t rs other o (both .1) h))))
 
 -- a test that holds of the table, and of what is no half, holds of what stands at any offset
-cell-has : (t : ℕ → Cell → Bool) → allRows t table ≡ true → (o : ℕ) → t o bytes ≡ true → t o nothing ≡ true → t o (cellAt o) ≡ true
+pub cell-has : (t : ℕ → Cell → Bool) → allRows t table ≡ true → (o : ℕ) → t o bytes ≡ true → t o nothing ≡ true → t o (cellAt o) ≡ true
 unfolding cellAt
 cell-has t a o b n = lookup-has t table _ o a (test (inRoutes o || inVectors o) (λ e. rw e b) (λ e. rw e n))
 
 -- such a test says that a cell of some kind stands only at certain offsets: at another there is none
-ruled-out : (b : Bool) → (not b || false) ≡ true → b ≡ false
+pub ruled-out : (b : Bool) → (not b || false) ≡ true → b ≡ false
 ruled-out true u = sym u
 ruled-out false u = refl
 
@@ -131,17 +131,13 @@ module _ (T : Act → Type 0) where
     write-has c dword o v f = dwords o (half false v) f
     write-has c qword o v f = each-append (dwords o (half false v) (f .0)) (dwords (o + 4) (half true v) (f .1))
 
--- a write, where T holds of whatever it meets
-pub any-write : (T : Act → Type 0) → ((r : Register) (h : Bool) (v : ℕ) → Each T (registerActs r h v))
-    → ((n b : ℕ) → b < 256 → T (store (setRoute n b))) → ((n b : ℕ) → b < 256 → T (setVector n b))
+-- a write, where T holds of whatever register and byte it meets
+pub any-met : (T : Act → Type 0) → ((r : Register) (h : Bool) (v : ℕ) → Each T (registerActs r h v)) → ((i : ℕ) → Passes T i)
     → (c : Core) (w : Width) (o v : ℕ) → Each T (writeActs c w o v)
-any-write T p q s c w o v =
+any-met T p entry c w o v =
     write-has T (λ i. Unit {0}) (λ i. Unit {0}) (λ i x u. dword-has T i x (λ r h e. p r h x) (λ k f g. entry k)) (λ i u. entry i)
     c w o v (fine w)
   where
-    entry : (i : ℕ) → Passes T i
-    entry i = entry-has T i (λ b h. q (i - routesAt) b h) (λ e b h. s (i - vectorsAt) b h)
-
     fine-byte : (i : ℕ) → FineByte (λ k. Unit {0}) (λ k. Unit {0}) i
     fine-byte i = record { single = λ s. tt; inDword = λ s. tt }
 
@@ -150,6 +146,12 @@ any-write T p q s c w o v =
     fine word = (fine-byte o, fine-byte (o + 1))
     fine dword = tt
     fine qword = (tt, tt)
+
+-- so where T holds of a byte stored at any index
+pub any-write : (T : Act → Type 0) → ((r : Register) (h : Bool) (v : ℕ) → Each T (registerActs r h v))
+    → ((n b : ℕ) → b < 256 → T (store (setRoute n b))) → ((n b : ℕ) → b < 256 → T (setVector n b))
+    → (c : Core) (w : Width) (o v : ℕ) → Each T (writeActs c w o v)
+any-write T p q s = any-met T p (λ i. entry-has T i (λ b h. q (i - routesAt) b h) (λ e b h. s (i - vectorsAt) b h))
 
 -- a call, where T holds of every move, and of each act if the call is a write
 pub call-has : (T : Act → Type 0) → ((m : Move) → T (move m)) → (c : Core) (x : Call)
@@ -215,7 +217,7 @@ pub no-isr-act : (c : Core) (x : Call) → writesIsr x ≡ false → Each NotIsr
 no-isr-act c x e = call-has NotIsr (λ m. tt) c x (λ w o v f. isr-write c w o v (sym (ap writesIsr f) ∙ e))
 
 -- and where it reaches ISR, it writes ISR
-some-append : (t : Act → Bool) (xs ys : List Act) → someAct t (xs ++ ys) ≡ (someAct t xs || someAct t ys)
+pub some-append : (t : Act → Bool) (xs ys : List Act) → someAct t (xs ++ ys) ≡ (someAct t xs || someAct t ys)
 unfolding someAct
 some-append t [] ys = refl
 some-append t (a ∷ xs) ys = ap (λ b. t a || b) (some-append t xs ys) ∙ sym (or-assoc (t a) (someAct t xs) (someAct t ys))

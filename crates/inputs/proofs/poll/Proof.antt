@@ -2,15 +2,16 @@
 use mathlib.Core.Path.{refl}
 use Rattle.rules.specs.Device as device
 use Rattle.rules.specs.Calls as asked
+use Rattle.image.specs.Shown.{formView}
 use Rattle.refusals.proofs.Ends.{Passed, goes-on, long, tells, by-image}
 use Rattle.inputs.proofs.Lines.{no-input, poll-done}
 use borrow.Author.Needs.{needs}
 use Rattle.inputs.proofs.poll.Statement.{statement}
 use Rattle.inputs.proofs.poll.Tie as tie
 
--- the image was accepted
-on : (m : tie.At-match-keys1) → Passed (m .before .before .before .before .args .image .now)
-on m = let k = m .before in goes-on (λ n. k .before .before .slice-known .given n .fits) (k .check .result) (m .match .keys1) (k .check .ensures)
+-- the image was accepted, and is one of the form
+on : (t : tie.After-known-told) → Passed (formView (t .before .checked .given .0 .0)) (t .before .before .before .before .before .before .args .image .now)
+on t = let e = t .before in let k = e .before .before in goes-on (λ n. k .before .before .slice-known .given n .fits) (k .check .result) (e .checked .given .0 .0) (e .checked .given .1) (k .check .ensures)
 
 pub poll-spec : {M : Type 1} → statement M
 unfolding on
@@ -18,13 +19,13 @@ poll-spec =
     tie.close
     (tie.spec
     (λ c κs. search needs) (λ c. search needs) (λ c. search needs) (λ c κs. search needs) (λ c. search needs)
-    (λ c. let m = c .before .before .before in let k = m .before in let a = k .before .before .before .args in
-    by-image (asked.poll (a .input)) refl (k .check .result) (m .match .keys2) (k .check .ensures) (c .of-image .result) (c .of-image .ensures))
+    (λ c. let u = c .before .before in let k = u .before .before in let a = k .before .before .before .args in
+    by-image (asked.poll (a .input)) refl (k .check .result) (u .enum-told .given .1) (k .check .ensures) (c .of-image .result) (c .of-image .ensures))
     (λ c κs. search needs) (λ c. search needs)
-    (λ c. let h = c .before in let m = h .before .before in let a = m .before .before .before .before .args in
-    tells (c .no-input .result) (c .no-input .ensures) (no-input (on m) (a .input) (asked.poll (a .input)) (device.poll (a .input)) refl (h .if1 .taken)))
-    (λ c κs. (long (on (c .before .before .before)), search needs))
+    (λ c. let h = c .before in let t = h .before in let m = t .before .before in let a = m .before .before .before .before .args in
+    tells (c .no-input .result) (c .no-input .ensures) (no-input (on t) (a .input) (asked.poll (a .input)) (device.poll (a .input)) refl (h .if1 .taken)))
+    (λ c κs. (long (on (c .before .before)), search needs))
     (λ c κs. search needs) (λ c κs. search needs) (λ c. search needs)
-    (λ c. let v = c .before in let r = v .before .before .before in let h = r .before .before in let m = h .before .before in
+    (λ c. let v = c .before in let r = v .before .before .before in let h = r .before .before in let t = h .before in let m = t .before .before in
     let a = m .before .before .before .before .args in
-    tells (c .done .result) (c .done .ensures) (poll-done (on m) (a .input) (h .if1 .left) (v .vector-value .ensures) (r .poll .ensures))))
+    tells (c .done .result) (c .done .ensures) (poll-done (on t) (a .input) (h .if1 .left) (search needs) (v .vector-value .ensures) (r .poll .ensures))))

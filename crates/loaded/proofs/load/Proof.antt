@@ -1,24 +1,22 @@
 -- `load`: the parts show the parts of the device.
 use mathlib.Core.Path.{ap, _∙_}
-use Rattle.rules.specs.Image.{decode}
 use Rattle.state.specs.View.{storedView}
 use borrow.Author.Needs.{needs}
 use Rattle.loaded.proofs.load.Statement.{statement}
 use Rattle.loaded.proofs.load.Tie as tie
 
 returns : tie.Need-returns
-unfolding decode
 returns c =
     let vectors = c .before in
-    let routes = vectors .before .before in
+    let routes = vectors .before in
     let stored = routes .before in
     let lines = stored .before in
     record {
-      well = record { copy = lines .load-lines .ensures .well; ring = c .load-ring .ensures .well };
+      well = record { ring = c .load-ring .ensures .well };
       shows = λ i. record {
         core = record {
-          lines = lines .load-lines .ensures .shows i;
-          vectors = vectors .fill-entries .ensures i;
+          lines = lines .load-lines .ensures i;
+          vectors = vectors .load-vectors .ensures i;
           stored = (ap (storedView (stored .load-stored .result)) (routes .load-routes .ensures) ∙ stored .load-stored .ensures) i;
         };
         ring = c .load-ring .ensures .shows i;
@@ -29,7 +27,5 @@ pub load-spec : {M : Type 1} → statement M
 load-spec =
     tie.close
     (tie.spec
-    (λ c κs. search needs) (λ c κs. search needs) (λ c κs. search needs)
-    (λ c. search needs) (λ c. search needs) (λ c. search needs) (λ c κs. search needs)
-    (λ c κs. search needs)
+    (λ c κs. search needs) (λ c κs. search needs) (λ c κs. search needs) (λ c κs. search needs) (λ c κs. search needs)
     returns)

@@ -22,10 +22,7 @@ returns c =
     let p = one .before in
     let s = p .before .before in
     let word = always-word (formView (s .args .form)) (s .args .image .now) (s .pre) (p .places-of .result) (p .places-of .ensures) in
-    record {
-      well = refl;
-      shows = λ i. record { mask = word mask refl _ (one .word-at .ensures) i; irr = word irr refl _ (two .word-at2 .ensures) i; isr = word isr refl _ (c .word-at3 .ensures) i };
-    }
+    (λ i. record { mask = word mask refl _ (one .word-at .ensures) i; irr = word irr refl _ (two .word-at2 .ensures) i; isr = word isr refl _ (c .word-at3 .ensures) i })
 
 pub load-lines-spec : {M : Type 1} → statement M
 load-lines-spec =

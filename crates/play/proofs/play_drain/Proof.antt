@@ -19,7 +19,7 @@ returns c =
     let s = e .before .before .before in
     plays-as
     (record {
-      state = record { well = record { copy = s .pre .0 .copy; ring = e .drain-output-events .ensures .wellRing }; shows = refl };
+      state = record { well = record { ring = e .drain-output-events .ensures .wellRing }; shows = refl };
       says = c .before .before .put-drained .ensures;
     })
     (drain-done (view (s .args .state)) (e .drain-output-events .result) _ _ refl (e .drain-output-events .ensures))

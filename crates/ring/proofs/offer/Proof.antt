@@ -2,6 +2,9 @@
 use mathlib.Core.Path.{refl}
 use native.Mathlib.Omega.{arith}
 use Rattle.rules.specs.Form.{count}
+use Rattle.image.specs.Shown.{formView}
+use Rattle.image.proofs.Forms.{placed}
+use Rattle.inplace.proofs.Bodies.{ring-fits}
 use Rattle.ring.proofs.Bodies.{ring-offered}
 use borrow.Author.Needs.{needs}
 use Rattle.ring.proofs.offer.Statement.{statement}
@@ -12,13 +15,13 @@ offer-spec =
     tie.close
     (tie.spec
     (λ c κs. search needs)
-    (λ c. omega (arith, c .places-of .ensures .fields count refl))
+    (λ c. (let p = c in omega (arith, placed (p .places-of .ensures) count refl, ring-fits (formView (p .before .before .args .form)))))
     (λ c. search needs)
     (λ c. search needs)
-    (λ c. omega (arith, c .places-of .ensures .fields count refl))
+    (λ c. (let p = c in omega (arith, placed (p .places-of .ensures) count refl, ring-fits (formView (p .before .before .args .form)))))
     (λ c κs. search needs)
     (λ c. search needs)
     (λ c. let q = c .before .before in
     let p = q .before .before in
     let s = p .before .before in
-    (q .offer-to .ensures .0, ring-offered (s .args .image .now) _ _ _ (s .args .vector) (s .args .asserted) (p .places-of .ensures .fields count refl) (search needs) (q .offer-to .ensures .1))))
+    (q .offer-to .ensures .0, ring-offered (formView (s .args .form)) (s .args .image .now) (s .pre) _ _ _ (s .args .vector) (s .args .asserted) (placed (p .places-of .ensures) count refl) (search needs) (q .offer-to .ensures .1))))

@@ -11,14 +11,14 @@ use lib.ListN.{length, getD}
 use borrow.Author.Tests.{eq-eqb, eqb-true, eqb-false, le-leb, leb-true, lt-ltb, le-ltb, ltb-true, ltb-false}
 use Rattle.rules.specs.Numbers.{part}
 use Rattle.rules.specs.Ring.{capacity}
-use Rattle.rules.specs.Form.{one, word, copy, irr, count, pairs, size, place, formLength, contentsLength, contentsOf, read}
-use Rattle.rules.specs.Image.{wordIn, countIn, Fault, copyDiffers, manyWait, badFlag, unusedSet, Finding, clear, found, countRule, rules, firstFault, same}
-use Rattle.rules.specs.Image.{accepted, wrongLength, wrongContents, broken, bodyTest, imageTest, everyByte, pairByte, acceptedBefore, imageLength, contents, countOf, countAt, pairsAt}
+use Rattle.rules.specs.Form.{Form, one, two, word, copy, irr, count, pairs, has, size, place, formLength, contentsLength, contentsOf, read, Known, unknown, known, formOf}
+use Rattle.rules.specs.Image.{wordIn, countIn, Fault, copyDiffers, manyWait, badFlag, unusedSet, Finding, clear, found, Rule, copyRule, countRule, rules, search, finding, firstFault, same}
+use Rattle.rules.specs.Image.{accepted, wrongLength, wrongContents, broken, bodyTest, testAs, imageTest, everyByte, pairByte, acceptedBefore}
 use Rattle.rules.proofs.laws.Bits.{test}
+use Rattle.rules.proofs.laws.Layout.{has-all, field-fits}
 use Rattle.rules.proofs.laws.Lists.{equal-same, same-equal}
-use Rattle.rules.proofs.laws.Tests.{each-byte, Flags, accepted-if-has, byte-read, length-read, Told, search-told, decided}
+use Rattle.rules.proofs.laws.Tests.{each-byte, Flags, accepted-has, accepted-if-has, known-length, test-known, byte-read, length-read, Told, search-told, decided}
 use Rattle.rules.proofs.laws.Tests.{Holds, flags-hold, copy-holds, count-holds, count-read}
-use Rattle.rules.proofs.laws.Images.{test-one, accepted-has}
 
 -- ---- the set of accepted images
 
@@ -49,11 +49,11 @@ module _ (n i b : ℕ) where
   pair-unused e h = eqb-true b 0 (rw (le-ltb i (2 * n) h) at e)
 
 module _ (l : List ℕ) where
-  -- what is accepted was accepted
-  pub accepted-was : imageTest l ≡ accepted → acceptedBefore l ≡ true
+  -- of 259 bytes, which were the only ones: what is accepted was accepted
+  pub accepted-was : length l ≡ formLength one → imageTest l ≡ accepted → acceptedBefore l ≡ true
   unfolding acceptedBefore
-  accepted-was e =
-      let a = accepted-has l e in
+  accepted-was s e =
+      let a = accepted-has one l (sym (known-length one l s) ∙ e) in
       let n = countIn one l in
       rw (
         eq-eqb (length l) (formLength one) (a .sized),
@@ -77,8 +77,9 @@ module _ (l : List ℕ) where
       let c = and-eq-true-iff words last .0 (b .1) in
       let d = and-eq-true-iff (leb n capacity) (everyByte (pairByte n) ps) .0 (c .1) in
       let good = of-every (pairByte n) ps (d .1) in
-      test-one l ∙ accepted-if-has one l (record {
-        sized = eqb-true (length l) (formLength one) (a .0);
+      let sized = eqb-true (length l) (formLength one) (a .0) in
+      known-length one l sized ∙ accepted-if-has one l (record {
+        sized = sized;
         headed = same-equal (part 0 (contentsLength one) l) (contentsOf one) (b .0);
         ruled = record {
           copied = λ h. eqb-true (wordIn one l copy) (wordIn one l irr) (c .0);
@@ -91,89 +92,111 @@ module _ (l : List ℕ) where
 -- ---- what is told
 
 -- the flag of pair m, and the first byte behind the waiting pairs
-abbrev pub flagAt : ℕ → ℕ
-flagAt m = pairsAt + (2 * m + 1)
+abbrev pub flagAt : Form → ℕ → ℕ
+flagAt f m = place f pairs + (2 * m + 1)
 
-abbrev pub behindAt : List ℕ → ℕ
-behindAt l = pairsAt + 2 * countOf l
+abbrev pub behindAt : Form → List ℕ → ℕ
+behindAt f l = place f pairs + 2 * countIn f l
 
 -- 8: `last_intirr` differs from IRR
-pub record CopyDiffers (l : List ℕ) (a : ℕ) : Type 0 where
-  pub place : a ≡ place one (word copy)
-  pub differs : wordIn one l copy ≡ wordIn one l irr → ⊥
+pub record CopyDiffers (f : Form) (l : List ℕ) (a : ℕ) : Type 0 where
+  pub has : has f (word copy) ≡ true
+  pub place : a ≡ place f (word copy)
+  pub differs : wordIn f l copy ≡ wordIn f l irr → ⊥
 
 -- 9: the copy is right, and more than 16 wait
-pub record ManyWait (l : List ℕ) (a : ℕ) : Type 0 where
-  pub copied : wordIn one l copy ≡ wordIn one l irr
-  pub place : a ≡ countAt
+pub record ManyWait (f : Form) (l : List ℕ) (a : ℕ) : Type 0 where
+  pub copied : has f (word copy) ≡ true → wordIn f l copy ≡ wordIn f l irr
+  pub place : a ≡ place f count
   pub many : capacity < getD l a 0
 
 -- 10: copy and count are right, and a waiting pair's flag is neither 0 nor 1, the first such
-pub record BadFlag (l : List ℕ) (a : ℕ) : Type 0 where
-  pub copied : wordIn one l copy ≡ wordIn one l irr
-  pub counted : countOf l ≤ capacity
+pub record BadFlag (f : Form) (l : List ℕ) (a : ℕ) : Type 0 where
+  pub copied : has f (word copy) ≡ true → wordIn f l copy ≡ wordIn f l irr
+  pub counted : countIn f l ≤ capacity
   pub pair : ℕ
-  pub waits : pair < countOf l
-  pub place : a ≡ flagAt pair
+  pub waits : pair < countIn f l
+  pub place : a ≡ flagAt f pair
   pub over : 1 < getD l a 0
-  pub first : (m : ℕ) → m < pair → getD l (flagAt m) 0 ≤ 1
+  pub first : (m : ℕ) → m < pair → getD l (flagAt f m) 0 ≤ 1
 
 -- 11: copy, count and flags are right, and behind the waiting pairs a byte is not zero, the first such
-pub record UnusedSet (l : List ℕ) (a : ℕ) : Type 0 where
-  pub copied : wordIn one l copy ≡ wordIn one l irr
-  pub counted : countOf l ≤ capacity
-  pub flagged : (m : ℕ) → m < countOf l → getD l (flagAt m) 0 ≤ 1
-  pub behind : behindAt l ≤ a
-  pub inside : a < imageLength
+pub record UnusedSet (f : Form) (l : List ℕ) (a : ℕ) : Type 0 where
+  pub copied : has f (word copy) ≡ true → wordIn f l copy ≡ wordIn f l irr
+  pub counted : countIn f l ≤ capacity
+  pub flagged : (m : ℕ) → m < countIn f l → getD l (flagAt f m) 0 ≤ 1
+  pub behind : behindAt f l ≤ a
+  pub inside : a < formLength f
   pub set : 0 < getD l a 0
-  pub first : (b : ℕ) → behindAt l ≤ b → b < a → getD l b 0 ≡ 0
+  pub first : (b : ℕ) → behindAt f l ≤ b → b < a → getD l b 0 ≡ 0
 
-abbrev pub Why : Fault → List ℕ → ℕ → Type 0
-Why copyDiffers l a = CopyDiffers l a
-Why manyWait l a = ManyWait l a
-Why badFlag l a = BadFlag l a
-Why unusedSet l a = UnusedSet l a
+abbrev pub Why : Form → Fault → List ℕ → ℕ → Type 0
+Why f copyDiffers l a = CopyDiffers f l a
+Why f manyWait l a = ManyWait f l a
+Why f badFlag l a = BadFlag f l a
+Why f unusedSet l a = UnusedSet f l a
 
--- the places are those of form 1
-pub places : (place one (word copy) ≡ 46) × (countAt ≡ 222) × (pairsAt ≡ 227)
+-- the places in form 1, and in form 2, which has no copy (02, C-17)
+pub places : (place one (word copy) ≡ 46) × (place one count ≡ 222) × (place one pairs ≡ 227)
 places = (refl, refl, refl)
 
--- its length and its contents are right too
+pub places-two : (has two (word copy) ≡ false) × (place two count ≡ 214) × (place two pairs ≡ 219)
+places-two = (refl, refl, refl)
+
+-- its length and its contents are right too: those of its form
 pub record Broken (l : List ℕ) (k : Fault) (a : ℕ) : Type 0 where
-  pub sized : length l ≡ imageLength
-  pub headed : part 0 (contentsLength one) l ≡ contents
-  pub why : Why k l a
+  pub form : Form
+  pub sized : length l ≡ formLength form
+  pub headed : part 0 (contentsLength form) l ≡ contentsOf form
+  pub why : Why form k l a
 
-module _ (l : List ℕ) (s : length l ≡ imageLength) (k : Fault) (a : ℕ) where
-  paired : (i : ℕ) → i < size pairs → getD (read one l pairs) i 0 ≡ getD l (pairsAt + i) 0
-  paired = byte-read one l pairs
+module _ (f : Form) (l : List ℕ) (s : length l ≡ formLength f) (k : Fault) (a : ℕ) where
+  -- every form has a count and pairs
+  abbrev has-count : has f count ≡ true
+  has-count = has-all f count refl
 
-  few-pairs : length (read one l pairs) ≡ size pairs
-  few-pairs = length-read one l s pairs refl
+  abbrev has-pairs : has f pairs ≡ true
+  has-pairs = has-all f pairs refl
+
+  -- what a rule finds it finds in its field
+  searched : (r : Rule) → finding f l r ≡ found k a → (has f (r .field) ≡ true) × (search (r .fault) (r .bad) (place f (r .field)) (read f l (r .field)) ≡ found k a)
+  searched r e = test (has f (r .field)) (λ h. (h, rw h at e)) (λ h. absurd (none (rw h at e)))
+    where
+      apart : clear ≡ found k a → _≡_ {A = ℕ} 0 1
+      apart h = cc
+
+      none : clear ≡ found k a → ⊥
+      none h = omega (arith, apart h)
+
+  paired : (i : ℕ) → i < size pairs → getD (read f l pairs) i 0 ≡ getD l (place f pairs + i) 0
+  paired = byte-read f l pairs
+
+  few-pairs : length (read f l pairs) ≡ size pairs
+  few-pairs = length-read f l s pairs has-pairs
 
   -- the flags of all waiting pairs, with their places in the image
-  flags-at : (n : ℕ) → n ≤ capacity → Flags n (read one l pairs) → (m : ℕ) → m < n → getD l (flagAt m) 0 ≤ 1
+  flags-at : (n : ℕ) → n ≤ capacity → Flags n (read f l pairs) → (m : ℕ) → m < n → getD l (flagAt f m) 0 ≤ 1
   flags-at n c g m h = rw (paired (2 * m + 1) (omega arith)) at (g (2 * m + 1) (omega arith) (omega arith))
 
-  why-copy : Told copyDiffers k (λ i b. eqb i 0 && not (eqb (wordIn one l copy) (wordIn one l irr))) (read one l (word copy)) (place one (word copy)) a → Why k l a
-  why-copy t =
-      let both = and-eq-true-iff (eqb (t .index) 0) (not (eqb (wordIn one l copy) (wordIn one l irr))) .0 (t .isBad) in
-      rw (t .fault) (record { place = omega (arith, t .place, eqb-true (t .index) 0 (both .0)); differs = λ e. false≢true (rw (eq-eqb (wordIn one l copy) (wordIn one l irr) e) at (both .1)) })
+  why-copy : Told copyDiffers k (λ i b. eqb i 0 && not (eqb (wordIn f l copy) (wordIn f l irr))) (read f l (word copy)) (place f (word copy)) a → has f (word copy) ≡ true → Why f k l a
+  why-copy t c =
+      let both = and-eq-true-iff (eqb (t .index) 0) (not (eqb (wordIn f l copy) (wordIn f l irr))) .0 (t .isBad) in
+      rw (t .fault) (record { has = c; place = omega (arith, t .place, eqb-true (t .index) 0 (both .0)); differs = λ e. false≢true (rw (eq-eqb (wordIn f l copy) (wordIn f l irr) e) at (both .1)) })
 
-  module _ (copied : wordIn one l copy ≡ wordIn one l irr) where
-    why-count : Told manyWait k (λ i b. ltb capacity b) (read one l count) countAt a → Why k l a
+  module _ (copied : has f (word copy) ≡ true → wordIn f l copy ≡ wordIn f l irr) where
+    why-count : Told manyWait k (λ i b. ltb capacity b) (read f l count) (place f count) a → Why f k l a
     why-count t =
-        let first : t .index ≡ 0 = omega (arith, t .inside, length-read one l s count refl) in
-        let at : a ≡ countAt = omega (arith, t .place, first) in
-        let byte : getD (read one l count) (t .index) 0 ≡ getD l a 0 = ap (λ i. getD (read one l count) i 0) first ∙ count-read one l ∙ ap (λ i. getD l i 0) (sym at) in
-        rw (t .fault) (record { copied = copied; place = at; many = rw byte at (ltb-true capacity (getD (read one l count) (t .index) 0) (t .isBad)) })
+        let first : t .index ≡ 0 = omega (arith, t .inside, length-read f l s count has-count) in
+        let at : a ≡ place f count = omega (arith, t .place, first) in
+        let byte : getD (read f l count) (t .index) 0 ≡ getD l a 0 = ap (λ i. getD (read f l count) i 0) first ∙ count-read f l ∙ ap (λ i. getD l i 0) (sym at) in
+        rw (t .fault) (record { copied = copied; place = at; many = rw byte at (ltb-true capacity (getD (read f l count) (t .index) 0) (t .isBad)) })
 
-    module _ (counted : countOf l ≤ capacity) where
-      why-flag : Told badFlag k (λ i b. eqb (i % 2) 1 && (ltb i (2 * countOf l) && ltb 1 b)) (read one l pairs) pairsAt a → Why k l a
+    module _ (counted : countIn f l ≤ capacity) where
+      why-flag : Told badFlag k (λ i b. eqb (i % 2) 1 && (ltb i (2 * countIn f l) && ltb 1 b)) (read f l pairs) (place f pairs) a → Why f k l a
       why-flag t =
           let i = t .index in
-          let n = countOf l in
-          let b = getD (read one l pairs) i 0 in
+          let n = countIn f l in
+          let b = getD (read f l pairs) i 0 in
           let odd = and-eq-true-iff (eqb (i % 2) 1) (ltb i (2 * n) && ltb 1 b) .0 (t .isBad) in
           let low = and-eq-true-iff (ltb i (2 * n)) (ltb 1 b) .0 (odd .1) in
           let is-odd = eqb-true (i % 2) 1 (odd .0) in
@@ -191,14 +214,14 @@ module _ (l : List ℕ) (s : length l ≡ imageLength) (k : Fault) (a : ℕ) whe
                 let before : j < i = omega (arith, is-odd) in
                 let j-odd : j % 2 ≡ 1 = omega arith in
                 let byte-j = paired j (omega (arith, waits, counted, before)) in
-                rw byte-j at (ltb-false 1 (getD (read one l pairs) j 0) (rw (eq-eqb (j % 2) 1 j-odd, lt-ltb j (2 * n) (omega (arith, waits, before))) at (t .first j before)));
+                rw byte-j at (ltb-false 1 (getD (read f l pairs) j 0) (rw (eq-eqb (j % 2) 1 j-odd, lt-ltb j (2 * n) (omega (arith, waits, before))) at (t .first j before)));
           })
 
-      why-unused : Flags (countOf l) (read one l pairs) → Told unusedSet k (λ i b. leb (2 * countOf l) i && ltb 0 b) (read one l pairs) pairsAt a → Why k l a
+      why-unused : Flags (countIn f l) (read f l pairs) → Told unusedSet k (λ i b. leb (2 * countIn f l) i && ltb 0 b) (read f l pairs) (place f pairs) a → Why f k l a
       why-unused g t =
           let i = t .index in
-          let n = countOf l in
-          let b = getD (read one l pairs) i 0 in
+          let n = countIn f l in
+          let b = getD (read f l pairs) i 0 in
           let both = and-eq-true-iff (leb (2 * n) i) (ltb 0 b) .0 (t .isBad) in
           let late = leb-true (2 * n) i (both .0) in
           let room : i < size pairs = omega (arith, t .inside, few-pairs) in
@@ -208,39 +231,51 @@ module _ (l : List ℕ) (s : length l ≡ imageLength) (k : Fault) (a : ℕ) whe
             counted = counted;
             flagged = flags-at n counted g;
             behind = omega (arith, t .place, late);
-            inside = omega (arith, t .place, room);
+            inside = omega (arith, t .place, room, field-fits f pairs has-pairs);
             set = rw byte at (ltb-true 0 b (both .1));
             first = λ c from before.
-                let j = c - pairsAt in
-                let at : pairsAt + j ≡ c = omega (arith, from) in
+                let j = c - place f pairs in
+                let at : place f pairs + j ≡ c = omega (arith, from) in
                 let early : j < i = omega (arith, from, before, t .place) in
-                let zero-there : getD (read one l pairs) j 0 ≤ 0 = ltb-false 0 (getD (read one l pairs) j 0) (rw (le-leb (2 * n) j (omega (arith, from))) at (t .first j early)) in
+                let zero-there : getD (read f l pairs) j 0 ≤ 0 = ltb-false 0 (getD (read f l pairs) j 0) (rw (le-leb (2 * n) j (omega (arith, from))) at (t .first j early)) in
                 omega (arith, zero-there, paired j (omega (arith, early, room)) ∙ ap (λ m. getD l m 0) at);
           })
 
-  few : Holds one l countRule → countOf l ≤ capacity
-  few h = rw (count-read one l) at (count-holds (read one l count) (omega (arith, length-read one l s count refl)) (h refl))
+  few : Holds f l countRule → countIn f l ≤ capacity
+  few h = rw (count-read f l) at (count-holds (read f l count) (omega (arith, length-read f l s count has-count)) (h has-count))
 
-  why-first : firstFault one l (rules one l) ≡ found k a → Why k l a
+  why-first : firstFault f l (rules f l) ≡ found k a → Why f k l a
   why-first e =
-      let n = countOf l in
-      let copied = copy-holds (wordIn one l copy) (wordIn one l irr) (read one l (word copy)) (omega (arith, length-read one l s (word copy) refl)) in
-      ⊎-elim (λ t. why-copy (search-told copyDiffers k _ (place one (word copy)) a (read one l (word copy)) t)) (λ x.
-      ⊎-elim (λ t. why-count (copied (x .0 refl)) (search-told manyWait k _ countAt a (read one l count) t)) (λ y.
-      ⊎-elim (λ t. why-flag (copied (x .0 refl)) (few (y .0)) (search-told badFlag k _ pairsAt a (read one l pairs) t)) (λ z.
-      ⊎-elim (λ t. why-unused (copied (x .0 refl)) (few (y .0)) (flags-hold n (read one l pairs) (z .0 refl)) (search-told unusedSet k _ pairsAt a (read one l pairs) t))
+      let n = countIn f l in
+      let copied : Holds f l (copyRule (wordIn f l copy) (wordIn f l irr)) → has f (word copy) ≡ true → wordIn f l copy ≡ wordIn f l irr = λ x h.
+      copy-holds (wordIn f l copy) (wordIn f l irr) (read f l (word copy)) (omega (arith, length-read f l s (word copy) h)) (x h)
+      in
+      ⊎-elim (λ t. let u = searched _ t in why-copy (search-told copyDiffers k _ (place f (word copy)) a (read f l (word copy)) (u .1)) (u .0)) (λ x.
+      ⊎-elim (λ t. why-count (copied (x .0)) (search-told manyWait k _ (place f count) a (read f l count) (searched _ t .1))) (λ y.
+      ⊎-elim (λ t. why-flag (copied (x .0)) (few (y .0)) (search-told badFlag k _ (place f pairs) a (read f l pairs) (searched _ t .1))) (λ z.
+      ⊎-elim (λ t. why-unused (copied (x .0)) (few (y .0)) (flags-hold n (read f l pairs) (z .0 has-pairs)) (search-told unusedSet k _ (place f pairs) a (read f l pairs) (searched _ t .1)))
       (λ w. absurd (w .1))
-      (z .1)) (y .1)) (x .1)) (decided one l k a (rules one l) e)
+      (z .1)) (y .1)) (x .1)) (decided f l k a (rules f l) e)
 
 -- 8 to 11, and the place: what is told of an image is so
 pub told-is-so : (l : List ℕ) (k : Fault) (a : ℕ) → imageTest l ≡ broken k a → Broken l k a
-told-is-so l k a e =
-    let t = found-broken (eqb (length l) (formLength one)) (same (part 0 (contentsLength one) l) (contentsOf one)) (firstFault one l (rules one l)) (sym (test-one l) ∙ e) in
-    let sized = eqb-true (length l) (formLength one) (t .0) in
-    record { sized = sized; headed = same-equal (part 0 (contentsLength one) l) (contentsOf one) (t .1); why = why-first l sized k a (t .2) }
+told-is-so l k a e = go (formOf (length l)) refl
   where
     found-broken : (s h : Bool) (x : Finding) → cond s (cond h (bodyTest x) wrongContents) wrongLength ≡ broken k a → (s ≡ true) × (h ≡ true) × (x ≡ found k a)
     found-broken true true clear e = (refl, refl, cc)
     found-broken true true (found k₁ a₁) e = (refl, refl, cc)
     found-broken true false x e = (refl, cc, cc)
     found-broken false h x e = (cc, cc, cc)
+
+    inForm : (f : Form) → testAs f l ≡ broken k a → Broken l k a
+    inForm f e =
+        let t = found-broken (eqb (length l) (formLength f)) (same (part 0 (contentsLength f) l) (contentsOf f)) (firstFault f l (rules f l)) e in
+        let sized = eqb-true (length l) (formLength f) (t .0) in
+        record { form = f; sized = sized; headed = same-equal (part 0 (contentsLength f) l) (contentsOf f) (t .1); why = why-first f l sized k a (t .2) }
+
+    apart : wrongLength ≡ broken k a → _≡_ {A = ℕ} 0 1
+    apart h = cc
+
+    go : (m : Known) → formOf (length l) ≡ m → Broken l k a
+    go unknown h = absurd (omega (arith, apart (sym (test-known l h) ∙ e)))
+    go (known f) h = inForm f (sym (test-known l h) ∙ e)

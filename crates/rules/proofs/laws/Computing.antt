@@ -7,7 +7,8 @@ use Rattle.rules.specs.Core.{moved, lineTurn, vectorsAfter, storedAfter,
 use Rattle.rules.specs.Map.{cellAt}
 use Rattle.rules.specs.Access.{valueOf, entry, readCell, readDword, readByte, readAt, entryActs, cellActs, dwordActs, byteActs, writeActs}
 use Rattle.rules.specs.Device.{upFrom, actsOf, offers, acted, step, value}
-use Rattle.rules.specs.Image.{registersBody, ringBody, encode, decode, imageTest}
+use Rattle.rules.specs.Form.{image}
+use Rattle.rules.specs.Image.{ringBody, encodeLike, decode, imageTest}
 use Rattle.rules.specs.Calls.{performed, answered, written, outcome}
 use Rattle.rules.specs.History.{history}
 use Rattle.rules.specs.Session.{digitsSpell, fields, lineOf, said, played, linesOf, answers, session}
@@ -17,5 +18,5 @@ unfoldable pub computing : ℕ
 unfolding
     on numberWith from put without polled raised lowered cleared masked offered drawn ringStep ringRun moved lineTurn vectorsAfter storedAfter turns
     cellAt valueOf entry readCell readDword readByte readAt entryActs cellActs dwordActs byteActs writeActs upFrom actsOf offers acted step value
-    registersBody ringBody encode decode imageTest performed answered written outcome history digitsSpell fields lineOf said played linesOf answers session found raises
+    image ringBody encodeLike decode imageTest performed answered written outcome history digitsSpell fields lineOf said played linesOf answers session found raises
 computing = 0

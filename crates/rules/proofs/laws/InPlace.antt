@@ -14,7 +14,7 @@ use Rattle.rules.specs.Ring.{Ring}
 use Rattle.rules.specs.Core.{Plain, htmsiEn, edge, pol, auto0, auto1, Stored, Core, plain, withPlain, withRoutes}
 use Rattle.rules.specs.Device.{Device, withRing}
 use Rattle.rules.specs.Form.{Word, mask, irr, isr, copy, stored, Field, word, routes, vectors, count, ringFields}
-use Rattle.rules.specs.Form.{Form, one, size, is, listed, total, from, fields, has, place, laid, image}
+use Rattle.rules.specs.Form.{Form, one, two, size, is, listed, total, from, fields, has, place, laid, image}
 use Rattle.rules.specs.Image.{wordOf, fieldOf}
 use Rattle.rules.proofs.laws.Layout.{Sized, never, by-word, by-plain, by-field, length-laid, from-starts, image-written}
 
@@ -133,13 +133,14 @@ word-apart f d w x n =
     let stay = tables-stay c x w in
     by-field _ (λ v h t. ap (bytesOf 8) (word-stays c x w n v t)) (λ h t. stay .1) (λ h t. stay .0) (λ h t. refl, λ h t. refl, λ h t. refl)
 
--- the ring's body
+-- the ring's body, the same fields in each form
+pub ring-touched : (f : Form) → touched f ringPart ≡ ringFields
+ring-touched one = refl
+ring-touched two = refl
+
 pub ring-apart : (f : Form) (d : Device) (r : Ring) → Apart f (fieldOf d) (fieldOf (withRing d r)) ringPart
 ring-apart f d r q h t = by-field (λ q. listed q ringFields ≡ false → fieldOf d q ≡ fieldOf (withRing d r) q)
     (λ w t. refl) (λ t. refl) (λ t. refl) (never, never, never) q (rw (ring-touched f) at t)
-  where
-    ring-touched : (f : Form) → touched f ringPart ≡ ringFields
-    ring-touched one = refl
 
 -- entries of a table: the words stay
 same-words : (c d : Core) → c .lines ≡ d .lines → ((p : Plain) → plain (c .stored) p ≡ plain (d .stored) p) → (w : Word) → wordOf c w ≡ wordOf d w

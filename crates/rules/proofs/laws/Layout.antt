@@ -14,7 +14,7 @@ use Rattle.rules.specs.Numbers.{part}
 use Rattle.rules.specs.Core.{Plain, Plain-discrete, htmsiEn, edge, pol, auto0, auto1}
 use Rattle.rules.specs.Form.{Word, mask, irr, isr, copy, stored, Word-discrete, Field, word, routes, vectors, count, drops, pairs, Field-discrete}
 use Rattle.rules.specs.Form.{size, decided, is, listed, total, before, from, laid}
-use Rattle.rules.specs.Form.{Form, one, fields, has, contentsLength, formLength, place, contentsOf, read, image}
+use Rattle.rules.specs.Form.{Form, one, two, fields, has, contentsLength, formLength, place, contentsOf, read, image}
 use Rattle.rules.proofs.laws.Bits.{test}
 use Rattle.rules.proofs.laws.Lists.{part-then}
 use Rattle.rules.proofs.laws.Parts.{put-there, put-before, put-behind, length-put}
@@ -146,9 +146,11 @@ run-written b c s ps rs ts d same u a i k ys ue h e =
 -- of each form by computing
 distinct-fields : (f : Form) → distinct (fields f) ≡ true
 distinct-fields one = refl
+distinct-fields two = refl
 
 pub length-contents : (f : Form) → length (contentsOf f) ≡ contentsLength f
 length-contents one = refl
+length-contents two = refl
 
 -- a fact of every word, and of every field, from one for each
 pub by-word : (P : Word → Type 0) → P mask → P irr → P isr → P copy → ((p : Plain) → P (stored p)) → (w : Word) → P w
@@ -182,6 +184,8 @@ always p = not (is p (word copy))
 
 pub has-all : (f : Form) (p : Field) → always p ≡ true → has f p ≡ true
 has-all one = by-field _ (by-word _ (λ h. refl) (λ h. refl) (λ h. refl) (λ h. never (sym h)) (by-plain _ (λ h. refl, λ h. refl, λ h. refl, λ h. refl, λ h. refl)))
+    (λ h. refl) (λ h. refl) (λ h. refl, λ h. refl, λ h. refl)
+has-all two = by-field _ (by-word _ (λ h. refl) (λ h. refl) (λ h. refl) (λ h. never (sym h)) (by-plain _ (λ h. refl, λ h. refl, λ h. refl, λ h. refl, λ h. refl)))
     (λ h. refl) (λ h. refl) (λ h. refl, λ h. refl, λ h. refl)
 
 pub headed-image : (f : Form) (b : Field → List ℕ) → part 0 (contentsLength f) (image f b) ≡ contentsOf f
@@ -225,6 +229,21 @@ module _ (f : Form) (b : Field → List ℕ) (s : Sized b) where
   -- n fields from p on
   abbrev pub run : Field → ℕ → List Field
   run p n = take n (from p (fields f))
+
+  -- they stand one after another from the first one's place on
+  pub read-run : (p : Field) (n : ℕ) → part (place f p) (total (run p n)) (image f b) ≡ laid b (run p n)
+  unfolding image
+  read-run p n =
+      let ps = fields f in
+      let rs = run p n in
+      let ts = drop n (from p ps) in
+      let split : before p ps ++ (rs ++ ts) ≡ ps = ap (λ m. before p ps ++ m) (take-append-drop n (from p ps)) ∙ before-from p ps in
+      let ahead : length (contentsOf f ++ laid b (before p ps)) ≡ place f p = length-append (contentsOf f) (laid b (before p ps)) ∙ (λ j. length-contents f j + length-laid b s (before p ps) j) in
+      ap (λ m. part (place f p) (total rs) (contentsOf f ++ laid b m)) (sym split)
+      ∙ ap (λ m. part (place f p) (total rs) (contentsOf f ++ m)) (laid-append b (before p ps) (rs ++ ts) ∙ ap (λ m. laid b (before p ps) ++ m) (laid-append b rs ts))
+      ∙ ap (part (place f p) (total rs)) (sym (append-assoc (contentsOf f) (laid b (before p ps)) (laid b rs ++ laid b ts)))
+      ∙ ap (take (total rs)) (drop-at (contentsOf f ++ laid b (before p ps)) (laid b rs ++ laid b ts) (place f p) ahead)
+      ∙ take-at (laid b rs) (laid b ts) (total rs) (length-laid b s rs)
 
   -- bytes that stand in n fields from p on are replaced
   pub image-written : (c : Field → List ℕ) (p : Field) (n : ℕ) → ((q : Field) → has f q ≡ true → listed q (run p n) ≡ false → b q ≡ c q)

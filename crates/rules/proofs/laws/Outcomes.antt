@@ -7,14 +7,15 @@ use native.Mathlib.Omega.{arith}
 use lib.ListN.{length, take, drop, length-drop, take-append-drop}
 use lib.Seq.{drop-drop}
 use lib.Dec.{leb, ltb}
-use borrow.Author.Tests.{ltb-true, lt-ltb, le-ltb, le-leb, lt-leb, eq-eqb, ne-eqb}
+use borrow.Author.Tests.{ltb-true, lt-ltb, le-ltb, le-leb, lt-leb}
 use Rattle.rules.specs.Ring.{Event, pairsOf, RingAct, ringRun}
 use Rattle.rules.specs.Access.{Width}
 use Rattle.rules.specs.Device.{Device, Call, Value, none, actsOf, draws, acted, step, value, reset}
 use Rattle.rules.specs.Device as device
-use Rattle.rules.specs.Image.{imageLength, ImageTest, imageTest, encode, decode}
+use Rattle.rules.specs.Form.{Form, unknown, known, formOf}
+use Rattle.rules.specs.Image.{ImageTest, imageTest, encodeLike, decode}
 use Rattle.rules.specs.Image as image
-use Rattle.rules.specs.Calls.{Refusal, outside, refusalNumber, refusalValue, wrongLength, wrongContents, noInput, noRoom, Tested, pass, refuse, onPass, imageAnswer, imageNumber, imageValue, inputCall, widthTest, addressTest, accessCall, Request, drain, Asked, calls, askedBy, Done, doneOn, performed, answerLength, answered, bufferOf, placeOf, written, Outcome, leaves, Ending, ended, ending, outcome}
+use Rattle.rules.specs.Calls.{Refusal, outside, refusalNumber, refusalValue, wrongLength, wrongContents, noInput, noRoom, Tested, pass, refuse, onPass, imageAnswer, imageNumber, imageValue, inputCall, widthTest, addressTest, accessCall, Request, drain, Asked, calls, askedBy, Done, doneOn, resetAs, performed, answerLength, answered, bufferOf, placeOf, written, Outcome, leaves, Ending, ended, ending, outcome}
 use Rattle.rules.specs.Calls as asked
 
 -- ---- 7, or how it ends
@@ -61,10 +62,10 @@ module _ (q : Request) (i : List ℕ) (x : Tested Call) (asks : askedBy q ≡ ca
     call-refused r f = tested image.accepted e ∙ ap (λ (y : Tested Call). ended q i (onPass y (λ c. pass (doneOn (decode i) c)))) f
 
     -- from an image that holds the device after the call, the call's value, and the events that it drained
-    pub call-done : (c : Call) → x ≡ pass c → (d : Device) (v : Value) (j o : List ℕ) → j ≡ encode d → d ≡ step (decode i) c .after → v ≡ value (decode i) c
+    pub call-done : (c : Call) → x ≡ pass c → (d : Device) (v : Value) (j o : List ℕ) → j ≡ encodeLike i d → d ≡ step (decode i) c .after → v ≡ value (decode i) c
         → o ≡ written (bufferOf q) (placeOf q) (step (decode i) c .drained) → record { number = 0; value = v; image = j; events = o } ≡ ending q i
     call-done c f d v j o g h k l =
-        (λ t. record { number = 0; value = k t; image = (g ∙ ap encode h) t; events = l t })
+        (λ t. record { number = 0; value = k t; image = (g ∙ ap (encodeLike i) h) t; events = l t })
         ∙ sym (tested image.accepted e ∙ ap (λ (y : Tested Call). ended q i (onPass y (λ c. pass (doneOn (decode i) c)))) f)
 
 -- a call that draws nothing leaves an event buffer that is none
@@ -75,13 +76,13 @@ no-events d c e = ap (λ (xs : List RingAct). written [] 0 (ringRun (acted d (ac
 -- ---- reset
 
 module _ (i : List ℕ) where
-  pub reset-refused : (length i ≡ imageLength → ⊥) → ending asked.reset i ≡ ended asked.reset i (refuse wrongLength)
+  pub reset-refused : formOf (length i) ≡ unknown → ending asked.reset i ≡ ended asked.reset i (refuse wrongLength)
   unfolding performed
-  reset-refused n = rw (ne-eqb (length i) imageLength n)
+  reset-refused e = ap (λ k. ended asked.reset i (resetAs k)) e
 
-  pub reset-done : length i ≡ imageLength → ending asked.reset i ≡ record { number = 0; value = none; image = encode reset; events = [] }
+  pub reset-done : (f : Form) → formOf (length i) ≡ known f → ending asked.reset i ≡ record { number = 0; value = none; image = encodeLike i reset; events = [] }
   unfolding performed written
-  reset-done e = rw (eq-eqb (length i) imageLength e)
+  reset-done f e = ap (λ k. ended asked.reset i (resetAs k)) e
 
 -- ---- a drain from a place on is a drain into the bytes from there
 
@@ -105,7 +106,7 @@ module _ (events : List ℕ) (place : ℕ) where
       ∙ ap (λ (k : ℕ). behind (take place events) (ended (drain (drop place events) 0) i (performed (calls (pass (device.drain (k / 2)))) i))) room-behind
     where
       go : (t : Tested Done) → ended (drain events place) i t ≡ behind (take place events) (ended (drain (drop place events) 0) i t)
-      go (pass x) = ap (λ (l : List ℕ). record { number = 0; value = x .value; image = encode (x .device); events = l }) (written-behind (x .drained))
+      go (pass x) = ap (λ (l : List ℕ). record { number = 0; value = x .value; image = encodeLike i (x .device); events = l }) (written-behind (x .drained))
       go (refuse r) = ap (λ (l : List ℕ). record { number = refusalNumber r; value = refusalValue r; image = i; events = l }) (sym (take-append-drop place events))
 
 -- ---- what a call asks

@@ -1,8 +1,8 @@
--- The places, lengths and contents of an image as the numbers of document 01, each by computing.
+-- The places, lengths and contents of an image as the numbers of 01 and of 02, C-17, each by computing.
 use mathlib.Core.Path.{_≡_, refl}
 use mathlib.Core.List.{[], _∷_, map}
 use Rattle.rules.specs.Core.{htmsiEn, edge, pol, auto0, auto1}
-use Rattle.rules.specs.Form.{one, word, mask, irr, isr, copy, stored, routes, vectors, count, drops, pairs, place, contentsLength, contentsOf, formLength}
+use Rattle.rules.specs.Form.{one, two, word, mask, irr, isr, copy, stored, routes, vectors, count, drops, pairs, place, contentsLength, contentsOf, formLength}
 
 pub lengths-one : contentsLength one ∷ formLength one ∷ [] ≡ 22 ∷ 259 ∷ []
 lengths-one = refl
@@ -18,3 +18,19 @@ plains-one = refl
 
 pub contents-one : contentsOf one ≡ 1 ∷ 4 ∷ 1 ∷ 22 ∷ 0 ∷ 72 ∷ 0 ∷ 2 ∷ 94 ∷ 0 ∷ 64 ∷ 0 ∷ 3 ∷ 158 ∷ 0 ∷ 64 ∷ 0 ∷ 4 ∷ 222 ∷ 0 ∷ 37 ∷ 0 ∷ []
 contents-one = refl
+
+-- form 2: body 1 is 64 bytes, and what stands behind IRR's copy is 8 lower
+pub lengths-two : contentsLength two ∷ formLength two ∷ [] ≡ 22 ∷ 251 ∷ []
+lengths-two = refl
+
+pub places-two : map (place two) (word mask ∷ routes ∷ vectors ∷ count ∷ drops ∷ pairs ∷ []) ≡ 22 ∷ 86 ∷ 150 ∷ 214 ∷ 215 ∷ 219 ∷ []
+places-two = refl
+
+pub lines-two : map (λ w. place two (word w)) (irr ∷ isr ∷ []) ≡ 46 ∷ 54 ∷ []
+lines-two = refl
+
+pub plains-two : map (λ p. place two (word (stored p))) (htmsiEn ∷ edge ∷ pol ∷ auto0 ∷ auto1 ∷ []) ≡ 30 ∷ 38 ∷ 62 ∷ 70 ∷ 78 ∷ []
+plains-two = refl
+
+pub contents-two : contentsOf two ≡ 2 ∷ 4 ∷ 1 ∷ 22 ∷ 0 ∷ 64 ∷ 0 ∷ 2 ∷ 86 ∷ 0 ∷ 64 ∷ 0 ∷ 3 ∷ 150 ∷ 0 ∷ 64 ∷ 0 ∷ 4 ∷ 214 ∷ 0 ∷ 37 ∷ 0 ∷ []
+contents-two = refl

@@ -10,10 +10,11 @@ use Rattle.rules.specs.Access.{Width}
 use Rattle.rules.specs.Device.{Device, Call}
 use Rattle.rules.specs.Device as device
 use Rattle.rules.specs.Window.{inside}
-use Rattle.rules.specs.Image.{Fault, copyDiffers, manyWait, badFlag, unusedSet, imageLength, ImageTest, imageTest, decode}
+use Rattle.rules.specs.Form.{Known, unknown, known, formOf}
+use Rattle.rules.specs.Image.{Fault, copyDiffers, manyWait, badFlag, unusedSet, ImageTest, imageTest, decode}
 use Rattle.rules.specs.Image as image
 use Rattle.rules.specs.Calls.{Refusal, faultNumber, refusalNumber, Tested, pass, refuse, onPass, imageAnswer, inputCall, widthTest, addressTest, accessCall}
-use Rattle.rules.specs.Calls.{Request, Asked, afresh, calls, askedBy, performed}
+use Rattle.rules.specs.Calls.{Request, Asked, afresh, calls, askedBy, resetAs, performed}
 use Rattle.rules.specs.Calls as request
 use Rattle.rules.proofs.laws.Bits.{test}
 
@@ -62,9 +63,13 @@ asked-not-seven (request.level n v) = input-not-seven n (device.level n (not (eq
 asked-not-seven (request.poll n) = input-not-seven n (device.poll n)
 asked-not-seven (request.drain events place) = tt
 
+reset-not-seven : (k : Known) → NotSeven (resetAs k)
+reset-not-seven unknown = refl
+reset-not-seven (known f) = tt
+
 not-seven : (k : Asked) (i : List ℕ) → NeverSeven k → NotSeven (performed k i)
 unfolding performed
-not-seven afresh i u = test (eqb (length i) imageLength) (λ e. rw e tt) (λ e. rw e)
+not-seven afresh i u = reset-not-seven (formOf (length i))
 not-seven (calls t) i u = handed-up (imageAnswer (imageTest i) (decode i)) _ (image-not-seven (imageTest i) (decode i)) (λ d. handed-up t _ u (λ c. tt))
 
 pub refused-not-seven : (q : Request) (i : List ℕ) (r : Refusal) → performed (askedBy q) i ≡ refuse r → refusalNumber r ≡ 7 → ⊥

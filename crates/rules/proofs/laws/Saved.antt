@@ -11,7 +11,7 @@ use Rattle.rules.specs.Ring.{capacity, eventTwos}
 use Rattle.rules.specs.Core.{plain, htmsiEn, edge, pol, auto0, auto1}
 use Rattle.rules.specs.Device.{Device, WellFormed}
 use Rattle.rules.specs.Form.{Word, mask, irr, isr, copy, stored, Field, word, routes, vectors, count, drops, pairs}
-use Rattle.rules.specs.Form.{Form, one, fields, has, size, place, formLength, contentsOf, read, laid, image}
+use Rattle.rules.specs.Form.{Form, one, two, fields, has, size, place, formLength, contentsOf, read, laid, image}
 use Rattle.rules.specs.Image.{wordOf, fieldOf, encodeAs, wordIn, countIn, eventsOf, decodeAs, accepted, testAs}
 use Rattle.rules.proofs.laws.Bytes.{numberOf-bytesOf, bytes-known, bytes-append, bytes-part, bytes-bytesOf, part-number, part-below}
 use Rattle.rules.proofs.laws.Layout.{Sized, by-plain, always, has-all, field-fits, laid-cons, headed-image, image-known, length-image, read-image}
@@ -97,6 +97,7 @@ bytes-laid c h (p ∷ ps) i = rw (laid-cons c p ps) (bytes-append (c p) (laid c 
 
 pub bytes-contents : (f : Form) → Bytes (contentsOf f)
 bytes-contents one = bytes-known (contentsOf one) refl
+bytes-contents two = bytes-known (contentsOf two) refl
 
 module _ (d : Device) (w : WellFormed d) where
   pub fields-sized : Sized (fieldOf d)

@@ -12,7 +12,7 @@ use lib.Seq.{getD-drop, getD-take}
 use borrow.Author.Tests.{eq-eqb, ne-eqb, eqb-true, ltb-false, lt-ltb, le-ltb, le-leb, leb-true, ltb-true, not-false}
 use Rattle.rules.specs.Numbers.{part}
 use Rattle.rules.specs.Ring.{capacity}
-use Rattle.rules.specs.Form.{Form, one, Field, word, copy, irr, count, pairs, has, size, place, formLength, contentsLength, contentsOf, read, Known, known, formAmong, formOf}
+use Rattle.rules.specs.Form.{Form, one, two, Field, word, copy, irr, count, pairs, has, size, place, formLength, contentsLength, contentsOf, read, Known, known, formAmong, formOf}
 use Rattle.rules.specs.Image.{wordIn, countIn, Fault, Finding, clear, found, Rule, copyRule, countRule, flagRule, unusedRule, rules}
 use Rattle.rules.specs.Image.{search, finding, orElse, firstFault, same, accepted, wrongLength, wrongContents, bodyTest, testAs, testKnown, imageTest}
 use Rattle.rules.proofs.laws.Bits.{test}
@@ -244,6 +244,7 @@ test-known l e = ap (λ k. testKnown k l) e
 -- a form is the one of its length
 pub form-found : (f : Form) → formOf (formLength f) ≡ known f
 form-found one = refl
+form-found two = refl
 
 pub known-length : (f : Form) (l : List ℕ) → length l ≡ formLength f → imageTest l ≡ testAs f l
 known-length f l e = test-known l (ap formOf e ∙ form-found f)

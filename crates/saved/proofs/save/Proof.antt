@@ -1,8 +1,7 @@
 -- `save`: the contents and every field are put, one part after another.
 use mathlib.Core.Path.{refl}
 use borrow.Author.Needs.{needs}
-use Rattle.rules.specs.Form.{one}
-use Rattle.rules.specs.Image.{encode}
+use Rattle.image.specs.Shown.{formView}
 use Rattle.rules.proofs.laws.Layout.{by-word, by-plain, by-field}
 use Rattle.state.specs.View.{view}
 use Rattle.saved.proofs.Putting.{puts-then, puts-all, headed}
@@ -10,7 +9,6 @@ use Rattle.saved.proofs.save.Statement.{statement}
 use Rattle.saved.proofs.save.Tie as tie
 
 returns : tie.Need-returns
-unfolding encode
 returns c =
     let ring = c .before .before in
     let tables = ring .before .before .before .before in
@@ -19,10 +17,11 @@ returns c =
     let contents = lines .before .before .before .before in
     let s = contents .before .before .before in
     let d = view (s .args .state) in
-    let h = headed one (s .args .image .now) (s .pre .0) (contents .put-contents .ensures) in
-    puts-all one d (h .0) (h .1)
+    let f = formView (s .args .form) in
+    let h = headed f (s .args .image .now) (s .pre .0) (contents .put-contents .ensures) in
+    puts-all f d (h .0) (h .1)
     (by-field _ (by-word _ (λ h. refl) (λ h. refl) (λ h. refl) (λ h. refl) (by-plain _ (λ h. refl, λ h. refl, λ h. refl, λ h. refl, λ h. refl))) (λ h. refl) (λ h. refl) (λ h. refl, λ h. refl, λ h. refl))
-    (puts-then one d (puts-then one d (puts-then one d (lines .save-lines .ensures d refl) (stored .save-stored .ensures d refl)) (tables .save-tables .ensures d refl refl)) (ring .save-ring .ensures d refl))
+    (puts-then f d (puts-then f d (puts-then f d (lines .save-lines .ensures d refl) (stored .save-stored .ensures d refl)) (tables .save-tables .ensures d refl refl)) (ring .save-ring .ensures d refl))
 
 pub save-spec : {M : Type 1} → statement M
 save-spec =

@@ -15,7 +15,7 @@ use Rattle.saved.proofs.save_lines.Tie as tie
 
 -- a field ends within the image
 within : (c : tie.After-places-of) (q : Field) → always q ≡ true → placeIn (c .places-of .result) q + size q ≤ length (c .before .before .args .image .now)
-within c = let s = c .before .before in always-within (formView (s .args .form)) (s .args .image .now) (s .pre .0) (c .places-of .result) (c .places-of .ensures)
+within c = let s = c .before .before in always-within (formView (s .args .form)) (s .args .image .now) (s .pre) (c .places-of .result) (c .places-of .ensures)
 
 returns : tie.Need-returns
 returns c d e =
@@ -28,10 +28,10 @@ returns c d e =
     let n = s .args .lines in
     let f = formView (s .args .form) in
     let line = sym (ap (λ l. l .irr) e) in
-    let first = puts-number f d (k .places-of .result) (k .places-of .ensures) (word mask) refl (n .«int_mask») (s .pre .0) (ap (bytesOf 8) (sym (ap (λ l. l .mask) e))) (one .put-word .ensures) in
-    let latched = puts-latched f d (k .places-of .result) (k .places-of .ensures) (n .«last_intirr») (n .intirr) (first .size ∙ s .pre .0) (s .pre .1 ∙ line) line (two .put-word2 .ensures) (three .put-word3 .ensures) in
+    let first = puts-number f d (k .places-of .result) (k .places-of .ensures) (word mask) refl (n .«int_mask») (s .pre) (ap (bytesOf 8) (sym (ap (λ l. l .mask) e))) (one .put-word .ensures) in
+    let latched = puts-latched f d (k .places-of .result) (k .places-of .ensures) (n .intirr) (first .size ∙ s .pre) line (two .put-word2 .ensures) (three .put-word3 .ensures) in
     let both = puts-then f d first latched in
-    puts-then f d both (puts-number f d (k .places-of .result) (k .places-of .ensures) (word isr) refl (n .intisr) (both .size ∙ s .pre .0) (ap (bytesOf 8) (sym (ap (λ l. l .isr) e))) (four .put-word4 .ensures))
+    puts-then f d both (puts-number f d (k .places-of .result) (k .places-of .ensures) (word isr) refl (n .intisr) (both .size ∙ s .pre) (ap (bytesOf 8) (sym (ap (λ l. l .isr) e))) (four .put-word4 .ensures))
 
 pub save-lines-spec : {M : Type 1} → statement M
 save-lines-spec =
@@ -42,7 +42,7 @@ save-lines-spec =
     (λ c κs.
     let k = c .before .before .before .before .before in
     let s = k .before .before in
-    let h = copy-within (formView (s .args .form)) (s .args .image .now) (s .pre .0) (k .places-of .result) (k .places-of .ensures) in
+    let h = copy-within (formView (s .args .form)) (s .args .image .now) (s .pre) (k .places-of .result) (k .places-of .ensures) in
     search needs)
     (λ c κs. let h = within (c .before .before .before .before .before .before .before .before .before) (word irr) refl in search needs)
     (λ c κs. let h = within (c .before .before .before .before .before .before .before .before .before .before .before .before .before) (word isr) refl in search needs)

@@ -2,6 +2,8 @@
 use mathlib.Core.Path.{refl}
 use native.Mathlib.Omega.{arith}
 use Rattle.rules.specs.Form.{irr, word}
+use Rattle.image.specs.Shown.{formView}
+use Rattle.image.proofs.Forms.{placed}
 use Rattle.words.proofs.Registers.{word-within, word-read}
 use borrow.Author.Needs.{needs}
 use Rattle.words.proofs.irr.Statement.{statement}
@@ -12,5 +14,8 @@ irr-spec =
     tie.close
     (tie.spec
     (λ c κs. search needs)
-    (λ c κs. omega (arith, word-within irr (c .places-of .ensures .fields (word irr) refl) refl))
-    (λ c. let p = c .before in word-read (p .before .before .args .image .now) irr (p .places-of .ensures .fields (word irr) refl) refl (c .word-at .ensures)))
+    (λ c κs. let a = c .before .before .args in
+    omega (arith, word-within (formView (a .form)) irr (placed (c .places-of .ensures) (word irr) refl) refl))
+    (λ c. let p = c .before in
+    let s = p .before .before in
+    word-read (formView (s .args .form)) (s .args .image .now) (s .pre) irr (placed (p .places-of .ensures) (word irr) refl) refl (c .word-at .ensures)))

@@ -2,6 +2,8 @@
 use mathlib.Core.Path.{refl}
 use native.Mathlib.Omega.{arith}
 use Rattle.rules.specs.Form.{mask, word}
+use Rattle.image.specs.Shown.{formView}
+use Rattle.image.proofs.Forms.{placed}
 use Rattle.words.proofs.Registers.{word-within, word-read}
 use borrow.Author.Needs.{needs}
 use Rattle.words.proofs.mask.Statement.{statement}
@@ -12,5 +14,8 @@ mask-spec =
     tie.close
     (tie.spec
     (λ c κs. search needs)
-    (λ c κs. omega (arith, word-within mask (c .places-of .ensures .fields (word mask) refl) refl))
-    (λ c. let p = c .before in word-read (p .before .before .args .image .now) mask (p .places-of .ensures .fields (word mask) refl) refl (c .word-at .ensures)))
+    (λ c κs. let a = c .before .before .args in
+    omega (arith, word-within (formView (a .form)) mask (placed (c .places-of .ensures) (word mask) refl) refl))
+    (λ c. let p = c .before in
+    let s = p .before .before in
+    word-read (formView (s .args .form)) (s .args .image .now) (s .pre) mask (placed (p .places-of .ensures) (word mask) refl) refl (c .word-at .ensures)))

@@ -2,15 +2,17 @@
 use mathlib.Core.Path.{refl, sym, ap, _∙_}
 use Prim.Native.Nat.{ℕ}
 use Rattle.rules.specs.Core.{htmsiEn, edge, pol, auto0, auto1}
-use Rattle.rules.specs.Form.{stored, word, one, place}
+use Rattle.rules.specs.Form.{Form, stored, word, place}
+use Rattle.image.specs.Shown.{formView}
+use Rattle.image.proofs.Forms.{placed}
 use Rattle.map.specs.Views.{plainView}
 use Rattle.map.specs.declared.Plain.{Plain}
 use borrow.Author.Needs.{needs}
 use Rattle.words.proofs.place_of.Statement.{statement}
 use Rattle.words.proofs.place_of.Tie as tie
 
-abbrev at : Plain → ℕ
-at r = place one (word (stored (plainView r)))
+abbrev at : Form → Plain → ℕ
+at f r = place f (word (stored (plainView r)))
 
 pub place-of-spec : {M : Type 1} → statement M
 place-of-spec =
@@ -22,8 +24,8 @@ place-of-spec =
     (λ c. search needs)
     (λ c. search needs)
     (λ c. search needs)
-    (λ c. c .before .before .places-of .ensures .fields (word (stored htmsiEn)) refl ∙ sym (ap at (c .enum-told .given .1)))
-    (λ c. c .before .before .places-of .ensures .fields (word (stored edge)) refl ∙ sym (ap at (c .enum-told2 .given .1)))
-    (λ c. c .before .before .places-of .ensures .fields (word (stored pol)) refl ∙ sym (ap at (c .enum-told3 .given .1)))
-    (λ c. c .before .before .places-of .ensures .fields (word (stored auto0)) refl ∙ sym (ap at (c .enum-told4 .given .1)))
-    (λ c. c .before .before .places-of .ensures .fields (word (stored auto1)) refl ∙ sym (ap at (c .enum-told5 .given .1))))
+    (λ c. let p = c .before .before in placed (p .places-of .ensures) (word (stored htmsiEn)) refl ∙ sym (ap (at (formView (p .before .args .form))) (c .enum-told .given .1)))
+    (λ c. let p = c .before .before in placed (p .places-of .ensures) (word (stored edge)) refl ∙ sym (ap (at (formView (p .before .args .form))) (c .enum-told2 .given .1)))
+    (λ c. let p = c .before .before in placed (p .places-of .ensures) (word (stored pol)) refl ∙ sym (ap (at (formView (p .before .args .form))) (c .enum-told3 .given .1)))
+    (λ c. let p = c .before .before in placed (p .places-of .ensures) (word (stored auto0)) refl ∙ sym (ap (at (formView (p .before .args .form))) (c .enum-told4 .given .1)))
+    (λ c. let p = c .before .before in placed (p .places-of .ensures) (word (stored auto1)) refl ∙ sym (ap (at (formView (p .before .args .form))) (c .enum-told5 .given .1))))

@@ -1,8 +1,8 @@
 -- `plain`: the eight bytes from its place on spell it.
 use mathlib.Core.Path.{refl}
 use native.Mathlib.Omega.{arith}
-use Rattle.rules.specs.Form.{stored, word, one}
-use Rattle.rules.proofs.laws.Layout.{has-all}
+use Rattle.rules.specs.Form.{stored}
+use Rattle.image.specs.Shown.{formView}
 use Rattle.map.specs.Views.{plainView}
 use Rattle.words.proofs.Registers.{word-within, word-read}
 use borrow.Author.Needs.{needs}
@@ -14,6 +14,6 @@ plain-spec =
     tie.close
     (tie.spec
     (λ c κs. search needs)
-    (λ c κs. omega (arith, word-within (stored (plainView (c .before .before .args .register))) (c .place-of .ensures) (has-all one (word (stored (plainView (c .before .before .args .register)))) refl)))
-    (λ c. let a = c .before .before .before .args in
-    word-read (a .image .now) (stored (plainView (a .register))) (c .before .place-of .ensures) refl (c .word-at .ensures)))
+    (λ c κs. let a = c .before .before .args in omega (arith, word-within (formView (a .form)) (stored (plainView (a .register))) (c .place-of .ensures) refl))
+    (λ c. let s = c .before .before .before in
+    word-read (formView (s .args .form)) (s .args .image .now) (s .pre) (stored (plainView (s .args .register))) (c .before .place-of .ensures) refl (c .word-at .ensures)))

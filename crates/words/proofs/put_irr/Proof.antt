@@ -2,7 +2,9 @@
 use mathlib.Core.Path.{_≡_, refl}
 use native.Mathlib.Omega.{arith}
 use lib.ListN.{length}
-use Rattle.rules.specs.Form.{irr, copy, word}
+use Rattle.rules.specs.Form.{irr, word}
+use Rattle.image.specs.Shown.{formView}
+use Rattle.image.proofs.Forms.{placed, copy-within}
 use Rattle.words.proofs.Registers.{word-within, irr-stored}
 use borrow.Author.Needs.{needs}
 use Rattle.words.proofs.put_irr.Statement.{statement}
@@ -13,11 +15,14 @@ put-irr-spec =
     tie.close
     (tie.spec
     (λ c κs. search needs)
-    (λ c κs. omega (arith, word-within irr (c .before .places-of .ensures .fields (word irr) refl) refl))
-    (λ c κs. let size : length (c .before .before .before .put-word .last .0) ≡ 259 = search needs in
-    omega (arith, word-within copy (c .before .before .before .before .before .places-of .ensures .fields (word copy) refl) refl))
+    (λ c κs. let p = c .before in omega (arith, word-within (formView (p .before .before .args .form)) irr (placed (p .places-of .ensures) (word irr) refl) refl))
+    (λ c κs. let p = c .before .before .before .before .before in
+    let s = p .before .before in
+    let same : length (c .before .before .before .put-word .last .0) ≡ length (s .args .image .now) = search needs in
+    omega (arith, same, copy-within (formView (s .args .form)) (s .args .image .now) (s .pre) (p .places-of .result) (p .places-of .ensures)))
     (λ c. search needs)
     (λ c. let q = c .before .before in
-    let p = q .before .before .before .before in
-    let o = p .before .before in
-    irr-stored (o .before .before .args .image .now) (search needs) (o .places-of .ensures .fields (word irr) refl) (o .places-of .ensures .fields (word copy) refl) (p .put-word .ensures) (q .put-word2 .ensures)))
+    let w = q .before .before .before .before in
+    let p = w .before .before in
+    let s = p .before .before in
+    irr-stored (formView (s .args .form)) (s .args .image .now) (s .pre) (search needs) (p .places-of .result) (p .places-of .ensures) (w .put-word .ensures) (q .put-word2 .ensures)))

@@ -2,6 +2,8 @@
 use mathlib.Core.Path.{refl}
 use native.Mathlib.Omega.{arith}
 use Rattle.rules.specs.Form.{isr, word}
+use Rattle.image.specs.Shown.{formView}
+use Rattle.image.proofs.Forms.{placed}
 use Rattle.words.proofs.Registers.{word-within, isr-stored}
 use borrow.Author.Needs.{needs}
 use Rattle.words.proofs.put_isr.Statement.{statement}
@@ -12,8 +14,10 @@ put-isr-spec =
     tie.close
     (tie.spec
     (λ c κs. search needs)
-    (λ c κs. omega (arith, word-within isr (c .before .places-of .ensures .fields (word isr) refl) refl))
+    (λ c κs. let p = c .before in
+    omega (arith, word-within (formView (p .before .before .args .form)) isr (placed (p .places-of .ensures) (word isr) refl) refl))
     (λ c. search needs)
     (λ c. let q = c .before .before in
     let p = q .before .before in
-    isr-stored (p .before .before .args .image .now) (search needs) (q .put-word .ensures) (p .places-of .ensures .fields (word isr) refl)))
+    let s = p .before .before in
+    isr-stored (formView (s .args .form)) (s .args .image .now) (s .pre) (search needs) (q .put-word .ensures) (placed (p .places-of .ensures) (word isr) refl)))

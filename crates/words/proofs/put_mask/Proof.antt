@@ -2,6 +2,8 @@
 use mathlib.Core.Path.{refl}
 use native.Mathlib.Omega.{arith}
 use Rattle.rules.specs.Form.{mask, word}
+use Rattle.image.specs.Shown.{formView}
+use Rattle.image.proofs.Forms.{placed}
 use Rattle.words.proofs.Registers.{word-within, mask-stored}
 use borrow.Author.Needs.{needs}
 use Rattle.words.proofs.put_mask.Statement.{statement}
@@ -12,8 +14,10 @@ put-mask-spec =
     tie.close
     (tie.spec
     (λ c κs. search needs)
-    (λ c κs. omega (arith, word-within mask (c .before .places-of .ensures .fields (word mask) refl) refl))
+    (λ c κs. let p = c .before in
+    omega (arith, word-within (formView (p .before .before .args .form)) mask (placed (p .places-of .ensures) (word mask) refl) refl))
     (λ c. search needs)
     (λ c. let q = c .before .before in
     let p = q .before .before in
-    mask-stored (p .before .before .args .image .now) (search needs) (q .put-word .ensures) (p .places-of .ensures .fields (word mask) refl)))
+    let s = p .before .before in
+    mask-stored (formView (s .args .form)) (s .args .image .now) (s .pre) (search needs) (q .put-word .ensures) (placed (p .places-of .ensures) (word mask) refl)))

@@ -1,8 +1,8 @@
 -- `put_plain`: the eight bytes from its place on are replaced.
 use mathlib.Core.Path.{refl}
 use native.Mathlib.Omega.{arith}
-use Rattle.rules.specs.Form.{stored, word, one}
-use Rattle.rules.proofs.laws.Layout.{has-all}
+use Rattle.rules.specs.Form.{stored}
+use Rattle.image.specs.Shown.{formView}
 use Rattle.map.specs.Views.{plainView}
 use Rattle.words.proofs.Registers.{word-within, plain-stored}
 use borrow.Author.Needs.{needs}
@@ -14,8 +14,8 @@ put-plain-spec =
     tie.close
     (tie.spec
     (λ c κs. search needs)
-    (λ c κs. omega (arith, word-within (stored (plainView (c .before .before .before .args .register))) (c .place-of .ensures) (has-all one (word (stored (plainView (c .before .before .before .args .register)))) refl)))
+    (λ c κs. let a = c .before .before .before .args in omega (arith, word-within (formView (a .form)) (stored (plainView (a .register))) (c .place-of .ensures) refl))
     (λ c. search needs)
     (λ c. let p = c .before .before in
-    let a = p .before .before .before .before .args in
-    plain-stored (a .image .now) (search needs) (p .put-word .ensures) (plainView (a .register)) (p .before .place-of .ensures)))
+    let s = p .before .before .before .before in
+    plain-stored (formView (s .args .form)) (s .args .image .now) (s .pre) (search needs) (p .put-word .ensures) (plainView (s .args .register)) (p .before .place-of .ensures)))

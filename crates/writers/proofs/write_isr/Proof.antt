@@ -17,6 +17,6 @@ write-isr-spec =
     let a = c .before .before in
     let d = view (a .args .state) in
     record {
-      well = record { copy = a .pre .copy; ring = a .pre .ring };
+      well = record { ring = a .pre .ring };
       shows = ap (λ (x : ℕ). deviceOf (withIsr (d .core .lines) x) (d .core .vectors) (d .core .stored) (d .ring)) (c .before .replace-u32 .ensures) ∙ sym (acted-isr d (a .args .high) (a .args .val));
     }))

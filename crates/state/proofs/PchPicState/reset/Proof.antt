@@ -58,7 +58,7 @@ unfolding slots
 returns c =
     let l = c .before .loop in
     record {
-      well = record { copy = refl; ring = record { head = omega arith; len = omega arith } };
+      well = record { ring = record { head = omega arith; len = omega arith } };
       shows = ap withVectors (done (l .vectors) (upFrom (l .irq) (64 - l .irq)) (l .irq) (omega arith) (none-left (l .irq) (omega arith)) (l .inv .2));
     }
 

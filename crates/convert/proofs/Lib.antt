@@ -1,0 +1,1 @@
+-- The laws that the proof of this crate cites are those of rules and refusals.

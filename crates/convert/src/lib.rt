@@ -1,0 +1,33 @@
+// An image moved to the form of a target's length, by way of the whole state: what is told is handed back. The order of the tests is 4 of the image, 4 of the
+// target, then 5 and 8 to 11.
+use answer::Told;
+use answer::Value;
+use answer::done;
+use checked::Verdict;
+use checked::check;
+use image::form::KnownForm;
+use image::form::form_of;
+use refusals::of_image;
+use refusals::wrong_length;
+ghost use mathlib.Core.Path.{_≡_};
+ghost use mathlib.Core.List.{[]};
+ghost use Rattle.rules.specs.Convert.{convertEnding};
+ghost use Rattle.answer.specs.Given.{ends};
+
+// The target is written only where all tests have passed; any bytes of its length will do.
+pub fn convert(image: &[u8], target: &mut [u8]) -> Told
+    ensures { λ r. ⌜ ends r (now (target .exit)) [] ≡ convertEnding (now (image .entry)) (now (target .entry)) ⌝ }
+{
+    let KnownForm::As(_) = form_of(image.len()) else {
+        return wrong_length();
+    };
+    let KnownForm::As(form) = form_of(target.len()) else {
+        return wrong_length();
+    };
+    let checked = check(image);
+    let Verdict::Accepted(own) = checked else {
+        return of_image(image);
+    };
+    saved::save(target, form, loaded::load(image, own));
+    done(Value::Absent)
+}

@@ -1,0 +1,4 @@
+-- What was asked for of the plain engine.
+pub mod SameEngine
+pub mod SameCalls
+pub mod History

@@ -1,0 +1,3 @@
+-- What 02, C-24 says of a sweep, as theorems.
+pub mod WakesAll
+pub mod OfCalls

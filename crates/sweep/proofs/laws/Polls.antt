@@ -1,0 +1,98 @@
+-- Polls one after another, from any accepted image and with an answer area that has room: each is done and leaves such an image and area (polls-done). The
+-- calls of all 64 are a sweep (all-polled).
+use mathlib.Core.Path.{_≡_, refl, sym, ap₂, _∙_}
+use mathlib.Core.Logic.{⊎-elim}
+use mathlib.Core.Bool.{true, or-true}
+use mathlib.Core.List.{List, [], _∷_, _++_, map}
+use Prim.Native.Nat.{ℕ, zero, suc, _+_, _<_, _≤_}
+use native.Mathlib.Nat.{eq-or-lt-of-le}
+use native.Mathlib.Omega.{arith}
+use lib.ListN.{length}
+use borrow.Author.Tests.{eq-eqb, le-leb, lt-ltb}
+use Rattle.rules.specs.Numbers.{Bytes}
+use Rattle.rules.specs.Device.{Call, poll, upFrom, Value, step, value}
+use Rattle.rules.specs.Image.{decode, imageTest, accepted}
+use Rattle.rules.specs.Calls.{performed, answerLength, answered, outcome}
+use Rattle.rules.specs.Calls as request
+use Rattle.histories.specs.Exported.{Exported, leftBy, isDone, HandedOn, doneCall, doneCalls}
+use Rattle.sweep.specs.Sweeps.{sweeping, isPoll, everyCall, someCall, Sweep}
+use Rattle.sweep.specs.Handed.{pollsFrom}
+use Rattle.rules.proofs.laws.Saved.{bytes-encode}
+use Rattle.rules.proofs.laws.Images.{accepted-has, encode-as, encode-decode, decode-well-formed, accepted-encode}
+use Rattle.histories.proofs.laws.WellFormed.{step-well}
+use Rattle.histories.proofs.demands.FromCalls.{a-call-is-a-step}
+
+-- ---- their calls
+
+abbrev pub pollCalls : ℕ → ℕ → List Call
+pollCalls n k = map poll (upFrom n k)
+
+polls-sweep : (n k : ℕ) → everyCall sweeping (pollCalls n k) ≡ true
+unfolding upFrom
+polls-sweep n zero = refl
+polls-sweep n (suc k) = polls-sweep (suc n) k
+
+polls-some : (n k m : ℕ) → n ≤ m → m < n + k → someCall (isPoll m) (pollCalls n k) ≡ true
+unfolding upFrom
+polls-some n zero m a b = absurd (omega arith)
+polls-some n (suc k) m a b =
+    ⊎-elim (λ e. rw (eq-eqb n m e)) (λ l. rw (polls-some (suc n) k m l (omega arith)) (or-true (isPoll m (poll n)))) (eq-or-lt-of-le a)
+
+pub all-polled : Sweep (pollCalls 0 64)
+all-polled = record { admitted = polls-sweep 0 64; polled = λ m b. polls-some 0 64 m (omega arith) (omega (arith, b)) }
+
+-- ---- they are done
+
+-- bytes that are accepted, and an answer area with room
+record Fit (i a : List ℕ) : Type 0 where
+  bytes : Bytes i
+  isAccepted : imageTest i ≡ accepted
+  room : answerLength ≤ length a
+
+length-answered : (number : ℕ) (v : Value) (a : List ℕ) → answerLength ≤ length (answered number v a)
+unfolding answered
+length-answered number v a = omega arith
+
+module _ (n : ℕ) (b : n < 64) (i a : List ℕ) (f : Fit i a) where
+  abbrev polling : Exported
+  polling = record { given = i; asked = request.poll n; answer = a }
+
+  poll-done : isDone polling ≡ true
+  unfolding outcome performed
+  poll-done = rw (le-leb answerLength (length a) (f .room), f .isAccepted, lt-ltb n 64 b)
+
+  poll-call : doneCall polling ≡ poll n ∷ []
+  poll-call = rw (poll-done, lt-ltb n 64 b)
+
+  poll-fit : Fit (leftBy polling .image) (leftBy polling .answer)
+  poll-fit =
+      let d = decode i in
+      let w = decode-well-formed i (f .bytes) (f .isAccepted) in
+      let its = accepted-has i (f .isAccepted) in
+      let saved = encode-as (its .form) i (its .has .sized) in
+      let r = a-call-is-a-step d w (its .form) polling (sym (encode-decode i (f .bytes) (f .isAccepted)) ∙ saved d) refl poll-done in
+      let after = step-well d (r .call) w in
+      let is = r .image ∙ saved (step d (r .call) .after) in
+      record {
+        bytes = rw is (bytes-encode (step d (r .call) .after) after (its .form));
+        isAccepted = rw is (accepted-encode (step d (r .call) .after) after (its .form));
+        room = rw (r .answer) (length-answered 0 (value d (r .call)) a);
+      }
+
+record Polled (n k : ℕ) (i a : List ℕ) : Type 0 where
+  handedOn : HandedOn i (pollsFrom n k i a)
+  calls : doneCalls (pollsFrom n k i a) ≡ pollCalls n k
+
+polled-from : (n k : ℕ) → n + k ≤ 64 → (i a : List ℕ) → Fit i a → Polled n k i a
+unfolding pollsFrom HandedOn doneCalls upFrom
+polled-from n zero l i a f = record { handedOn = tt; calls = refl }
+polled-from n (suc k) l i a f =
+    let b : n < 64 = omega arith in
+    let rest = polled-from (suc n) k (omega arith) _ _ (poll-fit n b i a f) in
+    record { handedOn = (refl, refl, rest .handedOn); calls = ap₂ _++_ (poll-call n b i a f) (rest .calls) }
+
+pub polls-done : (n k : ℕ) → n + k ≤ 64 → (i a : List ℕ) → Bytes i → imageTest i ≡ accepted → answerLength ≤ length a
+    → HandedOn i (pollsFrom n k i a) × (doneCalls (pollsFrom n k i a) ≡ pollCalls n k)
+polls-done n k l i a b e h =
+    let r = polled-from n k l i a (record { bytes = b; isAccepted = e; room = h }) in
+    (r .handedOn, r .calls)

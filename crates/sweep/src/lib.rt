@@ -1,0 +1,1 @@
+// A sweep has no code: see specs/, and proofs/ for what is proved of it.
