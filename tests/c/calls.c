@@ -82,6 +82,12 @@ static void form_2(void)
     n = pch_pic_read(image, IMAGE2, 0, 0x400, 0x3a0, 8, answer, ANSWER);
     expect("ISR is read", n == 0 && answers(0, 1, 0x20));
     guard();
+    n = pch_pic_table_read(image, IMAGE2, 0, 0x400, 0x3a0, 8, answer, ANSWER);
+    expect("by the table too", n == 0 && answers(0, 1, 0x20));
+    guard();
+    n = pch_pic_table_write(image, IMAGE2, 0, 0x400, 0x23f, 1, 0x2a, answer, ANSWER);
+    expect("by the table vector 63 is written, 8 lower", n == 0 && answers(0, 1, 0) && image[150 + 63] == 0x2a);
+    guard();
     n = pch_pic_poll(image, IMAGE2, 5, answer, ANSWER);
     expect("a poll of it returns nothing", n == 0 && answers(0, 0, 0));
     expect("it is still form 2, and no byte behind it was written", image[0] == 2 && image[IMAGE2] == 0x77 && image[IMAGE - 1] == 0x77);
