@@ -1,9 +1,9 @@
 -- What the functions of this crate hand back, as the rules see it.
 use mathlib.Core.Path.{_≡_}
-use mathlib.Core.Bool.{true, false}
+use mathlib.Core.Bool.{true, false, cond}
 use Prim.Native.Nat.{ℕ, _+_, _≤_}
 use Rattle.rules.specs.Core.{htmsiEn, edge, pol, auto0, auto1}
-use Rattle.rules.specs.Form.{mask, irr, isr, copy, stored, Field, word, routes, vectors, count, drops, pairs, one, two, has, place, contentsLength, contentsOf, unknown, known}
+use Rattle.rules.specs.Form.{mask, irr, isr, copy, stored, Field, word, routes, vectors, count, drops, pairs, one, two, has, size, place, contentsLength, contentsOf, unknown, known}
 use Rattle.rules.specs.Form as rules-form
 use Rattle.rules.specs.Image.{registerAt}
 use Rattle.image.specs.declared.form.Form.{Form}
@@ -37,6 +37,10 @@ placeIn p vectors = p .vectors
 placeIn p count = p .count
 placeIn p drops = p .drops
 placeIn p pairs = p .pairs
+
+-- the bytes of the copy of IRR, if the form has one
+abbrev pub copyLength : rules-form.Form → ℕ
+copyLength f = cond (has f (word copy)) (size (word copy)) 0
 
 -- the places of a form; where it has no copy of IRR, that of IRR stands for it
 pub record PlacesOf (f : rules-form.Form) (p : Places) : Type 0 where

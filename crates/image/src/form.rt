@@ -1,7 +1,8 @@
 // The form of an image, known by its length; where its fields stand, and its contents as numbers. Only here are places in an image literal numbers.
 ghost use mathlib.Core.Path.{_≡_};
+ghost use Prim.Native.Nat.{_≤_};
 ghost use Rattle.rules.specs.Form.{formOf};
-ghost use Rattle.image.specs.Shown.{formView, formKnown, PlacesOf, ContentsOf};
+ghost use Rattle.image.specs.Shown.{formView, formKnown, copyLength, PlacesOf, ContentsOf};
 
 // Form 1, and form 2, which has no copy of IRR.
 pub enum Form {
@@ -42,45 +43,36 @@ pub struct Places {
     pub pairs: usize,
 }
 
-// Form 2 has no copy of IRR.
-const IRR_OF_TWO: usize = 46;
+// How many bytes the copy of IRR takes, behind which all stands so much higher.
+fn copy_length(form: Form) -> usize
+    ensures { λ r. ⌜ (r ≡ copyLength (formView form)) × (r ≤ 8) ⌝ }
+{
+    match form {
+        Form::One => 8,
+        Form::Two => 0,
+    }
+}
 
+// One sum for each place, and no table of each form: so the compiler adds the copy's length to the image's address, once.
 pub fn places_of(form: Form) -> Places
     ensures { λ r. ⌜ PlacesOf (formView form) r ⌝ }
 {
-    match form {
-        Form::One => Places {
-            int_mask: 22,
-            htmsi_en: 30,
-            intedge: 38,
-            last_intirr: 46,
-            intirr: 54,
-            intisr: 62,
-            int_polarity: 70,
-            auto_ctrl0: 78,
-            auto_ctrl1: 86,
-            routes: 94,
-            vectors: 158,
-            count: 222,
-            drops: 223,
-            pairs: 227,
-        },
-        Form::Two => Places {
-            int_mask: 22,
-            htmsi_en: 30,
-            intedge: 38,
-            last_intirr: IRR_OF_TWO,
-            intirr: IRR_OF_TWO,
-            intisr: 54,
-            int_polarity: 62,
-            auto_ctrl0: 70,
-            auto_ctrl1: 78,
-            routes: 86,
-            vectors: 150,
-            count: 214,
-            drops: 215,
-            pairs: 219,
-        },
+    let copy = copy_length(form);
+    Places {
+        int_mask: 22,
+        htmsi_en: 30,
+        intedge: 38,
+        last_intirr: 46,
+        intirr: 46 + copy,
+        intisr: 54 + copy,
+        int_polarity: 62 + copy,
+        auto_ctrl0: 70 + copy,
+        auto_ctrl1: 78 + copy,
+        routes: 86 + copy,
+        vectors: 150 + copy,
+        count: 214 + copy,
+        drops: 215 + copy,
+        pairs: 219 + copy,
     }
 }
 
