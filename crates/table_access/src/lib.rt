@@ -33,7 +33,13 @@ fn read_qword(image: &[u8], form: Form, table: &[[u8; 32]; 32], offset: usize) -
 }
 
 // What an access reads. It lies wholly inside the window, which ends at 2^64 - 1 at most.
-pub fn read_access(image: &[u8], form: Form, table: &[[u8; 32]; 32], width: Width, offset: usize) -> u64
+pub fn read_access(
+    image: &[u8],
+    form: Form,
+    table: &[[u8; 32]; 32],
+    width: Width,
+    offset: usize,
+) -> u64
     requires { ⌜ (length (now image) ≡ formLength (formView form)) × Agrees (now table) × (offset + bytesIn (widthView width) ≤ 2 ^ 64 - 1) ⌝ }
     ensures { λ r. ⌜ Reads (now (image .entry)) r (λ d. readAt (d .core) (widthView width) offset) ⌝ }
 {
@@ -54,7 +60,13 @@ fn write_word(image: &mut [u8], form: Form, table: &[[u8; 32]; 32], offset: usiz
     first + write_byte(image, form, table, offset + 1, bits::byte_of(low, 1))
 }
 
-fn write_qword(image: &mut [u8], form: Form, table: &[[u8; 32]; 32], offset: usize, value: u64) -> u32
+fn write_qword(
+    image: &mut [u8],
+    form: Form,
+    table: &[[u8; 32]; 32],
+    offset: usize,
+    value: u64,
+) -> u32
     requires { ⌜ (length (now image) ≡ formLength (formView form)) × Agrees (now table) × (offset + 8 ≤ 2 ^ 64 - 1) ⌝ }
     ensures { λ r. ⌜ (r ≤ 130) × Writes (now (image .entry)) (now (image .exit)) r (λ c. writeActs c qword offset value) ⌝ }
 {

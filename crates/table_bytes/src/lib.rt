@@ -1,11 +1,11 @@
 // Bytes by the table, in place on an image.
-use image::form::Form;
 use entries::put_routes;
 use entries::put_vectors;
 use entries::route;
 use entries::vector;
 use halves::value_of;
 use halves::write_half;
+use image::form::Form;
 use table::Place;
 use table::look;
 ghost use mathlib.Core.Path.{_≡_};
@@ -34,7 +34,13 @@ pub fn read_byte(image: &[u8], form: Form, table: &[[u8; 32]; 32], offset: usize
     }
 }
 
-pub fn write_byte(image: &mut [u8], form: Form, table: &[[u8; 32]; 32], offset: usize, val: u8) -> u32
+pub fn write_byte(
+    image: &mut [u8],
+    form: Form,
+    table: &[[u8; 32]; 32],
+    offset: usize,
+    val: u8,
+) -> u32
     requires { ⌜ (length (now image) ≡ formLength (formView form)) × Agrees (now table) ⌝ }
     ensures { λ r. ⌜ (r ≤ 65) × Writes (now (image .entry)) (now (image .exit)) r (λ c. byteActs c offset val) ⌝ }
 {

@@ -1,7 +1,7 @@
 // Dwords by the table, in place on an image: a half at its lowest byte; among the route and vector bytes four Bytes, low first.
-use image::form::Form;
 use halves::value_of;
 use halves::write_half;
+use image::form::Form;
 use table::Place;
 use table::look;
 use table_bytes::read_byte;
@@ -55,7 +55,13 @@ fn write_four(image: &mut [u8], form: Form, table: &[[u8; 32]; 32], offset: usiz
     write_byte(image, form, table, offset + 3, bits::byte_of(val, 3));
 }
 
-pub fn write_dword(image: &mut [u8], form: Form, table: &[[u8; 32]; 32], offset: usize, val: u32) -> u32
+pub fn write_dword(
+    image: &mut [u8],
+    form: Form,
+    table: &[[u8; 32]; 32],
+    offset: usize,
+    val: u32,
+) -> u32
     requires { ⌜ (length (now image) ≡ formLength (formView form)) × Agrees (now table) ⌝ }
     ensures { λ r. ⌜ (r ≤ 65) × Writes (now (image .entry)) (now (image .exit)) r (λ c. dwordActs offset val) ⌝ }
 {
