@@ -1,6 +1,6 @@
-/* A LoongArch PCH-PIC interrupt controller as a library: seven calls over bytes. This header is all that a host needs to read.
+/* A LoongArch PCH-PIC interrupt controller as a library: calls over bytes. This header is all that a host needs to read.
  *
- * Link with libpch_pic.a ('rt staticlib pch_pic' writes it to target/staticlib) and with no other library. The archive is for x86-64 Linux in user
+ * Link with libpch_pic.a (tools/archive writes it to target/archive) and with no other library. The archive is for x86-64 Linux in user
  * space, and for nothing else: it uses the SSE registers and the red zone below the stack pointer, which a kernel must not, and it has no
  * .eh_frame, so nothing can be unwound through its frames.
  *
@@ -81,9 +81,9 @@
 
 /* The version of the header and of what it says about the library. */
 #define PCH_PIC_VERSION_MAJOR 0
-#define PCH_PIC_VERSION_MINOR 6
+#define PCH_PIC_VERSION_MINOR 7
 #define PCH_PIC_VERSION_PATCH 0
-#define PCH_PIC_VERSION "0.6.0"
+#define PCH_PIC_VERSION "0.7.0"
 
 #ifdef __cplusplus
 extern "C" {
@@ -213,6 +213,13 @@ uint8_t pch_pic_drain(uint8_t *image, size_t image_len, uint8_t *events, size_t 
  * form the target is a copy of it. There and back gives the same bytes. No value. A refusal leaves the target; 4 is told of the image or of the
  * target. Refusals: 7, 4, 5, 8 to 11. */
 uint8_t pch_pic_convert(const uint8_t *image, size_t image_len, uint8_t *target, size_t target_len, uint8_t *answer, size_t answer_len);
+
+/* As pch_pic_read and pch_pic_write, in the number and in every byte, but decoded by a table of 1,024 entries, one for each byte offset, the one that
+ * './run --map' prints. They take more time (docs/PERFORMANCE.md), and may be mixed with the other calls on one image. Refusals: 7, 4, 5, 8 to 11, 2, 1. */
+uint8_t pch_pic_table_read(const uint8_t *image, size_t image_len, uint64_t base, uint64_t size, uint64_t address, uint64_t width,
+                           uint8_t *answer, size_t answer_len);
+uint8_t pch_pic_table_write(uint8_t *image, size_t image_len, uint64_t base, uint64_t size, uint64_t address, uint64_t width, uint64_t value,
+                            uint8_t *answer, size_t answer_len);
 
 #ifdef __cplusplus
 }

@@ -411,6 +411,7 @@ static void reads_only_load(void)
         mprotect(page, 4096, PROT_READ);
         for (uint64_t address = 0; address <= PCH_PIC_WINDOW_LEN; address++) {
             for (uint64_t width = 0; width <= 8; width++) {
+                numbers |= 1 << pch_pic_table_read(page, len, 0, PCH_PIC_WINDOW_LEN, address, width, answer, sizeof answer);
                 numbers |= 1 << pch_pic_read(page, len, 0, PCH_PIC_WINDOW_LEN, address, width, answer, sizeof answer);
             }
         }
@@ -419,6 +420,23 @@ static void reads_only_load(void)
     }
     expect("a read only loads from the image", numbers == (1 << PCH_PIC_DONE | 1 << PCH_PIC_OUTSIDE | 1 << PCH_PIC_WIDTH));
     munmap(page, 4096);
+}
+
+/* Every offset by every width: by the table nothing is different. */
+static void by_the_table(void)
+{
+    struct pic plain, table;
+    uint64_t value, other, dropped, lost;
+    bool same = pic_init(&plain, BASE) == PCH_PIC_DONE && pic_init(&table, BASE) == PCH_PIC_DONE;
+    for (uint64_t offset = 0; offset <= PCH_PIC_WINDOW_LEN; offset++) {
+        for (uint64_t width = 1; width <= 8; width++) {
+            uint64_t written = (offset + 1) * 0x9e3779b97f4a7c15u;
+            same = same && pic_table_read(&table, BASE + offset, width, &other) == pic_read(&plain, BASE + offset, width, &value) && other == value &&
+                   pic_table_write(&table, BASE + offset, width, written, &lost) == pic_write(&plain, BASE + offset, width, written, &dropped) &&
+                   lost == dropped && memcmp(table.image, plain.image, sizeof plain.image) == 0;
+        }
+    }
+    expect("by the table nothing is different", same);
 }
 
 static void what_is_no_device(void)
@@ -471,6 +489,7 @@ int main(int argc, char **argv)
     files(path);
     forms(path);
     reads_only_load();
+    by_the_table();
     what_is_no_device();
     another_form();
     printf("%d passed, %d failed\n", passed, failed);

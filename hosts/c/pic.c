@@ -60,6 +60,23 @@ int pic_write(struct pic *pic, uint64_t address, uint64_t width, uint64_t value,
     return number;
 }
 
+int pic_table_read(const struct pic *pic, uint64_t address, uint64_t width, uint64_t *value)
+{
+    uint8_t answer[PCH_PIC_ANSWER_LEN];
+    int number = pch_pic_table_read(pic->image, sizeof pic->image, pic->base, pic->size, address, width, answer, sizeof answer);
+    *value = number == PCH_PIC_DONE ? value_of(answer) : 0;
+    return number;
+}
+
+int pic_table_write(struct pic *pic, uint64_t address, uint64_t width, uint64_t value, uint64_t *dropped)
+{
+    uint8_t answer[PCH_PIC_ANSWER_LEN];
+    int number = pch_pic_table_write(pic->image, sizeof pic->image, pic->base, pic->size, address, width, value, answer, sizeof answer);
+    if (dropped != NULL)
+        *dropped = number == PCH_PIC_DONE ? value_of(answer) : 0;
+    return number;
+}
+
 int pic_level(struct pic *pic, uint64_t input, bool high, struct pic_event *event)
 {
     uint8_t answer[PCH_PIC_ANSWER_LEN];

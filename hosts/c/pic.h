@@ -49,14 +49,16 @@ struct pic_wires {
     void *above;
 };
 
-/* The six calls of pch_pic.h.
+/* The calls of pch_pic.h.
  * pic_init sets the window too: the registers stand at base. A line that is high already may be raised again: it is latched and asked for, and
  * asserted at most once. pic_write says how many events the write dropped, where dropped is not NULL. pic_drain takes all waiting events, oldest
- * first, and says how many. */
+ * first, and says how many. pic_table_read and pic_table_write are pic_read and pic_write decoded by the table, and answer the same. */
 int pic_init(struct pic *pic, uint64_t base);
 int pic_reset(struct pic *pic);
 int pic_read(const struct pic *pic, uint64_t address, uint64_t width, uint64_t *value);
 int pic_write(struct pic *pic, uint64_t address, uint64_t width, uint64_t value, uint64_t *dropped);
+int pic_table_read(const struct pic *pic, uint64_t address, uint64_t width, uint64_t *value);
+int pic_table_write(struct pic *pic, uint64_t address, uint64_t width, uint64_t value, uint64_t *dropped);
 int pic_level(struct pic *pic, uint64_t input, bool high, struct pic_event *event);
 int pic_poll(struct pic *pic, uint64_t input, struct pic_event *event);
 int pic_drain(struct pic *pic, struct pic_event events[PCH_PIC_EVENTS], size_t *count);

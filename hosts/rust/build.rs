@@ -1,4 +1,4 @@
-//! Links libpch_pic.a, from PCH_PIC_LIB_DIR or from the repository's target/staticlib. It says what to run where the library is missing, and
+//! Links libpch_pic.a, from PCH_PIC_LIB_DIR or from the repository's target/archive. It says what to run where the library is missing, and
 //! refuses a target that the library is not for.
 
 use std::env;
@@ -18,7 +18,7 @@ fn library_dir() -> PathBuf {
         Some(dir) => PathBuf::from(dir),
         None => {
             let here = env::var_os("CARGO_MANIFEST_DIR").expect("cargo tells where the crate stands");
-            Path::new(&here).join("../../target/staticlib")
+            Path::new(&here).join("../../target/archive")
         }
     }
 }
@@ -40,7 +40,7 @@ fn main() {
         }
         _ => {
             eprintln!("{LIBRARY} is not in {}", dir.display());
-            eprintln!("To prove and build it, run 'rt staticlib pch_pic' at the top of the repository.");
+            eprintln!("To prove and build it, run tools/archive at the top of the repository.");
             eprintln!("If it stands elsewhere, set PCH_PIC_LIB_DIR to its folder.");
             exit(1);
         }

@@ -1,4 +1,4 @@
-/* Each of the seven calls, and each refusal, once, from C, on images of both forms: what is handed back, and which bytes change. Prints
+/* Each call, and each refusal, once, from C, on images of both forms: what is handed back, and which bytes change. Prints
  * 'N passed, M failed' last. */
 #include "pch_pic.h"
 
@@ -81,6 +81,12 @@ static void form_2(void)
     guard();
     n = pch_pic_read(image, IMAGE2, 0, 0x400, 0x3a0, 8, answer, ANSWER);
     expect("ISR is read", n == 0 && answers(0, 1, 0x20));
+    guard();
+    n = pch_pic_table_read(image, IMAGE2, 0, 0x400, 0x3a0, 8, answer, ANSWER);
+    expect("by the table too", n == 0 && answers(0, 1, 0x20));
+    guard();
+    n = pch_pic_table_write(image, IMAGE2, 0, 0x400, 0x23f, 1, 0x2a, answer, ANSWER);
+    expect("by the table vector 63 is written, 8 lower", n == 0 && answers(0, 1, 0) && image[150 + 63] == 0x2a);
     guard();
     n = pch_pic_poll(image, IMAGE2, 5, answer, ANSWER);
     expect("a poll of it returns nothing", n == 0 && answers(0, 0, 0));
@@ -170,7 +176,20 @@ int main(void)
     n = pch_pic_level(image, IMAGE, 5, 0, answer, ANSWER);
     expect("lowering it returns its vector", n == 0 && answers(0, 1, 5));
 
+    guard();
+    n = pch_pic_table_write(image, IMAGE, 0x10000000, 0x400, 0x1000013e, 4, 0x04030201, answer, ANSWER);
+    expect("by the table the last two route bytes are written", n == 0 && answers(0, 1, 0) && image[94 + 62] == 1 && image[94 + 63] == 2);
+    guard();
+    n = pch_pic_table_read(image, IMAGE, 0x10000000, 0x400, 0x1000013e, 4, answer, ANSWER);
+    expect("and read", n == 0 && answers(0, 1, 0x0201));
+
     memcpy(before, image, IMAGE);
+    guard();
+    n = pch_pic_table_read(image, IMAGE, 0x10000000, 0x400, 0x100003fc, 8, answer, ANSWER);
+    expect("1 by the table: over the window's end, with the address", n == 1 && answers(1, 1, 0x100003fc));
+    guard();
+    n = pch_pic_table_write(image, IMAGE, 0x10000000, 0x400, 0x10000400, 3, 0, answer, ANSWER);
+    expect("2 before 1 by the table", n == 2 && answers(2, 0, 0));
     guard();
     n = pch_pic_read(image, IMAGE, 0x10000000, 0x400, 0x10000400, 4, answer, ANSWER);
     expect("1: outside the window, with the address", n == 1 && answers(1, 1, 0x10000400));

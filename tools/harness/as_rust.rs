@@ -1,4 +1,4 @@
-//! The library under test where its Rattle sources are read as Rust (tools/harness/as-rust): the C shape of the calls, over slices.
+//! The library under test where its Rattle sources are read as Rust (tools/harness/as-rust): the C shape of the exported calls, over slices.
 
 /// SAFETY: the pointer has so many bytes, or is null and has none.
 unsafe fn area<'a>(pointer: *mut u8, len: usize) -> &'a mut [u8] {
@@ -65,4 +65,31 @@ pub unsafe fn pch_pic_convert(
     answer_len: usize,
 ) -> u8 {
     unsafe { pch_pic::pch_pic_convert(area(image.cast_mut(), image_len), area(target, target_len), area(answer, answer_len)) }
+}
+
+pub unsafe fn pch_pic_table_read(
+    image: *const u8,
+    image_len: usize,
+    base: u64,
+    size: u64,
+    address: u64,
+    width: u64,
+    answer: *mut u8,
+    answer_len: usize,
+) -> u8 {
+    unsafe { pch_pic_table::pch_pic_table_read(area(image.cast_mut(), image_len), base, size, address, width, area(answer, answer_len)) }
+}
+
+pub unsafe fn pch_pic_table_write(
+    image: *mut u8,
+    image_len: usize,
+    base: u64,
+    size: u64,
+    address: u64,
+    width: u64,
+    value: u64,
+    answer: *mut u8,
+    answer_len: usize,
+) -> u8 {
+    unsafe { pch_pic_table::pch_pic_table_write(area(image, image_len), base, size, address, width, value, area(answer, answer_len)) }
 }

@@ -43,4 +43,25 @@ unsafe extern "C" {
         answer: *mut u8,
         answer_len: usize,
     ) -> u8;
+    pub fn pch_pic_table_read(
+        image: *const u8,
+        image_len: usize,
+        base: u64,
+        size: u64,
+        address: u64,
+        width: u64,
+        answer: *mut u8,
+        answer_len: usize,
+    ) -> u8;
+    pub fn pch_pic_table_write(
+        image: *mut u8,
+        image_len: usize,
+        base: u64,
+        size: u64,
+        address: u64,
+        width: u64,
+        value: u64,
+        answer: *mut u8,
+        answer_len: usize,
+    ) -> u8;
 }

@@ -96,3 +96,34 @@ pub unsafe fn pch_pic_convert(
     let call = Call::Convert { target: target_len };
     unsafe { perform(call, (image.cast_mut(), image_len), (answer, answer_len), (target, target_len)) }
 }
+
+#[allow(clippy::too_many_arguments)]
+pub unsafe fn pch_pic_table_read(
+    image: *const u8,
+    image_len: usize,
+    base: u64,
+    size: u64,
+    address: u64,
+    width: u64,
+    answer: *mut u8,
+    answer_len: usize,
+) -> u8 {
+    let call = Call::Read { base, size, address, width };
+    unsafe { perform(call, (image.cast_mut(), image_len), (answer, answer_len), NONE) }
+}
+
+#[allow(clippy::too_many_arguments)]
+pub unsafe fn pch_pic_table_write(
+    image: *mut u8,
+    image_len: usize,
+    base: u64,
+    size: u64,
+    address: u64,
+    width: u64,
+    value: u64,
+    answer: *mut u8,
+    answer_len: usize,
+) -> u8 {
+    let call = Call::Write { base, size, address, width, value };
+    unsafe { perform(call, (image, image_len), (answer, answer_len), NONE) }
+}

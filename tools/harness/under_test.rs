@@ -1,4 +1,5 @@
-//! Makes a call of the library under test on lent areas.
+//! Makes a call of the library under test on lent areas. A read or a write is made a second time by the table, on areas that held the same, and has to leave
+//! the same number and the same bytes.
 
 use crate::call::Call;
 use crate::lent::Areas;
@@ -14,6 +15,22 @@ pub fn box_areas() {
 }
 
 pub fn call(call: &Call, lent: &mut Areas) -> u8 {
+    let twin = matches!(call, Call::Read { .. } | Call::Write { .. }).then(|| lent.clone());
+    let number = on(call, lent, make);
+    if let Some(mut twin) = twin {
+        let other = on(call, &mut twin, make_by_table);
+        assert_eq!(other, number, "by the table it hands back another number");
+        assert!(twin.image.same(&lent.image), "by the table it leaves another image: {:?}", twin.image.difference(&lent.image));
+        assert!(twin.answer.same(&lent.answer), "by the table it leaves another answer area: {:?}", twin.answer.difference(&lent.answer));
+        assert!(twin.events.same(&lent.events), "by the table it leaves another event buffer");
+        assert!(twin.target.same(&lent.target), "by the table it leaves another target");
+    }
+    number
+}
+
+type Area = (*mut u8, usize);
+
+fn on(call: &Call, lent: &mut Areas, make: fn(&Call, [Area; 4]) -> u8) -> u8 {
     let Areas { image, answer, events, target } = lent;
     if !BOXED.load(Ordering::Relaxed) {
         let lent =
@@ -29,7 +46,7 @@ pub fn call(call: &Call, lent: &mut Areas) -> u8 {
     number
 }
 
-fn make(call: &Call, [(i, il), (a, al), (e, el), (t, tl)]: [(*mut u8, usize); 4]) -> u8 {
+fn make(call: &Call, [(i, il), (a, al), (e, el), (t, tl)]: [Area; 4]) -> u8 {
     // SAFETY: each pointer and length is an area of its own that outlives the call; an empty one may be null, as the boundary says.
     unsafe {
         match *call {
@@ -40,6 +57,17 @@ fn make(call: &Call, [(i, il), (a, al), (e, el), (t, tl)]: [(*mut u8, usize); 4]
             Call::Poll { input } => library::pch_pic_poll(i, il, input, a, al),
             Call::Drain { place } => library::pch_pic_drain(i, il, e, el, place as usize, a, al),
             Call::Convert { .. } => library::pch_pic_convert(i, il, t, tl, a, al),
+        }
+    }
+}
+
+fn make_by_table(call: &Call, [(i, il), (a, al), ..]: [Area; 4]) -> u8 {
+    // SAFETY: as above.
+    unsafe {
+        match *call {
+            Call::Read { base, size, address, width } => library::pch_pic_table_read(i, il, base, size, address, width, a, al),
+            Call::Write { base, size, address, width, value } => library::pch_pic_table_write(i, il, base, size, address, width, value, a, al),
+            _ => unreachable!("only reads and writes are decoded"),
         }
     }
 }

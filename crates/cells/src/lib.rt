@@ -1,5 +1,4 @@
 // What stands at an offset, read and written in place: route and vector bytes, and a Dword of them or of a register.
-use image::form::Form;
 use entries::put_routes;
 use entries::put_vectors;
 use entries::route;
@@ -8,6 +7,7 @@ use entries::vector;
 use entries::vectors;
 use halves::value_of;
 use halves::write_half;
+use image::form::Form;
 use map::Cell;
 ghost use mathlib.Core.Path.{_≡_};
 ghost use Prim.Native.Nat.{_≤_};

@@ -1,7 +1,7 @@
 // The events that a register write makes, offered to the ring.
-use image::form::Form;
 use engine::Answer;
 use entries::vector;
+use image::form::Form;
 use ring::offer;
 ghost use mathlib.Core.Path.{_≡_};
 ghost use Prim.Native.Nat.{_≤_};

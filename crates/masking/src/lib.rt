@@ -1,7 +1,7 @@
 // Writes to MASK and CLEAR, in place on an image: what enters service and what leaves it, and the events of that, offered to the ring.
-use image::form::Form;
 use events::offer_each;
 use events::offer_entered;
+use image::form::Form;
 use service::enter;
 ghost use mathlib.Core.Path.{_≡_};
 ghost use mathlib.Core.Bool.{true};

@@ -1,9 +1,9 @@
 // Bytes and Words, in place on an image.
-use image::form::Form;
 use cells::read_dword;
 use cells::read_entry;
 use cells::write_dword;
 use cells::write_entry;
+use image::form::Form;
 ghost use mathlib.Core.Path.{_≡_};
 ghost use Prim.Native.Nat.{_+_, _-_, _^_, _≤_};
 ghost use lib.ListN.{length};

@@ -1,8 +1,8 @@
 // The calls on an input, in place on an image: which go into service and leave it, as the rules say it. Of a set the lowest that waits enters. Crate
 // decide says which they are.
-use image::form::Form;
 use engine::Answer;
 use entries::vector;
+use image::form::Form;
 ghost use mathlib.Core.Path.{_≡_};
 ghost use mathlib.Core.Bool.{false};
 ghost use Prim.Native.Nat.{_<_};

@@ -1,9 +1,9 @@
 // Qwords, in place on an image.
-use image::form::Form;
 use cells::read_dword;
 use cells::read_run;
 use cells::write_dword;
 use cells::write_run;
+use image::form::Form;
 ghost use mathlib.Core.Path.{_≡_};
 ghost use mathlib.Core.Bool.{true};
 ghost use Prim.Native.Nat.{_+_, _-_, _^_, _≤_};

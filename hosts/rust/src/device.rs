@@ -100,6 +100,32 @@ impl PchPic {
         ffi::write(&mut self.image, window, address, width.bytes(), value).map(lost)
     }
 
+    /// As [`PchPic::read`], decoded by the table that `./run --map` prints: the same answer, in more time.
+    ///
+    /// ```
+    /// use pch_pic::{reg, PchPic, Width, Window};
+    ///
+    /// let (pic, window) = (PchPic::new(), Window::at(0));
+    /// assert_eq!(pic.table_read(window, reg::ID, Width::Qword), pic.read(window, reg::ID, Width::Qword));
+    /// ```
+    ///
+    /// # Errors
+    ///
+    /// [`Error::Outside`] where the access is not wholly inside the window.
+    pub fn table_read(&self, window: Window, address: u64, width: Width) -> Result<u64, Error> {
+        let value = ffi::table_read(&self.image, window, address, width.bytes())?;
+        Ok(value.expect("a done read has a value"))
+    }
+
+    /// As [`PchPic::write`], decoded by the table: the same image, events and answer.
+    ///
+    /// # Errors
+    ///
+    /// [`Error::Outside`] where the access is not wholly inside the window.
+    pub fn table_write(&mut self, window: Window, address: u64, width: Width, value: u64) -> Result<u32, Error> {
+        ffi::table_write(&mut self.image, window, address, width.bytes(), value).map(lost)
+    }
+
     /// An access as a bus hands it on: as many bytes as `data` has, little end first.
     ///
     /// ```

@@ -1,9 +1,9 @@
 //! The calls of libpch_pic.a (include/pch_pic.h), over slices. All that is unsafe stands here.
 //!
 //! What the library asks of its host holds by the types: a slice's length is true, and a mutable slice overlaps no other. So a call that
-//! changes an image is alone with it. Reads and conversions of one image may run side by side, and `PchPic` may be `Sync`: `pch_pic_read` and
-//! `pch_pic_convert` get the image as `const` and only load from it, write to nothing but their own answer area and target, and the library has no
-//! memory of its own.
+//! changes an image is alone with it. Reads and conversions of one image may run side by side, and `PchPic` may be `Sync`: `pch_pic_read`,
+//! `pch_pic_table_read` and `pch_pic_convert` get the image as `const` and only load from it, write to nothing but their own answer area and target,
+//! and the library has no memory of its own.
 
 use crate::{Error, Window};
 
@@ -24,6 +24,27 @@ extern "C" {
         answer_len: usize,
     ) -> u8;
     fn pch_pic_write(
+        image: *mut u8,
+        image_len: usize,
+        base: u64,
+        size: u64,
+        address: u64,
+        width: u64,
+        value: u64,
+        answer: *mut u8,
+        answer_len: usize,
+    ) -> u8;
+    fn pch_pic_table_read(
+        image: *const u8,
+        image_len: usize,
+        base: u64,
+        size: u64,
+        address: u64,
+        width: u64,
+        answer: *mut u8,
+        answer_len: usize,
+    ) -> u8;
+    fn pch_pic_table_write(
         image: *mut u8,
         image_len: usize,
         base: u64,
@@ -99,6 +120,34 @@ pub fn write(image: &mut [u8], window: Window, address: u64, width: usize, value
     outcome(number, &answer)
 }
 
+pub fn table_read(image: &[u8], window: Window, address: u64, width: usize) -> Outcome {
+    let mut answer: Answer = [0; ANSWER_LEN];
+    // SAFETY: both slices are valid for their lengths and apart; the library only reads the image.
+    let number = unsafe {
+        pch_pic_table_read(image.as_ptr(), image.len(), window.base, window.size, address, width as u64, answer.as_mut_ptr(), ANSWER_LEN)
+    };
+    outcome(number, &answer)
+}
+
+pub fn table_write(image: &mut [u8], window: Window, address: u64, width: usize, value: u64) -> Outcome {
+    let mut answer: Answer = [0; ANSWER_LEN];
+    // SAFETY: both slices are valid for their lengths and apart.
+    let number = unsafe {
+        pch_pic_table_write(
+            image.as_mut_ptr(),
+            image.len(),
+            window.base,
+            window.size,
+            address,
+            width as u64,
+            value,
+            answer.as_mut_ptr(),
+            ANSWER_LEN,
+        )
+    };
+    outcome(number, &answer)
+}
+
 pub fn level(image: &mut [u8], input: u64, level: bool) -> Outcome {
     let mut answer: Answer = [0; ANSWER_LEN];
     // SAFETY: both slices are valid for their lengths and apart.
@@ -158,6 +207,8 @@ mod tests {
         assert_eq!(reset(&mut image), Err(Error::Length));
         assert_eq!(read(&image, window, 0, 4), Err(Error::Length));
         assert_eq!(write(&mut image, window, 0, 4, 0), Err(Error::Length));
+        assert_eq!(table_read(&image, window, 0, 4), Err(Error::Length));
+        assert_eq!(table_write(&mut image, window, 0, 4, 0), Err(Error::Length));
         assert_eq!(level(&mut image, 0, true), Err(Error::Length));
         assert_eq!(poll(&mut image, 0), Err(Error::Length));
         assert_eq!(drain(&mut image, &mut [], 0), Err(Error::Length));

@@ -313,3 +313,16 @@ fn an_error_goes_up_as_any_other() {
     }
     assert_eq!(host().unwrap_err().downcast_ref(), Some(&Error::Outside(0x400)));
 }
+
+#[test]
+fn by_the_table_everything_is_the_same() {
+    let (mut plain, mut table) = (overflown(), overflown());
+    for offset in 0..0x400_u64 {
+        for width in [Width::Byte, Width::Word, Width::Dword, Width::Qword] {
+            let value = (offset + 1).wrapping_mul(0x9e37_79b9_7f4a_7c15);
+            assert_eq!(table.table_read(WINDOW, offset, width), plain.read(WINDOW, offset, width));
+            assert_eq!(table.table_write(WINDOW, offset, width, value), plain.write(WINDOW, offset, width, value));
+            assert_eq!(table, plain);
+        }
+    }
+}

@@ -1,0 +1,2 @@
+-- The laws that the fronts' proofs cite.
+pub mod Told

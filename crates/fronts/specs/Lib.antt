@@ -1,0 +1,1 @@
+-- The laws of this crate cite the definitions of rules and answer alone.

@@ -1,0 +1,1 @@
+// What the proofs of every front cite, of the exported calls: no code.

@@ -1,0 +1,24 @@
+-- `begins`: by its arms.
+use mathlib.Core.Path.{sym, ap, _∙_}
+use mathlib.Core.Bool.{Bool, not}
+use Rattle.table.specs.Meaning.{Meaning}
+use Rattle.table.specs.Views.{placeView}
+use Rattle.table.specs.declared.Place.{Place}
+use Rattle.map_rows.specs.Rows.{begins}
+use borrow.Author.Needs.{needs}
+use Rattle.map_rows.proofs.begins.Statement.{statement}
+use Rattle.map_rows.proofs.begins.Tie as tie
+
+pub begins-spec : {M : Type 1} → statement M
+begins-spec =
+    tie.close
+    (tie.spec
+    (λ c. search needs)
+    (λ c. search needs)
+    (λ c. search needs)
+    (λ c. search needs)
+    (λ c κs. search needs)
+    (λ c. sym (ap (λ (x : Place). begins (placeView (c .before .before .before .args .first)) (placeView x)) (c .before .next .given .1)))
+    (λ c. sym (ap (λ (x : Place). begins (placeView (c .before .before .before .args .first)) (placeView x)) (c .before .next2 .given .1)))
+    (λ c. sym (ap (λ (x : Place). begins (placeView (c .before .before .before .args .first)) (placeView x)) (c .before .next3 .given .1)))
+    (λ c. search needs))

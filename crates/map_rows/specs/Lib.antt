@@ -1,0 +1,2 @@
+-- What a row of the printed map is.
+pub mod Rows

@@ -1,0 +1,2 @@
+-- What follows from the promises of this crate.
+pub mod Alike

@@ -1,0 +1,44 @@
+// Reads and writes that are decoded by the table, for a host: in every byte as pch_pic_read and pch_pic_write. Neither requires anything.
+ghost use mathlib.Core.Path.{_≡_};
+ghost use mathlib.Core.List.{[]};
+ghost use Rattle.rules.specs.Calls.{leaves, outcome};
+ghost use Rattle.rules.specs.Calls as asked;
+
+#[no_mangle]
+pub extern "C" fn pch_pic_table_read(
+    image: &[u8],
+    base: u64,
+    size: u64,
+    address: u64,
+    width: u64,
+    answer: &mut [u8],
+) -> u8
+    ensures { λ r. ⌜ leaves r (now (image .entry)) (now (answer .exit)) []
+        ≡ outcome (asked.read base size address width) (now (image .entry)) (now (answer .entry)) ⌝ }
+{
+    if answer.len() < 16 {
+        return 7;
+    }
+    let told = table_accesses::read(image, base, size, address, width);
+    answer::tell(answer, told)
+}
+
+#[no_mangle]
+pub extern "C" fn pch_pic_table_write(
+    image: &mut [u8],
+    base: u64,
+    size: u64,
+    address: u64,
+    width: u64,
+    value: u64,
+    answer: &mut [u8],
+) -> u8
+    ensures { λ r. ⌜ leaves r (now (image .exit)) (now (answer .exit)) []
+        ≡ outcome (asked.write base size address width value) (now (image .entry)) (now (answer .entry)) ⌝ }
+{
+    if answer.len() < 16 {
+        return 7;
+    }
+    let told = table_accesses::write(image, base, size, address, width, value);
+    answer::tell(answer, told)
+}

@@ -1,0 +1,5 @@
+-- The laws that the proofs of this crate cite.
+pub mod Same
+pub mod Once
+pub mod Laws
+pub mod Meant

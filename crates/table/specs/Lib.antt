@@ -1,0 +1,3 @@
+-- What the table's numbers tell, and what 01's map says of each byte.
+pub mod Meaning
+pub mod Views

@@ -1,0 +1,70 @@
+// The register map as a table: for each byte offset what the byte belongs to.
+pub mod rows;
+
+use map::Plain;
+use map::Register;
+ghost use mathlib.Core.Path.{_≡_};
+ghost use mathlib.Core.Bool.{false};
+ghost use Rattle.map.specs.Views.{registerView};
+ghost use Rattle.table.specs.Meaning.{partOf, reading, meant, Agrees};
+ghost use Rattle.table.specs.Views.{placeView};
+
+// What a byte belongs to: a register, its high (true) or low half, which byte of that, and whether it is silent to Byte and Word; the route or the
+// vector byte of an input; nothing.
+pub enum Place {
+    Part(Register, bool, usize, bool),
+    Route(usize),
+    Vector(usize),
+    Nothing,
+}
+
+// The whole table. A caller lends it on: an array that is named again is copied again.
+pub fn whole() -> [[u8; 32]; 32]
+    ensures { λ r. ⌜ Agrees r ⌝ }
+{
+    rows::TABLE
+}
+
+// A byte of a register, by the table's number for it.
+fn part_of(register: Register, entry: u8) -> Place
+    ensures { λ r. ⌜ placeView r ≡ partOf (registerView register) entry ⌝ }
+{
+    Place::Part(
+        register,
+        entry / 4 % 2 == 1,
+        (entry % 4) as usize,
+        entry >= rows::SILENT,
+    )
+}
+
+// What a number of the table tells.
+pub fn place_of(entry: u8) -> Place
+    ensures { λ r. ⌜ placeView r ≡ reading entry ⌝ }
+{
+    match entry / 8 {
+        1 => part_of(Register::Id, entry),
+        2 => part_of(Register::Mask, entry),
+        3 => part_of(Register::Plain(Plain::HtmsiEn), entry),
+        4 => part_of(Register::Plain(Plain::Edge), entry),
+        5 => part_of(Register::Clear, entry),
+        6 => part_of(Register::Plain(Plain::Auto0), entry),
+        7 => part_of(Register::Plain(Plain::Auto1), entry),
+        8 => part_of(Register::Isr, entry),
+        9 => part_of(Register::Plain(Plain::Pol), entry),
+        14 => part_of(Register::Irr, entry),
+        16..=23 => Place::Route((entry % 64) as usize),
+        24..=31 => Place::Vector((entry % 64) as usize),
+        _ => Place::Nothing,
+    }
+}
+
+// What stands at an offset; from 1,024 up nothing does.
+pub fn look(table: &[[u8; 32]; 32], offset: usize) -> Place
+    requires { ⌜ Agrees (now table) ⌝ }
+    ensures { λ r. ⌜ placeView r ≡ meant offset ⌝ }
+{
+    if offset >= 1024 {
+        return Place::Nothing;
+    }
+    place_of(table[offset / 32][offset % 32])
+}

@@ -1,0 +1,52 @@
+// Reads and writes through the window that are decoded by the table, on the image alone: what they tell is handed back. The tests are those of accesses.
+use answer::Told;
+use answer::Value;
+use answer::done;
+use checked::Verdict;
+use checked::check;
+use refusals::no_width;
+use refusals::of_image;
+use refusals::outside;
+use window::Known;
+use window::Located;
+ghost use mathlib.Core.Path.{_≡_};
+ghost use mathlib.Core.List.{[]};
+ghost use Rattle.rules.specs.Calls.{ending};
+ghost use Rattle.rules.specs.Calls as asked;
+ghost use Rattle.answer.specs.Given.{ends};
+
+pub fn read(image: &[u8], base: u64, size: u64, address: u64, width: u64) -> Told
+    ensures { λ r. ⌜ ends r (now (image .entry)) [] ≡ ending (asked.read base size address width) (now (image .entry)) ⌝ }
+{
+    let checked = check(image);
+    let Verdict::Accepted(form) = checked else {
+        return of_image(image);
+    };
+    let Known::As(known) = window::width_of(width) else {
+        return no_width();
+    };
+    let Located::At(offset) = window::locate(base, size, address, width) else {
+        return outside(address);
+    };
+    let table = table::whole();
+    let value = table_access::read_access(image, form, &table, known, offset);
+    done(Value::Present(value))
+}
+
+pub fn write(image: &mut [u8], base: u64, size: u64, address: u64, width: u64, value: u64) -> Told
+    ensures { λ r. ⌜ ends r (now (image .exit)) [] ≡ ending (asked.write base size address width value) (now (image .entry)) ⌝ }
+{
+    let checked = check(image);
+    let Verdict::Accepted(form) = checked else {
+        return of_image(image);
+    };
+    let Known::As(known) = window::width_of(width) else {
+        return no_width();
+    };
+    let Located::At(offset) = window::locate(base, size, address, width) else {
+        return outside(address);
+    };
+    let table = table::whole();
+    let dropped = table_access::write_access(image, form, &table, known, offset, value);
+    done(Value::Present(dropped as u64))
+}
