@@ -9,4 +9,6 @@ pub mod ClearedCalls
 pub mod Losses
 pub mod Copy
 pub mod Convert
+pub mod Moved
+pub mod FormNumbers
 pub mod ReadAlike

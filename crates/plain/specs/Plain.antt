@@ -1,6 +1,6 @@
 -- The plain engine: sixty-four machines, the stored registers and bytes beside them, an unbounded list of the events offered, and the history of the events made.
 -- Each call as the machines take it. Only a write to MASK looks across inputs, to find the lowest that it wakes. Of the rules it uses the register map, calls and
--- widths, the halves and bytes of numbers, and the record of what is only stored; nothing of their lines, and nothing of their ring but an event's two fields.
+-- widths, the halves and bytes of numbers, and the record of what is only stored; nothing of their lines, and of their ring an event's two fields, its size and its stop.
 use mathlib.Core.Bool.{Bool, true, false, cond, not, _&&_}
 use mathlib.Core.List.{List, [], _∷_, _++_, map}
 use Prim.Native.Nat.{ℕ, zero, suc, _+_, _-_, _*_, _/_, _%_, _^_}

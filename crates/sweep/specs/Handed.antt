@@ -34,8 +34,8 @@ unfoldable pub assertsRead : ℕ → List Exported → ℕ
 assertsRead n [] = 0
 assertsRead n (x ∷ xs) = cond (readsAssert n x) 1 0 + assertsRead n xs
 
--- from the device d in the first image to the device e in the last: every latched and unmasked input is in service; no deassert is returned, and none is
--- offered, since what was drained and what waits is what waited at first and no drop is counted; and of each input the asserts read are one if it wakes,
+-- from the device d in the first image to the device e in the last: every latched and unmasked input is in service; no deassert is returned; what
+-- was drained and what waits is what waited at first, and no drop is counted (that none is offered is said of the device, `WakesAll`); and of each input the asserts read are one if it wakes,
 -- and else none (02, C-24)
 pub record WakesAllRead (d : Device) (xs : List Exported) (e : Device) : Type 0 where
   pub served : (n : ℕ) → n < 64 → Eligible n (e .core .lines) → inService n (e .core .lines) ≡ true
