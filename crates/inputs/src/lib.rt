@@ -15,8 +15,7 @@ ghost use Rattle.engine.specs.Moves.{answerValue};
 ghost use Rattle.answer.specs.Given.{valueView, ends};
 
 // The vector that a call on an input returns, with its number, as a value.
-fn numbered(image: &mut [u8], form: Form, answer: engine::Answer) -> Value
-{
+fn numbered(image: &mut [u8], form: Form, answer: engine::Answer) -> Value {
     match answer {
         engine::Answer::Vector(vector) => {
             let number = numbers::take(image, form);

@@ -112,8 +112,7 @@ fn load_vectors(image: &[u8], form: Form) -> [u8; 64]
 }
 
 // The numbers of an image that has none: the waiting events have those from 0 on, and the next is how many wait.
-fn counted(count: usize) -> [u8; 34]
-{
+fn counted(count: usize) -> [u8; 34] {
     let mut body = [0u8; 34];
     body[0] = count as u8;
     let first = from_zero();
@@ -124,8 +123,7 @@ fn counted(count: usize) -> [u8; 34]
 }
 
 // The body of the numbers with which an image loads.
-pub fn load_numbers(image: &[u8], form: Form) -> [u8; 34]
-{
+pub fn load_numbers(image: &[u8], form: Form) -> [u8; 34] {
     let p = places_of(form);
     let Form::Numbered = form else {
         let place = p.count;

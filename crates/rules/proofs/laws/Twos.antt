@@ -2,13 +2,14 @@
 use mathlib.Core.Path.{_≡_, refl, sym, ap, _∙_}
 use mathlib.Core.Bool.{Bool, true, false}
 use mathlib.Core.List.{List, [], _∷_, _++_, map}
-use Prim.Native.Nat.{ℕ, zero, suc, _+_, _-_, _*_, _%_, _<_, _≤_}
+use Prim.Native.Nat.{ℕ, zero, suc, _+_, _-_, _*_, _%_, _^_, _<_, _≤_}
 use native.Mathlib.Omega.{arith}
 use lib.Dec.{eqb, lit<, lit≤}
 use lib.ListN.{length, take, drop, getD, replicate, length-append, length-replicate, length-drop, take-append-drop}
 use lib.Seq.{getD-drop, getD-append-add}
 use Rattle.rules.specs.Numbers.{Bytes, Twos, written, spelled}
 use Rattle.rules.specs.Ring.{Event, capacity, flag, eventTwos}
+use Rattle.rules.specs.Numbering.{numberTwos}
 use Rattle.rules.specs.Image.{sixteen}
 use Rattle.rules.proofs.laws.Lists.{Each}
 use Rattle.rules.proofs.laws.Bytes.{bytes-append, bytes-replicate}
@@ -63,7 +64,7 @@ flag-at-most : (a : Bool) → flag a ≤ 1
 flag-at-most true = lit≤ tt
 flag-at-most false = lit≤ tt
 
-flag-of : (a : Bool) → eqb (flag a) 1 ≡ a
+pub flag-of : (a : Bool) → eqb (flag a) 1 ≡ a
 flag-of true = refl
 flag-of false = refl
 
@@ -100,6 +101,27 @@ bytes-vectors (suc n) [] b i = lit< tt
 bytes-vectors (suc n) (v ∷ []) b i = lit< tt
 bytes-vectors (suc n) (v ∷ f ∷ l) b zero = b 0
 bytes-vectors (suc n) (v ∷ f ∷ l) b (suc i) = bytes-vectors n l (λ k. b (suc (suc k))) i
+
+-- ---- numbers
+
+pub number-comes : (a b : ℕ) → a < 256 → b < 256 → Comes numberTwos a b
+number-comes a b h k = (omega arith, omega arith)
+
+pub numbers-fit : (ns : List ℕ) → ((i : ℕ) → getD ns i 0 < 2 ^ 16) → Each (Fit numberTwos) ns
+numbers-fit [] h = tt
+numbers-fit (n ∷ ns) h = (record { back = omega (arith, h 0); low = omega arith; high = omega arith }, numbers-fit ns (λ i. h (suc i)))
+
+pub numbers-back : (ns : List ℕ) → ((i : ℕ) → getD ns i 0 < 2 ^ 16) → Each (λ n. numberTwos .made (numberTwos .low n) (numberTwos .high n) ≡ n) ns
+numbers-back [] h = tt
+numbers-back (n ∷ ns) h = (omega (arith, h 0), numbers-back ns (λ i. h (suc i)))
+
+-- numbers that are spelled from bytes have 16 bits
+pub numbers-small : (n : ℕ) (l : List ℕ) → Bytes l → (i : ℕ) → getD (spelled numberTwos n l) i 0 < 2 ^ 16
+numbers-small zero l b i = lit< tt
+numbers-small (suc n) [] b i = lit< tt
+numbers-small (suc n) (v ∷ []) b i = lit< tt
+numbers-small (suc n) (v ∷ f ∷ l) b zero = omega (arith, b 0, b 1)
+numbers-small (suc n) (v ∷ f ∷ l) b (suc i) = numbers-small n l (λ k. b (suc (suc k))) i
 
 -- ---- sixteen places
 
