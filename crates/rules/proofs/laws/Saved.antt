@@ -163,19 +163,23 @@ encode-without one h d s t = refl
 encode-without two h d s t = refl
 encode-without numbered h d s t = absurd (false≢true (sym h))
 
+-- each field has its bytes, also where as many numbers as fit wait beside another number of events
+pub fields-fit : (d : Device) → WellFormed d → (s : Numbers) → length (s .waiting) ≤ capacity → Sized (fieldOf d s)
+fields-fit d w s k (word x) = refl
+fields-fit d w s k routes = w .routes
+fields-fit d w s k vectors = w .vectors
+fields-fit d w s k count = refl
+fields-fit d w s k drops = refl
+fields-fit d w s k pairs = length-sixteen eventTwos (d .ring .waiting) (w .waiting)
+fields-fit d w s k next = refl
+fields-fit d w s k numbers = length-sixteen numberTwos (s .waiting) k
+
 module _ (d : Device) (w : WellFormed d) (s : Numbers) (v : WellNumbered d s) where
-  few-numbers : length (s .waiting) ≤ capacity
+  pub few-numbers : length (s .waiting) ≤ capacity
   few-numbers = omega (arith, w .waiting, v .waiting)
 
   pub fields-sized : Sized (fieldOf d s)
-  fields-sized (word x) = refl
-  fields-sized routes = w .routes
-  fields-sized vectors = w .vectors
-  fields-sized count = refl
-  fields-sized drops = refl
-  fields-sized pairs = length-sixteen eventTwos (d .ring .waiting) (w .waiting)
-  fields-sized next = refl
-  fields-sized numbers = length-sixteen numberTwos (s .waiting) few-numbers
+  fields-sized = fields-fit d w s few-numbers
 
   fields-bytes : (p : Field) → Bytes (fieldOf d s p)
   fields-bytes (word x) = bytes-bytesOf 8 (wordOf (d .core) x)
