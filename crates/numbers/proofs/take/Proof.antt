@@ -15,19 +15,19 @@ enum-told c = search needs
 
 -- src/lib.rt:54:16
 slice-read-result : tie.Need-slice-read-result
-slice-read-result c = ?
+slice-read-result c = c .before .zzz
 
 -- src/lib.rt:54:16
 cast-result : tie.Need-cast-result
-cast-result c = ?
+cast-result c = c .before .before .zzz
 
 -- src/lib.rt:54:9
 returns : tie.Need-returns
-returns c = ?
+returns c = c .before .before .before .zzz
 
 -- src/lib.rt:56:5
 take-next-requires : tie.Need-take-next-requires
-take-next-requires c κs = ?
+take-next-requires c κs = c .before .before .zzz
 
 -- src/lib.rt:47:1
 same-length : tie.Need-same-length
@@ -35,7 +35,7 @@ same-length c = search needs
 
 -- src/lib.rt:47:1
 returns-2 : tie.Need-returns-2
-returns-2 c = ?
+returns-2 c = c .before .before .before .before .before .zzz
 
 pub take-spec : {M : Type 1} → statement M
 take-spec =
