@@ -1,43 +1,22 @@
+-- `take_next`: the number that stands there, and the one that follows it over it.
+use mathlib.Core.Path.{ap, _∙_}
+use Prim.Native.Nat.{ℕ}
+use Rattle.bytes.specs.Put.{withBytes}
 use borrow.Author.Needs.{needs}
 use Rattle.numbers.proofs.take_next.Statement.{statement}
 use Rattle.numbers.proofs.take_next.Tie as tie
-use Rattle.numbers.proofs.take_next.Reads as reads
-use Rattle.numbers.proofs.take_next.Lts as lts
-use Rattle.bytes.proofs.put_bytes.Reads as put-bytes-reads
-use Rattle.numbers.proofs.number_at.Reads as number-at-reads
-use Rattle.std.proofs.num.wrapping_add_u16.Reads as wrapping-add-u16-reads
-
--- src/lib.rt:41:9
-number-at-requires : tie.Need-number-at-requires
-number-at-requires c κs = search needs
-
--- src/lib.rt:42:40
-wrapping-add-u16-requires : tie.Need-wrapping-add-u16-requires
-wrapping-add-u16-requires c κs = search needs
-
--- src/lib.rt:42:40
-cast-put-bytes : tie.Need-cast-put-bytes
-cast-put-bytes c = search needs
-
--- src/lib.rt:42:5
-put-bytes-requires : tie.Need-put-bytes-requires
-put-bytes-requires c κs = search needs
-
--- src/lib.rt:37:1
-same-length : tie.Need-same-length
-same-length c = search needs
-
--- src/lib.rt:37:1
-returns : tie.Need-returns
-returns c = ?
 
 pub take-next-spec : {M : Type 1} → statement M
 take-next-spec =
     tie.close
     (tie.spec
-    number-at-requires
-    wrapping-add-u16-requires
-    cast-put-bytes
-    put-bytes-requires
-    same-length
-    returns)
+    (λ c κs. search needs)
+    (λ c κs. search needs)
+    (λ c. search needs)
+    (λ c κs. search needs)
+    (λ c. search needs)
+    (λ c. let p = c .before .before in
+    let w = p .before in
+    let n = w .before .before in
+    let a = n .before .before .before .args in
+    record { taken = n .number-at .ensures; left = p .put-bytes .ensures ∙ ap (λ (x : ℕ). withBytes (a .at) 2 x (a .image .now)) (w .wrapping-add-u16 .ensures) }))
