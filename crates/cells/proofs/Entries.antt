@@ -209,29 +209,29 @@ module _ (i : List ℕ) (o n x : ℕ) (fits : o % 64 + n ≤ 64) {j : List ℕ} 
   routes-acts e s =
       let at : o ≡ 0x100 + o % 64 = omega arith in
       stores-write (λ c. entriesActs o n x) s
-      (λ d h. run-bytes 0x100 (routed d) (λ l p b low high. ap (acted (routed d l)) (entry-acts-route p b low high) ∙ acted-store (routed d l) (setRoute (p - 0x100) b)) n (o % 64) o x (d .core .stored .routes) at fits (h .well .routes))
+      (λ d ns h. run-bytes 0x100 (routed d) (λ l p b low high. ap (acted (routed d l)) (entry-acts-route p b low high) ∙ acted-store (routed d l) (setRoute (p - 0x100) b)) n (o % 64) o x (d .core .stored .routes) at fits (h .well .routes))
       (λ c. run-quiet n c o x)
 
   pub vectors-acts : o / 64 ≡ 8 → Becomes i j (λ d. withVectors d (withBytes (o % 64) n x (d .core .vectors))) → Writes i j 0 (λ c. entriesActs o n x)
   vectors-acts e s =
       let at : o ≡ 0x200 + o % 64 = omega arith in
       stores-write (λ c. entriesActs o n x) s
-      (λ d h. run-bytes 0x200 (withVectors d) (λ l p b low high. ap (acted (withVectors d l)) (entry-acts-vector p b low high) ∙ acted-vector (withVectors d l) (p - 0x200) b) n (o % 64) o x (d .core .vectors) at fits (h .well .vectors))
+      (λ d ns h. run-bytes 0x200 (withVectors d) (λ l p b low high. ap (acted (withVectors d l)) (entry-acts-vector p b low high) ∙ acted-vector (withVectors d l) (p - 0x200) b) n (o % 64) o x (d .core .vectors) at fits (h .well .vectors))
       (λ c. run-quiet n c o x)
 
 module _ (i : List ℕ) (o : ℕ) {j : List ℕ} where
   -- a single one
   pub entry-written : (v : ℕ) → v < 256 → Writes i j 0 (λ c. entriesActs o 1 v) → Writes i j 0 (λ c. entryActs o v)
-  entry-written v h p = let e : v % 256 ≡ v = omega arith in writes-same (λ c. entriesActs o 1 v) (λ c. entryActs o v) p (λ d g. append-nil (entryActs o (v % 256)) ∙ ap (entryActs o) e)
+  entry-written v h p = let e : v % 256 ≡ v = omega arith in writes-same (λ c. entriesActs o 1 v) (λ c. entryActs o v) p (λ d ns g. append-nil (entryActs o (v % 256)) ∙ ap (entryActs o) e)
 
   pub four-together : (v : ℕ) → Writes i j 0 (λ c. entriesActs o 4 v) → Writes i j 0 (λ c. cellActs o v bytes)
-  four-together v p = writes-same (λ c. entriesActs o 4 v) (λ c. cellActs o v bytes) p (λ d h. four-acts o v)
+  four-together v p = writes-same (λ c. entriesActs o 4 v) (λ c. cellActs o v bytes) p (λ d ns h. four-acts o v)
 
   pub eight-together : (v : ℕ) → Run o 8 → Writes i j 0 (λ c. entriesActs o 8 v) → Writes i j 0 (λ c. writeActs c qword o v)
-  eight-together v run p = writes-same (λ c. entriesActs o 8 v) (λ c. writeActs c qword o v) p (λ d h. eight-acts (d .core) o v run)
+  eight-together v run p = writes-same (λ c. entriesActs o 8 v) (λ c. writeActs c qword o v) p (λ d ns h. eight-acts (d .core) o v run)
 
 pub none-written : (i : List ℕ) (o v : ℕ) → (o / 64 ≡ 4 → ⊥) → (o / 64 ≡ 8 → ⊥) → Writes i i 0 (λ c. entryActs o v)
-none-written i o v p q = writes-same (λ c. []) (λ c. entryActs o v) (writes-none i) (λ d h. sym (entry-acts-none o v (elsewhere o p q)))
+none-written i o v p q = writes-same (λ c. []) (λ c. entryActs o v) (writes-none i) (λ d ns h. sym (entry-acts-none o v (elsewhere o p q)))
 
 -- four, one after another
 pub four-written : (o v : ℕ) {b₀ b₁ b₂ b₃ : ℕ} {i j k l m : List ℕ} → b₀ ≡ byteOf v 0 → b₁ ≡ byteOf v 1 → b₂ ≡ byteOf v 2 → b₃ ≡ byteOf v 3 → Writes i j 0 (λ c. entryActs o b₀)
@@ -240,4 +240,4 @@ unfolding cellActs
 four-written o v {b₀} {b₁} {b₂} {b₃} e₀ e₁ e₂ e₃ p q r s =
     writes-same _ (λ c. cellActs o v bytes)
     (writes-then (λ c. entryActs o b₀) _ p (writes-then (λ c. entryActs (o + 1) b₁) _ q (writes-then (λ c. entryActs (o + 2) b₂) (λ c. entryActs (o + 3) b₃) r s)))
-    (λ d h t. entryActs o (e₀ t) ++ (entryActs (o + 1) (e₁ t) ++ (entryActs (o + 2) (e₂ t) ++ entryActs (o + 3) (e₃ t))))
+    (λ d ns h t. entryActs o (e₀ t) ++ (entryActs (o + 1) (e₁ t) ++ (entryActs (o + 2) (e₂ t) ++ entryActs (o + 3) (e₃ t))))
