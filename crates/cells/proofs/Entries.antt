@@ -13,6 +13,7 @@ use Rattle.rules.specs.Numbers.{numberOf, bytesOf, byteOf, part}
 use Rattle.rules.specs.Core.{Core, CoreTurn, setRoute, withRoutes, turns, lineTurn}
 use Rattle.rules.specs.Map.{Row, Cell, bytes, nothing, table, lookup, within, routesAt, routesEnd, vectorsAt, vectorsEnd, inRoutes, inVectors, cellAt}
 use Rattle.rules.specs.Access.{qword, entry, readCell, readAt, entryActs, cellActs, writeActs}
+use Rattle.rules.specs.Numbering.{Numbers}
 use Rattle.rules.specs.Device.{Device, acted}
 use Rattle.rules.proofs.laws.Acts.{turns-append, acted-none, acted-append}
 use Rattle.rules.proofs.laws.Bits.{test}
@@ -83,24 +84,24 @@ module _ (c : Core) (l : List ℕ) (base : ℕ) (size : length l ≡ 64) (each :
 
 module _ (i : List ℕ) (o : ℕ) {x : ℕ} where
   pub route-entry : o / 64 ≡ 4 → Reads i x (λ d. getD (d .core .stored .routes) (o % 64) 0) → Reads i x (λ d. entry (d .core) o)
-  route-entry e r d h = let n : o % 64 ≡ o - 0x100 = omega arith in r d h ∙ ap (λ k. getD (d .core .stored .routes) k 0) n ∙ sym (entry-route (d .core) o (omega arith) (omega arith))
+  route-entry e r d ns h = let n : o % 64 ≡ o - 0x100 = omega arith in r d ns h ∙ ap (λ k. getD (d .core .stored .routes) k 0) n ∙ sym (entry-route (d .core) o (omega arith) (omega arith))
 
   pub vector-entry : o / 64 ≡ 8 → Reads i x (λ d. getD (d .core .vectors) (o % 64) 0) → Reads i x (λ d. entry (d .core) o)
-  vector-entry e r d h = let n : o % 64 ≡ o - 0x200 = omega arith in r d h ∙ ap (λ k. getD (d .core .vectors) k 0) n ∙ sym (entry-vector (d .core) o (omega arith) (omega arith))
+  vector-entry e r d ns h = let n : o % 64 ≡ o - 0x200 = omega arith in r d ns h ∙ ap (λ k. getD (d .core .vectors) k 0) n ∙ sym (entry-vector (d .core) o (omega arith) (omega arith))
 
   module _ (n : ℕ) (run : Run o n) where
     pub routes-run : o < 0x200 → Reads i x (λ d. numberOf (part (o % 64) n (d .core .stored .routes))) → Reads i x (λ d. numberOf (entriesOf (d .core) o n))
-    routes-run l r d h =
+    routes-run l r d ns h =
         let e : o ≡ 0x100 + o % 64 = ⊎-elim (λ e. omega arith) (λ e. omega arith) (run .table) in
-        r d h ∙ ap numberOf (run-is (d .core) (d .core .stored .routes) 0x100 (h .well .routes) (λ k p q. entry-route (d .core) k p q) n (o % 64) o e (run .fits))
+        r d ns h ∙ ap numberOf (run-is (d .core) (d .core .stored .routes) 0x100 (h .well .routes) (λ k p q. entry-route (d .core) k p q) n (o % 64) o e (run .fits))
 
     pub vectors-run : 0x200 ≤ o → Reads i x (λ d. numberOf (part (o % 64) n (d .core .vectors))) → Reads i x (λ d. numberOf (entriesOf (d .core) o n))
-    vectors-run l r d h =
+    vectors-run l r d ns h =
         let e : o ≡ 0x200 + o % 64 = ⊎-elim (λ e. omega arith) (λ e. omega arith) (run .table) in
-        r d h ∙ ap numberOf (run-is (d .core) (d .core .vectors) 0x200 (h .well .vectors) (λ k p q. entry-vector (d .core) k p q) n (o % 64) o e (run .fits))
+        r d ns h ∙ ap numberOf (run-is (d .core) (d .core .vectors) 0x200 (h .well .vectors) (λ k p q. entry-vector (d .core) k p q) n (o % 64) o e (run .fits))
 
 pub none-entry : (i : List ℕ) (o : ℕ) → (o / 64 ≡ 4 → ⊥) → (o / 64 ≡ 8 → ⊥) → Reads i 0 (λ d. entry (d .core) o)
-none-entry i o p q d h = sym (entry-none (d .core) o (elsewhere o p q))
+none-entry i o p q d ns h = sym (entry-none (d .core) o (elsewhere o p q))
 
 -- four bytes of a run are a Dword's, and eight a Qword's
 four-cell : (c : Core) (o : ℕ) → numberOf (entriesOf c o 4) ≡ readCell c o bytes
@@ -110,27 +111,27 @@ four-cell c o =
     let o3 : o + 1 + 1 + 1 ≡ o + 3 = omega arith in
     λ t. numberOf (entry c o ∷ entry c (o + 1) ∷ entry c (o2 t) ∷ entry c (o3 t) ∷ [])
 
-entry-below : (i : List ℕ) (d : Device) → Holds i d → (o : ℕ) → entry (d .core) o < 256
+entry-below : (i : List ℕ) (d : Device) (ns : Numbers) → Holds i d ns → (o : ℕ) → entry (d .core) o < 256
 unfolding entry
-entry-below i d h o =
+entry-below i d ns h o =
     test (inRoutes o) (λ t. rw t (h .well .routeBytes (o - routesAt))) (λ t. rw t (test (inVectors o) (λ u. rw u (h .well .vectorBytes (o - vectorsAt))) (λ u. rw u (omega arith))))
 
 pub four-read : (i : List ℕ) (o : ℕ) {x y : ℕ} → y ≡ x % 2 ^ 32 → Reads i x (λ d. numberOf (entriesOf (d .core) o 4)) → Reads i y (λ d. readCell (d .core) o bytes)
-four-read i o {x} e r d h =
-    let b = entry-below i d h in
-    let s : x % 2 ^ 32 ≡ x = omega (arith, r d h, b o, b (o + 1), b (o + 1 + 1), b (o + 1 + 1 + 1)) in
-    e ∙ s ∙ r d h ∙ four-cell (d .core) o
+four-read i o {x} e r d ns h =
+    let b = entry-below i d ns h in
+    let s : x % 2 ^ 32 ≡ x = omega (arith, r d ns h, b o, b (o + 1), b (o + 1 + 1), b (o + 1 + 1 + 1)) in
+    e ∙ s ∙ r d ns h ∙ four-cell (d .core) o
 
 pub eight-read : (i : List ℕ) (o : ℕ) {x : ℕ} → Run o 8 → Reads i x (λ d. numberOf (entriesOf (d .core) o 8)) → Reads i x (λ d. readAt (d .core) qword o)
 unfolding readAt
-eight-read i o run r d h =
+eight-read i o run r d ns h =
     let c = d .core in
     let y : o + 0 ≡ o = omega arith in
     let four : o + 1 + 1 + 1 + 1 ≡ o + 4 = omega arith in
     let low = four-cell c o ∙ dword-of c o (sym (rw y at (run-cell run 0 (omega arith)))) in
     let high = four-cell c (o + 4) ∙ dword-of c (o + 4) (sym (run-cell run 4 (omega arith))) in
     let both : numberOf (entriesOf c o 8) ≡ numberOf (entriesOf c o 4) + 2 ^ 32 * numberOf (entriesOf c (o + 1 + 1 + 1 + 1) 4) = omega arith in
-    r d h ∙ both ∙ ap (λ k. numberOf (entriesOf c o 4) + 2 ^ 32 * numberOf (entriesOf c k 4)) four ∙ (λ t. low t + 2 ^ 32 * high t)
+    r d ns h ∙ both ∙ ap (λ k. numberOf (entriesOf c o 4) + 2 ^ 32 * numberOf (entriesOf c k 4)) four ∙ (λ t. low t + 2 ^ 32 * high t)
 
 -- ---- written
 

@@ -22,4 +22,4 @@ module _ (i : List ℕ) (b : Bool) (v : ℕ) {old new : ℕ} (is : new ≡ withH
   plain-half p r s = stores-write (λ c. store (setPlain p b v) ∷ []) s (λ d ns h. ap (λ y. withStored d (withPlain (d .core .stored) p y)) (is ∙ ap (λ y. withHalf b y v) (r d ns h)) ∙ sym (acted-store d (setPlain p b v))) (λ c. refl)
 
 pub isr-value : (i : List ℕ) {x y : ℕ} → Reads i x (λ d. d .core .lines .isr) → Reads i y (λ d. d .core .lines .mask) → Reads i (bitAnd x ((2 ^ 64 - 1) - y)) (λ d. without (d .core .lines .isr) (on (d .core .lines .mask)))
-isr-value i e g d h = (λ t. bitAnd (e d h t) ((2 ^ 64 - 1) - g d h t)) ∙ without-is (d .core .lines .isr) (d .core .lines .mask) (h .well .isr) (h .well .mask)
+isr-value i e g d ns h = (λ t. bitAnd (e d ns h t) ((2 ^ 64 - 1) - g d ns h t)) ∙ without-is (d .core .lines .isr) (d .core .lines .mask) (h .well .isr) (h .well .mask)

@@ -22,7 +22,7 @@ use Rattle.table.proofs.Meant.{numbered, byteRead, byte-read, byteDone, byte-do
 
 module _ (i : List ℕ) (o : ℕ) where
   pub byte-reads : (m : Meaning) → m ≡ meant o → {x : ℕ} → Reads i x (λ d. byteRead (d .core) m) → Reads i x (λ d. readByte (d .core) o)
-  byte-reads m e r d h = r d h ∙ ap (byteRead (d .core)) e ∙ byte-read (d .core) o
+  byte-reads m e r d ns h = r d ns h ∙ ap (byteRead (d .core)) e ∙ byte-read (d .core) o
 
   pub part-reads : (r : Register) (h : Bool) (k : ℕ) (s : Bool) → part r h k s ≡ meant o → s ≡ false → {x y b : ℕ} → Reads i x (λ d. valueOf (d .core) r) → y ≡ half h x → b ≡ byteOf y k
       → Reads i b (λ d. readByte (d .core) o)

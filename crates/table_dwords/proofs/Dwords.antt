@@ -37,11 +37,11 @@ module _ (o : ℕ) where
   module _ (i : List ℕ) where
     pub half-reads : (r : Register) (h : Bool) → halfOf r h ≡ cellAt o → {x y : ℕ} → Reads i x (λ d. valueOf (d .core) r) → y ≡ half h x → Reads i y (λ d. readDword (d .core) o)
     unfolding readCell
-    half-reads r h e v p d g = p ∙ ap (half h) (v d ns g) ∙ dword-of (d .core) o e
+    half-reads r h e v p d ns g = p ∙ ap (half h) (v d ns g) ∙ dword-of (d .core) o e
 
     pub none-reads : map.nothing ≡ cellAt o → Reads i 0 (λ d. readDword (d .core) o)
     unfolding readCell
-    none-reads e d g = dword-of (d .core) o e
+    none-reads e d ns g = dword-of (d .core) o e
 
     module _ (v : ℕ) where
       pub half-writes : {j : List ℕ} {n : ℕ} (r : Register) (h : Bool) → halfOf r h ≡ cellAt o → Writes i j n (λ c. registerActs r h v) → Writes i j n (λ c. dwordActs o v)
