@@ -15,7 +15,7 @@ use Rattle.rules.proofs.laws.Losses.{entry-quiet}
 use Rattle.rules.proofs.laws.Widths.{dword-of}
 use Rattle.rules.proofs.laws.Writes.{dword-acts-of, dword-acts-four}
 use Rattle.inplace.specs.Held.{Reads, Writes}
-use Rattle.inplace.proofs.Doing.{stores-write, writes-none, writes-same, writes-then}
+use Rattle.inplace.proofs.Doing.{writes-quiet, writes-none, writes-same, writes-then}
 use Rattle.table.specs.Meaning.{part, route, vector, nothing, meant}
 use Rattle.table.proofs.Meant.{cellOf, cell-of}
 
@@ -77,7 +77,7 @@ pub four-writes : (o v : ℕ) → cellAt o ≡ bytes → {b₀ b₁ b₂ b₃ n�
     → Writes j k n₁ (λ c. byteActs c (o + 1) b₁) → Writes k l n₂ (λ c. byteActs c (o + 2) b₂) → Writes l m n₃ (λ c. byteActs c (o + 3) b₃) → Writes i m 0 (λ c. dwordActs o v)
 four-writes o v e {b₀} {b₁} {b₂} {b₃} e₀ e₁ e₂ e₃ p q r s =
     let w = writes-then (λ c. byteActs c o b₀) _ p (writes-then (λ c. byteActs c (o + 1) b₁) _ q (writes-then (λ c. byteActs c (o + 2) b₂) (λ c. byteActs c (o + 3) b₃) r s)) in
-    stores-write (λ c. dwordActs o v) (w .becomes) (λ d ns h. ap (acted d) (all (d .core))) (four-quiet o v e)
+    writes-quiet (λ c. dwordActs o v) (writes-same _ (λ c. dwordActs o v) w (λ d ns h. all (d .core))) (four-quiet o v e)
   where
     one : Core → Core
     one c = turns c (byteActs c o b₀) .after
