@@ -11,6 +11,7 @@ use Rattle.rules.specs.Lines.{Made}
 use Rattle.rules.specs.Ring.{capacity, Event, Ring, RingAct, offer, Drawn, offered, drawn, ringStep, ringRun}
 use Rattle.rules.specs.Device.{Device, Call, level, poll, read, write, drain, withRing, offers, draws, acted, actsOf, step}
 use Rattle.rules.specs.Core.{turns}
+use Rattle.rules.specs.Access.{Width}
 use Rattle.rules.specs.Numbering.{Numbers, WellNumbered, following, takes, takesAll, roomOf, numbersAfter}
 use Rattle.rules.proofs.laws.Bits.{test}
 
@@ -94,3 +95,17 @@ numbers-step d s c v = fitting (go c (takes-fit (d .ring) s (turns (d .core) (ac
     go (read w o) f = f
     go (write w o x) f = f
     go (drain k) f = drawn-fit (acted d (actsOf (d .core) (drain k)) .ring) k f
+
+-- ---- the numbers after a call, by what it is
+
+pub undrained : (d : Device) (s : Numbers) (c : Call) → roomOf c ≡ 0 → numbersAfter d s c ≡ takesAll s (step d c .made)
+unfolding numbersAfter
+undrained d s c e = ap (λ k. record { next = takesAll s (step d c .made) .next; waiting = drop k (takesAll s (step d c .made) .waiting) }) e
+
+pub read-numbers : (d : Device) (s : Numbers) (w : Width) (o : ℕ) → numbersAfter d s (read w o) ≡ s
+unfolding step actsOf turns takesAll
+read-numbers d s w o = undrained d s (read w o) refl
+
+pub drain-numbers : (d : Device) (s : Numbers) (k : ℕ) → numbersAfter d s (drain k) ≡ record { next = s .next; waiting = drop k (s .waiting) }
+unfolding numbersAfter step actsOf turns takesAll
+drain-numbers d s k = refl
