@@ -24,15 +24,6 @@ use Rattle.saved.proofs.save_ring.Tie as tie
 within : (c : tie.After-places-of) (q : Field) → always q ≡ true → placeIn (c .places-of .result) q + size q ≤ length (c .before .before .args .image .now)
 within c = let s = c .before .before in always-within (formView (s .args .form)) (s .args .image .now) (s .pre .0) (c .places-of .result) (c .places-of .ensures)
 
-put-bytes-requires-2 : tie.Need-put-bytes-requires-2
-put-bytes-requires-2 c κs = let h = within (c .before .before .before .before .before .before) drops refl in search needs
-
-add-end : tie.Need-add-end
-add-end c = record { fits = omega (arith, within (c .before .before .before .before .before .before .before .before .before) pairs refl) }
-
-part-put-pairs-end : tie.Need-part-put-pairs-end
-part-put-pairs-end c = let h = within (c .before .before .before .before .before .before .before .before .before) pairs refl in search needs
-
 returns : tie.Need-returns
 returns c d ns e =
     let three = c .before .before in
@@ -51,6 +42,15 @@ returns c d ns e =
     let first = puts-number f d ns p o count refl (r .«output_len») (s .pre .0) (ap (λ n. n ∷ []) small) (one .put-bytes .ensures) in
     let both = puts-then f d ns first (puts-number f d ns p o drops refl (r .«output_drops») (first .size ∙ s .pre .0) (ap (λ x. bytesOf 4 (x .drops)) (sym e)) (two .put-bytes2 .ensures)) in
     puts-then f d ns both (puts-part f d ns p o pairs refl (both .size ∙ s .pre .0) spelled (ap length spelled ∙ length-sixteen eventTwos (d .ring .waiting) few) refl)
+
+put-bytes-requires-2 : tie.Need-put-bytes-requires-2
+put-bytes-requires-2 c κs = let h = within (c .before .before .before .before .before .before) drops refl in search needs
+
+add-end : tie.Need-add-end
+add-end c = record { fits = omega (arith, within (c .before .before .before .before .before .before .before .before .before) pairs refl) }
+
+part-put-pairs-end : tie.Need-part-put-pairs-end
+part-put-pairs-end c = let h = within (c .before .before .before .before .before .before .before .before .before) pairs refl in search needs
 
 pub save-ring-spec : {M : Type 1} → statement M
 save-ring-spec =
