@@ -37,13 +37,12 @@ sixteen-long : length (upFrom 0 capacity) ≡ capacity
 unfolding upFrom
 sixteen-long = refl
 
-body-is : (n : ℕ) (first ys : List ℕ) → n ≤ capacity → first ≡ written numberTwos (upFrom 0 capacity) → ys ≡ part 0 (2 * n - 0) first
+body-is : (n : ℕ) (first ys : List ℕ) → n ≤ capacity → first ≡ written numberTwos (upFrom 0 capacity) → {w : ℕ} → ys ≡ part 0 w first → w ≡ 2 * n
     → putMid 2 (2 + 2 * n - 2) (n ∷ 0 ∷ replicate 32 0) ys ≡ numberBody (fromZero n)
 unfolding numberBody
-body-is n first ys h e g =
+body-is n first ys h e g used =
     let low : n ≡ n % 256 = sym (mod-eq-of-lt (omega arith)) in
     let high : 0 ≡ n / 256 % 256 = omega arith in
-    let used : 2 * n - 0 ≡ 2 * n = omega arith in
     let taken : ys ≡ written numberTwos (upFrom 0 n) =
     g ∙ (λ i. take (used i) (e i)) ∙ take-written numberTwos n (upFrom 0 capacity) ∙ ap (written numberTwos) (take-upFrom n 0 capacity h)
     in
@@ -56,7 +55,8 @@ returns c =
     let copied = c .before in
     let f = copied .before .before .before .before in
     let s = f .before in
-    body-is (s .args .count) (f .from-zero .result) (copied .copy .last .0) (s .pre) (f .from-zero .ensures) (copied .copy .ensures)
+    let used : 2 * s .args .count - 0 ≡ 2 * s .args .count = omega arith in
+    body-is (s .args .count) (f .from-zero .result) (copied .copy .last .0) (s .pre) (f .from-zero .ensures) (copied .copy .ensures) used
 
 pub counted-spec : {M : Type 1} → statement M
 counted-spec =
