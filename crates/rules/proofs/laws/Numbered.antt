@@ -26,6 +26,10 @@ fits v = record { next = v .next; each = v .each; waiting = v .waiting }
 pub fitting : {d : Device} {s : Numbers} → Fits s (length (d .ring .waiting)) → WellNumbered d s
 fitting v = record { next = v .next; each = v .each; waiting = v .waiting }
 
+-- a device with the same ring
+pub same-ring : {d e : Device} {s : Numbers} → d .ring ≡ e .ring → WellNumbered d s → WellNumbered e s
+same-ring {d} {e} {s} h v = record { next = v .next; each = v .each; waiting = v .waiting ∙ ap (λ (r : Ring). length (r .waiting)) h }
+
 -- an event more
 each-append : (ns : List ℕ) (n : ℕ) → n < 2 ^ 16 → ((i : ℕ) → getD ns i 0 < 2 ^ 16) → (i : ℕ) → getD (ns ++ (n ∷ [])) i 0 < 2 ^ 16
 each-append [] n h e zero = h

@@ -17,7 +17,7 @@ use Rattle.rules.specs.Numbers.{spelled}
 use Rattle.rules.specs.Image.{wordOf, sixteen, fieldOf, encodeAs, wordIn, countIn, eventsOf, decodeAs, numbersAs, accepted, testAs}
 use Rattle.rules.proofs.laws.Bits.{test}
 use Rattle.rules.proofs.laws.Bytes.{numberOf-bytesOf, bytes-known, bytes-append, bytes-part, bytes-bytesOf, part-number, part-below}
-use Rattle.rules.proofs.laws.Layout.{Sized, by-plain, always, has-all, field-fits, laid-cons, headed-image, image-known, length-image, read-image}
+use Rattle.rules.proofs.laws.Layout.{Sized, by-plain, by-field, always, has-all, field-fits, laid-cons, headed-image, image-known, length-image, read-image}
 use Rattle.rules.proofs.laws.Twos.{length-spelled, spelled-written, event-comes, events-back, events-fit, written-flags, bytes-vectors}
 use Rattle.rules.proofs.laws.Twos.{number-comes, numbers-fit, numbers-back, numbers-small, length-sixteen, bytes-sixteen, sixteen-unused, sixteen-back}
 use Rattle.rules.proofs.laws.Tests.{Accepted, length-read, count-read, accepted-if-has}
@@ -25,7 +25,7 @@ use Rattle.rules.proofs.laws.Tests.{Accepted, length-read, count-read, 
 -- ---- numbers
 
 -- a form that has the next number has the others
-has-next : (f : Form) → has f next ≡ has f numbers
+pub has-next : (f : Form) → has f next ≡ has f numbers
 has-next one = refl
 has-next two = refl
 has-next numbered = refl
@@ -156,7 +156,10 @@ bytes-contents one = bytes-known (contentsOf one) refl
 bytes-contents two = bytes-known (contentsOf two) refl
 bytes-contents numbered = bytes-known (contentsOf numbered) refl
 
--- an image without the fifth body says nothing of the numbers
+-- a field that every form has says nothing of the numbers, and neither does an image without the fifth body
+pub field-same : (d : Device) (s t : Numbers) (p : Field) → always p ≡ true → fieldOf d s p ≡ fieldOf d t p
+field-same d s t = by-field _ (λ w h. refl) (λ h. refl) (λ h. refl) (λ h. refl, λ h. refl, λ h. refl) (λ h. absurd (false≢true h), λ h. absurd (false≢true h))
+
 pub encode-without : (f : Form) → has f numbers ≡ false → (d : Device) (s t : Numbers) → encodeAs f d s ≡ encodeAs f d t
 unfolding image
 encode-without one h d s t = refl
