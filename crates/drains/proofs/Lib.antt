@@ -1,2 +1,5 @@
 -- The laws that the proofs of this crate cite.
+pub mod Weaving
+pub mod Moving
 pub mod Shifting
+pub mod Drawing

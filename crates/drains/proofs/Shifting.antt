@@ -1,223 +1,127 @@
--- Bytes that move to the front of a list, and the pairs of a ring that a drain leaves.
+-- Fields of an image replaced one after another: between them the bytes are no device's image, and after the last they are.
 use mathlib.Core.Path.{_≡_, refl, sym, ap, subst, _∙_}
-use mathlib.Core.List.{List, [], _∷_, _++_, append-nil, append-assoc}
-use Prim.Native.Nat.{ℕ, zero, suc, _+_, _-_, _*_, _/_, _<_, _≤_, min}
+use mathlib.Core.Bool.{true, false, cond, false≢true}
+use mathlib.Core.List.{List, [], _∷_, _++_}
+use Prim.Native.Nat.{ℕ, suc, _+_, _-_, _≤_}
 use native.Mathlib.Numerals.{add-one}
-use native.Mathlib.Nat.{add-comm}
 use native.Mathlib.Omega.{arith}
-use lib.ListN.{length, take, drop, getD, set, replicate, length-append, length-take, length-drop, length-set, length-replicate, drop-of-length-le, replicate-append-replicate}
-use lib.Dec.{leb}
-use borrow.Author.Tests.{leb-true, leb-false}
-use Rattle.rules.proofs.laws.Bits.{test}
-use lib.Seq.{take-suc, take-suc-set, drop-set-lt, drop-drop, getD-drop, length-take-le, take-at, drop-at, take-all, set-at, take-append-le}
+use lib.ListN.{length, take, drop, set, length-drop}
+use lib.Seq.{set-split, drop-drop}
 use borrow.Rule.Slice.PartMut.{putMid}
-use Rattle.rules.specs.Numbers.{bytesOf, part}
-use Rattle.rules.specs.Ring.{flag, Event, drawn, pairsOf}
-use Rattle.rules.specs.Device.{Device}
-use Rattle.rules.specs.Form.{Form, count, place, formLength}
-use Rattle.rules.specs.Image.{ringLength, ringBody, encodeAs, countIn}
-use Rattle.rules.proofs.laws.Images.{length-pairsOf, unusedAfter}
-use Rattle.rules.proofs.laws.Saved.{length-encode, count-stands}
+use Rattle.rules.specs.Numbers.{part}
+use Rattle.rules.specs.Ring.{Event, capacity, eventTwos, drawn}
+use Rattle.rules.specs.Device.{Device, withRing}
+use Rattle.rules.specs.Numbering.{Numbers, numberTwos}
+use Rattle.rules.specs.Form.{Form, Field, count, pairs, numbers, is, has, size, place, formLength, read, image}
+use Rattle.rules.specs.Image.{sixteen, fieldOf}
+use Rattle.rules.proofs.laws.Bits.{test}
+use Rattle.rules.proofs.laws.Twos.{length-sixteen}
+use Rattle.rules.proofs.laws.Layout.{Sized, is-sound, is-self, by-field, has-all, field-fits, headed-image, image-known, length-image, read-image}
+use Rattle.rules.proofs.laws.Saved.{fields-sized}
+use Rattle.rules.proofs.laws.InPlace.{field-written}
+use Rattle.rules.proofs.laws.Numbered.{fits, fitting, drawn-fit}
 use Rattle.rules.proofs.laws.Steps.{drain-well}
-use Rattle.inplace.specs.Held.{Holds, withRing}
+use Rattle.inplace.specs.Held.{Holds}
 use Rattle.inplace.proofs.Doing.{holds-as, as-holds}
-use Rattle.inplace.proofs.Bodies.{ring-fits, ring-put}
-use Rattle.drains.specs.Drained.{RingAt, Drains, Leaves}
+use Rattle.drains.specs.Drained.{Unused, shifted, Leaves, NumbersLeave, fewer, Shifts}
+use Rattle.drains.proofs.Moving.{sixteen-spare, sixteen-shifted}
 
--- ---- moved to the front
+-- ---- one field replaced
 
--- the bytes past the first `taken`, and as many zeros
-abbrev shifted : List ℕ → ℕ → List ℕ
-shifted l taken = drop taken l ++ replicate taken 0
+abbrev replaced : (Field → List ℕ) → Field → List ℕ → Field → List ℕ
+replaced b p ys q = cond (is q p) ys (b q)
 
--- past the end a list reads as the zeros behind it
-getD-zeros : (l : List ℕ) (n i : ℕ) → getD (l ++ replicate n 0) i 0 ≡ getD l i 0
-getD-zeros [] zero i = refl
-getD-zeros [] (suc n) zero = refl
-getD-zeros [] (suc n) (suc i) = getD-zeros [] n i
-getD-zeros (x ∷ l) n zero = refl
-getD-zeros (x ∷ l) n (suc i) = getD-zeros l n i
+replaced-sized : (b : Field → List ℕ) → Sized b → (p : Field) (ys : List ℕ) → length ys ≡ size p → Sized (replaced b p ys)
+replaced-sized b s p ys e q = test (is q p) (λ t. rw t (e ∙ ap size (sym (is-sound q p t)))) (λ t. rw t (s q))
 
--- the first i bytes have been written
-pub record Moving (l₀ l : List ℕ) (taken i : ℕ) : Type 0 where
-  pub size : length l ≡ length l₀
-  pub front : take i l ≡ take i (shifted l₀ taken)
-  pub rest : drop i l ≡ drop i l₀
+module _ (f : Form) (b : Field → List ℕ) (s : Sized b) where
+  field-replaced : (p : Field) → has f p ≡ true → (ys : List ℕ) → putMid (place f p) (size p) (image f b) ys ≡ image f (replaced b p ys)
+  field-replaced p h ys =
+      let there : replaced b p ys p ≡ ys = rw is-self in
+      ap (putMid (place f p) (size p) (image f b)) (sym there) ∙ field-written f b (replaced b p ys) s p h (λ q k t. rw t)
 
-pub moving-starts : (l : List ℕ) (taken : ℕ) → Moving l l taken 0
-moving-starts l taken = record { size = refl; front = refl; rest = refl }
+  -- the fields of the form alone make the image
+  image-agree : (c : Field → List ℕ) → ((p : Field) → has f p ≡ true → b p ≡ c p) → image f b ≡ image f c
+  image-agree c o = sym (image-known f (image f b) c (length-image f b s) (headed-image f b) (λ p h. sym (o p h) ∙ sym (read-image f b s p h)))
 
-module _ {l₀ l : List ℕ} {taken i : ℕ} (m : Moving l₀ l taken i) (h : taken ≤ length l₀) where
-  length-shifted : length (shifted l₀ taken) ≡ length l₀
-  length-shifted = length-append (drop taken l₀) (replicate taken 0) ∙ (λ t. length-drop taken l₀ t + length-replicate {A = ℕ} taken 0 t) ∙ omega arith
+-- a field of one byte, stored
+byte-stored : (f : Form) (b : Field → List ℕ) → Sized b → (v : ℕ) → set (image f b) (place f count) v ≡ image f (replaced b count (v ∷ []))
+byte-stored f b s v =
+    let at = place f count in
+    let inside : suc at ≤ length (image f b) = omega (arith, length-image f b s, field-fits f count (has-all f count refl)) in
+    set-split (image f b) at v inside ∙ (λ t. take at (image f b) ++ (v ∷ (ap (λ k. drop k (image f b)) (sym (add-one at)) ∙ sym (drop-drop 1 at (image f b))) t))
+    ∙ field-replaced f b s count (has-all f count refl) (v ∷ [])
 
-  pub moving-next : (v : ℕ) → i < length l → v ≡ getD l (taken + i) 0 → Moving l₀ (set l i v) taken (i + 1)
-  moving-next v here e =
-      let same : v ≡ getD (shifted l₀ taken) i 0 =
-      e ∙ ap (λ k. getD l k 0) (add-comm taken i) ∙ sym (getD-drop i l taken 0) ∙ ap (λ k. getD k taken 0) (m .rest) ∙ getD-drop i l₀ taken 0 ∙ ap (λ k. getD l₀ k 0) (add-comm i taken)
-      ∙ sym (getD-drop taken l₀ i 0) ∙ sym (getD-zeros (drop taken l₀) taken i)
-      in
-      let there : i < length (shifted l₀ taken) = omega (arith, m .size, length-shifted) in
+-- ---- the pairs, the numbers and the count, as a drain leaves them
+
+module _ (f : Form) (i : List ℕ) (long : length i ≡ formLength f) (m n : ℕ) (h : n ≤ m) (few : m ≤ capacity) where
+  module _ (d : Device) (s : Numbers) (holds : Holds i d s) (c : m ≡ length (d .ring .waiting)) where
+    abbrev es : List Event
+    es = d .ring .waiting
+
+    abbrev ws : List ℕ
+    ws = s .waiting
+
+    abbrev no-pairs : Field → List ℕ
+    no-pairs = replaced (fieldOf d s) pairs (sixteen eventTwos (drop n es))
+
+    abbrev no-numbers : Field → List ℕ
+    no-numbers = replaced no-pairs numbers (sixteen numberTwos (drop n ws))
+
+    many : length ws ≡ m
+    many = holds .numbered .waiting ∙ sym c
+
+    sized : Sized (fieldOf d s)
+    sized = fields-sized d (holds .well) s (holds .numbered)
+
+    sized-pairs : Sized no-pairs
+    sized-pairs = replaced-sized (fieldOf d s) sized pairs (sixteen eventTwos (drop n es)) (length-sixteen eventTwos (drop n es) (omega (arith, length-drop n es)))
+
+    sized-numbers : Sized no-numbers
+    sized-numbers = replaced-sized no-pairs sized-pairs numbers (sixteen numberTwos (drop n ws)) (length-sixteen numberTwos (drop n ws) (omega (arith, many, length-drop n ws)))
+
+    pairs-left : {at : ℕ} → at ≡ place f pairs → {ps : List ℕ} → Leaves (part at (at + 32 - at) i) ps m n → putMid at (at + 32 - at) i ps ≡ image f no-pairs
+    pairs-left {at} e {ps} l =
+        let width : at + 32 - at ≡ 32 = omega arith in
+        let there : part at (at + 32 - at) i ≡ sixteen eventTwos es = (λ t. part (e t) (width t) (holds-as f i long holds t)) ∙ read-image f (fieldOf d s) sized pairs (has-all f pairs refl) in
+        let new : ps ≡ sixteen eventTwos (drop n es) =
+        l (subst (λ k. Unused k m) (sym there) (sixteen-spare eventTwos n m es (sym c) h few)) ∙ ap (λ k. shifted k n) there ∙ sixteen-shifted eventTwos n m es (sym c) h few
+        in
+        (λ t. putMid (e t) (width t) (holds-as f i long holds t) (new t)) ∙ field-replaced f (fieldOf d s) sized pairs (has-all f pairs refl) (sixteen eventTwos (drop n es))
+
+    numbers-left : {j k : List ℕ} → j ≡ image f no-pairs → NumbersLeave f j k m n → k ≡ image f no-numbers
+    numbers-left {j} {k} e l =
+        test (has f numbers)
+        (λ y. let there : read f j numbers ≡ sixteen numberTwos ws = ap (λ u. read f u numbers) e ∙ read-image f no-pairs sized-pairs numbers y in
+        l .there y (subst (λ u. Unused u m) (sym there) (sixteen-spare numberTwos n m ws many h few)) ∙ (λ t. putMid (place f numbers) 32 (e t) (shifted (there t) n))
+        ∙ ap (putMid (place f numbers) 32 (image f no-pairs)) (sixteen-shifted numberTwos n m ws many h few) ∙ field-replaced f no-pairs sized-pairs numbers y (sixteen numberTwos (drop n ws)))
+        (λ y. l .without y ∙ e
+        ∙ image-agree f no-pairs sized-pairs no-numbers (by-field _ (λ w t. refl) (λ t. refl) (λ t. refl) (λ t. refl, λ t. refl, λ t. refl) (λ t. refl, λ t. absurd (false≢true (sym y ∙ t)))))
+
+    count-left : image f (replaced no-numbers count ((m - n) ∷ [])) ≡ image f (fieldOf (withRing d (drawn (d .ring) n .after)) (fewer s n))
+    unfolding drawn
+    count-left =
+        let left : m - n ≡ length (drop n es) = omega (arith, length-drop n es) in
+        image-agree f (replaced no-numbers count ((m - n) ∷ [])) (replaced-sized no-numbers sized-numbers count ((m - n) ∷ []) refl) (fieldOf (withRing d (drawn (d .ring) n .after)) (fewer s n))
+        (by-field _ (λ w t. refl) (λ t. refl) (λ t. refl) (λ t. ap (λ x. x ∷ []) left, λ t. refl, λ t. refl) (λ t. refl, λ t. refl))
+
+  pub shifts : {at to : ℕ} → at ≡ place f pairs → to ≡ place f count → {ps : List ℕ} → Leaves (part at (at + 32 - at) i) ps m n
+      → {j : List ℕ} → NumbersLeave f (putMid at (at + 32 - at) i ps) j m n → Shifts i (set j to (m - n)) m n
+  shifts e g l k d s holds c =
+      as-holds f (drain-well d n (holds .well)) (fitting (drawn-fit (d .ring) n (fits (holds .numbered))))
+      ((λ t. set (numbers-left d s holds c (pairs-left d s holds c e l) k t) (g t) (m - n)) ∙ byte-stored f (no-numbers d s holds c) (sized-numbers d s holds c) (m - n) ∙ count-left d s holds c)
+
+-- ---- the numbers alone
+
+module _ (f : Form) (i : List ℕ) (m n : ℕ) where
+  pub numbers-leave : has f numbers ≡ true → {at : ℕ} → at ≡ place f numbers → {ys : List ℕ} → Leaves (part at (at + 32 - at) i) ys m n → NumbersLeave f i (putMid at (at + 32 - at) i ys) m n
+  numbers-leave y {at} e l =
+      let width : at + 32 - at ≡ 32 = omega arith in
+      let there : part at (at + 32 - at) i ≡ read f i numbers = λ t. part (e t) (width t) i in
       record {
-        size = length-set l i v ∙ m .size;
-        front = ap (λ k. take k (set l i v)) (add-one i) ∙ take-suc-set l i v here ∙ (λ t. m .front t ++ (same t ∷ [])) ∙ sym (take-suc (shifted l₀ taken) i 0 there) ∙ ap (λ k. take k (shifted l₀ taken)) (sym (add-one i));
-        rest = drop-set-lt (i + 1) l i v (omega arith) ∙ sym (drop-drop 1 i l) ∙ ap (drop 1) (m .rest) ∙ drop-drop 1 i l₀;
+        there = λ z u. λ t. putMid (e t) (width t) i ((l (subst (λ k. Unused k m) (sym there) u) ∙ ap (λ k. shifted k n) there) t);
+        without = λ z. absurd (false≢true (sym z ∙ y));
       }
 
-  pub moving-done : length l ≤ i → l ≡ shifted l₀ taken
-  moving-done all = sym (take-all i l all) ∙ m .front ∙ take-all i (shifted l₀ taken) (omega (arith, m .size, length-shifted))
-
--- ---- pairs
-
-one-pair : (l : List ℕ) → length l ≡ 2 → l ≡ getD l 0 0 ∷ getD l 1 0 ∷ []
-one-pair [] e = absurd (omega arith)
-one-pair (a ∷ []) e = absurd (omega arith)
-one-pair (a ∷ b ∷ []) e = refl
-one-pair (a ∷ b ∷ c ∷ l) e = absurd (omega arith)
-
--- both bytes of a pair written
-pub pair-copied : (l m : List ℕ) → length l ≡ length m → length m ≡ 2 → set (set l 0 (getD m 0 0)) 1 (getD m 1 0) ≡ m
-pair-copied l m e f = (λ t. set (set (one-pair l (e ∙ f) t) 0 (getD m 0 0)) 1 (getD m 1 0)) ∙ sym (one-pair m f)
-
-take-pairs : (n : ℕ) (es : List Event) → take (2 * n) (pairsOf es) ≡ pairsOf (take n es)
-take-pairs zero es = refl
-take-pairs (suc n) [] = let s : 2 * suc n ≡ suc (suc (2 * n)) = omega arith in ap (λ k. take k (pairsOf [])) s
-take-pairs (suc n) (e ∷ es) = let s : 2 * suc n ≡ suc (suc (2 * n)) = omega arith in ap (λ k. take k (pairsOf (e ∷ es))) s ∙ ap (λ l. e .vector ∷ flag (e .asserted) ∷ l) (take-pairs n es)
-
-drop-pairs : (n : ℕ) (es : List Event) → drop (2 * n) (pairsOf es) ≡ pairsOf (drop n es)
-drop-pairs zero es = refl
-drop-pairs (suc n) [] = let s : 2 * suc n ≡ suc (suc (2 * n)) = omega arith in ap (λ k. drop k (pairsOf [])) s
-drop-pairs (suc n) (e ∷ es) = let s : 2 * suc n ≡ suc (suc (2 * n)) = omega arith in ap (λ k. drop k (pairsOf (e ∷ es))) s ∙ drop-pairs n es
-
--- moved, or all zeros
-pub some-leave : (before ys : List ℕ) (m n : ℕ) → n ≤ m → m ≤ 16 → ys ≡ shifted (part 0 (2 * m - 0) before) (2 * n) → Leaves before (putMid 0 (2 * m - 0) before ys) m n
-some-leave before ys m n h k f es e b =
-    let whole : length (pairsOf es) ≡ 2 * m - 0 = omega (arith, length-pairsOf es) in
-    let unused = unusedAfter (length es) in
-    let there : take (2 * m - 0) before ≡ pairsOf es = ap (take (2 * m - 0)) b ∙ take-at (pairsOf es) unused (2 * m - 0) whole in
-    let behind : drop (2 * m - 0) before ≡ unused = ap (drop (2 * m - 0)) b ∙ drop-at (pairsOf es) unused (2 * m - 0) whole in
-    let zeros : 2 * n + (32 - 2 * length es) ≡ 32 - 2 * length (drop n es) = omega (arith, length-drop n es) in
-    (λ t. f t ++ behind t)
-    ∙ (λ t. (drop (2 * n) (there t) ++ replicate (2 * n) 0) ++ unused)
-    ∙ (λ t. (drop-pairs n es t ++ replicate (2 * n) 0) ++ unused)
-    ∙ append-assoc (pairsOf (drop n es)) (replicate (2 * n) 0) unused
-    ∙ (λ t. pairsOf (drop n es) ++ replicate-append-replicate (2 * n) (32 - 2 * length es) 0 t)
-    ∙ (λ t. pairsOf (drop n es) ++ replicate (zeros t) 0)
-
-pub none-leave : (before after : List ℕ) (m n : ℕ) → m ≤ n → length before ≡ 32 → after ≡ replicate (length before) 0 → Leaves before after m n
-none-leave before after m n h k f es e b =
-    let all : length es ≤ n = omega arith in
-    f ∙ ap (λ j. replicate j 0) k ∙ ap (λ xs. pairsOf xs ++ unusedAfter (length xs)) (sym (drop-of-length-le es all))
-
--- as many as wait or as are asked for
-module _ (es : List Event) (k n : ℕ) (e : n ≡ min (length es) k) where
-  take-fewer : take n es ≡ take k es
-  take-fewer =
-      test (leb k (length es)) (λ t. let s : n ≡ k = omega (arith, leb-true k (length es) t) in ap (λ j. take j es) s)
-      (λ f. let a : length es ≤ n = omega (arith, leb-false k (length es) f) in let b : length es ≤ k = omega (arith, leb-false k (length es) f) in take-all n es a ∙ sym (take-all k es b))
-
-  drop-fewer : drop n es ≡ drop k es
-  drop-fewer =
-      test (leb k (length es)) (λ t. let s : n ≡ k = omega (arith, leb-true k (length es) t) in ap (λ j. drop j es) s)
-      (λ f. let a : length es ≤ n = omega (arith, leb-false k (length es) f) in let b : length es ≤ k = omega (arith, leb-false k (length es) f) in drop-of-length-le es a ∙ sym (drop-of-length-le es b))
-
--- ---- a drain
-
-module _ (f : Form) {i : List ℕ} (s : length i ≡ formLength f) {d : Device} (h : Holds i d) where
-  abbrev es : List Event
-  es = d .ring .waiting
-
-  abbrev drops : List ℕ
-  drops = bytesOf 4 (d .ring .drops)
-
-  abbrev room : List Event → List ℕ
-  room es = pairsOf es ++ unusedAfter (length es)
-
-  -- what stands before the ring's body, and what behind it
-  abbrev ahead : List ℕ
-  ahead = take (place f count) (encodeAs f d)
-
-  abbrev behind : List ℕ
-  behind = drop ringLength (drop (place f count) (encodeAs f d))
-
-  length-ahead : length ahead ≡ place f count
-  length-ahead = length-take-le (place f count) (encodeAs f d) (omega (arith, ring-fits f, length-encode d (h .well) f))
-
-  apart : (es : List Event) → encodeAs f (withRing d (record { waiting = es; drops = d .ring .drops })) ≡ ahead ++ (length es ∷ (drops ++ (room es ++ behind)))
-  unfolding ringBody
-  apart es = sym (ring-put f d (h .well) (record { waiting = es; drops = d .ring .drops })) ∙ ap (λ l. ahead ++ (length es ∷ l)) (append-assoc drops (room es) behind)
-
-  whole : i ≡ (ahead ++ (length es ∷ drops)) ++ (room es ++ behind)
-  whole = holds-as f i s h ∙ apart es ∙ sym (append-assoc ahead (length es ∷ drops) (room es ++ behind))
-
-  length-head : length (ahead ++ (length es ∷ drops)) ≡ place f count + 5
-  length-head = length-append ahead (length es ∷ drops) ∙ omega (arith, length-ahead)
-
-  length-room : length (room es) ≡ 32
-  length-room = simp (length-append, length-pairsOf, length-replicate) (omega (arith, h .well .waiting))
-
-  from-pairs : drop (place f count + 5) i ≡ room es ++ behind
-  from-pairs = ap (drop (place f count + 5)) whole ∙ drop-at (ahead ++ (length es ∷ drops)) (room es ++ behind) (place f count + 5) length-head
-
-  counts : {m : ℕ} → m ≡ getD i (place f count) 0 → m ≡ length es
-  counts c = c ∙ ap (countIn f) (holds-as f i s h) ∙ count-stands d (h .well) f
-
-  -- the pairs and the count as a drain leaves them
-  pub drained-image : (m n k : ℕ) (ps : List ℕ) → m ≡ getD i (place f count) 0 → n ≡ min m k → Leaves (part (place f count + 5) 32 i) ps m n
-      → set (putMid (place f count + 5) 32 i ps) (place f count) (m - n) ≡ encodeAs f (withRing d (record { waiting = drop k es; drops = d .ring .drops }))
-  drained-image m n k ps c e g =
-      let head = length es ∷ drops in
-      let at = place f count in
-      let count : m ≡ length es = counts c in
-      let rest = room (drop n es) in
-      let left : ps ≡ rest = g es (sym count) (ap (take 32) from-pairs ∙ take-at (room es) behind 32 length-room) in
-      let many : m - n ≡ length (drop n es) = omega (arith, length-drop n es) in
-      let before : take (at + 5) i ≡ ahead ++ head = ap (take (at + 5)) whole ∙ take-at (ahead ++ head) (room es ++ behind) (at + 5) length-head in
-      let after : drop 32 (drop (at + 5) i) ≡ behind = ap (drop 32) from-pairs ∙ drop-at (room es) behind 32 length-room in
-      let same : drop n es ≡ drop k es = drop-fewer es k n (e ∙ ap (λ j. min j k) count) in
-      (λ t. set (before t ++ (left t ++ after t)) at (m - n))
-      ∙ ap (λ l. set l at (m - n)) (append-assoc ahead head (rest ++ behind))
-      ∙ set-at ahead (length es) (drops ++ (rest ++ behind)) (m - n) at length-ahead
-      ∙ ap (λ j. ahead ++ (j ∷ (drops ++ (rest ++ behind)))) many
-      ∙ sym (apart (drop n es)) ∙ ap (λ xs. encodeAs f (withRing d (record { waiting = xs; drops = d .ring .drops }))) same
-
-  -- the pairs that are copied out
-  pub drained-pairs : (m n k : ℕ) → m ≡ getD i (place f count) 0 → n ≡ min m k → part (place f count + 5) (2 * n) i ≡ pairsOf (take k es)
-  drained-pairs m n k c e =
-      let many = counts c in
-      let long : 2 * n ≤ length (pairsOf es) = omega (arith, length-pairsOf es) in
-      ap (take (2 * n)) (from-pairs ∙ append-assoc (pairsOf es) (unusedAfter (length es)) behind) ∙ take-append-le (2 * n) (pairsOf es) (unusedAfter (length es) ++ behind) long
-      ∙ take-pairs n es ∙ ap pairsOf (take-fewer es k n (e ∙ ap (λ j. min j k) many))
-
-  pub drained-count : (m n k : ℕ) → m ≡ getD i (place f count) 0 → n ≡ min m k → n ≡ length (take k es)
-  drained-count m n k c e = let many = counts c in omega (arith, many, length-take k es)
-
-drains-here : (f : Form) (i : List ℕ) → length i ≡ formLength f → (entry ys ps : List ℕ) (m n at : ℕ) → at ≡ place f count + 5 → m ≡ getD i (place f count) 0 → n ≡ min m (length entry / 2)
-    → ys ≡ part at (at + 2 * n - at) i → Leaves (part at (at + 32 - at) i) ps m n
-    → Drains i (set (putMid at (at + 32 - at) i ps) (place f count) (m - n)) entry (putMid 0 (2 * n - 0) entry ys) n
-unfolding drawn
-drains-here f i s entry ys ps m n at p c e g q =
-    let k = length entry / 2 in
-    let width : at + 2 * n - at ≡ 2 * n = omega arith in
-    let all : at + 32 - at ≡ 32 = omega arith in
-    let none : 2 * n - 0 ≡ 2 * n = omega arith in
-    record {
-      does = record {
-        becomes = λ d h.
-            as-holds f (drain-well d k (h .well))
-            ((λ t. set (putMid (p t) (all t) i ps) (place f count) (m - n)) ∙ drained-image f s h m n k ps c e (subst (λ (l : List ℕ). Leaves l ps m n) (λ t. part (p t) (all t) i) q));
-        gives = λ d h. drained-count f s h m n k c e;
-      };
-      pairs = λ d h. λ t. (g ∙ (λ t. part (p t) (width t) i) ∙ drained-pairs f s h m n k c e) t ++ drop (none t) entry;
-    }
-
--- the same with the places of the count and of the pairs as they were asked for
-abbrev DrainsAt : (i entry ys ps : List ℕ) (m n at c : ℕ) → Type 0
-DrainsAt i entry ys ps m n at c =
-    m ≡ getD i c 0 → n ≡ min m (length entry / 2) → ys ≡ part at (at + 2 * n - at) i
-    → Leaves (part at (at + 32 - at) i) ps m n
-    → Drains i (set (putMid at (at + 32 - at) i ps) c (m - n)) entry (putMid 0 (2 * n - 0) entry ys) n
-
-pub drains : (i entry ys ps : List ℕ) (m n : ℕ) {c at : ℕ} → RingAt i c at → DrainsAt i entry ys ps m n at c
-drains i entry ys ps m n {c} {at} r =
-    subst (DrainsAt i entry ys ps m n at) (sym (r .here)) (drains-here (r .form) i (r .sized) entry ys ps m n at (r .pairs ∙ ap (λ c. c + 5) (r .here)))
+  pub none-leave : has f numbers ≡ false → NumbersLeave f i i m n
+  none-leave z = record { there = λ y u. absurd (false≢true (sym z ∙ y)); without = λ z. refl }

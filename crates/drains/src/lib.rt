@@ -6,13 +6,13 @@ use image::form::places_of;
 use numbers::from_zero;
 ghost use mathlib.Core.Path.{_≡_};
 ghost use mathlib.Core.List.{_++_};
-ghost use Prim.Native.Nat.{_/_, _≤_, min};
+ghost use Prim.Native.Nat.{_*_, _/_, _≤_, min};
 ghost use lib.ListN.{length, drop, getD, replicate};
 ghost use Rattle.rules.specs.Ring.{capacity};
 ghost use Rattle.rules.specs.Form.{formLength};
 ghost use Rattle.rules.specs.Image.{pairsLength, countIn};
 ghost use Rattle.image.specs.Shown.{formView};
-ghost use Rattle.drains.specs.Drained.{RingAt, Drains, Leaves};
+ghost use Rattle.drains.specs.Drained.{woven, CopiesOut, Leaves, NumbersLeave, Shifts, Drains};
 
 // As many events as wait or as fit, whichever is fewer.
 fn fitting(waiting: usize, bytes: usize) -> usize
@@ -20,6 +20,42 @@ fn fitting(waiting: usize, bytes: usize) -> usize
 {
     let events = bytes / form::EVENT;
     if waiting < events { waiting } else { events }
+}
+
+// Each pair, and then its number.
+fn put_events(out: &mut [u8], pairs: &[u8], numbers: &[u8], n: usize)
+    requires { ⌜ (length (now out) ≡ 4 * n) × (length (now pairs) ≡ 2 * n) × (length (now numbers) ≡ 2 * n) ⌝ }
+    ensures { λ _. ⌜ now (out .exit) ≡ woven (now (pairs .entry)) (now (numbers .entry)) ⌝ }
+{
+    let mut k = 0;
+    while k < n {
+        let from = form::PAIR * k;
+        let to = form::EVENT * k;
+        out[to] = pairs[from];
+        out[to + 1] = pairs[from + 1];
+        out[to + 2] = numbers[from];
+        out[to + 3] = numbers[from + 1];
+        k += 1;
+    }
+}
+
+// The first n events, with the numbers that the image has or those from 0 on.
+fn copy_out(image: &[u8], form: Form, out: &mut [u8], n: usize)
+    requires { ⌜ (length (now image) ≡ formLength (formView form)) × (n ≤ capacity) × (length (now out) ≡ 4 * n) ⌝ }
+    ensures { λ _. ⌜ CopiesOut (now (image .entry)) (now (out .exit)) n ⌝ }
+{
+    let p = places_of(form);
+    let taken = form::PAIR * n;
+    let at = p.pairs;
+    let end = at + taken;
+    let Form::Numbered = form else {
+        let first = from_zero();
+        put_events(out, &image[at..end], &first[0..taken], n);
+        return;
+    };
+    let first = p.numbers;
+    let last = first + taken;
+    put_events(out, &image[at..end], &image[first..last], n);
 }
 
 // The byte at a place; past the end, zero.
@@ -41,7 +77,7 @@ fn drop_front(dst: &mut [u8], taken: usize)
     }
 }
 
-// Of `len` pairs the first n go. Where none is left nothing moves: the whole room becomes zeros, by stores of a fixed length.
+// Of `len` things of two bytes the first n go. Where none is left nothing moves: the whole room becomes zeros, by stores of a fixed length.
 fn leave(dst: &mut [u8], n: usize, len: usize)
     requires { ⌜ (n ≤ len) × (len ≤ capacity) × (length (now dst) ≡ pairsLength) ⌝ }
     ensures { λ _. ⌜ Leaves (now (dst .entry)) (now (dst .exit)) len n ⌝ }
@@ -54,36 +90,11 @@ fn leave(dst: &mut [u8], n: usize, len: usize)
     }
 }
 
-// Each pair, and then its number.
-fn put_events(out: &mut [u8], pairs: &[u8], numbers: &[u8]) {
-    let mut i = 0;
-    while i < pairs.len() {
-        out[2 * i] = pairs[i];
-        out[2 * i + 1] = pairs[i + 1];
-        out[2 * i + 2] = numbers[i];
-        out[2 * i + 3] = numbers[i + 1];
-        i += form::PAIR;
-    }
-}
-
-// The first n events, with the numbers that the image has or those from 0 on.
-fn copy_out(image: &[u8], form: Form, out: &mut [u8], n: usize) {
-    let p = places_of(form);
-    let taken = form::PAIR * n;
-    let at = p.pairs;
-    let end = at + taken;
-    let Form::Numbered = form else {
-        let first = from_zero();
-        put_events(out, &image[at..end], &first[0..taken]);
-        return;
-    };
-    let first = p.numbers;
-    let last = first + taken;
-    put_events(out, &image[at..end], &image[first..last]);
-}
-
 // The numbers of the first n go as their events do.
-fn leave_numbers(image: &mut [u8], form: Form, n: usize, len: usize) {
+fn leave_numbers(image: &mut [u8], form: Form, n: usize, len: usize)
+    requires { ⌜ (length (now image) ≡ formLength (formView form)) × (n ≤ len) × (len ≤ capacity) ⌝ }
+    ensures { λ _. ⌜ NumbersLeave (formView form) (now (image .entry)) (now (image .exit)) len n ⌝ }
+{
     let Form::Numbered = form else {
         return;
     };
@@ -91,6 +102,20 @@ fn leave_numbers(image: &mut [u8], form: Form, n: usize, len: usize) {
     let at = p.numbers;
     let end = at + form::NUMBERS_LENGTH;
     leave(&mut image[at..end], n, len);
+}
+
+// Of `len` waiting events the first n no longer wait.
+fn shift(image: &mut [u8], form: Form, n: usize, len: usize)
+    requires { ⌜ (length (now image) ≡ formLength (formView form)) × (n ≤ len) × (len ≤ capacity) ⌝ }
+    ensures { λ _. ⌜ Shifts (now (image .entry)) (now (image .exit)) len n ⌝ }
+{
+    let p = places_of(form);
+    let at = p.pairs;
+    let end = at + form::PAIRS_LENGTH;
+    leave(&mut image[at..end], n, len);
+    leave_numbers(image, form, n, len);
+    let count = p.count;
+    image[count] = (len - n) as u8;
 }
 
 pub fn drain(image: &mut [u8], form: Form, out: &mut [u8]) -> usize
@@ -103,10 +128,6 @@ pub fn drain(image: &mut [u8], form: Form, out: &mut [u8]) -> usize
     let n = fitting(len, out.len());
     let room = form::EVENT * n;
     copy_out(image, form, &mut out[0..room], n);
-    let at = p.pairs;
-    let end = at + form::PAIRS_LENGTH;
-    leave(&mut image[at..end], n, len);
-    leave_numbers(image, form, n, len);
-    image[count] = (len - n) as u8;
+    shift(image, form, n, len);
     n
 }

@@ -3,7 +3,7 @@ use Prim.Native.Nat.{_-_, _≤_}
 use native.Mathlib.Omega.{arith}
 use lib.ListN.{length}
 use borrow.Author.Needs.{needs}
-use Rattle.drains.proofs.Shifting.{Moving, moving-starts, moving-next, moving-done}
+use Rattle.drains.proofs.Moving.{Moving, moving-starts, moving-next, moving-done}
 use Rattle.drains.proofs.drop_front.Statement.{statement}
 use Rattle.drains.proofs.drop_front.Tie as tie
 
