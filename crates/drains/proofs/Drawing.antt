@@ -17,7 +17,8 @@ use Rattle.rules.proofs.laws.Bits.{test}
 use Rattle.rules.proofs.laws.Saved.{count-stands}
 use Rattle.inplace.specs.Held.{Holds}
 use Rattle.inplace.proofs.Doing.{holds-as}
-use Rattle.drains.specs.Drained.{CopiesOut, fewer, Shifts, Drains}
+use Rattle.shifts.specs.Shifted.{fewer, Shifts}
+use Rattle.drains.specs.Drained.{CopiesOut, Drains}
 
 -- ---- as many as wait or as are asked for
 

@@ -1,5 +1,3 @@
 -- The laws that the proofs of this crate cite.
 pub mod Weaving
-pub mod Moving
-pub mod Shifting
 pub mod Drawing

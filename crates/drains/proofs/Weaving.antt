@@ -10,7 +10,7 @@ use Rattle.rules.specs.Numbers.{part, Twos, written}
 use Rattle.rules.specs.Ring.{Event, capacity, eventTwos}
 use Rattle.rules.specs.Device.{Device, upFrom}
 use Rattle.rules.specs.Numbering.{Numbers, withNumbers, quadsOf, numberTwos}
-use Rattle.rules.specs.Form.{Form, Field, pairs, numbers, has, size, place, formLength, read}
+use Rattle.rules.specs.Form.{Form, Field, pairs, numbers, has, size, place, formLength}
 use Rattle.rules.specs.Image.{sixteen, fieldOf, encodeAs, numbersIn}
 use Rattle.rules.proofs.laws.Twos.{length-written}
 use Rattle.rules.proofs.laws.Layout.{has-all, read-image}

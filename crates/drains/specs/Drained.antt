@@ -1,14 +1,11 @@
 -- What a drain promises: of whatever device and numbers the image holds, its ring draws for the room that there is, and each event that comes out has its number.
 use mathlib.Core.Path.{_≡_}
-use mathlib.Core.Bool.{true, false}
 use mathlib.Core.List.{List, [], _∷_, _++_}
-use Prim.Native.Nat.{ℕ, _+_, _*_, _/_, _≤_}
-use lib.ListN.{length, take, drop, getD, replicate}
-use borrow.Rule.Slice.PartMut.{putMid}
+use Prim.Native.Nat.{ℕ, _*_, _/_, _≤_}
+use lib.ListN.{length, take, drop}
 use Rattle.rules.specs.Ring.{Drawn, drawn}
 use Rattle.rules.specs.Device.{Device}
 use Rattle.rules.specs.Numbering.{Numbers, withNumbers, drainedLength, quadsOf}
-use Rattle.rules.specs.Form.{Form, numbers, has, size, place, read}
 use Rattle.rules.specs.Image.{numbersIn}
 use Rattle.inplace.specs.Held.{Holds, Does, withRing}
 
@@ -28,32 +25,6 @@ CopiesOut i out n =
     (d : Device) (s : Numbers) → Holds i d s → n ≤ length (d .ring .waiting)
     → out ≡ quadsOf (withNumbers (take n (d .ring .waiting)) (take n (numbersIn i .waiting)))
 
--- ---- what is left: events and numbers are things of two bytes
-
--- behind the first m things all is zero
-abbrev pub Unused : List ℕ → ℕ → Type 0
-Unused l m = (i : ℕ) → 2 * m ≤ i → getD l i 0 ≡ 0
-
--- the first n things go, and zeros follow the others
-abbrev pub shifted : List ℕ → ℕ → List ℕ
-shifted l n = drop (2 * n) l ++ replicate (2 * n) 0
-
-abbrev pub Leaves : (before after : List ℕ) (m n : ℕ) → Type 0
-Leaves before after m n = Unused before m → after ≡ shifted before n
-
--- so do the numbers of an image that has them; any other stays
-pub record NumbersLeave (f : Form) (i j : List ℕ) (m n : ℕ) : Type 0 where
-  pub there : has f numbers ≡ true → Unused (read f i numbers) m → j ≡ putMid (place f numbers) (size numbers) i (shifted (read f i numbers) n)
-  pub without : has f numbers ≡ false → j ≡ i
-
--- the numbers of the events past the first n
-abbrev pub fewer : Numbers → ℕ → Numbers
-fewer s n = record { next = s .next; waiting = drop n (s .waiting) }
-
--- of m events that wait the first n no longer do
-abbrev pub Shifts : (i j : List ℕ) (m n : ℕ) → Type 0
-Shifts i j m n = (d : Device) (s : Numbers) → Holds i d s → m ≡ length (d .ring .waiting) → Holds j (withRing d (drawn (d .ring) n .after)) (fewer s n)
-
 -- ---- a drain
 
 -- what the ring of d draws into a buffer
@@ -62,6 +33,6 @@ drew d entry = drawn (d .ring) (length entry / drainedLength)
 
 -- n events come out with their numbers in front of the buffer, and every other byte stays (02, C-19)
 pub record Drains (i j entry exit : List ℕ) (n : ℕ) : Type 0 where
-  pub does : Does i j n (λ d. withRing d (drew d entry .after)) (λ d s. fewer s (length entry / drainedLength)) (λ d. length (drew d entry .drained))
+  pub does : Does i j n (λ d. withRing d (drew d entry .after)) (λ d s. record { next = s .next; waiting = drop (length entry / drainedLength) (s .waiting) }) (λ d. length (drew d entry .drained))
   pub events : (d : Device) (s : Numbers) → Holds i d s
       → exit ≡ quadsOf (withNumbers (drew d entry .drained) (take (length entry / drainedLength) (numbersIn i .waiting))) ++ drop (drainedLength * n) entry

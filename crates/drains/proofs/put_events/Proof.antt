@@ -1,8 +1,8 @@
 -- `put_events`: four bytes in each round.
+use mathlib.Core.Path.{refl, sym, _∙_}
 use Prim.Native.Nat.{_-_, _≤_}
 use native.Mathlib.Omega.{arith}
 use lib.ListN.{length-set}
-use borrow.Author.Needs.{needs}
 use Rattle.drains.proofs.Weaving.{Weaving, weaving-next, weaving-done}
 use Rattle.drains.proofs.put_events.Statement.{statement}
 use Rattle.drains.proofs.put_events.Tie as tie
@@ -19,24 +19,24 @@ put-events-spec =
     (tie.spec
     Inv-loop
     μ-loop
-    (λ c. search needs)
-    (λ c. search needs)
-    (λ c. search needs)
-    (λ c. search needs)
-    (λ c. search needs)
-    (λ c. search needs)
-    (λ c. search needs)
-    (λ c. search needs)
+    (λ c. (omega arith, record { size = c .pre .0; front = refl }))
+    (λ c. record { fits = omega arith })
+    (λ c. record { fits = omega arith })
+    (λ c. omega arith)
+    (λ c. omega arith)
+    (λ c. record { fits = omega arith })
+    (λ c. omega arith)
+    (λ c. record { fits = omega arith })
     (λ c. simp length-set (omega (arith, c .before .before .before .loop .inv .1 .size)))
-    (λ c. search needs)
-    (λ c. search needs)
+    (λ c. omega arith)
+    (λ c. record { fits = omega arith })
     (λ c. simp length-set (omega (arith, c .before .before .before .before .loop .inv .1 .size)))
-    (λ c. search needs)
-    (λ c. search needs)
-    (λ c. search needs)
+    (λ c. record { fits = omega arith })
+    (λ c. omega arith)
+    (λ c. record { fits = omega arith })
     (λ c. simp length-set (omega (arith, c .before .before .before .before .before .loop .inv .1 .size)))
-    (λ c. search needs)
-    (λ c. search needs)
+    (λ c. record { fits = omega arith })
+    (λ c. omega arith)
     (λ c. let l = c .before .before .before .before .before in let s = l .before in (omega arith, weaving-next (l .loop .inv .1) (s .pre .1) (s .pre .2) (omega arith)))
-    (λ c. search needs)
+    (λ c. c .before .loop .inv .1 .size ∙ sym (c .before .before .pre .0))
     (λ c. weaving-done (c .before .loop .inv .1) (c .before .before .pre .1) (c .before .before .pre .2) (omega arith)))

@@ -8,9 +8,9 @@ use borrow.Author.Needs.{needs}
 use Rattle.rules.specs.Form.{numbers, has}
 use Rattle.image.specs.Shown.{formView}
 use Rattle.image.proofs.Forms.{field-within, has-numbers, no-numbers}
-use Rattle.drains.proofs.Shifting.{numbers-leave, none-leave}
-use Rattle.drains.proofs.leave_numbers.Statement.{statement}
-use Rattle.drains.proofs.leave_numbers.Tie as tie
+use Rattle.shifts.proofs.Shifting.{numbers-leave, none-leave}
+use Rattle.shifts.proofs.leave_numbers.Statement.{statement}
+use Rattle.shifts.proofs.leave_numbers.Tie as tie
 
 there : (c : tie.After-places-of) → has (formView (c .before .before .before .before .args .form)) numbers ≡ true
 there c = has-numbers (c .before .before .before .before .args .form) (c .before .enum-told .given .1)

@@ -5,13 +5,13 @@ use Prim.Native.Nat.{_+_, _-_, _≤_}
 use native.Mathlib.Omega.{arith}
 use lib.ListN.{length, length-set}
 use borrow.Author.Needs.{needs}
-use Rattle.rules.specs.Form.{Field, count, pairs, numbers, size}
+use Rattle.rules.specs.Form.{Field, count, pairs, size}
 use Rattle.rules.proofs.laws.Layout.{always}
 use Rattle.image.specs.Shown.{formView, placeIn}
 use Rattle.image.proofs.Forms.{placed, always-within}
-use Rattle.drains.proofs.Shifting.{shifts}
-use Rattle.drains.proofs.shift.Statement.{statement}
-use Rattle.drains.proofs.shift.Tie as tie
+use Rattle.shifts.proofs.Shifting.{shifts}
+use Rattle.shifts.proofs.shift.Statement.{statement}
+use Rattle.shifts.proofs.shift.Tie as tie
 
 within : (c : tie.After-places-of) (q : Field) → always q ≡ true → placeIn (c .places-of .result) q + size q ≤ length (c .before .before .args .image .now)
 within c q h =

@@ -23,8 +23,8 @@ use Rattle.rules.proofs.laws.Numbered.{fits, fitting, drawn-fit}
 use Rattle.rules.proofs.laws.Steps.{drain-well}
 use Rattle.inplace.specs.Held.{Holds}
 use Rattle.inplace.proofs.Doing.{holds-as, as-holds}
-use Rattle.drains.specs.Drained.{Unused, shifted, Leaves, NumbersLeave, fewer, Shifts}
-use Rattle.drains.proofs.Moving.{sixteen-spare, sixteen-shifted}
+use Rattle.shifts.specs.Shifted.{Unused, shifted, Leaves, NumbersLeave, fewer, Shifts}
+use Rattle.shifts.proofs.Moving.{sixteen-spare, sixteen-shifted}
 
 -- ---- one field replaced
 

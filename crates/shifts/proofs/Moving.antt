@@ -12,7 +12,7 @@ use Rattle.rules.specs.Numbers.{part, Twos, written}
 use Rattle.rules.specs.Ring.{capacity}
 use Rattle.rules.specs.Image.{sixteen}
 use Rattle.rules.proofs.laws.Twos.{length-written, sixteen-unused}
-use Rattle.drains.specs.Drained.{Unused, shifted, Leaves}
+use Rattle.shifts.specs.Shifted.{Unused, shifted, Leaves}
 
 -- ---- moved to the front
 
@@ -59,37 +59,48 @@ module _ {l₀ l : List ℕ} {taken i : ℕ} (m : Moving l₀ l taken i) (h : ta
 
 -- ---- things of two bytes
 
-all-zero : (l : List ℕ) → ((i : ℕ) → getD l i 0 ≡ 0) → l ≡ replicate (length l) 0
+abbrev zeros : ℕ → List ℕ
+zeros n = replicate n 0
+
+all-zero : (l : List ℕ) → ((i : ℕ) → getD l i 0 ≡ 0) → l ≡ zeros (length l)
 all-zero [] z = refl
 all-zero (x ∷ l) z = (λ j. z 0 j ∷ all-zero l (λ i. z (suc i)) j)
 
+zeros-append : (a b : ℕ) → zeros a ++ zeros b ≡ zeros (a + b)
+zeros-append a b = replicate-append-replicate a b 0
+
 -- zeros before zeros or behind them
-zeros-swap : (a b : ℕ) → _≡_ {A = List ℕ} (replicate a 0 ++ replicate b 0) (replicate b 0 ++ replicate a 0)
-zeros-swap a b = replicate-append-replicate a b 0 ∙ ap (λ n. replicate n 0) (add-comm a b) ∙ sym (replicate-append-replicate b a 0)
+zeros-swap : (a b : ℕ) → zeros a ++ zeros b ≡ zeros b ++ zeros a
+zeros-swap a b = zeros-append a b ∙ ap zeros (add-comm a b) ∙ sym (zeros-append b a)
 
 module _ (before : List ℕ) (m : ℕ) (u : Unused before m) where
-  behind : drop (2 * m) before ≡ replicate (length (drop (2 * m) before)) 0
-  behind = all-zero (drop (2 * m) before) (λ i. getD-drop (2 * m) before i 0 ∙ u (2 * m + i) (omega arith))
+  abbrev rest : List ℕ
+  rest = drop (2 * m) before
+
+  rest-zero : rest ≡ zeros (length rest)
+  rest-zero = all-zero rest (λ i. getD-drop (2 * m) before i 0 ∙ u (2 * m + i) (omega arith))
+
+  rest-swap : (k : ℕ) → zeros k ++ rest ≡ rest ++ zeros k
+  rest-swap k = ap (λ l. zeros k ++ l) rest-zero ∙ zeros-swap k (length rest) ∙ ap (λ l. l ++ zeros k) (sym rest-zero)
+
+  -- what is kept stands before what is zero, also once it is shorter
+  kept-moves : (k : ℕ) → k ≤ 2 * m → 2 * m ≤ length before → past (take (2 * m) before) k ++ rest ≡ past before k
+  kept-moves k h fits =
+      let kept = take (2 * m) before in
+      let room : k ≤ length kept = omega (arith, length-take-le (2 * m) before fits) in
+      append-assoc (drop k kept) (zeros k) rest ∙ ap (λ l. drop k kept ++ l) (rest-swap k) ∙ sym (append-assoc (drop k kept) rest (zeros k))
+      ∙ ap (λ l. l ++ zeros k) (sym (drop-append-le k kept rest room) ∙ ap (drop k) (take-append-drop (2 * m) before))
 
 -- some move, or none is left
 pub some-leave : (before ys : List ℕ) (m n : ℕ) → n ≤ m → m ≤ 16 → length before ≡ 32 → ys ≡ past (part 0 (2 * m - 0) before) (2 * n) → Leaves before (putMid 0 (2 * m - 0) before ys) m n
 some-leave before ys m n h k long f u =
     let used : 2 * m - 0 ≡ 2 * m = omega arith in
-    let kept = take (2 * m) before in
-    let rest = drop (2 * m) before in
-    let zeros : List ℕ = replicate (2 * n) 0 in
-    let room : 2 * n ≤ length kept = omega (arith, length-take-le (2 * m) before (omega arith)) in
-    (λ t. f t ++ drop (used t) before) ∙ (λ t. past (take (used t) before) (2 * n) ++ rest)
-    ∙ append-assoc (drop (2 * n) kept) zeros rest
-    ∙ ap (λ l. drop (2 * n) kept ++ l) (ap (λ l. zeros ++ l) (behind before m u) ∙ zeros-swap (2 * n) (length rest) ∙ ap (λ l. l ++ zeros) (sym (behind before m u)))
-    ∙ sym (append-assoc (drop (2 * n) kept) rest zeros)
-    ∙ ap (λ l. l ++ zeros) (sym (drop-append-le (2 * n) kept rest room) ∙ ap (drop (2 * n)) (take-append-drop (2 * m) before))
+    (λ t. f t ++ drop (used t) before) ∙ (λ t. past (take (used t) before) (2 * n) ++ drop (2 * m) before) ∙ kept-moves before m u (2 * n) (omega arith) (omega arith)
 
 pub none-leave : (before after : List ℕ) (m n : ℕ) → m ≡ n → m ≤ 16 → length before ≡ 32 → after ≡ replicate (length before) 0 → Leaves before after m n
 none-leave before after m n same k long f u =
-    let left = length (drop (2 * m) before) in
-    let all : length before ≡ left + 2 * n = omega (arith, length-drop (2 * m) before) in
-    f ∙ ap (λ j. replicate j 0) all ∙ sym (replicate-append-replicate left (2 * n) 0) ∙ ap (λ l. l ++ replicate (2 * n) 0) (sym (behind before m u) ∙ ap (λ j. drop (2 * j) before) same)
+    let all : length before ≡ length (rest before m u) + 2 * m = omega (arith, length-drop (2 * m) before) in
+    f ∙ ap zeros all ∙ sym (zeros-append (length (rest before m u)) (2 * m)) ∙ ap (λ l. l ++ zeros (2 * m)) (sym (rest-zero before m u)) ∙ ap (shifted before) same
 
 -- sixteen places, of whose things the first n go
 module _ {A : Type 0} (t : Twos A) where
@@ -98,15 +109,16 @@ module _ {A : Type 0} (t : Twos A) where
   drop-written (suc n) [] = let s : 2 * suc n ≡ suc (suc (2 * n)) = omega arith in ap (λ k. drop k (written t [])) s
   drop-written (suc n) (x ∷ xs) = let s : 2 * suc n ≡ suc (suc (2 * n)) = omega arith in ap (λ k. drop k (written t (x ∷ xs))) s ∙ drop-written n xs
 
+  drop-sixteen : (n k : ℕ) (xs : List A) → n ≤ length xs → drop (2 * n) (written t xs ++ zeros k) ++ zeros (2 * n) ≡ written t (drop n xs) ++ zeros (k + 2 * n)
+  drop-sixteen n k xs h =
+      ap (λ l. l ++ zeros (2 * n)) (drop-append-le (2 * n) (written t xs) (zeros k) (omega (arith, length-written t xs)) ∙ ap (λ l. l ++ zeros k) (drop-written n xs))
+      ∙ append-assoc (written t (drop n xs)) (zeros k) (zeros (2 * n)) ∙ ap (λ l. written t (drop n xs) ++ l) (zeros-append k (2 * n))
+
   module _ (n m : ℕ) (xs : List A) (e : length xs ≡ m) (h : n ≤ m) (few : m ≤ capacity) where
     pub sixteen-spare : Unused (sixteen t xs) m
     sixteen-spare i k = sixteen-unused t xs i (omega arith)
 
     pub sixteen-shifted : shifted (sixteen t xs) n ≡ sixteen t (drop n xs)
     sixteen-shifted =
-        let spare = 2 * capacity - 2 * length xs in
-        let zeros : ℕ → List ℕ = λ k. replicate k 0 in
-        let count : spare + 2 * n ≡ 2 * capacity - 2 * length (drop n xs) = omega (arith, length-drop n xs) in
-        ap (λ l. l ++ zeros (2 * n)) (drop-append-le (2 * n) (written t xs) (zeros spare) (omega (arith, length-written t xs)) ∙ ap (λ l. l ++ zeros spare) (drop-written n xs))
-        ∙ append-assoc (written t (drop n xs)) (zeros spare) (zeros (2 * n))
-        ∙ ap (λ l. written t (drop n xs) ++ l) (replicate-append-replicate spare (2 * n) 0 ∙ ap zeros count)
+        let count : 2 * capacity - 2 * length xs + 2 * n ≡ 2 * capacity - 2 * length (drop n xs) = omega (arith, length-drop n xs) in
+        drop-sixteen n (2 * capacity - 2 * length xs) xs (omega arith) ∙ ap (λ k. written t (drop n xs) ++ zeros k) count
