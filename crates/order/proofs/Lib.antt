@@ -1,0 +1,2 @@
+-- What is proved of the order of events: laws, and the theorems.
+pub mod laws
