@@ -1,4 +1,6 @@
 -- Lemmas about positions, fates and numbers, for the theorems.
 pub mod Positions
 pub mod Standing
+pub mod Fates
+pub mod Returned
 pub mod Counted

@@ -8,6 +8,7 @@ use lib.ListN.{length}
 use Rattle.rules.specs.Device.{Device, Call, level, poll, read, write, drain, Value, none, some, step}
 use Rattle.rules.specs.Numbering.{Numbers, Numbered, withNumbers, numbersAfter, drainedWith, valueWith}
 use Rattle.rules.specs.Account.{tally}
+use Rattle.histories.specs.Demands.{asEvent}
 use Rattle.order.specs.Fates.{Placed, isReturned, isKept, isDropped, eventsMade, withFate}
 
 -- ---- by position
@@ -18,8 +19,7 @@ numberAt start p = (start + p) % 2 ^ 16
 
 -- an event made, as it is handed back: its vector, whether it is an assert, and its number (02, C-19)
 abbrev pub numberedFrom : ℕ → Placed → Numbered
-numberedFrom start x =
-    record { event = record { vector = x .event .vector; asserted = x .event .asserted }; number = numberAt start (x .position) }
+numberedFrom start x = record { event = asEvent (x .event); number = numberAt start (x .position) }
 
 abbrev pub allFrom : ℕ → List Placed → List Numbered
 allFrom start xs = map (numberedFrom start) xs
