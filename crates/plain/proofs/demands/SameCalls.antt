@@ -214,7 +214,7 @@ module _ (old : Engine) (d : Device) (i : List ℕ) (f : Faithful (record { bega
   pub events-as-plain : map asMade (afterCalls (loadOf old d) h xs .history) ≡ history (carriedThrough h xs .began) (carriedThrough h xs .calls) .made
   events-as-plain = both .made
 
--- So from reset, in either form, and from an image that is accepted.
+-- So from reset, in any form, and from an image that is accepted.
 pub calls-as-plain-from-reset : (old : Engine) (form : Form) (xs : List Exported) → GivenBytes xs → AllAgree (loadOf old device.reset) (afterReset form) xs
 calls-as-plain-from-reset old form xs b = calls-as-plain old device.reset (encodeAs form device.reset) (faithful-after-reset form) xs b
 
