@@ -68,7 +68,6 @@ has-counted n (x ∷ xs) =
 
 -- a: returned, b: drained, c: dropped, e: waiting
 only-one : (a b c e all : ℕ) → a + b + c + e ≡ all → all ≤ 1 → (ltb 0 all && not (ltb 0 a || ltb 0 b)) ≡ (ltb 0 c || ltb 0 e)
-
 only-one (suc a) b c e all s h =
     let zc : c ≡ 0 = omega arith in
     let ze : e ≡ 0 = omega arith in

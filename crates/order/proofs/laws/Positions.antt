@@ -70,6 +70,7 @@ up-append p zero b = (λ i. upFrom (same i) (plus i))
   where
     same : p ≡ p + 0
     same = omega arith
+
     plus : 0 + b ≡ b
     plus = omega arith
 up-append p (suc a) b =

@@ -1,0 +1,1 @@
+-- 02, C-19, of exported calls.
