@@ -4,3 +4,4 @@ pub mod Standing
 pub mod Fates
 pub mod Returned
 pub mod Counted
+pub mod Reading

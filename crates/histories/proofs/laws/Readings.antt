@@ -83,7 +83,7 @@ module _ (s : Numbers) (h : s .next < 2 ^ 16) where
       let low : (m .vector + 2 ^ 16 * s .next) % 256 ≡ m .vector = omega (arith, e 0) in
       rw o (λ i. record { vector = low i; asserted = sym a i } ∷ [])
 
-  returned-below : (b : Bool) (ms : List Made) → Single b ms → ByteEvents ms → amount (returnedWith s ms) < 2 ^ 64
+  pub returned-below : (b : Bool) (ms : List Made) → Single b ms → ByteEvents ms → amount (returnedWith s ms) < 2 ^ 64
   returned-below b ms nothing e = lit< tt
   returned-below b ms (one m o a) e = rw o (omega (arith, e 0, h))
 
