@@ -8,17 +8,17 @@ use lib.ListN.{length}
 use Rattle.rules.specs.Device.{Device, WellFormed, Call, Step, value, reset}
 use Rattle.rules.specs.Numbering.{Numbers, fromZero, WellNumbered}
 use Rattle.rules.specs.Form.{Form, formLength}
-use Rattle.rules.specs.Image.{encodeAs, encodeLike, decode, numbersIn, imageTest, accepted}
+use Rattle.rules.specs.Image.{encodeAs, encodeLike, decode, imageTest, accepted}
 use Rattle.rules.specs.Calls.{afresh, askedBy, Outcome}
 use Rattle.rules.specs.History.{history, fromReset}
-use Rattle.histories.specs.Exported.{Exported, leftBy, isDone, withoutNumber, withoutNumbers, isReset, isLoad, callOf, Underway, carriedOn, carriedThrough, NoLoads}
+use Rattle.histories.specs.Exported.{Exported, leftBy, isDone, isReset, isLoad, callOf, Underway, carriedOn, carriedThrough, NoLoads}
 use Rattle.histories.specs.Exported.{HandedOn, doneCall, doneCalls, IsStep, GivenBytes, current, inImage, Faithful, numbersThrough, afterReset, atLoad}
 use Rattle.rules.proofs.laws.Lists.{equal-same}
 use Rattle.rules.proofs.laws.Images.{encode-as, decode-encode}
 use Rattle.histories.proofs.laws.Folds.{history-append}
 use Rattle.histories.proofs.laws.WellFormed.{history-well}
 use Rattle.histories.proofs.laws.Chains.{current-well, left-length, left-holds, through-append, through-numbered, handed, carried-on, faithful-kept, faithful-on, left-last, reset-leaves, reset-begins, faithful-after-reset, done-accepted, own-image, load-begins}
-use Rattle.histories.proofs.laws.Without.{answer-without, events-without}
+use Rattle.histories.proofs.laws.Without.{handed-answer, handed-events}
 
 -- ---- one call
 
@@ -29,24 +29,18 @@ pub a-call-is-a-step : (d : Device) → WellFormed d → (s : Numbers) → WellN
 unfolding history
 a-call-is-a-step d w s v f x g n t =
     let h : Underway = record { began = d; calls = []; left = encodeAs f d s } in
+    let faith : Faithful h = record { form = f; began = w; numbers = s; numbered = v; left = refl } in
     let no : isLoad (encodeAs f d s) x ≡ false = rw (n, equal-same (encodeAs f d s) (x .given) (sym g)) (and-false (isDone x)) in
-    let r = handed h x (record { form = f; began = w; numbers = s; numbered = v; left = refl }) t no in
-    let ns = numbersIn (x .given) in
-    let answer-is = ap (λ (o : Outcome). o .answer) (r .left) in
-    let events-are = ap (λ (o : Outcome). o .events) (r .left) in
+    let r = handed h x faith t no in
     record {
       call = r .call;
       is = (λ i. cond (t i) (callOf (r .passes i)) []);
       number = ap (λ (o : Outcome). o .number) (r .left);
       image = ap (λ (o : Outcome). o .image) (r .left);
-      answer = answer-is;
-      events = events-are;
-      plainAnswer =
-          (λ i. cond (t i) (withoutNumber (x .asked) (answer-is i)) (leftBy x .answer))
-          ∙ answer-without d w ns (r .numbered) (x .asked) (r .call) (x .answer) (r .passes);
-      plainEvents =
-          (λ i. cond (t i) (withoutNumbers (x .asked) (answer-is i) (events-are i)) (leftBy x .events))
-          ∙ events-without d w ns (r .numbered) (x .asked) (r .call) (x .answer) (r .passes) (r .fits);
+      answer = ap (λ (o : Outcome). o .answer) (r .left);
+      events = ap (λ (o : Outcome). o .events) (r .left);
+      plainAnswer = handed-answer h x faith t no;
+      plainEvents = handed-events h x faith t no;
     }
 
 -- A done reset leaves the image of the reset device, with numbers from 0, and begins the history from reset, whatever was under way and whatever bytes it is given:

@@ -1,6 +1,6 @@
 -- What a done call hands back, without the numbers of events: the answer area of the device's own value, and an event buffer of the events that it drained.
 use mathlib.Core.Path.{_≡_, refl, sym, ap, ap₂, _∙_}
-use mathlib.Core.Bool.{Bool, true, not, cond}
+use mathlib.Core.Bool.{Bool, true, false, cond, not}
 use mathlib.Core.List.{List, [], _∷_, _++_}
 use Prim.Native.Nat.{ℕ, zero, suc, _+_, _-_, _*_, _/_, _%_, _^_, _<_, _≤_}
 use native.Mathlib.Omega.{arith}
@@ -12,12 +12,19 @@ use Rattle.rules.specs.Lines.{Made}
 use Rattle.rules.specs.Ring.{flag, Event, ringRun}
 use Rattle.rules.specs.Device.{Device, WellFormed, Call, some, returned, value, step}
 use Rattle.rules.specs.Device as device
-use Rattle.rules.specs.Numbering.{Numbers, WellNumbered, Numbered, drainedLength, quadsOf, quadsIn, eventsIn, returnedWith, drainedWith, valueWith}
-use Rattle.rules.specs.Calls.{pass, widthTest, addressTest, Request, calls, askedBy, answered, valueIn, bufferOf, placeOf, written}
+use Rattle.rules.specs.Numbering.{Numbers, WellNumbered, numbersAfter, Numbered, drainedLength, quadsOf, quadsIn, eventsIn, returnedWith, drainedWith, valueWith}
+use Rattle.rules.specs.Form.{Form, numbers, has, formLength}
+use Rattle.rules.specs.Image.{encodeAs, encodeLike, numbersIn}
+use Rattle.rules.specs.Calls.{Tested, pass, widthTest, addressTest, Request, afresh, calls, askedBy, answered, valueIn, bufferOf, placeOf, written, Outcome}
 use Rattle.rules.specs.Calls as request
-use Rattle.histories.specs.Exported.{withoutNumber, quadsWithout, withoutNumbers, unnumbered, eventIn, returnedTo, drainedTo, lostTo}
-use Rattle.histories.proofs.laws.WellFormed.{ByteEvents, step-events}
-use Rattle.histories.proofs.laws.Chains.{passed}
+use Rattle.histories.specs.Exported.{Exported, leftBy, isDone, withoutNumber, quadsWithout, withoutNumbers, answerWithout, eventsWithout, unnumbered}
+use Rattle.histories.specs.Exported.{isLoad, Underway, current, Faithful, eventIn, returnedTo, drainedTo, lostTo}
+use Rattle.rules.proofs.laws.Bits.{test}
+use Rattle.rules.proofs.laws.Numbered.{numbers-step}
+use Rattle.rules.proofs.laws.Saved.{encode-without}
+use Rattle.rules.proofs.laws.Images.{encode-as, numbers-encode}
+use Rattle.histories.proofs.laws.WellFormed.{ByteEvents, step-events, step-well}
+use Rattle.histories.proofs.laws.Chains.{passed, current-well, left-length, Handed, handed}
 use Rattle.histories.proofs.laws.Readings.{Single, nothing, one, level-single, poll-single, access-is, input-is, asked-is, drained-told, drained-events}
 
 -- ---- the answer area
@@ -106,6 +113,62 @@ module _ (d : Device) (w : WellFormed d) (s : Numbers) (v : WellNumbered d s) wh
       ap (λ n. take place (written buffer place xs) ++ quadsWithout n (drop place (written buffer place xs))) (drained-told d w s v k a)
       ∙ written-without xs buffer place h ∙ ap (λ (es : List Event). written buffer place (unnumbered es)) (drained-events d w s v k)
       )
+
+-- ---- an exported call
+
+-- the image of a device is its image with the numbers that it then loads with: a form without the fifth body has none of them
+pub own-numbers : (f : Form) (i : List ℕ) → length i ≡ formLength f → (d : Device) → WellFormed d → (s : Numbers) → WellNumbered d s
+    → encodeLike i d s ≡ encodeLike i d (numbersIn (encodeLike i d s))
+own-numbers f i e d w s v =
+    let is = encode-as f i e d s in
+    is ∙ test (has f numbers) (λ t. ap (encodeAs f d) (sym (numbers-encode d w s v f t))) (λ t. encode-without f t d s (numbersIn (encodeAs f d s)))
+    ∙ sym (encode-as f i e d (numbersIn (encodeAs f d s))) ∙ ap (λ l. encodeLike i d (numbersIn l)) (sym is)
+
+module _ (h : Underway) (x : Exported) (f : Faithful h) (t : isDone x ≡ true) (n : isLoad (h .left) x ≡ false) where
+  abbrev did : Handed h x
+  did = handed h x f t n
+
+  pub handed-image : leftBy x .image ≡ encodeLike (x .given) (step (current h) (did .call) .after) (numbersIn (leftBy x .image))
+  handed-image =
+      let d = current h in
+      let s = numbersIn (x .given) in
+      let image-is = ap (λ (o : Outcome). o .image) (did .left) in
+      image-is
+      ∙ own-numbers (f .form) (x .given) (ap length (did .given) ∙ left-length h f) (step d (did .call) .after) (step-well d (did .call) (current-well h f)) (numbersAfter d s (did .call))
+      (numbers-step d s (did .call) (did .numbered))
+      ∙ ap (λ l. encodeLike (x .given) (step d (did .call) .after) (numbersIn l)) (sym image-is)
+
+  pub handed-answer : answerWithout x ≡ answered 0 (value (current h) (did .call)) (x .answer)
+  handed-answer =
+      (λ i. cond (t i) (withoutNumber (x .asked) (did .left i .answer)) (leftBy x .answer))
+      ∙ answer-without (current h) (current-well h f) (numbersIn (x .given)) (did .numbered) (x .asked) (did .call) (x .answer) (did .passes)
+
+  pub handed-events : eventsWithout x ≡ written (bufferOf (x .asked)) (placeOf (x .asked)) (unnumbered (step (current h) (did .call) .drained))
+  handed-events =
+      (λ i. cond (t i) (withoutNumbers (x .asked) (did .left i .answer) (did .left i .events)) (leftBy x .events))
+      ∙ events-without (current h) (current-well h f) (numbersIn (x .given)) (did .numbered) (x .asked) (did .call) (x .answer) (did .passes) (did .fits)
+
+-- a reset hands back no number of an event
+no-call : {A : Type 0} (u : Tested Call) → calls u ≡ afresh → A
+no-call u e = absurd (let z : _≡_ {A = ℕ} 0 1 = cc in omega arith)
+
+reset-without : (q : Request) → askedBy q ≡ afresh → (a e : List ℕ) → (withoutNumber q a ≡ a) × (withoutNumbers q a e ≡ e)
+reset-without request.reset k a e = (refl, refl)
+reset-without (request.read base size address width) k a e = no-call _ k
+reset-without (request.write base size address width v) k a e = no-call _ k
+reset-without (request.level n v) k a e = no-call _ k
+reset-without (request.poll n) k a e = no-call _ k
+reset-without (request.drain buffer place) k a e = no-call _ k
+
+module _ (x : Exported) (k : askedBy (x .asked) ≡ afresh) (t : isDone x ≡ true) where
+  pub reset-answer : answerWithout x ≡ leftBy x .answer
+  reset-answer =
+      (λ i. cond (t i) (withoutNumber (x .asked) (leftBy x .answer)) (leftBy x .answer)) ∙ reset-without (x .asked) k (leftBy x .answer) (leftBy x .events) .0
+
+  pub reset-events : eventsWithout x ≡ leftBy x .events
+  reset-events =
+      (λ i. cond (t i) (withoutNumbers (x .asked) (leftBy x .answer) (leftBy x .events)) (leftBy x .events))
+      ∙ reset-without (x .asked) k (leftBy x .answer) (leftBy x .events) .1
 
 -- ---- what a host reads, it reads without the numbers
 
