@@ -1,4 +1,5 @@
 -- Lemmas about positions, fates and numbers, for the theorems.
+pub mod Computed
 pub mod Positions
 pub mod Standing
 pub mod Fates

@@ -74,7 +74,7 @@ in-order d s cs back drained e t r w n =
       returned = r;
       drainedOrWait = w;
       next = n;
-      account = counted (s .next) (eventsMade d cs) back drained (waitingWith e t) (waitingWith d s) r w;
+      account = λ q. omega (arith, counted (s .next) (eventsMade d cs) back drained (waitingWith e t) (waitingWith d s) r w q);
       missing = λ none few x.
           missing-ones (s .next) (eventsMade d cs) back drained (waitingWith e t) (waitingWith d s) r w (none-with d s none) 0 (length (history d cs .made)) (all-positions 0 d cs)
           (omega (arith, made-length d cs, few)) x;

@@ -15,6 +15,7 @@ use Rattle.rules.specs.History.{history}
 use Rattle.order.specs.Fates.{Fate, Fate-discrete, Placed, ringPast, placed, placedFrom, withFate}
 use Rattle.order.specs.Numbered.{numberAt, numberedFrom, allFrom}
 use Rattle.rules.proofs.laws.Bits.{test}
+use Rattle.order.proofs.laws.Computed as computed
 
 -- ---- numbers of positions
 

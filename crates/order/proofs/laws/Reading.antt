@@ -25,6 +25,7 @@ use Rattle.rules.proofs.laws.Images.{numbers-encode}
 use Rattle.histories.proofs.laws.WellFormed.{step-events}
 use Rattle.histories.proofs.laws.Chains.{passed, current-well, handed, carried-on, faithful-kept}
 use Rattle.histories.proofs.laws.Readings.{level-single, poll-single, returned-below, access-is, input-is, asked-is, drained-told}
+use Rattle.order.proofs.laws.Computed as computed
 
 -- ---- one call
 
