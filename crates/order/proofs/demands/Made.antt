@@ -1,14 +1,12 @@
 -- What the theorems speak of: the events placed in the order of making are those of the history, each at its position and with the fate that the ring gives it.
 use mathlib.Core.Path.{_≡_}
 use mathlib.Core.List.{List, map}
-use Prim.Native.Nat.{ℕ, _<_}
 use lib.ListN.{length}
-use Rattle.rules.specs.Ring.{Event, kept, dropped}
+use Rattle.rules.specs.Ring.{kept, dropped}
 use Rattle.rules.specs.Device.{Device, Call, upFrom}
 use Rattle.rules.specs.History.{history}
 use Rattle.histories.specs.Demands.{asEvent, ringActs, returnedIn}
 use Rattle.order.specs.Fates.{isReturned, isKept, isDropped, eventsMade, withFate}
-use Rattle.order.specs.Numbered.{numberAt}
 use Rattle.order.proofs.laws.Positions.{all-events, all-positions}
 use Rattle.order.proofs.laws.Fates.{all-returned, all-kept, all-dropped}
 

@@ -1,26 +1,26 @@
 -- 02, C-19, of exported calls on images with the fifth body, each given the image that the one before it left. A refused call counts as none.
 use mathlib.Core.Path.{_≡_, refl, sym, ap, ap₂, subst, _∙_}
 use mathlib.Core.Bool.{true}
-use mathlib.Core.List.{List, [], _∷_, _++_, map, map-append}
+use mathlib.Core.List.{List, [], _∷_, _++_, map-append}
 use native.Mathlib.Omega.{arith}
 use Prim.Native.Nat.{ℕ}
 use lib.ListN.{length}
 use Rattle.rules.specs.Numbers.{Bytes}
-use Rattle.rules.specs.Device.{Device, reset}
-use Rattle.rules.specs.Numbering.{Numbers, Numbered, fromZero, eventsIn}
+use Rattle.rules.specs.Device.{reset}
+use Rattle.rules.specs.Numbering.{Numbered, fromZero, eventsIn}
 use Rattle.rules.specs.Form.{Form, one, two, numbered, numbers, has, formLength}
 use Rattle.rules.specs.Image.{encodeAs, decode, numbersIn, imageTest, accepted}
 use Rattle.rules.specs.Calls.{Request, presentIn, afresh, askedBy}
 use Rattle.rules.specs.Calls as request
 use Rattle.rules.specs.History.{history}
-use Rattle.histories.specs.Exported.{Exported, leftBy, isDone, Underway, carriedOn, carriedThrough, NoLoads, HandedOn, doneCalls, leftAfter}
+use Rattle.histories.specs.Exported.{Exported, leftBy, isDone, Underway, carriedThrough, NoLoads, HandedOn, doneCalls, leftAfter}
 use Rattle.histories.specs.Exported.{current, inImage, Faithful, numbersThrough, atLoad, afterReset, returnedTo, drainedTo, returnedBy, drainedBy}
-use Rattle.order.specs.Numbered.{returnedThrough, drainedThrough, InOrder}
+use Rattle.order.specs.Numbered.{InOrder}
 use Rattle.order.specs.Read.{numberedTo, quadsTo, returnedRead, drainedRead}
 use Rattle.rules.proofs.laws.Bits.{test}
 use Rattle.rules.proofs.laws.Images.{numbers-encode}
 use Rattle.histories.proofs.laws.WellFormed.{history-well}
-use Rattle.histories.proofs.laws.Chains.{current-well, left-length, left-holds, left-last, through-numbered, faithful-at-load, faithful-after-reset, reset-leaves}
+use Rattle.histories.proofs.laws.Chains.{current-well, left-length, left-holds, through-numbered, faithful-at-load, faithful-after-reset, reset-leaves}
 use Rattle.histories.proofs.demands.FromCalls.{calls-carry-on, image-holds-history, handed-on-is-no-load, left-through}
 use Rattle.order.proofs.laws.Reading.{left-numbers, read-as}
 use Rattle.order.proofs.demands.OfHistories.{numbers-are-positions}

@@ -1,8 +1,8 @@
 -- 02, C-19, of calls of the device one after another: the numbers handed back, returned and drained, are the positions in the order of making modulo 65,536, from
 -- the number that the history began with.
 use mathlib.Core.Path.{_≡_, refl, sym, ap, ap₂, _∙_}
-use mathlib.Core.List.{List, [], _∷_, _++_, map, append-nil, append-assoc}
-use Prim.Native.Nat.{ℕ, _+_, _-_, _%_, _^_, _<_, _≤_}
+use mathlib.Core.List.{List, [], _∷_, _++_, append-nil, append-assoc}
+use Prim.Native.Nat.{ℕ, _+_, _-_, _%_, _^_, _<_}
 use native.Mathlib.Omega.{arith}
 use lib.ListN.{length, length-append, length-map}
 use Rattle.rules.specs.Device.{Device, WellFormed, Call, step}
@@ -10,7 +10,7 @@ use Rattle.rules.specs.Numbering.{Numbers, WellNumbered, Numbered, withNumbers,
 use Rattle.rules.specs.History.{history}
 use Rattle.histories.specs.Exported.{numbersThrough}
 use Rattle.order.specs.Fates.{isReturned, isKept, Placed, placed, placedFrom, eventsMade, withFate}
-use Rattle.order.specs.Numbered.{numberAt, allFrom, returnedOf, returnedThrough, drainedThrough, waitingWith, InOrder}
+use Rattle.order.specs.Numbered.{numberAt, allFrom, returnedThrough, drainedThrough, waitingWith, InOrder}
 use Rattle.rules.proofs.laws.Numbered.{fits}
 use Rattle.histories.proofs.laws.WellFormed.{step-well}
 use Rattle.order.proofs.laws.Positions.{first-number, all-events, all-positions, from-append}

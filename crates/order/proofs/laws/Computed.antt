@@ -8,7 +8,7 @@ use Rattle.rules.specs.Lines.{Made}
 use Rattle.rules.specs.Ring.{Ring}
 use Rattle.rules.specs.Access.{dword}
 use Rattle.rules.specs.Device.{Call, level, write, drain, some, reset}
-use Rattle.rules.specs.Numbering.{Numbered, fromZero}
+use Rattle.rules.specs.Numbering.{fromZero}
 use Rattle.rules.specs.Form.{numbered}
 use Rattle.rules.specs.Image.{encodeAs}
 use Rattle.rules.specs.Calls as request

@@ -1,6 +1,5 @@
 -- Fates are the ring's own: the events that are kept, dropped and returned by their fates are those that the rules and the histories call so.
 use mathlib.Core.Path.{_≡_, refl, sym, ap, ap₂, _∙_}
-use mathlib.Core.Bool.{Bool, true, false, cond}
 use mathlib.Core.List.{List, [], _∷_, _++_, map, map-append, append-assoc}
 use Prim.Native.Nat.{ℕ, suc, _+_}
 use lib.Dec.{ltb}

@@ -1,15 +1,13 @@
 -- Positions and fates: events in two parts, their positions one after another, and the numbers of positions.
 use mathlib.Core.Path.{_≡_, refl, sym, ap, ap₂, _∙_}
-use mathlib.Core.Bool.{true, cond}
 use mathlib.Core.List.{List, [], _∷_, _++_, map, map-append}
 use Prim.Native.Nat.{ℕ, zero, suc, _+_, _<_, _^_}
 use native.Mathlib.Omega.{arith}
-use lib.Dec.{ltb}
 use lib.ListN.{length, length-append}
 use Rattle.rules.specs.Lines.{Made}
-use Rattle.rules.specs.Ring.{Event, Ring, Drawn, ringStep, ringRun}
+use Rattle.rules.specs.Ring.{Ring, ringRun}
 use Rattle.rules.specs.Device.{Device, Call, offers, step, upFrom}
-use Rattle.rules.specs.Numbering.{Numbered, following}
+use Rattle.rules.specs.Numbering.{following}
 use Rattle.rules.specs.Form.{decided}
 use Rattle.rules.specs.History.{history}
 use Rattle.order.specs.Fates.{Fate, Fate-discrete, Placed, ringPast, placed, placedFrom, withFate}

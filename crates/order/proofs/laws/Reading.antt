@@ -1,10 +1,10 @@
 -- What a host reads of exported calls on images with the fifth body: the events that their calls of the device return and drain, each with its number.
-use mathlib.Core.Path.{_≡_, refl, sym, ap, ap₂, subst, _∙_}
-use mathlib.Core.Bool.{Bool, true, false, cond, not, true≢false}
+use mathlib.Core.Path.{_≡_, refl, sym, ap, ap₂, _∙_}
+use mathlib.Core.Bool.{Bool, true, false, cond, not}
 use mathlib.Core.List.{List, [], _∷_, _++_, append-nil, append-assoc}
 use Prim.Native.Nat.{ℕ, zero, suc, _-_, _/_, _%_, _^_, _<_, _≤_}
 use native.Mathlib.Omega.{arith}
-use lib.Dec.{eqb, lit<}
+use lib.Dec.{eqb}
 use lib.ListN.{length, take, drop, getD}
 use Rattle.rules.specs.Ring.{Event, ringRun}
 use Rattle.rules.specs.Device.{Device, WellFormed, Call, Value, none, some, step}
@@ -15,7 +15,7 @@ use Rattle.rules.specs.Image.{numbersIn}
 use Rattle.rules.specs.Calls.{pass, widthTest, addressTest, Request, calls, askedBy, amount, answered, bufferOf, placeOf, written, Outcome}
 use Rattle.rules.specs.Calls as request
 use Rattle.rules.specs.History.{history}
-use Rattle.histories.specs.Exported.{Exported, leftBy, isDone, isLoad, callOf, Underway, carriedOn, NoLoads, doneCall, doneCalls, current, Faithful, numbersThrough}
+use Rattle.histories.specs.Exported.{Exported, leftBy, isDone, isLoad, Underway, carriedOn, NoLoads, doneCall, doneCalls, current, Faithful, numbersThrough}
 use Rattle.order.specs.Numbered.{inValue, returnedOf, returnedThrough, drainedThrough}
 use Rattle.order.specs.Read.{inAnswer, numberedTo, quadsTo, returnedRead, drainedRead}
 use Rattle.rules.proofs.laws.Bits.{test}

@@ -1,20 +1,20 @@
 -- The event that a call returns has the number of its position: a level or poll call makes at most one event, and has its number in its value; no other call
 -- returns any.
 use mathlib.Core.Path.{_≡_, refl, sym, ap, _∙_}
-use mathlib.Core.Bool.{Bool, true, false, cond}
+use mathlib.Core.Bool.{Bool, true}
 use mathlib.Core.List.{List, [], _∷_, map}
-use Prim.Native.Nat.{ℕ, zero, suc, _+_, _*_, _/_, _%_, _^_, _<_}
+use Prim.Native.Nat.{ℕ, _+_, _*_, _/_, _%_, _^_}
 use native.Mathlib.Omega.{arith}
 use lib.ListN.{length}
 use Rattle.rules.specs.Lines.{Made}
-use Rattle.rules.specs.Ring.{Ring, ringRun}
+use Rattle.rules.specs.Ring.{Ring}
 use Rattle.rules.specs.Core.{turns}
 use Rattle.rules.specs.Access.{Width}
 use Rattle.rules.specs.Device.{Device, WellFormed, Call, level, poll, read, write, drain, actsOf, step}
-use Rattle.rules.specs.Numbering.{Numbers, Numbered, returnedWith, valueWith}
+use Rattle.rules.specs.Numbering.{Numbers, returnedWith, valueWith}
 use Rattle.histories.specs.Demands.{asEvent, returnedIn}
 use Rattle.order.specs.Fates.{isReturned, Placed, placed, withFate}
-use Rattle.order.specs.Numbered.{numberAt, allFrom, inValue, returnedOf}
+use Rattle.order.specs.Numbered.{allFrom, inValue, returnedOf}
 use Rattle.histories.proofs.laws.WellFormed.{ByteEvents, step-events}
 use Rattle.histories.proofs.laws.Readings.{Single, nothing, one, level-single, poll-single, write-returns}
 use Rattle.order.proofs.laws.Standing.{Stands}

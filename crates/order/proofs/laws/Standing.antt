@@ -1,18 +1,17 @@
 -- Numbers beside a ring: the next one is that of the next position, and the waiting events have the numbers of theirs, whatever is made and drained.
-use mathlib.Core.Path.{_≡_, refl, sym, ap, ap₂, subst, _∙_}
-use mathlib.Core.Bool.{Bool, true, false, cond}
+use mathlib.Core.Path.{_≡_, refl, sym, ap, subst, _∙_}
+use mathlib.Core.Bool.{false}
 use mathlib.Core.List.{List, [], _∷_, _++_, append-assoc, append-nil}
 use Prim.Native.Nat.{ℕ, zero, suc, _+_}
 use native.Mathlib.Omega.{arith}
 use lib.Dec.{ltb}
 use lib.ListN.{length, take, drop}
-use lib.Seq.{append-snoc}
 use Rattle.rules.specs.Lines.{Made}
 use Rattle.rules.specs.Ring.{capacity, Event, Ring, offered, drawn, ringStep, ringRun}
 use Rattle.rules.specs.Device.{Device, Call, level, poll, read, write, drain, offers, draws, actsOf, acted, step}
 use Rattle.rules.specs.Core.{turns}
-use Rattle.rules.specs.Numbering.{Numbers, Numbered, takes, takesAll, withNumbers, numbersAfter, drainedWith}
-use Rattle.order.specs.Fates.{isKept, ringPast, fateAt, placed, withFate}
+use Rattle.rules.specs.Numbering.{Numbers, takes, takesAll, withNumbers, numbersAfter, drainedWith}
+use Rattle.order.specs.Fates.{isKept, ringPast, placed, withFate}
 use Rattle.order.specs.Numbered.{numberAt, allFrom, waitingWith}
 use Rattle.rules.proofs.laws.Bits.{test}
 use Rattle.rules.proofs.laws.Numbered.{Fits, takes-returned, takes-offered, drawn-fit, eventOf}

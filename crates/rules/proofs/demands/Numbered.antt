@@ -11,7 +11,7 @@ use Rattle.rules.specs.Lines.{Made}
 use Rattle.rules.specs.Ring.{Event, drawn}
 use Rattle.rules.specs.Core.{turns}
 use Rattle.rules.specs.Device.{Device, drain, some, actsOf, step}
-use Rattle.rules.specs.Numbering.{Numbers, WellNumbered, Numbered, following, takes, takesAll, returnedWith, withNumbers, numbersAfter, drainedWith}
+use Rattle.rules.specs.Numbering.{Numbers, WellNumbered, following, takes, takesAll, returnedWith, withNumbers, numbersAfter, drainedWith}
 use Rattle.rules.proofs.laws.Steps.{drain-drained}
 
 -- ---- numbers
