@@ -21,23 +21,25 @@ unfoldable pub madeOn : List ℕ → List Asking → List Exported
 madeOn i [] = []
 madeOn i (q ∷ qs) = askedOf i q ∷ madeOn (leftBy (askedOf i q) .image) qs
 
--- two exported calls hand back the same number, answer area and event buffer; their images hold the same device, each in the form that it was given
+-- the images that two exported calls leave hold the same device, each in the form that it was given
+pub record SameDevice (x y : Exported) : Type 0 where
+  pub holds : decode (leftBy x .image) ≡ decode (leftBy y .image)
+  pub firstForm : length (leftBy x .image) ≡ length (x .given)
+  pub secondForm : length (leftBy y .image) ≡ length (y .given)
+
+-- they hand back the same number, answer area and event buffer, and leave such images
 pub record Alike (x y : Exported) : Type 0 where
   pub number : leftBy x .number ≡ leftBy y .number
   pub answer : leftBy x .answer ≡ leftBy y .answer
   pub events : leftBy x .events ≡ leftBy y .events
-  pub holds : decode (leftBy x .image) ≡ decode (leftBy y .image)
-  pub firstForm : length (leftBy x .image) ≡ length (x .given)
-  pub secondForm : length (leftBy y .image) ≡ length (y .given)
+  pub images : SameDevice x y
 
 -- the same but for the numbers of events; and these too where the images given load with the same (02, C-19)
 pub record AlikeBut (x y : Exported) : Type 0 where
   pub number : leftBy x .number ≡ leftBy y .number
   pub answer : answerWithout x ≡ answerWithout y
   pub events : eventsWithout x ≡ eventsWithout y
-  pub holds : decode (leftBy x .image) ≡ decode (leftBy y .image)
-  pub firstForm : length (leftBy x .image) ≡ length (x .given)
-  pub secondForm : length (leftBy y .image) ≡ length (y .given)
+  pub images : SameDevice x y
   pub whole : numbersIn (x .given) ≡ numbersIn (y .given) → Alike x y
 
 -- an image without the fifth body loads with numbers from 0, whatever was told before (02, C-19)

@@ -17,7 +17,7 @@ use Rattle.rules.specs.Calls.{noRoom, refusalNumber, Tested, pass, refuse, onPa
 use Rattle.rules.specs.Calls.{bufferOf, Outcome, leaves, ended, settled, hasRoom, outcome}
 use Rattle.rules.specs.Convert.{converted}
 use Rattle.histories.specs.Exported.{Exported, leftBy, isDone, withoutNumber, withoutNumbers, isReset, atLoad, leftAfter}
-use Rattle.histories.specs.Alike.{Asking, askedOf, madeOn, Alike, AlikeBut, NoFifth, AllAlike, AllAlikeBut}
+use Rattle.histories.specs.Alike.{Asking, askedOf, madeOn, SameDevice, Alike, AlikeBut, NoFifth, AllAlike, AllAlikeBut}
 use Rattle.rules.proofs.laws.Bits.{test}
 use Rattle.rules.proofs.laws.Numbered.{numbers-step}
 use Rattle.rules.proofs.laws.Saved.{bytes-encode, length-encode, encode-without, from-zero-well}
@@ -186,6 +186,9 @@ module _ (q : Asking) where
   length-next : {f : Form} {d : Device} {s : Numbers} {i : List ℕ} → Shows f d s i → length (leftBy (askedOf i q) .image) ≡ length i
   length-next h = sized (next-shows h) ∙ sym (sized h)
 
+  same-device : {f g : Form} {d : Device} {s t : Numbers} {i j : List ℕ} → Shows f d s i → Shows g d t j → SameDevice (askedOf i q) (askedOf j q)
+  same-device h k = record { holds = holds (next-shows h) ∙ sym (holds (next-shows k)); firstForm = length-next h; secondForm = length-next k }
+
   alike : {f g : Form} {d : Device} {s : Numbers} {i j : List ℕ} → Shows f d s i → Shows g d s j → Alike (askedOf i q) (askedOf j q)
   alike {d = d} {s = s} {i = i} {j = j} h k =
       let back = leaves-back (q .asked) i j (q .answer) room (performedOn asks d s) in
@@ -193,9 +196,7 @@ module _ (q : Asking) where
         number = ap (λ (o : Outcome). o .number) (left-on h) ∙ back .number ∙ sym (ap (λ (o : Outcome). o .number) (left-on k));
         answer = ap (λ (o : Outcome). o .answer) (left-on h) ∙ back .answer ∙ sym (ap (λ (o : Outcome). o .answer) (left-on k));
         events = ap (λ (o : Outcome). o .events) (left-on h) ∙ back .events ∙ sym (ap (λ (o : Outcome). o .events) (left-on k));
-        holds = holds (next-shows h) ∙ sym (holds (next-shows k));
-        firstForm = length-next h;
-        secondForm = length-next k;
+        images = same-device h k;
       }
 
   alike-but : {f g : Form} {d : Device} {s t : Numbers} {i j : List ℕ} → Shows f d s i → Shows g d t j → AlikeBut (askedOf i q) (askedOf j q)
@@ -205,9 +206,7 @@ module _ (q : Asking) where
         number = ap (λ (o : Outcome). o .number) (left-on h) ∙ back .number ∙ sym (ap (λ (o : Outcome). o .number) (left-on k));
         answer = ap (answerIn (q .asked)) (left-on h) ∙ back .answer ∙ sym (ap (answerIn (q .asked)) (left-on k));
         events = ap (eventsIn (q .asked)) (left-on h) ∙ back .events ∙ sym (ap (eventsIn (q .asked)) (left-on k));
-        holds = holds (next-shows h) ∙ sym (holds (next-shows k));
-        firstForm = length-next h;
-        secondForm = length-next k;
+        images = same-device h k;
         whole = λ e. alike h (subst (λ n. Shows g d n j) (sym (k .loads) ∙ sym e ∙ h .loads) k);
       }
 
@@ -290,20 +289,11 @@ module _ (i t j : List ℕ) (b : Bytes i) (e : converted i t ≡ pass j) where
   pub converted-answers-alike : NoFifth i → NoFifth t → (qs : List Asking) → AllAlike (madeOn i qs) (madeOn j qs)
   converted-answers-alike n m = all-alike (no-fifth own i own-sized n) (no-fifth (did .form) t (did .target) m) (shows i b (did .accepted)) its-image
 
-  -- and in any forms but for the numbers of events;
+  -- and in any forms but for the numbers of events,
   pub converted-answers-alike-but-for-numbers : (qs : List Asking) → AllAlikeBut (madeOn i qs) (madeOn j qs)
   converted-answers-alike-but-for-numbers = all-alike-but (shows i b (did .accepted)) its-image
 
-  -- and to move it and then make calls leaves what it leaves to make them and then move it: where the target has room for numbers that the image has not, they would
-  -- run through the calls on the target alone, and the image moved last has its own, those from 0 on.
-  pub moved-last : (qs : List Asking) → converted (leftAfter i (madeOn i qs)) t ≡ pass (encodeLike t (decode (leftAfter j (madeOn j qs))) (numbersIn (leftAfter i (madeOn i qs))))
-  moved-last qs =
-      let r = left-show (shows i b (did .accepted)) its-image qs in
-      let last = leftAfter i (madeOn i qs) in
-      can-be-converted last t (good (r .first)) (did .form) (did .target)
-      ∙ ap (λ l. pass l) (ap (λ d. encodeAs (did .form) d (numbersIn last)) (holds (r .first) ∙ sym (holds (r .second)))
-      ∙ sym (encode-as (did .form) t (did .target) (decode (leftAfter j (madeOn j qs))) (numbersIn last)))
-
+  -- and to move it and then make calls leaves what it leaves to make them and then move it, if the target has the fifth body only where the image has it.
   pub moved-first-or-last : (length t ≡ formLength numbered → length i ≡ formLength numbered)
       → (qs : List Asking) → converted (leftAfter i (madeOn i qs)) t ≡ pass (leftAfter j (madeOn j qs))
   moved-first-or-last keeps qs = test (has (did .form) numbers) with-them without
@@ -328,6 +318,16 @@ module _ (i t j : List ℕ) (b : Bytes i) (e : converted i t ≡ pass j) where
           let last = leftAfter i (madeOn i qs) in
           can-be-converted last t (good (r .first)) (did .form) (did .target)
           ∙ ap (λ l. pass l) (ap (λ d. encodeAs (did .form) d (numbersIn last)) (holds (r .first)) ∙ encode-without (did .form) h (r .device) (numbersIn last) (r .secondNumbers) ∙ sym (r .second .is))
+
+  -- In any forms both hold the same device. Moved last, the image has the numbers that it then loads with: where it keeps none and the target would have kept them, they
+  -- are not those that ran through the calls on the target.
+  pub moved-last : (qs : List Asking) → converted (leftAfter i (madeOn i qs)) t ≡ pass (encodeLike t (decode (leftAfter j (madeOn j qs))) (numbersIn (leftAfter i (madeOn i qs))))
+  moved-last qs =
+      let r = left-show (shows i b (did .accepted)) its-image qs in
+      let last = leftAfter i (madeOn i qs) in
+      can-be-converted last t (good (r .first)) (did .form) (did .target)
+      ∙ ap (λ l. pass l) (ap (λ d. encodeAs (did .form) d (numbersIn last)) (holds (r .first) ∙ sym (holds (r .second)))
+      ∙ sym (encode-as (did .form) t (did .target) (decode (leftAfter j (madeOn j qs))) (numbersIn last)))
 
 -- ---- the form is kept
 

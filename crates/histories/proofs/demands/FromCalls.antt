@@ -6,15 +6,15 @@ use mathlib.Core.Bool.{true, false, cond, and-false, and-eq-true-iff}
 use mathlib.Core.List.{List, [], _∷_, _++_, append-nil, append-assoc}
 use lib.ListN.{length}
 use Rattle.rules.specs.Device.{Device, WellFormed, Call, Step, value, reset}
-use Rattle.rules.specs.Numbering.{Numbers, fromZero, WellNumbered}
-use Rattle.rules.specs.Form.{Form, formLength}
-use Rattle.rules.specs.Image.{encodeAs, encodeLike, decode, imageTest, accepted}
+use Rattle.rules.specs.Numbering.{Numbers, fromZero, WellNumbered, drainedWith, valueWith}
+use Rattle.rules.specs.Form.{Form, numbered, numbers, has, formLength}
+use Rattle.rules.specs.Image.{encodeAs, encodeLike, decode, numbersIn, imageTest, accepted}
 use Rattle.rules.specs.Calls.{afresh, askedBy, Outcome}
 use Rattle.rules.specs.History.{history, fromReset}
 use Rattle.histories.specs.Exported.{Exported, leftBy, isDone, isReset, isLoad, callOf, Underway, carriedOn, carriedThrough, NoLoads}
 use Rattle.histories.specs.Exported.{HandedOn, leftAfter, doneCall, doneCalls, IsStep, GivenBytes, current, inImage, Faithful, numbersThrough, afterReset, atLoad}
 use Rattle.rules.proofs.laws.Lists.{equal-same}
-use Rattle.rules.proofs.laws.Images.{encode-as, decode-encode}
+use Rattle.rules.proofs.laws.Images.{encode-as, decode-encode, numbers-encode}
 use Rattle.histories.proofs.laws.Folds.{history-append}
 use Rattle.histories.proofs.laws.WellFormed.{history-well}
 use Rattle.histories.proofs.laws.Chains.{current-well, left-length, left-holds, through-append, through-numbered, handed, carried-on, faithful-kept, faithful-on, left-last, reset-leaves, reset-begins, faithful-after-reset, done-accepted, own-image, load-begins}
@@ -61,6 +61,10 @@ a-load-begins h x l n =
 -- The image left last, loaded, is the device to which the history under way has come.
 pub image-holds-device : (h : Underway) → Faithful h → inImage h ≡ current h
 image-holds-device h f = left-holds h f
+
+-- It loads with the history's numbers, if it has the fifth body (02, C-19).
+pub image-holds-numbers : (h : Underway) (f : Faithful h) → has (f .form) numbers ≡ true → numbersIn (h .left) ≡ f .numbers
+image-holds-numbers h f e = ap numbersIn (f .left) ∙ numbers-encode (current h) (current-well h f) (f .numbers) (f .numbered) (f .form) e
 
 -- ---- calls, one after another
 
@@ -150,6 +154,14 @@ image-holds-history h f xs n =
     ap (λ (u : Underway). decode (u .left)) (calls-carry-on h f xs n)
     ∙ decode-encode (history (current h) (doneCalls xs) .after) well ns (through-numbered (current h) (f .numbers) (doneCalls xs) (f .numbered)) (f .form)
 
+-- With the fifth body numbers run through the calls: those in the image left last are what those in the image left at first become by the calls that were done
+-- (02, C-19).
+pub numbers-run-through : (h : Underway) (f : Faithful h) → has (f .form) numbers ≡ true → (xs : List Exported) → NoLoads h xs
+    → numbersIn (carriedThrough h xs .left) ≡ numbersThrough (inImage h) (numbersIn (h .left)) (doneCalls xs)
+numbers-run-through h f e xs n =
+    image-holds-numbers (carriedThrough h xs) (through h f xs n) e
+    ∙ (λ i. numbersThrough (sym (left-holds h f) i) (sym (image-holds-numbers h f e) i) (doneCalls xs))
+
 -- So a done reset x, and after it exported calls each given the image that the one before it left, are the history from reset of the calls that were
 -- done; and the image left last is that of the history's device, in the form that the reset was given, with the numbers that those calls give from 0 on.
 pub calls-are-a-history : (h : Underway) (x : Exported) → askedBy (x .asked) ≡ afresh → isDone x ≡ true → (xs : List Exported) → HandedOn (leftBy x .image) xs
@@ -185,3 +197,20 @@ pub saved-answers-alike : (d : Device) → WellFormed d → (f : Form) (before l
 saved-answers-alike d w f before later ns v =
     let same = decode-encode (history d before .after) (history-well d before w) ns v f in
     (ap (λ s. history s later) same, λ c. ap (λ s. value (history s later .after) c) same)
+
+-- Saved with the fifth body it has its numbers too, so that later calls hand back the same numbers with the same events (02, C-19).
+pub saved-numbers-alike : (d : Device) → WellFormed d → (before later : List Call)
+    → let s = history d before .after in
+    (ns : Numbers) → WellNumbered s ns
+    → let i = encodeAs numbered s ns in
+    (numbersThrough (decode i) (numbersIn i) later ≡ numbersThrough s ns later)
+    × ((c : Call) → valueWith (history (decode i) later .after) (numbersThrough (decode i) (numbersIn i) later) c ≡ valueWith (history s later .after) (numbersThrough s ns later) c)
+    × ((c : Call) → drainedWith (history (decode i) later .after) (numbersThrough (decode i) (numbersIn i) later) c ≡ drainedWith (history s later .after) (numbersThrough s ns later) c)
+saved-numbers-alike d w before later ns v =
+    let well = history-well d before w in
+    let same = decode-encode (history d before .after) well ns v numbered in
+    let alike = numbers-encode (history d before .after) well ns v numbered refl in (
+      λ i. numbersThrough (same i) (alike i) later,
+      λ c i. valueWith (history (same i) later .after) (numbersThrough (same i) (alike i) later) c,
+      λ c i. drainedWith (history (same i) later .after) (numbersThrough (same i) (alike i) later) c,
+    )

@@ -6,7 +6,8 @@ use mathlib.Core.List.{List, [], _∷_, _++_, append-nil}
 use Prim.Native.Nat.{ℕ, _+_, _≤_}
 use native.Mathlib.Nat.{add-zero}
 use native.Mathlib.Omega.{arith}
-use lib.ListN.{length, take, drop-of-length-le}
+use lib.ListN.{length, take, drop, drop-of-length-le}
+use lib.Seq.{length-take-le, take-at, drop-at, drop-drop}
 use borrow.Rule.Slice.PartMut.{putMid}
 use Rattle.rules.specs.Numbers.{bytesOf, part}
 use Rattle.rules.specs.Lines.{Lines, withMask, withIrr, withIsr}
@@ -173,3 +174,22 @@ module _ (f : Form) (d : Device) (s : Numbers) where
 
   pub numbers-apart : (ns : List ℕ) → Others f (fieldOf d s) (fieldOf d (withWaiting s ns)) numbers
   numbers-apart ns = by-field _ (λ w h t. refl) (λ h t. refl) (λ h t. refl) (λ h t. refl, λ h t. refl, λ h t. refl) (λ h t. refl, λ h. never)
+
+-- ---- some bytes of a field replaced, wherever they stand in it
+
+module _ (f : Form) (b c : Field → List ℕ) (s : Sized b) (p : Field) (h : has f p ≡ true) (at n : ℕ) (ys : List ℕ) (long : length ys ≡ n) (room : at + n ≤ size p) where
+  -- put over those that stand there, and standing there after
+  over : (a : ℕ) (l : List ℕ) → take a l ++ (ys ++ drop (a + n) l) ≡ putMid a n l ys
+  over a l t = take a l ++ (ys ++ sym (drop-drop n a l) t)
+
+  there : part at n (take at (b p) ++ (ys ++ drop (at + n) (b p))) ≡ ys
+  there =
+      ap (take n) (drop-at (take at (b p)) (ys ++ drop (at + n) (b p)) at (length-take-le at (b p) (omega (arith, s p))))
+      ∙ take-at ys (drop (at + n) (b p)) n long
+
+  pub bytes-written : c p ≡ take at (b p) ++ (ys ++ drop (at + n) (b p)) → Others f b c p
+      → take (place f p + at) (image f b) ++ (ys ++ drop (place f p + at + n) (image f b)) ≡ image f c
+  bytes-written e o =
+      let new : part at n (c p) ≡ ys = ap (part at n) e ∙ there in
+      over (place f p + at) (image f b) ∙ ap (putMid (place f p + at) n (image f b)) (sym new)
+      ∙ part-written f b c s (within p at n) (h, room) (o, e ∙ over at (b p) ∙ ap (putMid at n (b p)) (sym new))

@@ -25,7 +25,7 @@ use Rattle.rules.proofs.laws.Tests.{Accepted, length-read, count-read, 
 -- ---- numbers
 
 -- a form that has the next number has the others
-has-next : (f : Form) → has f next ≡ has f numbers
+pub has-next : (f : Form) → has f next ≡ has f numbers
 has-next one = refl
 has-next two = refl
 has-next numbered = refl

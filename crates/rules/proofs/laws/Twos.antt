@@ -6,7 +6,7 @@ use Prim.Native.Nat.{ℕ, zero, suc, _+_, _-_, _*_, _%_, _^_, _<_, _≤_}
 use native.Mathlib.Omega.{arith}
 use lib.Dec.{eqb, lit<, lit≤}
 use lib.ListN.{length, take, drop, getD, replicate, length-append, length-replicate, length-drop, take-append-drop}
-use lib.Seq.{getD-drop, getD-append-add}
+use lib.Seq.{getD-drop, getD-append-add, take-at, drop-at, drop-drop}
 use Rattle.rules.specs.Numbers.{Bytes, Twos, written, spelled}
 use Rattle.rules.specs.Ring.{Event, capacity, flag, eventTwos}
 use Rattle.rules.specs.Numbering.{numberTwos}
@@ -159,3 +159,21 @@ module _ {A : Type 0} (t : Twos A) where
       let left : 2 * capacity - 2 * length (spelled t n l) ≡ length (drop (2 * n) l) = simp length-drop (omega (arith, many)) in
       (λ j. written-spelled t n l (omega arith) c j ++ replicate (left j) 0)
       ∙ ap (λ m. take (2 * n) l ++ m) (zeros (drop (2 * n) l) (λ i. getD-drop (2 * n) l i 0 ∙ z (2 * n + i) (omega arith))) ∙ take-append-drop (2 * n) l
+
+  -- one thing more, over two of the bytes behind them
+  written-snoc : (xs : List A) (x : A) (rest : List ℕ) → written t (xs ++ (x ∷ [])) ++ rest ≡ written t xs ++ (t .low x ∷ t .high x ∷ rest)
+  written-snoc [] x rest = refl
+  written-snoc (y ∷ xs) x rest = ap (λ l. t .low y ∷ t .high y ∷ l) (written-snoc xs x rest)
+
+  pub sixteen-snoc : (xs : List A) (x : A) → length xs < capacity
+      → sixteen t (xs ++ (x ∷ [])) ≡ take (2 * length xs) (sixteen t xs) ++ ((t .low x ∷ t .high x ∷ []) ++ drop (2 * length xs + 2) (sixteen t xs))
+  sixteen-snoc xs x h =
+      let zeros : ℕ → List ℕ = λ n. replicate n 0 in
+      let m = 2 * capacity - 2 * length (xs ++ (x ∷ [])) in
+      let n = 2 * capacity - 2 * length xs in
+      let fewer : n ≡ suc (suc m) = simp length-append (omega arith) in
+      let long = length-written t xs in
+      let behind : drop (2 * length xs + 2) (sixteen t xs) ≡ zeros m =
+      sym (drop-drop 2 (2 * length xs) (sixteen t xs)) ∙ ap (drop 2) (drop-at (written t xs) (zeros n) (2 * length xs) long) ∙ ap (λ k. drop 2 (zeros k)) fewer
+      in
+      written-snoc xs x (zeros m) ∙ (λ j. sym (take-at (written t xs) (zeros n) (2 * length xs) long) j ++ (t .low x ∷ t .high x ∷ sym behind j))
