@@ -59,20 +59,19 @@ someHas n (x ∷ xs) = eqb (x .number) n || someHas n xs
 
 -- ---- that both agree
 
--- calls lead from the device d with the numbers s to the device e with the numbers t, and what they returned and drained are those events (02, C-19). Then
---   what they returned are the events made that were returned, each with the number of its position, in the order of making;
---   what they drained, and then what waits at last, is what waited at first, and then the events made that were kept, each with the number of its position;
---   the next number is that of the next position;
---   whatever is counted of events and numbers, what was returned, drained and dropped and what waits at last come to all that was made and what waited at first;
---   and where none waited at first and at most 65,536 events were made, the numbers missing among those handed back are exactly those of the dropped and of the
---   waiting events
+-- calls lead from the device d with the numbers s to the device e with the numbers t, and these are the events that they returned and drained (02, C-19)
 pub record InOrder (d : Device) (s : Numbers) (cs : List Call) (back drained : List Numbered) (e : Device) (t : Numbers) : Type 0 where
+  -- what they returned are the events made that were returned, in the order of making, each with the number of its position
   pub returned : back ≡ allFrom (s .next) (withFate isReturned (eventsMade d cs))
+  -- what they drained, and then what waits at last, is what waited at first, and then the events made that were kept, each with the number of its position
   pub drainedOrWait : drained ++ waitingWith e t ≡ waitingWith d s ++ allFrom (s .next) (withFate isKept (eventsMade d cs))
+  -- the next number is that of the next position
   pub next : t .next ≡ numberAt (s .next) (length (eventsMade d cs))
+  -- whatever is counted of events with numbers, those returned, drained and dropped and those that wait at last come to all that were made and those that waited at first
   pub account : (q : Numbered → Bool)
       → tally q back + tally q drained + tally q (allFrom (s .next) (withFate isDropped (eventsMade d cs))) + tally q (waitingWith e t)
       ≡ tally q (allFrom (s .next) (eventsMade d cs)) + tally q (waitingWith d s)
+  -- where none waited at first and at most 65,536 were made, the numbers missing among those handed back are exactly those of the dropped and of the waiting events
   pub missing : d .ring .waiting ≡ [] → length (eventsMade d cs) ≤ 65536
       → (n : ℕ) → (someHas n (allFrom (s .next) (eventsMade d cs)) && not (someHas n back || someHas n drained))
       ≡ (someHas n (allFrom (s .next) (withFate isDropped (eventsMade d cs))) || someHas n (waitingWith e t))

@@ -21,10 +21,10 @@ use Rattle.order.specs.Read.{inAnswer, numberedTo, quadsTo, returnedRead
 use Rattle.rules.proofs.laws.Bits.{test}
 use Rattle.rules.proofs.laws.Lists.{Each}
 use Rattle.rules.proofs.laws.Answers.{none-read, some-read, value-read, quads-read}
-use Rattle.rules.proofs.laws.Images.{numbers-encode}
 use Rattle.histories.proofs.laws.WellFormed.{step-events}
 use Rattle.histories.proofs.laws.Chains.{passed, current-well, handed, carried-on, faithful-kept}
 use Rattle.histories.proofs.laws.Readings.{level-single, poll-single, returned-below, access-is, input-is, asked-is, drained-told}
+use Rattle.histories.proofs.demands.FromCalls.{image-holds-numbers}
 use Rattle.order.proofs.laws.Computed as computed
 
 -- ---- one call
@@ -101,10 +101,6 @@ drained-append d s (c ∷ cs) ds =
     ap (λ l. drainedWith d s c ++ l) (drained-append e t cs ds)
     ∙ sym (append-assoc (drainedWith d s c) (drainedThrough e t cs) (drainedThrough (history e cs .after) (numbersThrough e t cs) ds))
 
--- the image left last holds the history's numbers, where its form has them
-pub left-numbers : (h : Underway) (f : Faithful h) → has (f .form) numbers ≡ true → numbersIn (h .left) ≡ f .numbers
-left-numbers h f t = ap numbersIn (f .left) ∙ numbers-encode (current h) (current-well h f) (f .numbers) (f .numbered) (f .form) t
-
 module _ (h : Underway) (f : Faithful h) (t : has (f .form) numbers ≡ true) (x : Exported) (n : isLoad (h .left) x ≡ false) where
   one-returned : cond (isDone x) (numberedTo (x .asked) (leftBy x .answer)) [] ≡ returnedThrough (current h) (f .numbers) (doneCall x)
   unfolding returnedThrough
@@ -112,7 +108,7 @@ module _ (h : Underway) (f : Faithful h) (t : has (f .form) numbers ≡ true) (x
       test (isDone x)
       (λ done.
       let r = handed h x f done n in
-      let numbers-are = ap numbersIn (r .given) ∙ left-numbers h f t in
+      let numbers-are = ap numbersIn (r .given) ∙ image-holds-numbers h f t in
       let answer : leftBy x .answer ≡ answered 0 (valueWith (current h) (f .numbers) (r .call)) (x .answer) = ap (λ (o : Outcome). o .answer) (r .left) ∙ ap (λ s. answered 0 (valueWith (current h) s (r .call)) (x .answer)) numbers-are in
       rw (done, r .passes, answer, append-nil) (reads-returned (current h) (current-well h f) (f .numbers) (f .numbered) (x .asked) (r .call) (x .answer) (r .passes)))
       (λ done. rw done)
@@ -123,7 +119,7 @@ module _ (h : Underway) (f : Faithful h) (t : has (f .form) numbers ≡ true) (x
       test (isDone x)
       (λ done.
       let r = handed h x f done n in
-      let numbers-are = ap numbersIn (r .given) ∙ left-numbers h f t in
+      let numbers-are = ap numbersIn (r .given) ∙ image-holds-numbers h f t in
       let es : List Numbered → List ℕ = written (bufferOf (x .asked)) (placeOf (x .asked)) in
       let answer : leftBy x .answer ≡ answered 0 (valueWith (current h) (f .numbers) (r .call)) (x .answer) = ap (λ (o : Outcome). o .answer) (r .left) ∙ ap (λ s. answered 0 (valueWith (current h) s (r .call)) (x .answer)) numbers-are in
       let events : leftBy x .events ≡ es (drainedWith (current h) (f .numbers) (r .call)) = ap (λ (o : Outcome). o .events) (r .left) ∙ ap (λ s. es (drainedWith (current h) s (r .call))) numbers-are in
