@@ -65,6 +65,8 @@ pub record InOrder (d : Device) (s : Numbers) (cs : List Call) (back drained : L
   pub returned : back ≡ allFrom (s .next) (withFate isReturned (eventsMade d cs))
   -- what they drained, and then what waits at last, is what waited at first, and then the events made that were kept, each with the number of its position
   pub drainedOrWait : drained ++ waitingWith e t ≡ waitingWith d s ++ allFrom (s .next) (withFate isKept (eventsMade d cs))
+  -- each event that waits at last has one number
+  pub paired : length (t .waiting) ≡ length (e .ring .waiting)
   -- the next number is that of the next position
   pub next : t .next ≡ numberAt (s .next) (length (eventsMade d cs))
   -- whatever is counted of events with numbers, those returned, drained and dropped and those that wait at last come to all that were made and those that waited at first

@@ -13,6 +13,7 @@ use Rattle.order.specs.Fates.{isReturned, isKept, Placed, placed, placed
 use Rattle.order.specs.Numbered.{numberAt, allFrom, returnedThrough, drainedThrough, waitingWith, InOrder}
 use Rattle.rules.proofs.laws.Numbered.{fits}
 use Rattle.histories.proofs.laws.WellFormed.{step-well}
+use Rattle.histories.proofs.laws.Chains.{through-numbered}
 use Rattle.order.proofs.laws.Positions.{first-number, all-events, all-positions, from-append}
 use Rattle.order.proofs.laws.Standing.{Stands, call-stands, call-waits}
 use Rattle.order.proofs.laws.Returned.{call-returns}
@@ -64,15 +65,16 @@ made-length d cs = sym (length-map (eventsMade d cs) (λ (x : Placed). x .event)
 none-with : (d : Device) (s : Numbers) → d .ring .waiting ≡ [] → waitingWith d s ≡ []
 none-with d s e = ap (λ es. withNumbers es (s .waiting)) e
 
--- What follows for calls of the device d with the numbers s, once what they returned and drained and the numbers at last are known.
-pub in-order : (d : Device) (s : Numbers) (cs : List Call) (back drained : List Numbered) (e : Device) (t : Numbers)
+-- what is counted and what is missing follows from the others
+in-order : (d : Device) (s : Numbers) (cs : List Call) (back drained : List Numbered) (e : Device) (t : Numbers)
     → back ≡ allFrom (s .next) (withFate isReturned (eventsMade d cs))
     → drained ++ waitingWith e t ≡ waitingWith d s ++ allFrom (s .next) (withFate isKept (eventsMade d cs))
-    → t .next ≡ numberAt (s .next) (length (eventsMade d cs)) → InOrder d s cs back drained e t
-in-order d s cs back drained e t r w n =
+    → length (t .waiting) ≡ length (e .ring .waiting) → t .next ≡ numberAt (s .next) (length (eventsMade d cs)) → InOrder d s cs back drained e t
+in-order d s cs back drained e t r w p n =
     record {
       returned = r;
       drainedOrWait = w;
+      paired = p;
       next = n;
       account = λ q. omega (arith, counted (s .next) (eventsMade d cs) back drained (waitingWith e t) (waitingWith d s) r w q);
       missing = λ none few x.
@@ -87,7 +89,7 @@ numbers-are-positions d w s v cs =
     let h : Stands (s .next) 0 (d .ring) s = record { next = first-number (s .next) (v .next); fits = fits v } in
     let plus : 0 + length (history d cs .made) ≡ length (eventsMade d cs) = omega (arith, made-length d cs) in
     in-order d s cs (returnedThrough d s cs) (drainedThrough d s cs) (history d cs .after) (numbersThrough d s cs) (returns (s .next) 0 d s cs w h)
-    (waits (s .next) 0 d s cs h) (next-is (s .next) 0 d s cs h ∙ ap (numberAt (s .next)) plus)
+    (waits (s .next) 0 d s cs h) (through-numbered d s cs v .waiting) (next-is (s .next) 0 d s cs h ∙ ap (numberAt (s .next)) plus)
 
 -- ---- the order restored
 
