@@ -1,7 +1,7 @@
 -- 02, C-19, of calls of the device one after another: the numbers handed back, returned and drained, are the positions in the order of making modulo 65,536, from
 -- the number that the history began with.
 use mathlib.Core.Path.{_≡_, refl, sym, ap, ap₂, _∙_}
-use mathlib.Core.List.{List, [], _∷_, _++_, append-nil, append-assoc}
+use mathlib.Core.List.{List, [], _∷_, _++_, map, map-append, append-nil, append-assoc}
 use Prim.Native.Nat.{ℕ, _+_, _-_, _%_, _^_, _<_}
 use native.Mathlib.Omega.{arith}
 use lib.ListN.{length, length-append, length-map}
@@ -12,6 +12,7 @@ use Rattle.histories.specs.Exported.{numbersThrough}
 use Rattle.order.specs.Fates.{isReturned, isKept, Placed, placed, placedFrom, eventsMade, withFate}
 use Rattle.order.specs.Numbered.{numberAt, allFrom, returnedThrough, drainedThrough, waitingWith, InOrder}
 use Rattle.rules.proofs.laws.Numbered.{fits}
+use Rattle.rules.proofs.demands.Numbered.{numbers-with}
 use Rattle.histories.proofs.laws.WellFormed.{step-well}
 use Rattle.histories.proofs.laws.Chains.{through-numbered}
 use Rattle.order.proofs.laws.Positions.{first-number, all-events, all-positions, from-append}
@@ -90,6 +91,27 @@ numbers-are-positions d w s v cs =
     let plus : 0 + length (history d cs .made) ≡ length (eventsMade d cs) = omega (arith, made-length d cs) in
     in-order d s cs (returnedThrough d s cs) (drainedThrough d s cs) (history d cs .after) (numbersThrough d s cs) (returns (s .next) 0 d s cs w h)
     (waits (s .next) 0 d s cs h) (through-numbered d s cs v .waiting) (next-is (s .next) 0 d s cs h ∙ ap (numberAt (s .next)) plus)
+
+-- ---- the numbers alone
+
+numbers-of : (start : ℕ) (xs : List Placed) → map (λ x. x .number) (allFrom start xs) ≡ map (λ x. numberAt start (x .position)) xs
+numbers-of start [] = refl
+numbers-of start (x ∷ xs) = ap (λ l. numberAt start (x .position) ∷ l) (numbers-of start xs)
+
+module _ (d : Device) (s : Numbers) (cs : List Call) (back drained : List Numbered) (e : Device) (t : Numbers) (o : InOrder d s cs back drained e t) where
+  -- The numbers returned are those of the positions of the events returned, in order.
+  pub numbers-returned : map (λ x. x .number) back ≡ map (λ x. numberAt (s .next) (x .position)) (withFate isReturned (eventsMade d cs))
+  numbers-returned = ap (map (λ (x : Numbered). x .number)) (o .returned) ∙ numbers-of (s .next) (withFate isReturned (eventsMade d cs))
+
+  -- The numbers drained, and then those that wait at last, are those that waited at first, and then those of the positions of the events kept.
+  pub numbers-drained : WellNumbered d s
+      → map (λ x. x .number) drained ++ t .waiting ≡ s .waiting ++ map (λ x. numberAt (s .next) (x .position)) (withFate isKept (eventsMade d cs))
+  numbers-drained v =
+      let number : Numbered → ℕ = λ x. x .number in
+      let kept = withFate isKept (eventsMade d cs) in
+      ap (λ l. map number drained ++ l) (sym (numbers-with (e .ring .waiting) (t .waiting) (sym (o .paired))))
+      ∙ sym (map-append number drained (waitingWith e t)) ∙ ap (map number) (o .drainedOrWait) ∙ map-append number (waitingWith d s) (allFrom (s .next) kept)
+      ∙ ap₂ _++_ (numbers-with (d .ring .waiting) (s .waiting) (sym (v .waiting))) (numbers-of (s .next) kept)
 
 -- ---- the order restored
 

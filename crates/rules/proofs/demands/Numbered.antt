@@ -51,7 +51,7 @@ vector-and-number vector number h k = (omega arith, omega arith, omega arith)
 
 -- ---- a drain
 
-numbers-with : (es : List Event) (ns : List ℕ) → length es ≡ length ns → map (λ x. x .number) (withNumbers es ns) ≡ ns
+pub numbers-with : (es : List Event) (ns : List ℕ) → length es ≡ length ns → map (λ x. x .number) (withNumbers es ns) ≡ ns
 numbers-with [] [] h = refl
 numbers-with [] (n ∷ ns) h = absurd (omega arith)
 numbers-with (e ∷ es) [] h = absurd (omega arith)
