@@ -28,6 +28,12 @@ pub fn call(call: &Call, lent: &mut Areas) -> u8 {
     number
 }
 
+#[allow(dead_code)]
+pub fn difference(later: u16, earlier: u16) -> i16 {
+    // SAFETY: it is lent nothing.
+    unsafe { library::pch_pic_difference(later, earlier) }
+}
+
 type Area = (*mut u8, usize);
 
 fn on(call: &Call, lent: &mut Areas, make: fn(&Call, [Area; 4]) -> u8) -> u8 {
