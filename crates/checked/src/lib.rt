@@ -6,6 +6,7 @@ use faults::first_fault;
 use image::form::CAPACITY;
 use image::form::Form;
 use image::form::KnownForm;
+use image::form::NUMBERS_LENGTH;
 use image::form::PAIRS_LENGTH;
 use image::form::contents_of;
 use image::form::form_of;
@@ -86,7 +87,24 @@ fn contents_good(image: &[u8], form: Form) -> bool
     if word_at(image, 8) != c.second {
         return false;
     }
+    if word_at(image, 14) != c.third {
+        return false;
+    }
     word_at(image, c.last_at) == c.last
+}
+
+// Unused numbers are zero, in the form that has numbers.
+fn numbers_good(image: &[u8], form: Form, count: usize) -> bool
+    requires { ⌜ (length (now image) ≡ formLength (formView form)) × (count ≤ capacity) ⌝ }
+    ensures { λ r. ⌜ r ≡ numbersGood (formView form) count (now (image .entry)) ⌝ }
+{
+    let Form::Numbered = form else {
+        return true;
+    };
+    let p = places_of(form);
+    let at = p.numbers;
+    let end = at + NUMBERS_LENGTH;
+    unused_zero(count, &image[at..end])
 }
 
 // The rules of the bodies. A form without a copy of IRR has IRR's own place there.
@@ -105,7 +123,10 @@ fn body_good(image: &[u8], form: Form) -> bool
     }
     let at = p.pairs;
     let end = at + PAIRS_LENGTH;
-    pairs_good(count, &image[at..end])
+    if !pairs_good(count, &image[at..end]) {
+        return false;
+    }
+    numbers_good(image, form, count)
 }
 
 pub fn check(image: &[u8]) -> Verdict

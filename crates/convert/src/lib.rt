@@ -28,6 +28,7 @@ pub fn convert(image: &[u8], target: &mut [u8]) -> Told
     let Verdict::Accepted(own) = checked else {
         return of_image(image);
     };
-    saved::save(target, form, loaded::load(image, own));
+    let numbers = loaded::load_numbers(image, own);
+    saved::save(target, form, loaded::load(image, own), &numbers);
     done(Value::Absent)
 }

@@ -1,9 +1,9 @@
-// A drain in place: the oldest pairs are copied out, the others move to the front, and zeros follow them.
-use bytes::copy;
+// A drain in place: the oldest events are copied out, each pair with its number, the others move to the front, and zeros follow them.
 use bytes::put_zeros;
 use image::form;
 use image::form::Form;
 use image::form::places_of;
+use numbers::from_zero;
 ghost use mathlib.Core.Path.{_≡_};
 ghost use mathlib.Core.List.{_++_};
 ghost use Prim.Native.Nat.{_/_, _≤_, min};
@@ -16,10 +16,10 @@ ghost use Rattle.drains.specs.Drained.{RingAt, Drains, Leaves};
 
 // As many events as wait or as fit, whichever is fewer.
 fn fitting(waiting: usize, bytes: usize) -> usize
-    ensures { λ r. ⌜ r ≡ min waiting (bytes / 2) ⌝ }
+    ensures { λ r. ⌜ r ≡ min waiting (bytes / 4) ⌝ }
 {
-    let pairs = bytes / form::PAIR;
-    if waiting < pairs { waiting } else { pairs }
+    let events = bytes / form::EVENT;
+    if waiting < events { waiting } else { events }
 }
 
 // The byte at a place; past the end, zero.
@@ -54,33 +54,46 @@ fn leave(dst: &mut [u8], n: usize, len: usize)
     }
 }
 
-// All of src over all of dst. One pair, the common case, goes without a loop.
-fn copy_out(dst: &mut [u8], src: &[u8])
-    requires { ⌜ length (now dst) ≡ length (now src) ⌝ }
-    ensures { λ _. ⌜ now (dst .exit) ≡ now (src .entry) ⌝ }
+// Each pair, and then its number.
+fn put_events(out: &mut [u8], pairs: &[u8], numbers: &[u8])
 {
-    if src.len() == form::PAIR {
-        dst[0] = src[0];
-        dst[1] = src[1];
-    } else {
-        copy(dst, src);
+    let mut i = 0;
+    while i < pairs.len() {
+        out[2 * i] = pairs[i];
+        out[2 * i + 1] = pairs[i + 1];
+        out[2 * i + 2] = numbers[i];
+        out[2 * i + 3] = numbers[i + 1];
+        i += form::PAIR;
     }
 }
 
-// With the places of the count and of the pairs.
-fn drain_from(image: &mut [u8], out: &mut [u8], count: usize, at: usize) -> usize
-    requires { ⌜ RingAt (now image) count at × (getD (now image) count 0 ≤ capacity) ⌝ }
-    ensures { λ r. ⌜ Drains (now (image .entry)) (now (image .exit)) (now (out .entry)) (now (out .exit)) r ⌝ }
+// The first n events, with the numbers that the image has or those from 0 on.
+fn copy_out(image: &[u8], form: Form, out: &mut [u8], n: usize)
 {
-    let len = image[count] as usize;
-    let n = fitting(len, out.len());
+    let p = places_of(form);
     let taken = form::PAIR * n;
+    let at = p.pairs;
     let end = at + taken;
-    copy_out(&mut out[0..taken], &image[at..end]);
-    let last = at + form::PAIRS_LENGTH;
-    leave(&mut image[at..last], n, len);
-    image[count] = (len - n) as u8;
-    n
+    let Form::Numbered = form else {
+        let first = from_zero();
+        put_events(out, &image[at..end], &first[0..taken]);
+        return;
+    };
+    let first = p.numbers;
+    let last = first + taken;
+    put_events(out, &image[at..end], &image[first..last]);
+}
+
+// The numbers of the first n go as their events do.
+fn leave_numbers(image: &mut [u8], form: Form, n: usize, len: usize)
+{
+    let Form::Numbered = form else {
+        return;
+    };
+    let p = places_of(form);
+    let at = p.numbers;
+    let end = at + form::NUMBERS_LENGTH;
+    leave(&mut image[at..end], n, len);
 }
 
 pub fn drain(image: &mut [u8], form: Form, out: &mut [u8]) -> usize
@@ -88,5 +101,15 @@ pub fn drain(image: &mut [u8], form: Form, out: &mut [u8]) -> usize
     ensures { λ r. ⌜ Drains (now (image .entry)) (now (image .exit)) (now (out .entry)) (now (out .exit)) r ⌝ }
 {
     let p = places_of(form);
-    drain_from(image, out, p.count, p.pairs)
+    let count = p.count;
+    let len = image[count] as usize;
+    let n = fitting(len, out.len());
+    let room = form::EVENT * n;
+    copy_out(image, form, &mut out[0..room], n);
+    let at = p.pairs;
+    let end = at + form::PAIRS_LENGTH;
+    leave(&mut image[at..end], n, len);
+    leave_numbers(image, form, n, len);
+    image[count] = (len - n) as u8;
+    n
 }

@@ -4,6 +4,7 @@ use answer::Value;
 use answer::done;
 use checked::Verdict;
 use checked::check;
+use image::form::Form;
 use refusals::no_input;
 use refusals::of_image;
 ghost use mathlib.Core.Path.{_≡_};
@@ -13,12 +14,14 @@ ghost use Rattle.rules.specs.Calls as asked;
 ghost use Rattle.engine.specs.Moves.{answerValue};
 ghost use Rattle.answer.specs.Given.{valueView, ends};
 
-// The vector that a call on an input returns, as a value.
-fn vector_value(answer: engine::Answer) -> Value
-    ensures { λ r. ⌜ valueView r ≡ answerValue answer ⌝ }
+// The vector that a call on an input returns, with its number, as a value.
+fn numbered(image: &mut [u8], form: Form, answer: engine::Answer) -> Value
 {
     match answer {
-        engine::Answer::Vector(vector) => Value::Present(vector as u64),
+        engine::Answer::Vector(vector) => {
+            let number = numbers::take(image, form);
+            Value::Present(vector as u64 + 0x1_0000 * (number as u64))
+        }
         engine::Answer::None => Value::Absent,
     }
 }
@@ -34,7 +37,7 @@ pub fn level(image: &mut [u8], input: u64, level: u64) -> Told
         return no_input();
     }
     let returned = service::set_level(image, form, input as usize, level != 0);
-    done(vector_value(returned))
+    done(numbered(image, form, returned))
 }
 
 pub fn poll(image: &mut [u8], input: u64) -> Told
@@ -48,5 +51,5 @@ pub fn poll(image: &mut [u8], input: u64) -> Told
         return no_input();
     }
     let returned = service::poll(image, form, input as usize);
-    done(vector_value(returned))
+    done(numbered(image, form, returned))
 }

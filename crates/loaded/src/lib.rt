@@ -5,6 +5,7 @@ use bytes::word_at;
 use image::form;
 use image::form::Form;
 use image::form::places_of;
+use numbers::from_zero;
 use pairs::ring_of;
 use state::Lines;
 use state::PchPicState;
@@ -98,7 +99,7 @@ pub fn load_ring(image: &[u8], form: Form) -> Ring
     ring_of(&image[at..end], len, drops)
 }
 
-// The vector body, a part that starts at byte 158 or, in form 2, 150, is handed on to the leaf that fills 64 entries.
+// The vector body, a part that starts at byte 158 or, in form 2, 150 or, with numbers, 155, is handed on to the leaf that fills 64 entries.
 fn load_vectors(image: &[u8], form: Form) -> [u8; 64]
     requires { ⌜ length (now image) ≡ formLength (formView form) ⌝ }
     ensures { λ r. ⌜ r ≡ decodeAs (formView form) (now (image .entry)) .core .vectors ⌝ }
@@ -106,7 +107,35 @@ fn load_vectors(image: &[u8], form: Form) -> [u8; 64]
     match form {
         Form::One => fill_entries(&image[158..222]),
         Form::Two => fill_entries(&image[150..214]),
+        Form::Numbered => fill_entries(&image[155..219]),
     }
+}
+
+// The numbers of an image that has none: the waiting events have those from 0 on, and the next is how many wait.
+fn counted(count: usize) -> [u8; 34]
+{
+    let mut body = [0u8; 34];
+    body[0] = count as u8;
+    let first = from_zero();
+    let used = form::NUMBER * count;
+    let end = form::NEXT_LENGTH + used;
+    copy(&mut body[form::NEXT_LENGTH..end], &first[0..used]);
+    body
+}
+
+// The body of the numbers with which an image loads.
+pub fn load_numbers(image: &[u8], form: Form) -> [u8; 34]
+{
+    let p = places_of(form);
+    let Form::Numbered = form else {
+        let place = p.count;
+        return counted(image[place] as usize);
+    };
+    let at = p.next;
+    let end = at + form::NUMBERED_LENGTH;
+    let mut body = [0u8; 34];
+    copy(&mut body, &image[at..end]);
+    body
 }
 
 pub fn load(image: &[u8], form: Form) -> PchPicState

@@ -23,7 +23,8 @@ pub fn reset(image: &mut [u8]) -> Told
     let KnownForm::As(form) = form_of(length) else {
         return wrong_length();
     };
-    saved::save(image, form, PchPicState::reset());
+    let numbers = [0u8; 34];
+    saved::save(image, form, PchPicState::reset(), &numbers);
     done(Value::Absent)
 }
 
