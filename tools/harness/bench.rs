@@ -348,7 +348,10 @@ impl Bench {
             Says::Numbers(next, waiting) => {
                 let image = self.image();
                 let body: Vec<u8> = [next].into_iter().chain(waiting).flat_map(|number| number.to_le_bytes()).collect();
-                number == 0 && image.len() == 290 && image[256..].starts_with(&body) && image[256 + body.len()..].iter().all(|&byte| byte == 0)
+                number == 0
+                    && image.len() == 290
+                    && image[256..].starts_with(&body)
+                    && image[256 + body.len()..].iter().all(|&byte| byte == 0)
             }
         }
     }

@@ -72,7 +72,9 @@ fn make_by_table(call: &Call, [(i, il), (a, al), ..]: [Area; 4]) -> u8 {
     unsafe {
         match *call {
             Call::Read { base, size, address, width } => library::pch_pic_table_read(i, il, base, size, address, width, a, al),
-            Call::Write { base, size, address, width, value } => library::pch_pic_table_write(i, il, base, size, address, width, value, a, al),
+            Call::Write { base, size, address, width, value } => {
+                library::pch_pic_table_write(i, il, base, size, address, width, value, a, al)
+            }
             _ => unreachable!("only reads and writes are decoded"),
         }
     }
