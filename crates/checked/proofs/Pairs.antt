@@ -14,13 +14,14 @@ use lib.Seq.{drop-drop, drop-append-le, getD-drop}
 use borrow.Author.Tests.{eq-eqb, ne-eqb, eqb-true, le-leb, leb-true}
 use Rattle.rules.specs.Numbers.{numberOf, part, Bytes}
 use Rattle.rules.specs.Ring.{capacity}
+use Rattle.rules.specs.Form.{Form, numbers, has, read}
 use Rattle.rules.specs.Image.{registerAt}
 use Rattle.rules.specs.Inputs.{on}
 use Rattle.rules.proofs.laws.Lists.{length-part, part-then}
 use Rattle.rules.proofs.laws.Bytes.{bytes-drop, bytes-part}
 use Rattle.rules.proofs.laws.Bits.{test, on-and, on-or, on-ext}
 use Rattle.rules.proofs.laws.Tests.{Flags, Unused}
-use Rattle.checked.specs.Good.{flagsGood, allZero, pairsGood, bitsOf}
+use Rattle.checked.specs.Good.{flagsGood, allZero, pairsGood, numbersGood, bitsOf}
 
 -- ---- what the tests say
 
@@ -53,6 +54,16 @@ zeros-allZero : (l : List ℕ) → ((i : ℕ) → getD l i 0 ≡ 0) → allZero 
 zeros-allZero [] z = refl
 zeros-allZero (x ∷ l) z = rw (eq-eqb x 0 (z 0), zeros-allZero l (λ i. z (suc i)))
 
+-- zeros behind n things of two bytes
+module _ (n : ℕ) (l : List ℕ) where
+  zero-unused : allZero (drop (2 * n) l) ≡ true → Unused n l
+  zero-unused e i h =
+      let s : 2 * n + (i - 2 * n) ≡ i = omega arith in
+      rw s at (sym (getD-drop (2 * n) l (i - 2 * n) 0) ∙ allZero-zeros (drop (2 * n) l) e (i - 2 * n))
+
+  unused-zero : Unused n l → allZero (drop (2 * n) l) ≡ true
+  unused-zero z = zeros-allZero (drop (2 * n) l) (λ i. getD-drop (2 * n) l i 0 ∙ z (2 * n + i) (omega arith))
+
 -- the two rules on pairs, as the rules have them
 module _ (n : ℕ) (l : List ℕ) where
   pub pairsGood-flags : pairsGood n l ≡ true → Flags n l
@@ -62,14 +73,18 @@ module _ (n : ℕ) (l : List ℕ) where
       rw s at (flagsGood-flags n l good (i / 2) (omega arith))
 
   pub pairsGood-unused : pairsGood n l ≡ true → Unused n l
-  pairsGood-unused e i h =
-      let s : 2 * n + (i - 2 * n) ≡ i = omega arith in
-      let good = and-eq-true-iff (flagsGood n l) (allZero (drop (2 * n) l)) .0 e .1 in
-      rw s at (sym (getD-drop (2 * n) l (i - 2 * n) 0) ∙ allZero-zeros (drop (2 * n) l) good (i - 2 * n))
+  pairsGood-unused e = zero-unused n l (and-eq-true-iff (flagsGood n l) (allZero (drop (2 * n) l)) .0 e .1)
 
   pub good-pairs : Flags n l → Unused n l → pairsGood n l ≡ true
-  good-pairs g z =
-      rw (flags-flagsGood n l (λ i h. g (2 * i + 1) (omega arith) (omega arith)), zeros-allZero (drop (2 * n) l) (λ i. getD-drop (2 * n) l i 0 ∙ z (2 * n + i) (omega arith)))
+  good-pairs g z = rw (flags-flagsGood n l (λ i h. g (2 * i + 1) (omega arith) (omega arith)), unused-zero n l z)
+
+-- and that on numbers
+module _ (f : Form) (n : ℕ) (l : List ℕ) where
+  pub numbersGood-unused : numbersGood f n l ≡ true → has f numbers ≡ true → Unused n (read f l numbers)
+  numbersGood-unused e h = zero-unused n (read f l numbers) (rw h at e)
+
+  pub good-numbers : (has f numbers ≡ true → Unused n (read f l numbers)) → numbersGood f n l ≡ true
+  good-numbers z = test (has f numbers) (λ h. rw h (unused-zero n (read f l numbers) (z h))) (λ h. rw h)
 
 -- ---- tests of numbers for zero
 

@@ -1,12 +1,12 @@
 -- What the tests of an accepted image look at, as the rules see it.
-use mathlib.Core.Bool.{Bool, true, false, _&&_}
+use mathlib.Core.Bool.{Bool, true, false, cond, _&&_}
 use mathlib.Core.List.{List, [], _∷_}
 use Prim.Native.Nat.{ℕ, zero, suc, _*_}
 use lib.Bits.{bitOr}
 use lib.Dec.{eqb, leb}
 use lib.ListN.{length, drop}
 use Rattle.rules.specs.Numbers.{part}
-use Rattle.rules.specs.Form.{Form, contentsLength, contentsOf, Known, unknown, known, formOf}
+use Rattle.rules.specs.Form.{Form, numbers, has, contentsLength, contentsOf, Known, unknown, known, formOf, read}
 use Rattle.rules.specs.Image.{registerAt, Finding, clear, found, rules, firstFault, same, ImageTest, accepted, wrongLength, wrongContents, broken, imageTest}
 use Rattle.image.specs.Shown.{formView}
 use Rattle.checked.specs.declared.Verdict.{Verdict}
@@ -54,6 +54,10 @@ allZero (x ∷ l) = eqb x 0 && allZero l
 
 abbrev pub pairsGood : ℕ → List ℕ → Bool
 pairsGood n l = flagsGood n l && allZero (drop (2 * n) l)
+
+-- of numbers the first n of which wait the others are zero, if the form has numbers
+abbrev pub numbersGood : Form → ℕ → List ℕ → Bool
+numbersGood f n l = cond (has f numbers) (allZero (drop (2 * n) (read f l numbers))) true
 
 -- the bits that any of the first k words has
 abbrev pub bitsOf : ℕ → List ℕ → ℕ

@@ -19,7 +19,7 @@ ghost use Rattle.rules.specs.Form.{formLength};
 ghost use Rattle.rules.specs.Image.{imageTest};
 ghost use Rattle.image.specs.Shown.{formView};
 ghost use Rattle.faults.specs.Found.{checkedView};
-ghost use Rattle.checked.specs.Good.{verdictView, acceptedForm, bitsOf, allZero, pairsGood, headGood, bodiesGood};
+ghost use Rattle.checked.specs.Good.{verdictView, acceptedForm, bitsOf, allZero, pairsGood, numbersGood, headGood, bodiesGood};
 
 // An accepted image is one of a form.
 pub enum Verdict {
@@ -41,7 +41,7 @@ fn all_bits(pairs: &[u8]) -> u64
     found
 }
 
-// Unused pairs are zero. In the word where they begin, the pairs that wait are shifted out.
+// Unused pairs, or numbers, are zero. In the word where they begin, those that wait are shifted out.
 fn unused_zero(count: usize, pairs: &[u8]) -> bool
     requires { ⌜ (length (now pairs) ≡ 2 * capacity) × (count ≤ capacity) ⌝ }
     ensures { λ r. ⌜ r ≡ allZero (drop (2 * count) (now (pairs .entry))) ⌝ }

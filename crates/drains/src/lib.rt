@@ -55,8 +55,7 @@ fn leave(dst: &mut [u8], n: usize, len: usize)
 }
 
 // Each pair, and then its number.
-fn put_events(out: &mut [u8], pairs: &[u8], numbers: &[u8])
-{
+fn put_events(out: &mut [u8], pairs: &[u8], numbers: &[u8]) {
     let mut i = 0;
     while i < pairs.len() {
         out[2 * i] = pairs[i];
@@ -68,8 +67,7 @@ fn put_events(out: &mut [u8], pairs: &[u8], numbers: &[u8])
 }
 
 // The first n events, with the numbers that the image has or those from 0 on.
-fn copy_out(image: &[u8], form: Form, out: &mut [u8], n: usize)
-{
+fn copy_out(image: &[u8], form: Form, out: &mut [u8], n: usize) {
     let p = places_of(form);
     let taken = form::PAIR * n;
     let at = p.pairs;
@@ -85,8 +83,7 @@ fn copy_out(image: &[u8], form: Form, out: &mut [u8], n: usize)
 }
 
 // The numbers of the first n go as their events do.
-fn leave_numbers(image: &mut [u8], form: Form, n: usize, len: usize)
-{
+fn leave_numbers(image: &mut [u8], form: Form, n: usize, len: usize) {
     let Form::Numbered = form else {
         return;
     };

@@ -15,11 +15,11 @@ ghost use Rattle.rules.specs.Numbers.{part};
 ghost use Rattle.rules.specs.Ring.{capacity};
 ghost use Rattle.rules.specs.Form.{formLength};
 ghost use Rattle.rules.specs.Form as rules-form;
-ghost use Rattle.rules.specs.Image.{flagRule, unusedRule, rules, firstFault, bodyTest};
+ghost use Rattle.rules.specs.Image.{flagRule, unusedRule, finding, rules, firstFault, bodyTest};
 ghost use Rattle.image.specs.Shown.{formView};
 ghost use Rattle.faults.specs.Found.{checkedView, First, pairFault};
 
-// The copy of IRR differs, too many wait, a waiting pair's flag is neither 0 nor 1, an unused pair is not zero.
+// The copy of IRR differs, too many wait, a waiting pair's flag is neither 0 nor 1, an unused pair or number is not zero.
 pub enum Fault {
     Copy,
     Count,
@@ -51,7 +51,7 @@ fn bad_flag(count: usize, pairs: &[u8]) -> usize
     pairs.len()
 }
 
-// The first byte behind the waiting pairs that is not zero, or the length.
+// The first byte behind the waiting pairs, or numbers, that is not zero, or the length.
 fn used_byte(count: usize, pairs: &[u8]) -> usize
     requires { ⌜ (length (now pairs) ≡ 2 * capacity) × (count ≤ capacity) ⌝ }
     ensures { λ r. ⌜ First (unusedRule rules-form.pairs count .bad) (now (pairs .entry)) r ⌝ }

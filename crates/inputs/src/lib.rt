@@ -9,13 +9,19 @@ use refusals::no_input;
 use refusals::of_image;
 ghost use mathlib.Core.Path.{_≡_};
 ghost use mathlib.Core.List.{[]};
+ghost use lib.ListN.{length};
+ghost use Rattle.rules.specs.Form.{formLength};
+ghost use Rattle.image.specs.Shown.{formView};
 ghost use Rattle.rules.specs.Calls.{ending};
 ghost use Rattle.rules.specs.Calls as asked;
 ghost use Rattle.engine.specs.Moves.{answerValue};
 ghost use Rattle.answer.specs.Given.{valueView, ends};
+ghost use Rattle.inputs.specs.Returned.{TakesNumber};
 
 // The vector that a call on an input returns, with its number, as a value.
 fn numbered(image: &mut [u8], form: Form, answer: engine::Answer) -> Value
+    requires { ⌜ length (now image) ≡ formLength (formView form) ⌝ }
+    ensures { λ r. ⌜ TakesNumber (now (image .entry)) (now (image .exit)) (answerValue answer) (valueView r) ⌝ }
 {
     match answer {
         engine::Answer::Vector(vector) => {

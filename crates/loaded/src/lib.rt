@@ -18,10 +18,11 @@ ghost use lib.ListN.{length};
 ghost use Rattle.rules.specs.Numbers.{numberOf, part};
 ghost use Rattle.rules.specs.Ring.{capacity};
 ghost use Rattle.rules.specs.Form.{formLength};
-ghost use Rattle.rules.specs.Image.{countIn, decodeAs};
+ghost use Rattle.rules.specs.Numbering.{fromZero};
+ghost use Rattle.rules.specs.Image.{countIn, decodeAs, numberBody};
 ghost use Rattle.state.specs.View.{IsRing, Is};
 ghost use Rattle.image.specs.Shown.{formView};
-ghost use Rattle.loaded.specs.Shown.{IsLines, IsStored};
+ghost use Rattle.loaded.specs.Shown.{IsLines, IsStored, LoadsNumbers};
 
 pub fn load_lines(image: &[u8], form: Form) -> Lines
     requires { ⌜ length (now image) ≡ formLength (formView form) ⌝ }
@@ -113,6 +114,8 @@ fn load_vectors(image: &[u8], form: Form) -> [u8; 64]
 
 // The numbers of an image that has none: the waiting events have those from 0 on, and the next is how many wait.
 fn counted(count: usize) -> [u8; 34]
+    requires { ⌜ count ≤ capacity ⌝ }
+    ensures { λ r. ⌜ r ≡ numberBody (fromZero count) ⌝ }
 {
     let mut body = [0u8; 34];
     body[0] = count as u8;
@@ -125,6 +128,8 @@ fn counted(count: usize) -> [u8; 34]
 
 // The body of the numbers with which an image loads.
 pub fn load_numbers(image: &[u8], form: Form) -> [u8; 34]
+    requires { ⌜ (length (now image) ≡ formLength (formView form)) × (countIn (formView form) (now image) ≤ capacity) ⌝ }
+    ensures { λ r. ⌜ LoadsNumbers (formView form) (now (image .entry)) r ⌝ }
 {
     let p = places_of(form);
     let Form::Numbered = form else {

@@ -7,7 +7,7 @@ use lib.ListN.{length}
 use Rattle.rules.specs.Numbers.{Bytes}
 use Rattle.rules.specs.Device.{Call, Value}
 use Rattle.rules.specs.Form.{Form, forms, Known, unknown, known, formOf, formLength}
-use Rattle.rules.specs.Image.{ImageTest, accepted, wrongLength, wrongContents, broken, imageTest, decode, countIn}
+use Rattle.rules.specs.Image.{ImageTest, accepted, wrongLength, wrongContents, broken, imageTest, decode, numbersIn, countIn}
 use Rattle.rules.specs.Calls.{imageNumber, imageValue, Tested, Request, calls, askedBy, bufferOf, Ending, ending}
 use Rattle.rules.proofs.laws.Images.{form-of, accepted-has}
 use Rattle.rules.proofs.laws.Tests.{form-known, test-known}
@@ -70,5 +70,5 @@ module _ {f : Form} {i : List ℕ} (p : Passed f i) where
   pub few : countIn f i ≤ 16
   few = tests.accepted-has f i (sym (test-known i (p .known)) ∙ p .good) .ruled .counted
 
-  pub here : Holds i (decode i)
+  pub here : Holds i (decode i) (numbersIn i)
   here = held i (p .bytes) (p .good)

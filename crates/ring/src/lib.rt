@@ -54,7 +54,7 @@ pub fn offer(image: &mut [u8], form: Form, vector: u8, asserted: bool) -> u32
     requires { ⌜ length (now image) ≡ formLength (formView form) ⌝ }
     ensures { λ r. ⌜ (r ≤ 1) × Offers (now (image .entry)) (now (image .exit)) r (λ d. offering vector asserted) ⌝ }
 {
-    numbers::offered(image, form);
+    numbers::take_offered(image, form);
     let p = places_of(form);
     let at = p.count;
     let end = at + form::RING_LENGTH;

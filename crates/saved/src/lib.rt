@@ -16,10 +16,9 @@ ghost use mathlib.Core.Path.{_≡_};
 ghost use mathlib.Core.List.{_++_};
 ghost use lib.ListN.{length, drop};
 ghost use Rattle.rules.specs.Form.{formLength, contentsLength, contentsOf};
-ghost use Rattle.rules.specs.Image.{encodeAs};
 ghost use Rattle.state.specs.View.{WellRing, Well, view};
 ghost use Rattle.image.specs.Shown.{formView};
-ghost use Rattle.saved.specs.Shown.{SavesLines, SavesStored, SavesTables, SavesRing};
+ghost use Rattle.saved.specs.Shown.{SavesLines, SavesStored, SavesTables, SavesRing, SavesNumbers, SavedAs};
 
 fn put_contents(image: &mut [u8], form: Form)
     requires { ⌜ length (now image) ≡ formLength (formView form) ⌝ }
@@ -97,7 +96,7 @@ fn save_numbers(image: &mut [u8], form: Form, body: &[u8; 34])
 // The state, and beside it the body of the numbers.
 pub fn save(image: &mut [u8], form: Form, state: PchPicState, numbers: &[u8; 34])
     requires { ⌜ (length (now image) ≡ formLength (formView form)) × Well state ⌝ }
-    ensures { λ _. ⌜ now (image .exit) ≡ encodeAs (formView form) (view state) ⌝ }
+    ensures { λ _. ⌜ SavedAs (formView form) (view state) (now (numbers .entry)) (now (image .exit)) ⌝ }
 {
     put_contents(image, form);
     save_lines(image, form, state.lines);

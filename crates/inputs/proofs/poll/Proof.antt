@@ -1,5 +1,6 @@
--- `poll`: each refusal leaves where 01's order puts it; done, only the lines moved, and the vector returned is told.
-use mathlib.Core.Path.{refl}
+-- `poll`: each refusal leaves where 01's order puts it; done, only the lines moved, and the vector returned is told with its number.
+use mathlib.Core.Path.{_≡_, refl, _∙_}
+use lib.ListN.{length}
 use Rattle.rules.specs.Device as device
 use Rattle.rules.specs.Calls as asked
 use Rattle.image.specs.Shown.{formView}
@@ -25,7 +26,11 @@ poll-spec =
     (λ c. let h = c .before in let t = h .before in let m = t .before .before in let a = m .before .before .before .before .args in
     tells (c .no-input .result) (c .no-input .ensures) (no-input (on t) (a .input) (asked.poll (a .input)) (device.poll (a .input)) refl (h .if1 .taken)))
     (λ c κs. (long (on (c .before .before)), search needs))
-    (λ c κs. search needs) (λ c κs. search needs) (λ c. search needs)
-    (λ c. let v = c .before in let r = v .before .before .before in let h = r .before .before in let t = h .before in let m = t .before .before in
+    (λ c κs. let r = c .before .before .before in let t = r .before .before .before in let a = t .before .before .before .before .before .before .args in
+    let same : length (r .poll .last .0) ≡ length (a .image .now) = search needs in
+    same ∙ long (on t))
+    (λ c κs. search needs) (λ c. search needs)
+    (λ c. let n = c .before .before .before in let r = n .before .before .before .before in let h = r .before .before in let t = h .before in let m = t .before .before in
     let a = m .before .before .before .before .args in
-    tells (c .done .result) (c .done .ensures) (poll-done (on t) (a .input) (h .if1 .left) (search needs) (v .vector-value .ensures) (r .poll .ensures))))
+    let same : length (r .poll .last .0) ≡ length (a .image .now) = search needs in
+    tells (c .done .result) (c .done .ensures) (poll-done (on t) (a .input) (h .if1 .left) same (search needs) (n .numbered .ensures) (r .poll .ensures))))

@@ -11,5 +11,7 @@ contents-of-spec =
     (tie.spec
     (λ c. search needs)
     (λ c. search needs)
-    (λ c. rw (c .enum-told .given .1) (record { first = refl; second = refl; last = refl; ends = refl; low = lit≤ tt; high = lit≤ tt }))
-    (λ c. rw (c .enum-told2 .given .1) (record { first = refl; second = refl; last = refl; ends = refl; low = lit≤ tt; high = lit≤ tt })))
+    (λ c. search needs)
+    (λ c. rw (c .enum-told .given .1) (record { first = refl; second = refl; third = refl; last = refl; ends = refl; low = lit≤ tt; high = lit≤ tt }))
+    (λ c. rw (c .enum-told2 .given .1) (record { first = refl; second = refl; third = refl; last = refl; ends = refl; low = lit≤ tt; high = lit≤ tt }))
+    (λ c. rw (c .enum-told3 .given .1) (record { first = refl; second = refl; third = refl; last = refl; ends = refl; low = lit≤ tt; high = lit≤ tt })))
