@@ -62,11 +62,12 @@ module _ (f : Form) (i : List ℕ) (long : length i ≡ formLength f) (m n : ℕ
     abbrev ws : List ℕ
     ws = s .waiting
 
-    abbrev no-pairs : Field → List ℕ
-    no-pairs = replaced (fieldOf d s) pairs (sixteen eventTwos (drop n es))
+    -- the fields once the pairs are shifted, and once the numbers are too
+    abbrev fewer-pairs : Field → List ℕ
+    fewer-pairs = replaced (fieldOf d s) pairs (sixteen eventTwos (drop n es))
 
-    abbrev no-numbers : Field → List ℕ
-    no-numbers = replaced no-pairs numbers (sixteen numberTwos (drop n ws))
+    abbrev fewer-numbers : Field → List ℕ
+    fewer-numbers = replaced fewer-pairs numbers (sixteen numberTwos (drop n ws))
 
     many : length ws ≡ m
     many = holds .numbered .waiting ∙ sym c
@@ -74,13 +75,13 @@ module _ (f : Form) (i : List ℕ) (long : length i ≡ formLength f) (m n : ℕ
     sized : Sized (fieldOf d s)
     sized = fields-sized d (holds .well) s (holds .numbered)
 
-    sized-pairs : Sized no-pairs
+    sized-pairs : Sized fewer-pairs
     sized-pairs = replaced-sized (fieldOf d s) sized pairs (sixteen eventTwos (drop n es)) (length-sixteen eventTwos (drop n es) (omega (arith, length-drop n es)))
 
-    sized-numbers : Sized no-numbers
-    sized-numbers = replaced-sized no-pairs sized-pairs numbers (sixteen numberTwos (drop n ws)) (length-sixteen numberTwos (drop n ws) (omega (arith, many, length-drop n ws)))
+    sized-numbers : Sized fewer-numbers
+    sized-numbers = replaced-sized fewer-pairs sized-pairs numbers (sixteen numberTwos (drop n ws)) (length-sixteen numberTwos (drop n ws) (omega (arith, many, length-drop n ws)))
 
-    pairs-left : {at : ℕ} → at ≡ place f pairs → {ps : List ℕ} → Leaves (part at (at + 32 - at) i) ps m n → putMid at (at + 32 - at) i ps ≡ image f no-pairs
+    pairs-left : {at : ℕ} → at ≡ place f pairs → {ps : List ℕ} → Leaves (part at (at + 32 - at) i) ps m n → putMid at (at + 32 - at) i ps ≡ image f fewer-pairs
     pairs-left {at} e {ps} l =
         let width : at + 32 - at ≡ 32 = omega arith in
         let there : part at (at + 32 - at) i ≡ sixteen eventTwos es = (λ t. part (e t) (width t) (holds-as f i long holds t)) ∙ read-image f (fieldOf d s) sized pairs (has-all f pairs refl) in
@@ -89,27 +90,27 @@ module _ (f : Form) (i : List ℕ) (long : length i ≡ formLength f) (m n : ℕ
         in
         (λ t. putMid (e t) (width t) (holds-as f i long holds t) (new t)) ∙ field-replaced f (fieldOf d s) sized pairs (has-all f pairs refl) (sixteen eventTwos (drop n es))
 
-    numbers-left : {j k : List ℕ} → j ≡ image f no-pairs → NumbersLeave f j k m n → k ≡ image f no-numbers
+    numbers-left : {j k : List ℕ} → j ≡ image f fewer-pairs → NumbersLeave f j k m n → k ≡ image f fewer-numbers
     numbers-left {j} {k} e l =
         test (has f numbers)
-        (λ y. let there : read f j numbers ≡ sixteen numberTwos ws = ap (λ u. read f u numbers) e ∙ read-image f no-pairs sized-pairs numbers y in
+        (λ y. let there : read f j numbers ≡ sixteen numberTwos ws = ap (λ u. read f u numbers) e ∙ read-image f fewer-pairs sized-pairs numbers y in
         l .there y (subst (λ u. Unused u m) (sym there) (sixteen-spare numberTwos n m ws many h few)) ∙ (λ t. putMid (place f numbers) 32 (e t) (shifted (there t) n))
-        ∙ ap (putMid (place f numbers) 32 (image f no-pairs)) (sixteen-shifted numberTwos n m ws many h few) ∙ field-replaced f no-pairs sized-pairs numbers y (sixteen numberTwos (drop n ws)))
+        ∙ ap (putMid (place f numbers) 32 (image f fewer-pairs)) (sixteen-shifted numberTwos n m ws many h few) ∙ field-replaced f fewer-pairs sized-pairs numbers y (sixteen numberTwos (drop n ws)))
         (λ y. l .without y ∙ e
-        ∙ image-agree f no-pairs sized-pairs no-numbers (by-field _ (λ w t. refl) (λ t. refl) (λ t. refl) (λ t. refl, λ t. refl, λ t. refl) (λ t. refl, λ t. absurd (false≢true (sym y ∙ t)))))
+        ∙ image-agree f fewer-pairs sized-pairs fewer-numbers (by-field _ (λ w t. refl) (λ t. refl) (λ t. refl) (λ t. refl, λ t. refl, λ t. refl) (λ t. refl, λ t. absurd (false≢true (sym y ∙ t)))))
 
-    count-left : image f (replaced no-numbers count ((m - n) ∷ [])) ≡ image f (fieldOf (withRing d (drawn (d .ring) n .after)) (fewer s n))
+    count-left : image f (replaced fewer-numbers count ((m - n) ∷ [])) ≡ image f (fieldOf (withRing d (drawn (d .ring) n .after)) (fewer s n))
     unfolding drawn
     count-left =
         let left : m - n ≡ length (drop n es) = omega (arith, length-drop n es) in
-        image-agree f (replaced no-numbers count ((m - n) ∷ [])) (replaced-sized no-numbers sized-numbers count ((m - n) ∷ []) refl) (fieldOf (withRing d (drawn (d .ring) n .after)) (fewer s n))
+        image-agree f (replaced fewer-numbers count ((m - n) ∷ [])) (replaced-sized fewer-numbers sized-numbers count ((m - n) ∷ []) refl) (fieldOf (withRing d (drawn (d .ring) n .after)) (fewer s n))
         (by-field _ (λ w t. refl) (λ t. refl) (λ t. refl) (λ t. ap (λ x. x ∷ []) left, λ t. refl, λ t. refl) (λ t. refl, λ t. refl))
 
   pub shifts : {at to : ℕ} → at ≡ place f pairs → to ≡ place f count → {ps : List ℕ} → Leaves (part at (at + 32 - at) i) ps m n
       → {j : List ℕ} → NumbersLeave f (putMid at (at + 32 - at) i ps) j m n → Shifts i (set j to (m - n)) m n
   shifts e g l k d s holds c =
       as-holds f (drain-well d n (holds .well)) (fitting (drawn-fit (d .ring) n (fits (holds .numbered))))
-      ((λ t. set (numbers-left d s holds c (pairs-left d s holds c e l) k t) (g t) (m - n)) ∙ byte-stored f (no-numbers d s holds c) (sized-numbers d s holds c) (m - n) ∙ count-left d s holds c)
+      ((λ t. set (numbers-left d s holds c (pairs-left d s holds c e l) k t) (g t) (m - n)) ∙ byte-stored f (fewer-numbers d s holds c) (sized-numbers d s holds c) (m - n) ∙ count-left d s holds c)
 
 -- ---- the numbers alone
 

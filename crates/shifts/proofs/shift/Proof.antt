@@ -1,7 +1,7 @@
 -- `shift`: the pairs, the numbers and the count.
 use mathlib.Core.Path.{_≡_, refl, _∙_}
 use mathlib.Core.Bool.{true}
-use Prim.Native.Nat.{_+_, _-_, _≤_}
+use Prim.Native.Nat.{_+_, _≤_}
 use native.Mathlib.Omega.{arith}
 use lib.ListN.{length, length-set}
 use borrow.Author.Needs.{needs}
@@ -36,7 +36,7 @@ shift-spec =
     omega (arith, same, within p count refl))
     (λ c. let n = c .before .before in let p = n .before .before .before .before .before .before in let s = p .before .before in
     let same : length (n .leave-numbers .last .0) ≡ length (s .args .image .now) = search needs in
-    length-set (n .leave-numbers .last .0) (p .places-of .result .count) (s .args .len - s .args .n) ∙ same)
+    length-set (n .leave-numbers .last .0) (p .places-of .result .count) _ ∙ same)
     (λ c. let n = c .before .before in let l = n .before .before .before .before in let p = l .before .before in let s = p .before .before in
     shifts (formView (s .args .form)) (s .args .image .now) (s .pre .0) (s .args .len) (s .args .n) (s .pre .1) (s .pre .2) (placed (p .places-of .ensures) pairs refl) (placed (p .places-of .ensures) count refl)
     (l .leave .ensures) (n .leave-numbers .ensures)))
