@@ -3,4 +3,5 @@
 pub mod PremisesMet
 pub mod ExportedMet
 pub mod SweepMet
+pub mod OrderMet
 pub mod WorkedDay

@@ -20,7 +20,38 @@ pub fn from_zero() -> [u8; 32]
     ensures { λ r. ⌜ r ≡ written numberTwos (upFrom 0 16) ⌝ }
 {
     [
-        0, 0, 1, 0, 2, 0, 3, 0, 4, 0, 5, 0, 6, 0, 7, 0, 8, 0, 9, 0, 10, 0, 11, 0, 12, 0, 13, 0, 14, 0, 15, 0,
+        0,
+        0,
+        1,
+        0,
+        2,
+        0,
+        3,
+        0,
+        4,
+        0,
+        5,
+        0,
+        6,
+        0,
+        7,
+        0,
+        8,
+        0,
+        9,
+        0,
+        10,
+        0,
+        11,
+        0,
+        12,
+        0,
+        13,
+        0,
+        14,
+        0,
+        15,
+        0,
     ]
 }
 
@@ -39,7 +70,12 @@ fn take_next(image: &mut [u8], at: usize) -> u16
     ensures { λ r. ⌜ NextTaken at (now (image .entry)) (now (image .exit)) r ⌝ }
 {
     let taken = number_at(image, at);
-    put_bytes(image, at, form::NUMBER, std::num::wrapping_add_u16(taken, 1) as u64);
+    put_bytes(
+        image,
+        at,
+        form::NUMBER,
+        std::num::wrapping_add_u16(taken, 1) as u64,
+    );
     taken
 }
 
@@ -69,6 +105,11 @@ pub fn take_offered(image: &mut [u8], form: Form)
     let place = p.count;
     let len = image[place] as usize;
     if len < form::CAPACITY {
-        put_bytes(image, p.numbers + form::NUMBER * len, form::NUMBER, taken as u64);
+        put_bytes(
+            image,
+            p.numbers + form::NUMBER * len,
+            form::NUMBER,
+            taken as u64,
+        );
     }
 }

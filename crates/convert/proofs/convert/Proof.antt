@@ -1,10 +1,11 @@
--- `convert`: each refusal leaves where the order of the tests puts it; done, the target is the image of the device that was loaded.
+-- `convert`: each refusal leaves where the order of the tests puts it; done, the target is the image of the device that was loaded, with its numbers.
 use mathlib.Core.Path.{_≡_, refl, sym, ap, _∙_}
 use lib.ListN.{length}
 use Rattle.rules.specs.Form.{forms, known, formOf}
-use Rattle.rules.specs.Image.{encodeAs, imageTest}
+use Rattle.rules.specs.Device.{Device}
+use Rattle.rules.specs.Image.{encodeAs, imageTest, numbersIn, numberBody}
 use Rattle.rules.proofs.laws.Tests.{form-known}
-use Rattle.rules.proofs.laws.Images.{decode-as}
+use Rattle.rules.proofs.laws.Images.{decode-as, numbers-as}
 use Rattle.rules.proofs.laws.Conversions.{no-image, no-target, not-accepted, convert-done}
 use Rattle.image.specs.Shown.{formView, formKnown}
 use Rattle.checked.specs.Good.{verdictView}
@@ -53,14 +54,17 @@ returns-3 c =
 returns-4 : tie.Need-returns-4
 returns-4 c =
     let s = c .before .before .before in
-    let l = s .before in
-    let p = l .before .before in
+    let l = s .before .before in
+    let n = l .before .before in
+    let p = n .before in
     let t = p .before .before .before .before in
-    let i = t .before .before .before .before .before .before .before .before .before .args .image .now in
+    let a = t .before .before .before .before .before .before .before .before .before .args in
     let f = formView (p .before .checked .given .0 .0) in
+    let i = a .image .now in
     tells (c .done .result) (c .done .ensures)
-    (convert-done i (t .before .before .before .before .before .before .before .before .before .args .target .now) (own (t .before .before .before .before)) (other t) (on p .good)
-    (s .save .ensures ∙ ap (encodeAs _) (l .load .ensures .shows ∙ sym (decode-as f i (long (on p))))))
+    (convert-done i (a .target .now) (own (t .before .before .before .before)) (other t) (on p .good)
+    (s .save .ensures (numbersIn i) (ap numberBody (numbers-as f i (long (on p))) ∙ sym (n .load-numbers .ensures (on p .good)))
+    ∙ ap (λ (d : Device). encodeAs (formView (t .before .form .given .0 .0)) d (numbersIn i)) (l .load .ensures .shows ∙ sym (decode-as f i (long (on p))))))
 
 pub convert-spec : {M : Type 1} → statement M
 unfolding on
@@ -73,8 +77,9 @@ convert-spec =
     returns-2
     (λ c κs. search needs) (λ c. search needs) (λ c. search needs) (λ c κs. search needs)
     returns-3
-    (λ c κs. let p = on (c .before) in (long p, few p))
-    (λ c κs. (form-known forms _ _ (other (c .before .before .before .before .before .before)), c .load .ensures .well))
+    (λ c κs. let p = on c in (long p, few p))
+    (λ c κs. let p = on (c .before .before) in (long p, few p))
+    (λ c κs. (form-known forms _ _ (other (c .before .before .before .before .before .before .before .before)), c .before .load .ensures .well))
     (λ c κs. search needs)
     (λ c. search needs)
     returns-4)

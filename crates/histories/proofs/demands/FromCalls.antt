@@ -12,7 +12,7 @@ use Rattle.rules.specs.Image.{encodeAs, encodeLike, decode, numbersIn, imageTes
 use Rattle.rules.specs.Calls.{afresh, askedBy, Outcome}
 use Rattle.rules.specs.History.{history, fromReset}
 use Rattle.histories.specs.Exported.{Exported, leftBy, isDone, isReset, isLoad, callOf, Underway, carriedOn, carriedThrough, NoLoads}
-use Rattle.histories.specs.Exported.{HandedOn, doneCall, doneCalls, IsStep, GivenBytes, current, inImage, Faithful, numbersThrough, afterReset, atLoad}
+use Rattle.histories.specs.Exported.{HandedOn, leftAfter, doneCall, doneCalls, IsStep, GivenBytes, current, inImage, Faithful, numbersThrough, afterReset, atLoad}
 use Rattle.rules.proofs.laws.Lists.{equal-same}
 use Rattle.rules.proofs.laws.Images.{encode-as, decode-encode, numbers-encode}
 use Rattle.histories.proofs.laws.Folds.{history-append}
@@ -98,6 +98,14 @@ handed-on-is-no-load h (x ∷ xs) c = (
   rw (c .1, equal-same (h .left) (x .given) (sym (c .0))) (and-false (isDone x)),
   handed-on-is-no-load (carriedOn h x) xs (rw (left-last h x (c .0)) (c .2)),
 )
+
+-- and the image left by the last of them is the one left last.
+pub left-through : (h : Underway) (xs : List Exported) → HandedOn (h .left) xs → carriedThrough h xs .left ≡ leftAfter (h .left) xs
+unfolding carriedThrough HandedOn leftAfter
+left-through h [] c = refl
+left-through h (x ∷ xs) c =
+    let e = left-last h x (c .0) in
+    left-through (carriedOn h x) xs (rw e (c .2)) ∙ ap (λ i. leftAfter i xs) e
 
 -- Exported calls, none of them a load, carry a history on by the calls that were done, and the image left last is that of the device to which it comes, in
 -- the form of the image left at first, with the numbers that the first ones become by those calls. A form without the fifth body has none of them.

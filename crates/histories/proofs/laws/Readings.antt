@@ -1,13 +1,13 @@
 -- What a host reads of exported calls. A level or poll call returns at most one event, and its answer area holds it; a write returns none; a drain's event
 -- buffer holds what was drained. So along exported calls a host reads what the history returns and drains, in order (read-as), whatever numbers stand with it.
 use mathlib.Core.Path.{_≡_, refl, sym, ap, ap₂, _∙_}
-use mathlib.Core.Bool.{Bool, true, false, cond, not, true≢false}
+use mathlib.Core.Bool.{Bool, true, false, cond, not, true≢false, and-false}
 use mathlib.Core.List.{List, [], _∷_, _++_, map, append-nil}
 use Prim.Native.Nat.{ℕ, _+_, _-_, _*_, _/_, _%_, _^_, _<_, _≤_, min}
 use native.Mathlib.Omega.{arith}
 use lib.Dec.{eqb, ltb, lit<}
 use lib.ListN.{length, take, drop, length-take}
-use borrow.Author.Tests.{ltb-true}
+use borrow.Author.Tests.{ltb-true, ltb-false, ne-eqb}
 use Rattle.rules.specs.Inputs.{on, inputs, only, put, without, withHalf}
 use Rattle.rules.specs.Lines.{Lines, Made, event, withIrr, withMask, pendingIn, servedIn, serve, enter, leave, newlyUnmasked, newlyMasked}
 use Rattle.rules.specs.Lines.{polled, raised, lowered, cleared, masked}
@@ -27,7 +27,7 @@ use Rattle.histories.specs.Exported.{Exported, leftBy, isDone, isLoad, U
 use Rattle.histories.specs.Exported.{doneCalls, current, Faithful, eventIn, returnedTo, drainedTo, returnedBy, drainedBy}
 use Rattle.rules.proofs.laws.Bits.{test}
 use Rattle.rules.proofs.laws.Answers.{none-read, some-read, value-read, length-with, events-with, events-read}
-use Rattle.rules.proofs.laws.Inputs.{only-served}
+use Rattle.rules.proofs.laws.Inputs.{no-inputs, only-served}
 use Rattle.histories.proofs.laws.Reach.{ReturnsNone, write-returns-none}
 use Rattle.histories.proofs.laws.Folds.{fold-acts, history-append}
 use Rattle.histories.proofs.laws.Draining.{returned-append}
@@ -45,15 +45,20 @@ serve-single : (vs : List ℕ) (l : Lines) (ns : List ℕ) → Single true (serv
 serve-single vs l [] = nothing
 serve-single vs l (n ∷ ns) = one (event vs false true n) refl refl
 
-pub level-single : (d : Device) (n : ℕ) (b : Bool) → n < 64 → Single b (step d (device.level n b) .made)
+pub level-single : (d : Device) (n : ℕ) (b : Bool) → Single b (step d (device.level n b) .made)
 unfolding step actsOf turns lineTurn moved raised polled lowered
-level-single d n true h =
+level-single d n true =
     let k = withIrr (d .core .lines) (put (d .core .lines .irr) n) in
     rw append-nil (serve-single (d .core .vectors) k (inputs (pendingIn (only n) k)))
-level-single d n false h =
+level-single d n false =
     let k = withIrr (d .core .lines) (without (d .core .lines .irr) (only n)) in
-    rw (append-nil, only-served n k h)
-    (test (on (d .core .lines .isr) n) (λ t. rw t (one (event (d .core .vectors) false false n) refl refl)) (λ t. rw t nothing))
+    test (ltb n 64)
+    (λ h.
+    rw (append-nil, only-served n k (ltb-true n 64 h))
+    (test (on (d .core .lines .isr) n) (λ t. rw t (one (event (d .core .vectors) false false n) refl refl)) (λ t. rw t nothing)))
+    (λ h.
+    let past = ltb-false n 64 h in
+    rw (append-nil, no-inputs (servedIn (only n) k) (λ i b. rw (ne-eqb i n (omega arith)) (and-false (on (k .isr) i)))) nothing)
 
 pub poll-single : (d : Device) (n : ℕ) → Single true (step d (device.poll n) .made)
 unfolding step actsOf turns lineTurn moved polled
@@ -78,7 +83,7 @@ module _ (s : Numbers) (h : s .next < 2 ^ 16) where
       let low : (m .vector + 2 ^ 16 * s .next) % 256 ≡ m .vector = omega (arith, e 0) in
       rw o (λ i. record { vector = low i; asserted = sym a i } ∷ [])
 
-  returned-below : (b : Bool) (ms : List Made) → Single b ms → ByteEvents ms → amount (returnedWith s ms) < 2 ^ 64
+  pub returned-below : (b : Bool) (ms : List Made) → Single b ms → ByteEvents ms → amount (returnedWith s ms) < 2 ^ 64
   returned-below b ms nothing e = lit< tt
   returned-below b ms (one m o a) e = rw o (omega (arith, e 0, h))
 
@@ -118,7 +123,7 @@ act-returns-none c (setIsr h v) t = refl
 act-returns-none c (store s) t = refl
 act-returns-none c (setVector n v) t = refl
 
-write-returns : (d : Device) (w : Width) (o v : ℕ) → returnedIn (step d (device.write w o v) .made) ≡ []
+pub write-returns : (d : Device) (w : Width) (o v : ℕ) → returnedIn (step d (device.write w o v) .made) ≡ []
 unfolding step actsOf returnedIn
 write-returns d w o v =
     fold-acts (λ c ms e. returnedIn ms ≡ []) (λ c. refl) (λ c e f xs ys x y. returned-append xs ys ∙ ap₂ _++_ x y) ReturnsNone act-returns-none (d .core)
@@ -155,7 +160,7 @@ module _ (d : Device) (w : WellFormed d) (s : Numbers) (v : WellNumbered d s) wh
   reads-returned (request.level n x) c a e =
       let b = not (eqb x 0) in
       let r = input-is n (device.level n b) c (asked-is e) in
-      rw (r .1) (single-read s (v .next) b (step d (device.level n b) .made) a (level-single d n b (r .0)) (step-events d (device.level n b) w))
+      rw (r .1) (single-read s (v .next) b (step d (device.level n b) .made) a (level-single d n b) (step-events d (device.level n b) w))
   reads-returned (request.poll n) c a e =
       rw (input-is n (device.poll n) c (asked-is e) .1)
       (single-read s (v .next) true (step d (device.poll n) .made) a (poll-single d n) (step-events d (device.poll n) w))

@@ -89,7 +89,7 @@ module _ (d : Device) (w : WellFormed d) (s : Numbers) (v : WellNumbered d s) wh
   answer-without (request.level n x) c a e =
       let b = not (eqb x 0) in
       let r = input-is n (device.level n b) c (asked-is e) in
-      rw (r .1) (single-without s (v .next) b (step d (device.level n b) .made) a (level-single d n b (r .0)) (step-events d (device.level n b) w))
+      rw (r .1) (single-without s (v .next) b (step d (device.level n b) .made) a (level-single d n b) (step-events d (device.level n b) w))
   answer-without (request.poll n) c a e =
       rw (input-is n (device.poll n) c (asked-is e) .1)
       (single-without s (v .next) true (step d (device.poll n) .made) a (poll-single d n) (step-events d (device.poll n) w))

@@ -26,9 +26,8 @@ offer-spec =
     omega (arith, same, placed (c .places-of .ensures) count refl, ring-fits (formView (s .args .form)), s .pre))
     (λ c κs. search needs)
     (λ c. search needs)
-    (λ c. let q = c .before .before in let p = q .before .before in let t = p .before .before .before in let s = t .before .before .before in
-    (
+    (λ c. let q = c .before .before in let p = q .before .before in let t = p .before .before .before in let s = t .before .before .before in (
       q .offer-to .ensures .0,
       ring-offered (formView (s .args .form)) (s .args .image .now) (s .pre) (t .take-offered .ensures) _ _ _ (s .args .vector) (s .args .asserted) (placed (p .places-of .ensures) count refl) (search needs)
-      (q .offer-to .ensures .1),
+          (q .offer-to .ensures .1),
     )))

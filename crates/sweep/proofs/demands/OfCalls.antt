@@ -1,7 +1,7 @@
 -- 02, C-24, of exported calls, each given the image that the one before it left. A refused call counts as none.
 use mathlib.Core.Path.{_≡_, refl, sym, ap, subst, _∙_}
 use mathlib.Core.Bool.{true, false, true≢false, and-eq-true-iff}
-use mathlib.Core.List.{List, [], _∷_}
+use mathlib.Core.List.{List}
 use Prim.Native.Nat.{ℕ, _+_, _*_, _%_, _^_, _<_, _≤_}
 use native.Mathlib.Omega.{arith}
 use lib.Dec.{lit≤}
@@ -15,15 +15,15 @@ use Rattle.rules.specs.Calls.{Request, askedBy, answered, presentIn, valueIn, O
 use Rattle.rules.specs.Calls as request
 use Rattle.rules.specs.History.{history}
 use Rattle.histories.specs.Demands.{pollsOrRaises}
-use Rattle.histories.specs.Exported.{Exported, leftBy, isDone, isReset, Underway, carriedOn, carriedThrough, NoLoads, HandedOn, doneCalls}
+use Rattle.histories.specs.Exported.{Exported, leftBy, isDone, isReset, Underway, carriedThrough, NoLoads, HandedOn, doneCalls}
 use Rattle.histories.specs.Exported.{leftAfter, current, inImage, Faithful, atLoad}
 use Rattle.sweep.specs.Sweeps.{sweeping, Sweep}
 use Rattle.sweep.specs.Handed.{asksFor, readsAssert, WakesAllRead, pollsAll}
 use Rattle.rules.proofs.laws.Answers.{value-read}
 use Rattle.rules.proofs.laws.Images.{decode-well-formed, numbers-well}
-use Rattle.histories.proofs.laws.Chains.{faithful-at-load, left-last, done-call}
+use Rattle.histories.proofs.laws.Chains.{faithful-at-load, done-call}
 use Rattle.histories.proofs.laws.Readings.{read-as}
-use Rattle.histories.proofs.demands.FromCalls.{image-holds-device, image-holds-history, handed-on-is-no-load}
+use Rattle.histories.proofs.demands.FromCalls.{image-holds-device, image-holds-history, handed-on-is-no-load, left-through}
 use Rattle.sweep.proofs.laws.Announcing.{call-announces, vector-answered}
 use Rattle.sweep.proofs.laws.Reading.{returned-silent, asserts-read, asks-is}
 use Rattle.sweep.proofs.laws.Polls.{all-polled, polls-done}
@@ -45,13 +45,6 @@ sweep-of-calls h f xs n s =
       noneDropped = ring .1;
       asserted = λ i b. asserts-read h f xs n (s .admitted) i ∙ w .asserted i b;
     })
-
-left-through : (h : Underway) (xs : List Exported) → HandedOn (h .left) xs → carriedThrough h xs .left ≡ leftAfter (h .left) xs
-unfolding carriedThrough HandedOn leftAfter
-left-through h [] c = refl
-left-through h (x ∷ xs) c =
-    let e = left-last h x (c .0) in
-    left-through (carriedOn h x) xs (rw e (c .2)) ∙ ap (λ i. leftAfter i xs) e
 
 -- From any accepted image i, loaded or left by whatever calls: exported calls of which the first is given i and each other the image that the one before it
 -- left, none a reset, and of which the done ones are a sweep. Then all of it holds from the device in i to the one in the image left last.
