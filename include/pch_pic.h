@@ -31,7 +31,8 @@
  *               oldest first, 16 in all, unused ones 0
  *
  * THE ANSWER. Each call hands back a number: 0 where it was done, else why it was refused. The number and the value, where there is one, are
- * also written to the answer area. It has at least 16 bytes; the first 16 are written, and those past them stay:
+ * also written to the answer area. It has at least 16 bytes; the first 16 are written, and those past them stay. (pch_pic_difference alone is lent
+ * nothing, refuses nothing and hands back a difference.)
  *
  *     byte 0        the number
  *     byte 1        1 if a value is present, else 0

@@ -231,7 +231,8 @@ static void a_restore(const char *path)
         expect("the device is saved", pic_save(&old.pic, (enum pic_form)form, path) == PCH_PIC_DONE);
         start(&fresh);
         expect("and loaded", pic_load(&fresh.pic, path, NULL) == PCH_PIC_DONE);
-        expect("whole, but for numbers", pic_image(&old.pic, PIC_FORM_1, saved) == 259 && pic_image(&fresh.pic, PIC_FORM_1, again) == 259 && memcmp(saved, again, 259) == 0);
+        expect("whole, but for numbers", pic_image(&old.pic, PIC_FORM_1, saved) == 259 && pic_image(&fresh.pic, PIC_FORM_1, again) == 259 &&
+                                             memcmp(saved, again, 259) == 0);
         expect("which forms 1 and 2 lose", pic_next(&fresh.pic) == (form == PIC_FORM_NUMBERED ? 3 : 1));
     }
     expect("whole, with numbers", memcmp(old.pic.image, fresh.pic.image, sizeof old.pic.image) == 0);
@@ -390,13 +391,15 @@ static void forms(const char *path)
     expect("form 1 has 259 bytes and form 2 has 251", pic_image(&host.pic, PIC_FORM_1, one) == 259 && pic_image(&host.pic, PIC_FORM_2, two) == 251);
     expect("with numbers it has 290", pic_image(&host.pic, PIC_FORM_NUMBERED, numbered) == 290 && memcmp(numbered, host.pic.image, 290) == 0);
     expect("each says which it is", one[PCH_PIC_IMAGE_FORM] == 1 && two[PCH_PIC_IMAGE_FORM] == 2 && two[PCH_PIC_IMAGE_BODIES] == 4);
-    expect("numbers are a fifth body of form 2", numbered[PCH_PIC_IMAGE_FORM] == 2 && numbered[PCH_PIC_IMAGE_BODIES] == 5 && memcmp(numbered + 27, two + 22, 229) == 0);
+    expect("numbers are a fifth body of form 2", numbered[PCH_PIC_IMAGE_FORM] == 2 && numbered[PCH_PIC_IMAGE_BODIES] == 5 &&
+                                                     memcmp(numbered + 27, two + 22, 229) == 0);
     expect("there is no other", pic_image(&host.pic, (enum pic_form)4, again) == 0 && pic_image(&host.pic, (enum pic_form)0, again) == 0);
     pic_init(&other, BASE);
     expect("form 1 is taken", pic_take(&other, one, 259, &place) == PCH_PIC_DONE && memcmp(other.image, host.pic.image, 256) == 0);
     expect("and its numbers begin anew", pic_next(&host.pic) == 1 && pic_next(&other) == 0);
     expect("and given back with the same bytes", pic_image(&other, PIC_FORM_1, again) == 259 && memcmp(again, one, 259) == 0 && place == 0);
-    expect("so is form 2", pic_take(&other, two, 251, &place) == PCH_PIC_DONE && pic_image(&other, PIC_FORM_2, again) == 251 && memcmp(again, two, 251) == 0);
+    expect("so is form 2", pic_take(&other, two, 251, &place) == PCH_PIC_DONE && pic_image(&other, PIC_FORM_2, again) == 251 &&
+                               memcmp(again, two, 251) == 0);
     expect("and numbers", pic_take(&other, numbered, 290, &place) == PCH_PIC_DONE && memcmp(other.image, host.pic.image, 290) == 0);
     expect("lengths between them are refused", pic_take(&other, one, 258, &place) == PCH_PIC_LENGTH && pic_take(&other, one, 252, NULL) == PCH_PIC_LENGTH &&
                                                    pic_take(&other, numbered, 289, NULL) == PCH_PIC_LENGTH);

@@ -184,7 +184,8 @@ static void numbered(void)
     expect("a masked input makes no event", n == 0 && answers(0, 0, 0) && number_at(256, 0));
     guard();
     n = pch_pic_write(image, NUMBERED, 0, 0x400, 0x20, 4, 0xffffffdf, answer, ANSWER);
-    expect("the event of an unmask waits with number 0", n == 0 && answers(0, 1, 0) && image[219] == 1 && image[224] == 5 && number_at(256, 1) && number_at(258, 0));
+    expect("the event of an unmask waits with number 0",
+           n == 0 && answers(0, 1, 0) && image[219] == 1 && image[224] == 5 && number_at(256, 1) && number_at(258, 0));
     guard();
     n = pch_pic_level(image, NUMBERED, 5, 0, answer, ANSWER);
     expect("the event that is returned has number 1, in bits 16 to 31", n == 0 && answers(0, 1, 0x10005) && number_at(256, 2));
@@ -218,7 +219,8 @@ static void numbered(void)
     expect("seventeen are raised, numbers 1 to 17", same);
     guard();
     n = pch_pic_write(image, NUMBERED, 0, 0x400, 0x20, 4, 0xffffffff, answer, ANSWER);
-    expect("masked at once, one event is dropped, and it has a number too", n == 0 && answers(0, 1, 1) && image[219] == 16 && image[220] == 1 && number_at(256, 35));
+    expect("masked at once, one event is dropped, and it has a number too",
+           n == 0 && answers(0, 1, 1) && image[219] == 16 && image[220] == 1 && number_at(256, 35));
     expect("18 to 33 wait", number_at(258, 18) && number_at(288, 33));
     guard();
     n = pch_pic_level(image, NUMBERED, 16, 1, answer, ANSWER);
@@ -234,7 +236,8 @@ static void numbered(void)
     expect("to 251 the numbers are lost and nothing else", n == 0 && answers(0, 0, 0) && other[1] == 4 && memcmp(other + 22, image + 27, 229) == 0);
     guard();
     n = pch_pic_convert(other, IMAGE2, image, NUMBERED, answer, ANSWER);
-    expect("back they begin with 0", n == 0 && answers(0, 0, 0) && number_at(256, 16) && number_at(258, 0) && number_at(288, 15) && memcmp(image, before, 256) == 0);
+    expect("back they begin with 0",
+           n == 0 && answers(0, 0, 0) && number_at(256, 16) && number_at(258, 0) && number_at(288, 15) && memcmp(image, before, 256) == 0);
     guard();
     n = pch_pic_convert(before, NUMBERED, other, IMAGE, answer, ANSWER);
     expect("to 259 too", n == 0 && answers(0, 0, 0) && other[0] == 1 && memcmp(other + 54, before + 51, 205) == 0);

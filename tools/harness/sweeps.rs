@@ -203,7 +203,9 @@ fn one_of_each(k: u64) -> Call {
 /// Every byte of an image takes every value, over every state in all forms: accepted or refused as the rules say.
 fn damages(bench: &mut Bench, chance: &mut Chance, states: &[Image]) {
     for (k, (form, state)) in in_all(states, chance).iter().enumerate() {
-        for at in 0..form.length {
+        // The bodies of form 2 are those of form 1, where each damage is tried in form 2 as well.
+        let damaged = if *form == TWO { form.contents.len() } else { form.length };
+        for at in 0..damaged {
             for value in 0..=255 {
                 let mut damaged = state.clone();
                 damaged[at] = value;
