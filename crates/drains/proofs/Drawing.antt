@@ -10,14 +10,14 @@ use borrow.Author.Tests.{leb-true, leb-false}
 use borrow.Rule.Slice.PartMut.{putMid}
 use Rattle.rules.specs.Ring.{Event, drawn}
 use Rattle.rules.specs.Device.{Device, withRing}
-use Rattle.rules.specs.Numbering.{Numbers, withNumbers, quadsOf}
+use Rattle.rules.specs.Numbering.{Numbers, withNumbers, quadsOf, fewer}
 use Rattle.rules.specs.Form.{Form, count, place, formLength}
 use Rattle.rules.specs.Image.{countIn, numbersIn}
 use Rattle.rules.proofs.laws.Bits.{test}
 use Rattle.rules.proofs.laws.Saved.{count-stands}
 use Rattle.inplace.specs.Held.{Holds}
 use Rattle.inplace.proofs.Doing.{holds-as}
-use Rattle.shifts.specs.Shifted.{fewer, Shifts}
+use Rattle.shifts.specs.Shifted.{Shifts}
 use Rattle.drains.specs.Drained.{CopiesOut, Drains}
 
 -- ---- as many as wait or as are asked for

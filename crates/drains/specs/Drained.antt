@@ -5,7 +5,7 @@ use Prim.Native.Nat.{ℕ, _*_, _/_, _≤_}
 use lib.ListN.{length, take, drop}
 use Rattle.rules.specs.Ring.{Drawn, drawn}
 use Rattle.rules.specs.Device.{Device}
-use Rattle.rules.specs.Numbering.{Numbers, withNumbers, drainedLength, quadsOf}
+use Rattle.rules.specs.Numbering.{Numbers, withNumbers, drainedLength, quadsOf, fewer}
 use Rattle.rules.specs.Image.{numbersIn}
 use Rattle.inplace.specs.Held.{Holds, Does, withRing}
 
@@ -33,6 +33,6 @@ drew d entry = drawn (d .ring) (length entry / drainedLength)
 
 -- n events come out with their numbers in front of the buffer, and every other byte stays (02, C-19)
 pub record Drains (i j entry exit : List ℕ) (n : ℕ) : Type 0 where
-  pub does : Does i j n (λ d. withRing d (drew d entry .after)) (λ d s. record { next = s .next; waiting = drop (length entry / drainedLength) (s .waiting) }) (λ d. length (drew d entry .drained))
+  pub does : Does i j n (λ d. withRing d (drew d entry .after)) (λ d s. fewer s (length entry / drainedLength)) (λ d. length (drew d entry .drained))
   pub events : (d : Device) (s : Numbers) → Holds i d s
       → exit ≡ quadsOf (withNumbers (drew d entry .drained) (take (length entry / drainedLength) (numbersIn i .waiting))) ++ drop (drainedLength * n) entry

@@ -10,7 +10,7 @@ use types.Run.{OneOf}
 use denote.Enum.Declared.{tagOf}
 use Rattle.rules.specs.Form.{Word, Field, word, copy, irr, next, numbers, one, two, numbered, has, size, place, formLength}
 use Rattle.rules.specs.Form as rules-form
-use Rattle.rules.specs.Image.{registerAt, wordIn, numberedLength}
+use Rattle.rules.specs.Image.{registerAt, wordIn, numberBodyLength}
 use Rattle.rules.proofs.laws.Bits.{test}
 use Rattle.rules.proofs.laws.Layout.{never, always, has-all, field-fits}
 use Rattle.image.specs.Shown.{formView, placeIn, PlacesOf}
@@ -64,5 +64,5 @@ module _ (f : rules-form.Form) (l : List ℕ) (s : length l ≡ formLength f) (p
   copy-within = test (has f (word copy)) (field-within (word copy)) (λ h. omega (arith, o .copy h, field-within (word irr) (has-all f (word irr) refl)))
 
   -- and so does the body of the numbers
-  pub body-within : has f next ≡ true → has f numbers ≡ true → p .next + numberedLength ≤ length l
+  pub body-within : has f next ≡ true → has f numbers ≡ true → p .next + numberBodyLength ≤ length l
   body-within h k = omega (arith, o .fields next h, field-within numbers k, o .fields numbers k, behind-next f k)

@@ -121,7 +121,7 @@ pub const NUMBERS_LENGTH: usize = 32;
 
 pub const NUMBER: usize = 2;
 
-pub const NUMBERED_LENGTH: usize = 34;
+pub const NUMBER_BODY_LENGTH: usize = 34;
 
 // An event as it is drained: its pair, and then its number.
 pub const EVENT: usize = 4;

@@ -23,7 +23,7 @@ use Rattle.rules.proofs.laws.Images.{encode-same}
 use Rattle.rules.proofs.laws.Outcomes.{call-refused, call-done, no-events, input-refused, input-passed}
 use Rattle.inplace.specs.Held.{Returns}
 use Rattle.inplace.proofs.Doing.{same-numbers}
-use Rattle.inputs.specs.Returned.{withNumber, takenFor, TakesNumber}
+use Rattle.inputs.specs.Returned.{valueNumbered, takenFor, TakesNumber}
 use Rattle.service.specs.Offered.{levelMove}
 use Rattle.refusals.proofs.Ends.{Passed, long, here}
 
@@ -31,7 +31,7 @@ use Rattle.refusals.proofs.Ends.{Passed, long, here}
 
 pub record OneEvent (ms : List Made) : Type 0 where
   pub taken : (s : Numbers) → takesAll s ms ≡ takenFor (returned ms) s
-  pub told : (s : Numbers) → returnedWith s ms ≡ withNumber (s .next) (returned ms)
+  pub told : (s : Numbers) → returnedWith s ms ≡ valueNumbered (s .next) (returned ms)
   pub quiet : offers ms ≡ []
 
 none-made : OneEvent []
@@ -87,7 +87,7 @@ module _ {f : Form} {i : List ℕ} (p : Passed f i) (n : ℕ) where
         (t .becomes _ s first .image ∙ encode-same k i still _ _)
         (sym (step-acted d c none-drawn ∙ ap (acted d) acts))
         (ap (λ y. takenFor y s) vector ∙ sym (its .taken s) ∙ ap (takesAll s) acted-so ∙ sym (undrained d s c no-room))
-        (t .gives _ s first ∙ (λ u. withNumber (next u) (vector u)) ∙ sym (its .told s) ∙ ap (returnedWith s) acted-so ∙ sym val) events
+        (t .gives _ s first ∙ (λ u. valueNumbered (next u) (vector u)) ∙ sym (its .told s) ∙ ap (returnedWith s) acted-so ∙ sym val) events
 
     pub level-done : (lv : ℕ) → Returns i j v (levelMove n (not (eqb lv 0))) → record { number = 0; value = w; image = k; events = [] } ≡ ending (asked.level n lv) i
     unfolding actsOf valueWith

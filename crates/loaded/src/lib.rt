@@ -137,7 +137,7 @@ pub fn load_numbers(image: &[u8], form: Form) -> [u8; 34]
         return counted(image[place] as usize);
     };
     let at = p.next;
-    let end = at + form::NUMBERED_LENGTH;
+    let end = at + form::NUMBER_BODY_LENGTH;
     let mut body = [0u8; 34];
     copy(&mut body, &image[at..end]);
     body

@@ -2,10 +2,10 @@
 use mathlib.Core.Path.{_≡_}
 use mathlib.Core.Bool.{Bool, true, cond, _&&_}
 use mathlib.Core.List.{List, [], _∷_, _++_, map}
-use Prim.Native.Nat.{ℕ, zero, suc, _+_, _*_, _/_, _%_, _^_, _<_}
+use Prim.Native.Nat.{ℕ, zero, suc, _+_, _*_, _%_, _^_, _<_}
 use lib.Dec.{eqb, ltb}
 use lib.ListN.{length, take, drop, getD}
-use Rattle.rules.specs.Numbers.{Twos, bytesOf}
+use Rattle.rules.specs.Numbers.{Twos, numberOf, bytesOf}
 use Rattle.rules.specs.Lines.{Made}
 use Rattle.rules.specs.Ring.{capacity, flag, Event}
 use Rattle.rules.specs.Device.{Device, Call, level, poll, read, write, drain, Value, none, some, step, value, upFrom}
@@ -44,14 +44,18 @@ unfoldable pub takesAll : Numbers → List Made → Numbers
 takesAll s [] = s
 takesAll s (m ∷ ms) = takesAll (takes s (m .offered)) ms
 
--- the vector of the event that was returned, with its number in bits 16 to 31, if there is one (02, C-19)
+-- a vector with a number in bits 16 to 31 (02, C-19)
+abbrev pub withNumber : ℕ → ℕ → ℕ
+withNumber n v = v + 2 ^ 16 * n
+
+-- the vector of the event that was returned, with its number, if there is one (02, C-19)
 abbrev pub returnedWith : Numbers → List Made → Value
 returnedWith s [] = none
-returnedWith s (m ∷ ms) = cond (m .offered) (returnedWith (takes s (m .offered)) ms) (some (m .vector + 2 ^ 16 * s .next))
+returnedWith s (m ∷ ms) = cond (m .offered) (returnedWith (takes s (m .offered)) ms) (some (withNumber (s .next) (m .vector)))
 
 -- ---- events drained
 
--- an event as it is drained
+-- an event with its number, as it is drained (02, C-19)
 pub record Numbered : Type 0 where
   pub event : Event
   pub number : ℕ
@@ -77,7 +81,7 @@ quadsIn (suc n) [] = []
 quadsIn (suc n) (v ∷ []) = []
 quadsIn (suc n) (v ∷ f ∷ []) = []
 quadsIn (suc n) (v ∷ f ∷ a ∷ []) = []
-quadsIn (suc n) (v ∷ f ∷ a ∷ b ∷ l) = record { event = record { vector = v; asserted = eqb f 1 }; number = a + 256 * b } ∷ quadsIn n l
+quadsIn (suc n) (v ∷ f ∷ a ∷ b ∷ l) = record { event = record { vector = v; asserted = eqb f 1 }; number = numberOf (a ∷ b ∷ []) } ∷ quadsIn n l
 
 -- events without their numbers
 abbrev pub eventsIn : List Numbered → List Event
@@ -85,7 +89,7 @@ eventsIn xs = map (λ x. x .event) xs
 
 -- a number has two bytes in an image too
 abbrev pub numberTwos : Twos ℕ
-numberTwos = record { low = λ n. n % 256; high = λ n. n / 256 % 256; made = λ a b. a + 256 * b }
+numberTwos = record { low = λ n. getD (bytesOf 2 n) 0 0; high = λ n. getD (bytesOf 2 n) 1 0; made = λ a b. numberOf (a ∷ b ∷ []) }
 
 -- ---- a call
 
@@ -97,11 +101,13 @@ roomOf (read w o) = 0
 roomOf (write w o v) = 0
 roomOf (drain k) = k
 
+-- a drain takes the oldest k away
+abbrev pub fewer : Numbers → ℕ → Numbers
+fewer s k = record { next = s .next; waiting = drop k (s .waiting) }
+
 -- the numbers after a call: its events take theirs, and then its drain takes away as many as it has room for
 unfoldable pub numbersAfter : Device → Numbers → Call → Numbers
-numbersAfter d s c =
-    let t = takesAll s (step d c .made) in
-    record { next = t .next; waiting = drop (roomOf c) (t .waiting) }
+numbersAfter d s c = fewer (takesAll s (step d c .made)) (roomOf c)
 
 -- the events that it drains, each with its number
 unfoldable pub drainedWith : Device → Numbers → Call → List Numbered

@@ -12,7 +12,7 @@ use Rattle.rules.specs.Numbers.{bytesOf, part}
 use Rattle.rules.specs.Device.{Device}
 use Rattle.rules.specs.Numbering.{Numbers}
 use Rattle.rules.specs.Form.{Field, word, copy, irr, next, numbers, Form, one, two, numbered, is, listed, has, size, place, formLength, contentsLength, contentsOf, read}
-use Rattle.rules.specs.Image.{fieldOf, encodeAs, registerAt, numberBody, numberedLength}
+use Rattle.rules.specs.Image.{fieldOf, encodeAs, registerAt, numberBody, numberBodyLength}
 use Rattle.rules.proofs.laws.Lists.{length-part, part-add}
 use Rattle.rules.proofs.laws.Bytes.{length-bytesOf, part-number}
 use Rattle.rules.proofs.laws.Bits.{test}
@@ -144,8 +144,8 @@ module _ (f : Form) (d : Device) (s : Numbers) where
       neither p k = rw (other numbers p h k, other next p (lacks-both f h) k)
 
   -- else the body's bytes are those of both fields
-  pub puts-numbers : {l m body : List ℕ} (a : ℕ) → length l ≡ formLength f → has f next ≡ true → has f numbers ≡ true → a ≡ place f next → length body ≡ numberedLength
-      → numberBody s ≡ body → m ≡ putMid a (a + numberedLength - a) l body → Puts f d s (numbers ∷ next ∷ []) l m
+  pub puts-numbers : {l m body : List ℕ} (a : ℕ) → length l ≡ formLength f → has f next ≡ true → has f numbers ≡ true → a ≡ place f next → length body ≡ numberBodyLength
+      → numberBody s ≡ body → m ≡ putMid a (a + numberBodyLength - a) l body → Puts f d s (numbers ∷ next ∷ []) l m
   unfolding numberBody
   puts-numbers {l} {m} {body} a e t h w z y g =
       let u = fieldOf d s next in
@@ -156,7 +156,7 @@ module _ (f : Form) (d : Device) (s : Numbers) where
       let second = puts-one f d s (putMid (place f next) (size next) l u) numbers (first .size ∙ e) h fits in
       let whole : putMid (place f numbers) (size numbers) (putMid (place f next) (size next) l u) v ≡ m =
       ap (λ b. putMid b (size numbers) (putMid (place f next) (size next) l u) v) (sym (behind-next f h)) ∙ put-two l u v (place f next) (size next) (size numbers) room refl
-      ∙ (λ i. putMid (sym w i) numberedLength l (y i)) ∙ sym (g ∙ whole-put a numberedLength l body)
+      ∙ (λ i. putMid (sym w i) numberBodyLength l (y i)) ∙ sym (g ∙ whole-put a numberBodyLength l body)
       in
       subst (λ x. Puts f d s (numbers ∷ next ∷ []) l x) whole (puts-then f d s first second)
 

@@ -89,7 +89,7 @@ fn save_numbers(image: &mut [u8], form: Form, body: &[u8; 34])
     };
     let p = places_of(form);
     let at = p.next;
-    let end = at + form::NUMBERED_LENGTH;
+    let end = at + form::NUMBER_BODY_LENGTH;
     copy(&mut image[at..end], body);
 }
 

@@ -11,7 +11,7 @@ use borrow.Rule.Slice.PartMut.{putMid}
 use Rattle.rules.specs.Numbers.{part}
 use Rattle.rules.specs.Ring.{Event, capacity, eventTwos, drawn}
 use Rattle.rules.specs.Device.{Device, withRing}
-use Rattle.rules.specs.Numbering.{Numbers, numberTwos}
+use Rattle.rules.specs.Numbering.{Numbers, numberTwos, fewer}
 use Rattle.rules.specs.Form.{Form, Field, count, pairs, numbers, is, has, size, place, formLength, read, image}
 use Rattle.rules.specs.Image.{sixteen, fieldOf}
 use Rattle.rules.proofs.laws.Bits.{test}
@@ -23,7 +23,7 @@ use Rattle.rules.proofs.laws.Numbered.{fits, fitting, drawn-fit}
 use Rattle.rules.proofs.laws.Steps.{drain-well}
 use Rattle.inplace.specs.Held.{Holds}
 use Rattle.inplace.proofs.Doing.{holds-as, as-holds}
-use Rattle.shifts.specs.Shifted.{Unused, shifted, Leaves, NumbersLeave, fewer, Shifts}
+use Rattle.shifts.specs.Shifted.{Unused, shifted, Leaves, NumbersLeave, Shifts}
 use Rattle.shifts.proofs.Moving.{sixteen-spare, sixteen-shifted}
 
 -- ---- one field replaced

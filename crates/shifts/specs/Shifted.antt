@@ -7,7 +7,7 @@ use lib.ListN.{length, drop, getD, replicate}
 use borrow.Rule.Slice.PartMut.{putMid}
 use Rattle.rules.specs.Ring.{drawn}
 use Rattle.rules.specs.Device.{Device}
-use Rattle.rules.specs.Numbering.{Numbers}
+use Rattle.rules.specs.Numbering.{Numbers, fewer}
 use Rattle.rules.specs.Form.{Form, numbers, has, size, place, read}
 use Rattle.inplace.specs.Held.{Holds, withRing}
 
@@ -26,10 +26,6 @@ Leaves before after m n = Unused before m → after ≡ shifted before n
 pub record NumbersLeave (f : Form) (i j : List ℕ) (m n : ℕ) : Type 0 where
   pub there : has f numbers ≡ true → Unused (read f i numbers) m → j ≡ putMid (place f numbers) (size numbers) i (shifted (read f i numbers) n)
   pub without : has f numbers ≡ false → j ≡ i
-
--- the numbers of the events past the first n
-abbrev pub fewer : Numbers → ℕ → Numbers
-fewer s n = record { next = s .next; waiting = drop n (s .waiting) }
 
 -- of m events that wait the first n no longer do
 abbrev pub Shifts : (i j : List ℕ) (m n : ℕ) → Type 0

@@ -8,7 +8,7 @@ use Rattle.rules.specs.Form.{Form}
 use Rattle.rules.specs.Ring.{Event, Drawn, drawn}
 use Rattle.rules.specs.Device.{some, step, value}
 use Rattle.rules.specs.Device as device
-use Rattle.rules.specs.Numbering.{Numbered, withNumbers, drainedLength, quadsOf, drainedWith, valueWith}
+use Rattle.rules.specs.Numbering.{Numbered, withNumbers, drainedLength, quadsOf, fewer, drainedWith, valueWith}
 use Rattle.rules.specs.Image.{encodeLike, decode, numbersIn}
 use Rattle.rules.specs.Calls.{pass, written, ending}
 use Rattle.rules.specs.Calls as asked
@@ -57,8 +57,8 @@ module _ {f : Form} {i : List ℕ} (p : Passed f i) (entry : List ℕ) {n : ℕ}
   pub drain-done : record { number = 0; value = some n; image = j; events = exit } ≡ ending (asked.drain entry 0) i
   unfolding value valueWith
   drain-done =
-      call-done (asked.drain entry 0) i _ refl (p .good) (device.drain room) refl (withRing (decode i) (drew .after)) (record { next = numbersIn i .next; waiting = drop room (numbersIn i .waiting) }) (some n) j exit
+      call-done (asked.drain entry 0) i _ refl (p .good) (device.drain room) refl (withRing (decode i) (drew .after)) (fewer (numbersIn i) room) (some n) j exit
       (d .does .becomes (decode i) (numbersIn i) (here p) .image ∙ encode-same j i s _ _
-      ∙ ap (λ (k : ℕ). encodeLike i (withRing (decode i) (drawn (decode i .ring) k .after)) (record { next = numbersIn i .next; waiting = drop k (numbersIn i .waiting) })) same-room)
+      ∙ ap (λ (k : ℕ). encodeLike i (withRing (decode i) (drawn (decode i .ring) k .after)) (fewer (numbersIn i) k)) same-room)
       (sym (drain-device (decode i) room)) (sym (drain-numbers (decode i) (numbersIn i) room))
       (ap some (count ∙ sym (ap length (drain-drained (decode i) room)))) written-out

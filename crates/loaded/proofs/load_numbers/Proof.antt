@@ -10,7 +10,7 @@ use Rattle.rules.specs.Numbers.{part, Bytes}
 use Rattle.rules.specs.Ring.{capacity}
 use Rattle.rules.specs.Numbering.{fromZero}
 use Rattle.rules.specs.Form.{count, next, numbers, numbered, has, place, formLength}
-use Rattle.rules.specs.Image.{fieldOf, decodeAs, numbersAs, accepted, imageTest, testAs, numberBody, numberedLength}
+use Rattle.rules.specs.Image.{fieldOf, decodeAs, numbersAs, accepted, imageTest, testAs, numberBody, numberBodyLength}
 use Rattle.rules.proofs.laws.Layout.{read-run}
 use Rattle.rules.proofs.laws.Tests.{accepted-has, known-length}
 use Rattle.rules.proofs.laws.Saved.{numbers-not-there, encode-decode, decode-well, numbers-well, fields-sized}
@@ -23,20 +23,20 @@ use Rattle.loaded.proofs.load_numbers.Statement.{statement}
 use Rattle.loaded.proofs.load_numbers.Tie as tie
 
 -- the body of an accepted image is that of its numbers
-body-read : (l : List ℕ) → Bytes l → testAs numbered l ≡ accepted → part (place numbered next) numberedLength l ≡ numberBody (numbersAs numbered l)
+body-read : (l : List ℕ) → Bytes l → testAs numbered l ≡ accepted → part (place numbered next) numberBodyLength l ≡ numberBody (numbersAs numbered l)
 unfolding numberBody
 body-read l b e =
     let a = accepted-has numbered l e in
     let d = decodeAs numbered l in
     let s = numbersAs numbered l in
-    ap (part (place numbered next) numberedLength) (sym (encode-decode numbered l b a))
+    ap (part (place numbered next) numberBodyLength) (sym (encode-decode numbered l b a))
     ∙ read-run numbered (fieldOf d s) (fields-sized d (decode-well numbered l b a) s (numbers-well numbered l b a)) next 2
 
 module _ (l : List ℕ) (b : Bytes l) (x : Form) (s : length l ≡ formLength (formView x)) (p : Places) (o : PlacesOf (formView x) p) (t : imageTest l ≡ accepted) where
-  there : x ≡ Numbered → (r : List ℕ) → r ≡ part (p .next) (p .next + numberedLength - p .next) l → r ≡ numberBody (numbersAs (formView x) l)
+  there : x ≡ Numbered → (r : List ℕ) → r ≡ part (p .next) (p .next + numberBodyLength - p .next) l → r ≡ numberBody (numbersAs (formView x) l)
   there e r q =
       let f = formView x in
-      let w : p .next + numberedLength - p .next ≡ numberedLength = omega arith in
+      let w : p .next + numberBodyLength - p .next ≡ numberBodyLength = omega arith in
       let is : f ≡ numbered = ap formView e in
       q ∙ (λ i. part ((o .fields next (has-next x e) ∙ ap (λ g. place g next) is) i) (w i) l)
       ∙ body-read l b (ap (λ g. testAs g l) (sym is) ∙ sym (known-length f l s) ∙ t) ∙ ap (λ g. numberBody (numbersAs g l)) (sym is)
@@ -68,7 +68,7 @@ returns-2 c t =
 counts : (c : tie.After-places-of) → c .places-of .result .count + 1 ≤ length (c .before .before .args .image .now)
 counts c = let s = c .before .before in always-within (formView (s .args .form)) (s .args .image .now) (s .pre .0) (c .places-of .result) (c .places-of .ensures) count refl
 
-within : (c : tie.After-enum-told) → c .before .before .places-of .result .next + numberedLength ≤ length (c .before .before .before .before .args .image .now)
+within : (c : tie.After-enum-told) → c .before .before .places-of .result .next + numberBodyLength ≤ length (c .before .before .before .before .args .image .now)
 within c =
     let p = c .before .before in
     let s = p .before .before in

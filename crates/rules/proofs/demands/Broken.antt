@@ -145,17 +145,6 @@ Why f manyWait l a = ManyWait f l a
 Why f badFlag l a = BadFlag f l a
 Why f unusedSet l a = UnusedSet f l a
 
--- the places in form 1, and in form 2, which has no copy (02, C-17)
-pub places : (place one (word copy) ≡ 46) × (place one count ≡ 222) × (place one pairs ≡ 227)
-places = (refl, refl, refl)
-
-pub places-two : (has two (word copy) ≡ false) × (place two count ≡ 214) × (place two pairs ≡ 219)
-places-two = (refl, refl, refl)
-
--- and in form 2 with numbers (02, C-19)
-pub places-numbered : (has numbered (word copy) ≡ false) × (place numbered count ≡ 219) × (place numbered pairs ≡ 224) × (place numbered numbers ≡ 258)
-places-numbered = (refl, refl, refl, refl)
-
 -- its length and its contents are right too: those of its form
 pub record Broken (l : List ℕ) (k : Fault) (a : ℕ) : Type 0 where
   pub form : Form

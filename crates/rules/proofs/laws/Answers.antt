@@ -48,7 +48,7 @@ length-quadsOf (x ∷ xs) = omega (arith, length-quadsOf xs)
 quads-back : (xs : List Numbered) (rest : List ℕ) → Each (λ x. x .number < 2 ^ 16) xs → quadsIn (length xs) (quadsOf xs ++ rest) ≡ xs
 quads-back [] rest h = refl
 quads-back (x ∷ xs) rest h =
-    let same : x .number % 256 + 256 * (x .number / 256 % 256) ≡ x .number = omega (arith, h .0) in
+    let same = numberOf-bytesOf 2 (x .number) (h .0) in
     (λ i. record { event = record { vector = x .event .vector; asserted = flag-of (x .event .asserted) i }; number = same i } ∷ quads-back xs rest (h .1) i)
 
 events-back : (xs : List Numbered) (rest : List ℕ) → eventsIn (quadsIn (length xs) (quadsOf xs ++ rest)) ≡ eventsIn xs

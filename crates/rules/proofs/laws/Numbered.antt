@@ -12,7 +12,7 @@ use Rattle.rules.specs.Ring.{capacity, Event, Ring, RingAct, offer, Draw
 use Rattle.rules.specs.Device.{Device, Call, level, poll, read, write, drain, withRing, offers, draws, acted, actsOf, step}
 use Rattle.rules.specs.Core.{turns}
 use Rattle.rules.specs.Access.{Width}
-use Rattle.rules.specs.Numbering.{Numbers, WellNumbered, following, takes, takesAll, roomOf, numbersAfter}
+use Rattle.rules.specs.Numbering.{Numbers, WellNumbered, following, takes, takesAll, roomOf, fewer, numbersAfter}
 use Rattle.rules.proofs.laws.Bits.{test}
 
 -- numbers of 16 bits, n of them waiting: what WellNumbered says of a device's ring
@@ -79,7 +79,7 @@ takes-fit r s (m ∷ ms) v =
 each-drop : (k : ℕ) (ns : List ℕ) → ((i : ℕ) → getD ns i 0 < 2 ^ 16) → (i : ℕ) → getD (drop k ns) i 0 < 2 ^ 16
 each-drop k ns e i = rw (getD-drop k ns i 0) (e (k + i))
 
-pub drawn-fit : (r : Ring) {s : Numbers} (k : ℕ) → Fits s (length (r .waiting)) → Fits (record { next = s .next; waiting = drop k (s .waiting) }) (length (drawn r k .after .waiting))
+pub drawn-fit : (r : Ring) {s : Numbers} (k : ℕ) → Fits s (length (r .waiting)) → Fits (fewer s k) (length (drawn r k .after .waiting))
 unfolding drawn
 drawn-fit r {s} k v = record { next = v .next; each = each-drop k (s .waiting) (v .each); waiting = length-drop k (s .waiting) ∙ ap (λ n. n - k) (v .waiting) ∙ sym (length-drop k (r .waiting)) }
 
@@ -100,12 +100,12 @@ numbers-step d s c v = fitting (go c (takes-fit (d .ring) s (turns (d .core) (ac
 
 pub undrained : (d : Device) (s : Numbers) (c : Call) → roomOf c ≡ 0 → numbersAfter d s c ≡ takesAll s (step d c .made)
 unfolding numbersAfter
-undrained d s c e = ap (λ k. record { next = takesAll s (step d c .made) .next; waiting = drop k (takesAll s (step d c .made) .waiting) }) e
+undrained d s c e = ap (fewer (takesAll s (step d c .made))) e
 
 pub read-numbers : (d : Device) (s : Numbers) (w : Width) (o : ℕ) → numbersAfter d s (read w o) ≡ s
 unfolding step actsOf turns takesAll
 read-numbers d s w o = undrained d s (read w o) refl
 
-pub drain-numbers : (d : Device) (s : Numbers) (k : ℕ) → numbersAfter d s (drain k) ≡ record { next = s .next; waiting = drop k (s .waiting) }
+pub drain-numbers : (d : Device) (s : Numbers) (k : ℕ) → numbersAfter d s (drain k) ≡ fewer s k
 unfolding numbersAfter step actsOf turns takesAll
 drain-numbers d s k = refl

@@ -5,7 +5,7 @@ use native.Mathlib.Omega.{arith}
 use borrow.Author.Needs.{needs}
 use lib.ListN.{length}
 use Rattle.rules.specs.Form.{next}
-use Rattle.rules.specs.Image.{numberedLength}
+use Rattle.rules.specs.Image.{numberBodyLength}
 use Rattle.image.specs.Shown.{formView}
 use Rattle.image.proofs.Forms.{has-numbers, has-next, no-numbers, body-within}
 use Rattle.saved.proofs.Putting.{puts-none, puts-numbers}
@@ -27,7 +27,7 @@ returns-2 c d ns e =
     puts-numbers (formView (s .args .form)) d ns (p .places-of .result .next) (s .pre) there (has-numbers (s .args .form) (told .enum-told .given .1))
     (p .places-of .ensures .fields next there) (ap length (copied .copy .ensures) ∙ search needs) (e ∙ sym (copied .copy .ensures)) refl
 
-within : (c : tie.After-places-of) → c .places-of .result .next + numberedLength ≤ length (c .before .before .before .before .args .image .now)
+within : (c : tie.After-places-of) → c .places-of .result .next + numberBodyLength ≤ length (c .before .before .before .before .args .image .now)
 within c =
     let s = c .before .before .before .before in
     let told = c .before .enum-told .given .1 in
