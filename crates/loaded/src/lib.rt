@@ -5,7 +5,6 @@ use bytes::word_at;
 use image::form;
 use image::form::Form;
 use image::form::places_of;
-use numbers::from_zero;
 use pairs::ring_of;
 use state::Lines;
 use state::PchPicState;
@@ -112,17 +111,19 @@ fn load_vectors(image: &[u8], form: Form) -> [u8; 64]
     }
 }
 
-// The numbers of an image that has none: the waiting events have those from 0 on, and the next is how many wait.
+// The numbers of an image that has none: the waiting events have those from 0 on, and the next is how many wait. Stored one by one: a copy of so many bytes would be
+// a call of memcpy.
 fn counted(count: usize) -> [u8; 34]
     requires { ⌜ count ≤ capacity ⌝ }
     ensures { λ r. ⌜ r ≡ numberBody (fromZero count) ⌝ }
 {
     let mut body = [0u8; 34];
     body[0] = count as u8;
-    let first = from_zero();
-    let used = form::NUMBER * count;
-    let end = form::NEXT_LENGTH + used;
-    copy(&mut body[form::NEXT_LENGTH..end], &first[0..used]);
+    let mut i = 0;
+    while i < count {
+        body[form::NEXT_LENGTH + form::NUMBER * i] = i as u8;
+        i += 1;
+    }
     body
 }
 

@@ -7,7 +7,7 @@ use core::fmt;
 
 /// A LoongArch PCH-PIC.
 ///
-/// It owns its image, so a clone is a snapshot, and devices are equal just where every later call answers alike, the numbers of events too. It is `Send`
+/// It owns its image, so a clone is a snapshot, and devices are equal just where their images are, numbers of events and drop count included. It is `Send`
 /// and `Sync`: reads of one device may run side by side, since they only load from its image; all else takes `&mut`.
 ///
 /// ```

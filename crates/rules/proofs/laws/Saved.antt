@@ -37,7 +37,7 @@ numbers-there f l h = rw h
 pub numbers-not-there : (f : Form) (l : List ℕ) → has f numbers ≡ false → numbersAs f l ≡ fromZero (countIn f l)
 numbers-not-there f l h = rw h
 
-length-upFrom : (n k : ℕ) → length (upFrom n k) ≡ k
+pub length-upFrom : (n k : ℕ) → length (upFrom n k) ≡ k
 unfolding upFrom
 length-upFrom n zero = refl
 length-upFrom n (suc k) = ap suc (length-upFrom (suc n) k)

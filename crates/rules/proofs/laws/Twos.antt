@@ -161,7 +161,7 @@ module _ {A : Type 0} (t : Twos A) where
       ∙ ap (λ m. take (2 * n) l ++ m) (zeros (drop (2 * n) l) (λ i. getD-drop (2 * n) l i 0 ∙ z (2 * n + i) (omega arith))) ∙ take-append-drop (2 * n) l
 
   -- one thing more, over two of the bytes behind them
-  written-snoc : (xs : List A) (x : A) (rest : List ℕ) → written t (xs ++ (x ∷ [])) ++ rest ≡ written t xs ++ (t .low x ∷ t .high x ∷ rest)
+  pub written-snoc : (xs : List A) (x : A) (rest : List ℕ) → written t (xs ++ (x ∷ [])) ++ rest ≡ written t xs ++ (t .low x ∷ t .high x ∷ rest)
   written-snoc [] x rest = refl
   written-snoc (y ∷ xs) x rest = ap (λ l. t .low y ∷ t .high y ∷ l) (written-snoc xs x rest)
 
