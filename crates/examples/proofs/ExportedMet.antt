@@ -3,7 +3,7 @@
 use mathlib.Core.Path.{_≡_, refl, sym, ap, _∙_}
 use mathlib.Core.Bool.{Bool, true, false, not, _&&_, and-eq-true-iff}
 use mathlib.Core.List.{List, [], _∷_, _++_, map}
-use Prim.Native.Nat.{ℕ, _+_, _-_}
+use Prim.Native.Nat.{ℕ, _+_, _-_, _*_}
 use native.Mathlib.Omega.{arith}
 use lib.Dec.{lit<, lit≤}
 use lib.ListN.{length, take, drop, getD, replicate}
@@ -36,7 +36,7 @@ use Rattle.histories.proofs.demands.HandedBack.{account-from-load, drops-of-cal
 use Rattle.histories.proofs.demands.Losses.{losses-of-calls, losses-below-the-stop, losses-up-to-the-stop, losses-from-load}
 use Rattle.histories.proofs.demands.ClearedCalls.{cleared-polled-in-vain, cleared-asserts-had-waited}
 use Rattle.histories.proofs.demands.Copy.{copy-of-calls}
-use Rattle.histories.proofs.demands.Convert.{converted-answers-alike, converted-answers-alike-but-for-numbers}
+use Rattle.histories.proofs.demands.Convert.{numbers-within-each-call, converted-answers-alike, converted-answers-alike-but-for-numbers}
 use Rattle.histories.proofs.demands.ReadAlike.{converted-read-alike}
 use Rattle.rules.proofs.demands.Refused.{Unchanged, refused-changes-nothing}
 use Rattle.examples.proofs.PremisesMet.{all-admitted, all-spared, all-undisturbed, all-unraised, all-carried-alone, begun, seventeen}
@@ -120,6 +120,35 @@ left-accepted f cs = saved-is-accepted (fromReset cs .after) (left-well cs) (num
 
 begins : (f : Form) (cs : List Call) → Faithful (atLoad (imageOf f cs))
 begins f cs = faithful-at-load (imageOf f cs) (left-bytes f cs) (left-accepted f cs)
+
+-- ---- numbers within one call
+
+-- unmask all, raise 1, 2 and 3, which are returned, and mask them: three deasserts wait, and six events were made. Then 5 is raised, and then 6: both are returned
+abbrev threeWait : List Call
+threeWait = write dword 0x020 0 ∷ level 1 true ∷ level 2 true ∷ level 3 true ∷ write dword 0x020 0xe ∷ []
+
+abbrev raised : List Asking
+raised = record { asked = request.level 5 1; answer = replicate 16 0 } ∷ record { asked = request.level 6 1; answer = replicate 16 0 } ∷ []
+
+abbrev valueOf : Form → ℕ → ℕ
+valueOf f k = valueIn (leftBy (getD (madeOn (imageOf f threeWait) raised) k (record { given = []; asked = request.reset; answer = [] })) .answer)
+
+-- of 259 bytes, which keep no numbers, each has 3, the number after those that wait; of 290 bytes they have 6 and 7
+three-wait-without : (valueOf one 0 ≡ 5 + 3 * 65536) × (valueOf one 1 ≡ 6 + 3 * 65536)
+unfolding computing madeOn
+three-wait-without = (refl, refl)
+
+three-wait-with : (valueOf numbered 0 ≡ 5 + 6 * 65536) × (valueOf numbered 1 ≡ 6 + 7 * 65536)
+unfolding computing madeOn numbersThrough
+three-wait-with = (refl, refl)
+
+-- the theorem that says so: its premises are met, and three wait still
+three-wait-none : NoFifth (imageOf one threeWait)
+unfolding computing
+three-wait-none e = let z : _≡_ {A = ℕ} 259 290 = e in omega arith
+
+three-wait-left : let last = leftAfter (imageOf one threeWait) (madeOn (imageOf one threeWait) raised) in numbersIn last ≡ fromZero (length (decode last .ring .waiting))
+three-wait-left = numbers-within-each-call (imageOf one threeWait) (left-bytes one threeWait) (left-accepted one threeWait) three-wait-none raised
 
 -- ---- the account from a load
 

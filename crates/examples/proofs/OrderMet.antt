@@ -3,8 +3,10 @@
 use mathlib.Core.Path.{_≡_, refl, subst, _∙_}
 use mathlib.Core.Bool.{true, false, not, _&&_, _||_}
 use mathlib.Core.List.{List, [], _∷_}
-use Prim.Native.Nat.{ℕ}
+use mathlib.Core.Logic.{inl, inr}
+use Prim.Native.Nat.{ℕ, _<_, _≤_}
 use lib.Dec.{lit<, lit≤}
+use lib.IntN.{pos, negℤ}
 use lib.ListN.{length, replicate}
 use Rattle.rules.specs.Access.{dword}
 use Rattle.rules.specs.Device.{Device, WellFormed, Call, level, write, drain, withLines, upFrom, reset}
@@ -14,12 +16,15 @@ use Rattle.rules.specs.Image.{encodeAs, decode, numbersIn}
 use Rattle.rules.specs.Calls.{Request}
 use Rattle.rules.specs.Calls as request
 use Rattle.histories.specs.Exported.{Exported, leftBy, isDone, doneCalls, leftAfter}
-use Rattle.order.specs.Fates.{isDropped, placed, placedFrom, eventsMade, withFate}
+use Rattle.difference.specs.Difference.{differenceOf}
+use Rattle.order.specs.Fates.{Placed, isDropped, placed, placedFrom, eventsMade, withFate}
 use Rattle.order.specs.Numbered.{allFrom, waitingWith, someHas, InOrder}
+use Rattle.order.specs.MadeFirst.{MadeAfter, TellsFirst}
 use Rattle.order.specs.Read.{returnedRead, drainedRead}
 use Rattle.rules.proofs.laws.Computing.{computing}
 use Rattle.rules.proofs.demands.RoundTrip.{saved-is-bytes, saved-is-accepted, saved-and-loaded, numbers-saved, reset-can-be-saved}
 use Rattle.order.proofs.demands.OfCalls.{numbers-of-an-image, numbers-from-reset}
+use Rattle.order.proofs.demands.MadeFirst.{handed-back-was-made, sign-tells-first, few-are-near}
 use Rattle.examples.proofs.ExportedMet.{handedOn, handed-on}
 
 -- ---- an image with the next number 65,534
@@ -129,6 +134,33 @@ missing-numbers = met-as .missing refl (rw twenty (lit≤ tt))
 
 fifteen-missing : (someHas 15 (allFrom 65534 (eventsMade begun done)) && not (someHas 15 (returnedRead calls) || someHas 15 (drainedRead calls))) ≡ true
 fifteen-missing = missing-numbers 15 ∙ rw dropped-numbers
+
+-- ---- which was made first
+
+-- the deassert of 20, with 17, was made 19 places after its assert, with 65,534: the theorem says of both which events they are
+lowered-last : (before : List Placed) × MadeAfter 65534 (eventsMade begun done) before (eventOf 20 17)
+lowered-last =
+    handed-back-was-made begun nearEnd done (returnedRead calls) (drainedRead calls) (decode (leftAfter image calls)) (numbersIn (leftAfter image calls)) met-as refl (eventOf 20 17)
+    (inl (record { before = record { event = record { vector = 20; asserted = true }; number = 65534 } ∷ []; after = []; stands = returned-numbers }))
+
+drained-third : (before : List Placed) × MadeAfter 65534 (eventsMade begun done) before (eventOf 1 0)
+drained-third =
+    handed-back-was-made begun nearEnd done (returnedRead calls) (drainedRead calls) (decode (leftAfter image calls)) (numbersIn (leftAfter image calls)) met-as refl (eventOf 1 0)
+    (inr (record { before = eventOf 0 65535 ∷ []; after = eventOf 2 1 ∷ []; stands = drained-numbers }))
+
+in-their-order : TellsFirst (length (lowered-last .0)) (length (drained-third .0)) (differenceOf 17 0)
+in-their-order =
+    let few : length (eventsMade begun done) ≤ 32768 = rw twenty (lit≤ tt) in
+    sign-tells-first 65534 begun done (lowered-last .0) (drained-third .0) (eventOf 20 17) (eventOf 1 0) (lowered-last .1) (drained-third .1)
+    (few-are-near 65534 begun done (lowered-last .0) (drained-third .0) (eventOf 20 17) (eventOf 1 0) (lowered-last .1) (drained-third .1) few)
+
+-- so the event of 1, though its number is less than that of the raise of 20 and it was drained, was made before the deassert of 20
+first-of-both : length (drained-third .0) < length (lowered-last .0)
+first-of-both = in-their-order .positive .0 (record { lt = tt })
+
+-- and past 65,535 the difference counts on
+past-the-end : (differenceOf 17 65534 ≡ pos 19) × (differenceOf 65534 0 ≡ negℤ (pos 2))
+past-the-end = (refl, refl)
 
 -- ---- from a reset
 

@@ -61,12 +61,18 @@ withoutNumbers (request.level n v) a e = e
 withoutNumbers (request.poll n) a e = e
 withoutNumbers (request.drain buffer place) a e = take place e ++ quadsWithout (valueIn a) (drop place e)
 
--- of a done call; a refused one hands back no number of an event
+-- what a call left: of a done call; a refused one hands back no number of an event
+abbrev pub answerLeft : Request → Outcome → List ℕ
+answerLeft q o = cond (eqb (o .number) 0) (withoutNumber q (o .answer)) (o .answer)
+
+abbrev pub eventsLeft : Request → Outcome → List ℕ
+eventsLeft q o = cond (eqb (o .number) 0) (withoutNumbers q (o .answer) (o .events)) (o .events)
+
 abbrev pub answerWithout : Exported → List ℕ
-answerWithout x = cond (isDone x) (withoutNumber (x .asked) (leftBy x .answer)) (leftBy x .answer)
+answerWithout x = answerLeft (x .asked) (leftBy x)
 
 abbrev pub eventsWithout : Exported → List ℕ
-eventsWithout x = cond (isDone x) (withoutNumbers (x .asked) (leftBy x .answer) (leftBy x .events)) (leftBy x .events)
+eventsWithout x = eventsLeft (x .asked) (leftBy x)
 
 -- events as they are drained, each with 0 for its number
 abbrev pub unnumbered : List Event → List Numbered

@@ -2,3 +2,4 @@
 pub mod Made
 pub mod OfHistories
 pub mod OfCalls
+pub mod MadeFirst

@@ -2,3 +2,4 @@
 pub mod Fates
 pub mod Numbered
 pub mod Read
+pub mod MadeFirst

@@ -6,7 +6,6 @@ use mathlib.Core.Path.{_≡_, refl, sym, ap, subst, _∙_}
 use mathlib.Core.Bool.{Bool, true, false, cond, false≢true}
 use mathlib.Core.List.{List, [], _∷_}
 use Prim.Native.Nat.{ℕ}
-use lib.Dec.{eqb}
 use lib.ListN.{length}
 use Rattle.rules.specs.Numbers.{Bytes}
 use Rattle.rules.specs.Device.{Device, WellFormed, none, step, reset}
@@ -16,7 +15,7 @@ use Rattle.rules.specs.Image.{imageTest, accepted, encodeAs, encodeLike, decode
 use Rattle.rules.specs.Calls.{noRoom, refusalNumber, Tested, pass, refuse, onPass, imageAnswer, Request, Asked, afresh, calls, askedBy, Done, doneOn, resetAs, performed}
 use Rattle.rules.specs.Calls.{bufferOf, Outcome, leaves, ended, settled, hasRoom, outcome}
 use Rattle.rules.specs.Convert.{converted}
-use Rattle.histories.specs.Exported.{Exported, leftBy, isDone, withoutNumber, withoutNumbers, isReset, atLoad, leftAfter}
+use Rattle.histories.specs.Exported.{Exported, leftBy, isDone, answerLeft, eventsLeft, isReset, atLoad, leftAfter}
 use Rattle.histories.specs.Alike.{Asking, askedOf, madeOn, SameDevice, Alike, AlikeBut, NoFifth, AllAlike, AllAlikeBut}
 use Rattle.rules.proofs.laws.Bits.{test}
 use Rattle.rules.proofs.laws.Numbered.{numbers-step}
@@ -136,16 +135,10 @@ leaves-back q i j a true (refuse r) = record { number = refl; answer = refl; eve
 leaves-back q i j a false p = record { number = refl; answer = refl; events = refl }
 
 -- and with other numbers it is the same without them
-abbrev answerIn : Request → Outcome → List ℕ
-answerIn q o = cond (eqb (o .number) 0) (withoutNumber q (o .answer)) (o .answer)
-
-abbrev eventsIn : Request → Outcome → List ℕ
-eventsIn q o = cond (eqb (o .number) 0) (withoutNumbers q (o .answer) (o .events)) (o .events)
-
 record BackBut (q : Request) (x y : Outcome) : Type 0 where
   number : x .number ≡ y .number
-  answer : answerIn q x ≡ answerIn q y
-  events : eventsIn q x ≡ eventsIn q y
+  answer : answerLeft q x ≡ answerLeft q y
+  events : eventsLeft q x ≡ eventsLeft q y
 
 module _ (d : Device) (w : WellFormed d) (s t : Numbers) (v : WellNumbered d s) (u : WellNumbered d t) (q : Request) (i j a : List ℕ) where
   leaves-back-but : (room : Bool) → hasRoom q a ≡ room → (k : Asked) → askedBy q ≡ k
@@ -204,8 +197,8 @@ module _ (q : Asking) where
       let back = leaves-back-but d (h .well) s t (h .numbered) (k .numbered) (q .asked) i j (q .answer) room refl asks refl in
       record {
         number = ap (λ (o : Outcome). o .number) (left-on h) ∙ back .number ∙ sym (ap (λ (o : Outcome). o .number) (left-on k));
-        answer = ap (answerIn (q .asked)) (left-on h) ∙ back .answer ∙ sym (ap (answerIn (q .asked)) (left-on k));
-        events = ap (eventsIn (q .asked)) (left-on h) ∙ back .events ∙ sym (ap (eventsIn (q .asked)) (left-on k));
+        answer = ap (answerLeft (q .asked)) (left-on h) ∙ back .answer ∙ sym (ap (answerLeft (q .asked)) (left-on k));
+        events = ap (eventsLeft (q .asked)) (left-on h) ∙ back .events ∙ sym (ap (eventsLeft (q .asked)) (left-on k));
         images = same-device h k;
         whole = λ e. alike h (subst (λ n. Shows g d n j) (sym (k .loads) ∙ sym e ∙ h .loads) k);
       }
@@ -253,6 +246,27 @@ no-fifth : (f : Form) (i : List ℕ) → length i ≡ formLength f → NoFifth i
 no-fifth one i s n = refl
 no-fifth two i s n = refl
 no-fifth numbered i s n = absurd (n s)
+
+-- ---- without the fifth body
+
+-- Request C-19, 'An image without it loads with waiting events numbered from 0 and the next number after them, and is written back without it, so numbers then hold
+-- within one call only'. An accepted image without the fifth body loads with such numbers, whatever was told before; so does the image that any call leaves of it, done
+-- or refused, a reset too; and so do those of any calls one after another.
+module _ (i : List ℕ) (b : Bytes i) (e : imageTest i ≡ accepted) (n : NoFifth i) where
+  without-fifth : has (accepted-has i e .form) numbers ≡ false
+  without-fifth = no-fifth (accepted-has i e .form) i (accepted-has i e .has .sized) n
+
+  pub numbers-from-zero : numbersIn i ≡ fromZero (length (decode i .ring .waiting))
+  numbers-from-zero = from-zero (shows i b e) without-fifth
+
+  pub numbers-within-one-call : (q : Asking) → numbersIn (leftBy (askedOf i q) .image) ≡ fromZero (length (decode (leftBy (askedOf i q) .image) .ring .waiting))
+  numbers-within-one-call q = let h = next-shows q (shows i b e) in from-zero h without-fifth ∙ ap (λ d. fromZero (length (d .ring .waiting))) (sym (holds h))
+
+  pub numbers-within-each-call : (qs : List Asking)
+      → numbersIn (leftAfter i (madeOn i qs)) ≡ fromZero (length (decode (leftAfter i (madeOn i qs)) .ring .waiting))
+  numbers-within-each-call qs =
+      let h = left-show (shows i b e) (shows i b e) qs .first in
+      from-zero h without-fifth ∙ ap (λ d. fromZero (length (d .ring .waiting))) (sym (holds h))
 
 -- ---- all forms answer every later call alike
 

@@ -45,13 +45,14 @@ numbers-of-calls h f l xs n =
 
 -- From any accepted image i of 290 bytes, loaded or left by whatever calls: exported calls of which the first is given i and each other the image that the one
 -- before it left, none a reset. The numbers handed back, returned and drained, are the positions in the order of making modulo 65,536, from the next number in i;
--- and the missing ones are exactly those of the dropped events and of those that wait in the image left at last.
+-- and where none waited in i and at most 65,536 events were made, the missing ones are exactly those of the dropped events and of those that wait in the image left
+-- at last.
 pub numbers-of-an-image : (i : List ℕ) → Bytes i → length i ≡ 290 → imageTest i ≡ accepted → (xs : List Exported) → HandedOn i xs
     → InOrder (decode i) (numbersIn i) (doneCalls xs) (returnedRead xs) (drainedRead xs) (decode (leftAfter i xs)) (numbersIn (leftAfter i xs))
 numbers-of-an-image i b l t xs o =
     rw (← left-through (atLoad i) xs o) (numbers-of-calls (atLoad i) (faithful-at-load i b t) l xs (handed-on-is-no-load (atLoad i) xs o))
 
--- From a done reset of any 290 bytes: the first number is 0, and nothing waits.
+-- From a done reset of any 290 bytes: the first number is 0, and nothing waits. So of the missing ones this is said while at most 65,536 events were made.
 after-reset : (f : Form) → formLength f ≡ 290 → (xs : List Exported) → HandedOn (encodeAs f reset (fromZero 0)) xs
     → let last = leftAfter (encodeAs f reset (fromZero 0)) xs in
     InOrder reset (fromZero 0) (doneCalls xs) (returnedRead xs) (drainedRead xs) (decode last) (numbersIn last)

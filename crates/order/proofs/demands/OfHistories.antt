@@ -63,7 +63,7 @@ module _ (start : ℕ) where
 made-length : (d : Device) (cs : List Call) → length (eventsMade d cs) ≡ length (history d cs .made)
 made-length d cs = sym (length-map (eventsMade d cs) (λ (x : Placed). x .event)) ∙ ap length (all-events 0 d cs)
 
-none-with : (d : Device) (s : Numbers) → d .ring .waiting ≡ [] → waitingWith d s ≡ []
+pub none-with : (d : Device) (s : Numbers) → d .ring .waiting ≡ [] → waitingWith d s ≡ []
 none-with d s e = ap (λ es. withNumbers es (s .waiting)) e
 
 -- what is counted and what is missing follows from the others
