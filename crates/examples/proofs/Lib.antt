@@ -5,3 +5,4 @@ pub mod ExportedMet
 pub mod SweepMet
 pub mod OrderMet
 pub mod WorkedDay
+pub mod TracePlayed
