@@ -6,7 +6,7 @@ use lib.Bits.{bitOr}
 use lib.Dec.{eqb, leb}
 use lib.ListN.{length, drop}
 use Rattle.rules.specs.Numbers.{part}
-use Rattle.rules.specs.Form.{Form, numbers, has, contentsLength, contentsOf, Known, unknown, known, formOf, read}
+use Rattle.rules.specs.Form.{Form, pairs, numbers, has, place, contentsLength, contentsOf, Known, unknown, known, formOf, read}
 use Rattle.rules.specs.Image.{registerAt, Finding, clear, found, rules, firstFault, same, ImageTest, accepted, wrongLength, wrongContents, broken, imageTest}
 use Rattle.image.specs.Shown.{formView}
 use Rattle.checked.specs.declared.Verdict.{Verdict}
@@ -58,6 +58,13 @@ pairsGood n l = flagsGood n l && allZero (drop (2 * n) l)
 -- of numbers the first n of which wait the others are zero, if the form has numbers
 abbrev pub numbersGood : Form → ℕ → List ℕ → Bool
 numbersGood f n l = cond (has f numbers) (allZero (drop (2 * n) (read f l numbers))) true
+
+-- both rules of the ring's events, the first n of which wait; where the numbers stand, or the pairs in a form without them
+abbrev pub ringGood : Form → ℕ → List ℕ → Bool
+ringGood f n l = pairsGood n (read f l pairs) && numbersGood f n l
+
+abbrev pub spareAt : Form → ℕ
+spareAt f = cond (has f numbers) (place f numbers) (place f pairs)
 
 -- the bits that any of the first k words has
 abbrev pub bitsOf : ℕ → List ℕ → ℕ

@@ -19,7 +19,7 @@ ghost use Rattle.rules.specs.Form.{formLength};
 ghost use Rattle.rules.specs.Image.{imageTest};
 ghost use Rattle.image.specs.Shown.{formView};
 ghost use Rattle.faults.specs.Found.{checkedView};
-ghost use Rattle.checked.specs.Good.{verdictView, acceptedForm, bitsOf, allZero, pairsGood, numbersGood, headGood, bodiesGood};
+ghost use Rattle.checked.specs.Good.{verdictView, acceptedForm, bitsOf, allZero, pairsGood, numbersGood, ringGood, spareAt, headGood};
 
 // An accepted image is one of a form.
 pub enum Verdict {
@@ -107,44 +107,76 @@ fn numbers_good(image: &[u8], form: Form, count: usize) -> bool
     unused_zero(count, &image[at..end])
 }
 
-// The rules of the bodies. A form without a copy of IRR has IRR's own place there.
-fn body_good(image: &[u8], form: Form) -> bool
-    requires { ⌜ length (now image) ≡ formLength (formView form) ⌝ }
-    ensures { λ r. ⌜ r ≡ bodiesGood (formView form) (now (image .entry)) ⌝ }
+// Both rules of the ring's events: of their pairs, and of their numbers where the form has them.
+fn ring_good(image: &[u8], form: Form, count: usize) -> bool
+    requires { ⌜ (length (now image) ≡ formLength (formView form)) × (count ≤ capacity) ⌝ }
+    ensures { λ r. ⌜ r ≡ ringGood (formView form) count (now (image .entry)) ⌝ }
 {
     let p = places_of(form);
-    if word_at(image, p.last_intirr) != word_at(image, p.intirr) {
-        return false;
-    }
-    let place = p.count;
-    let count = image[place] as usize;
-    if count > CAPACITY {
-        return false;
-    }
     let at = p.pairs;
     let end = at + PAIRS_LENGTH;
     if !pairs_good(count, &image[at..end]) {
         return false;
     }
-    numbers_good(image, form, count)
+    numbers_good(&*image, form, count)
 }
 
+// Where the numbers stand; in a form without numbers, the pairs.
+fn spare_of(form: Form) -> usize
+    ensures { λ r. ⌜ r ≡ spareAt (formView form) ⌝ }
+{
+    let p = places_of(form);
+    match form {
+        Form::One => p.pairs,
+        Form::Two => p.pairs,
+        Form::Numbered => p.numbers,
+    }
+}
+
+// All tests stand in one function: so far from its start the compiler leaves `ring_good` a call, and what is left is small enough to be had in place by
+// each call. The commonest ring, all of whose pairs and numbers are zero, does without it. A form without a copy of IRR has IRR's own place there.
 pub fn check(image: &[u8]) -> Verdict
     ensures { λ r. ⌜ verdictView r ≡ acceptedForm (now (image .entry)) ⌝ }
 {
     let KnownForm::As(form) = form_of(image.len()) else {
         return Verdict::Refused;
     };
-    if !contents_good(image, form) {
+    let told = contents_of(form);
+    if word_at(image, 0) != told.first {
         return Verdict::Refused;
     }
-    if !body_good(image, form) {
+    if word_at(image, 8) != told.second {
+        return Verdict::Refused;
+    }
+    if word_at(image, 14) != told.third {
+        return Verdict::Refused;
+    }
+    if word_at(image, told.last_at) != told.last {
+        return Verdict::Refused;
+    }
+    let p = places_of(form);
+    if word_at(image, p.last_intirr) != word_at(image, p.intirr) {
+        return Verdict::Refused;
+    }
+    let place = p.count;
+    let count = image[place] as usize;
+    if count > CAPACITY {
+        return Verdict::Refused;
+    }
+    let at = p.pairs;
+    let end = at + PAIRS_LENGTH;
+    let spare = spare_of(form);
+    let last = spare + NUMBERS_LENGTH;
+    if all_bits(&image[at..end]) | all_bits(&image[spare..last]) == 0 {
+        return Verdict::Accepted(form);
+    }
+    if !ring_good(&*image, form, count) {
         return Verdict::Refused;
     }
     Verdict::Accepted(form)
 }
 
-// What is wrong with an image. Apart from `check`, which is small so that each call has it in place.
+// What is wrong with an image. Apart from `check`, which is small so that each call has it in place; it tests the contents again.
 pub fn fault_of(image: &[u8]) -> Checked
     ensures { λ r. ⌜ checkedView r ≡ imageTest (now (image .entry)) ⌝ }
 {
