@@ -2,5 +2,5 @@
 pub mod Pairs
 pub mod Tested
 pub mod Heads
-pub mod Bodies
+pub mod Rings
 pub mod Orders

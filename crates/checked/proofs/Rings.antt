@@ -1,10 +1,10 @@
 -- The rules of the bodies, given what is looked at first; and a ring all of whose pairs and numbers are zero.
 use mathlib.Core.Path.{_≡_, refl, sym, ap, _∙_}
-use mathlib.Core.Bool.{Bool, true, _&&_, and-eq-true-iff}
+use mathlib.Core.Bool.{Bool, true, false, _&&_, and-eq-true-iff}
 use mathlib.Core.List.{List}
 use Prim.Native.Nat.{ℕ, _+_, _-_, _*_, _≤_}
 use native.Mathlib.Omega.{arith}
-use lib.Bits.{bitOr, or-add-and, and-le-l, and-le-r}
+use lib.Bits.{bitAnd, bitOr, or-add-and, and-le-l, and-le-r}
 use lib.Dec.{eqb, leb, lit≤}
 use lib.ListN.{length, drop, getD}
 use Rattle.rules.specs.Numbers.{part, Bytes}
@@ -20,7 +20,11 @@ use Rattle.image.specs.declared.form.Places.{Places}
 use Rattle.image.proofs.Forms.{always-at, always-fits}
 use Rattle.checked.specs.Good.{allZero, flagsGood, pairsGood, numbersGood, ringGood, spareAt, bodiesGood, bitsOf}
 use Rattle.checked.proofs.Tested.{rules-tested}
-use Rattle.checked.proofs.Pairs.{pairs-empty}
+use Rattle.checked.proofs.Pairs.{flagBits, pairs-empty, pairs-flagged, pairs-unused}
+
+same-and : (a : Bool) → (a && a) ≡ (a && true)
+same-and true = refl
+same-and false = refl
 
 -- no image is long; the numbers or, without them, the pairs end within it
 pub short : (f : Form) → formLength f ≤ 290
@@ -70,3 +74,25 @@ module _ (f : Form) (l : List ℕ) (s : length l ≡ formLength f) (p : Places) 
         let first = sym (empty (place f pairs) (omega (arith, always-fits f pairs refl)) (sym (e ∙ ap (bitsOf 4) pairs-read) ∙ none)) in
         let second = no-numbers-left (sym (g ∙ (λ i. bitsOf 4 (part (at i) (w i) l))) ∙ nor) in
         λ i. first i && second i
+
+    -- the flags tell, and then the unused pairs and numbers
+    module _ {x : ℕ} (e : x ≡ bitsOf 4 (part (p .pairs) (p .pairs + 32 - p .pairs) l)) where
+      bits : x ≡ bitsOf 4 (read f l pairs)
+      bits = e ∙ ap (bitsOf 4) pairs-read
+
+      its : length (read f l pairs) ≡ 2 * capacity
+      its = length-part l (place f pairs) 32 (omega (arith, always-fits f pairs refl))
+
+      pub flagged : (bitAnd x flagBits ≡ 0 → ⊥) → ringGood f n l ≡ false
+      flagged z = ap (λ t. t && numbersGood f n l) (sym (pairs-flagged (read f l pairs) (bytes-part l (place f pairs) 32 b) n its few bits z))
+
+      spare-decides : (allZero (drop (2 * n) (read f l pairs)) && allZero (drop (2 * n) (part (spareAt f) 32 l))) ≡ (allZero (drop (2 * n) (read f l pairs)) && numbersGood f n l)
+      spare-decides = test (has f numbers) (λ h. rw h) (λ h. rw h (same-and (allZero (drop (2 * n) (read f l pairs)))))
+
+      pub by-unused : bitAnd x flagBits ≡ 0 → {a : ℕ} → a ≡ spareAt f → {r : Bool}
+          → r ≡ (allZero (drop (2 * n) (part (p .pairs) (p .pairs + 32 - p .pairs) l)) && allZero (drop (2 * n) (part a (a + 32 - a) l))) → ringGood f n l ≡ r
+      by-unused z {a} at g =
+          let w : a + 32 - a ≡ 32 = omega arith in
+          let good = pairs-unused (read f l pairs) (bytes-part l (place f pairs) 32 b) n its few bits z in
+          ap (λ t. t && numbersGood f n l) (sym good)
+          ∙ sym (g ∙ (λ i. allZero (drop (2 * n) (pairs-read i)) && allZero (drop (2 * n) (part (at i) (w i) l))) ∙ spare-decides)
