@@ -2,11 +2,14 @@
 use answer::Told;
 use answer::Value;
 use answer::done;
-use checked::Verdict;
-use checked::check;
+use checked::Bodies;
+use checked::Head;
+use checked::test_bodies;
+use checked::test_head;
 use image::form::Form;
 use refusals::no_input;
-use refusals::of_image;
+use refusals::of_bodies;
+use refusals::of_head;
 ghost use mathlib.Core.Path.{_≡_};
 ghost use mathlib.Core.List.{[]};
 ghost use lib.ListN.{length};
@@ -35,9 +38,12 @@ fn numbered(image: &mut [u8], form: Form, answer: engine::Answer) -> Value
 pub fn level(image: &mut [u8], input: u64, level: u64) -> Told
     ensures { λ r. ⌜ ends r (now (image .exit)) [] ≡ ending (asked.level input level) (now (image .entry)) ⌝ }
 {
-    let checked = check(image);
-    let Verdict::Accepted(form) = checked else {
-        return of_image(image);
+    let told = test_head(image);
+    let Head::Of(form) = told else {
+        return of_head(told);
+    };
+    let Bodies::Good = test_bodies(image, form) else {
+        return of_bodies(image, form);
     };
     if 64 <= input {
         return no_input();
@@ -49,9 +55,12 @@ pub fn level(image: &mut [u8], input: u64, level: u64) -> Told
 pub fn poll(image: &mut [u8], input: u64) -> Told
     ensures { λ r. ⌜ ends r (now (image .exit)) [] ≡ ending (asked.poll input) (now (image .entry)) ⌝ }
 {
-    let checked = check(image);
-    let Verdict::Accepted(form) = checked else {
-        return of_image(image);
+    let told = test_head(image);
+    let Head::Of(form) = told else {
+        return of_head(told);
+    };
+    let Bodies::Good = test_bodies(image, form) else {
+        return of_bodies(image, form);
     };
     if 64 <= input {
         return no_input();
