@@ -4,16 +4,18 @@
  * space, and for nothing else: it uses the SSE registers and the red zone below the stack pointer, which a kernel must not, and it has no
  * .eh_frame, so nothing can be unwound through its frames.
  *
- * THE IMAGE. The device is an image of 259 or 251 bytes, which the host owns and lends to each call. Nothing is allocated, and nothing is kept from
- * one call to the next. So to save a device is to copy its image, and to load it is to lend the copy. pch_pic_reset makes an image of any bytes of
+ * THE IMAGE. The device is an image of 290, 259 or 251 bytes, which the host owns and lends to each call. Nothing is allocated, and nothing is kept
+ * from one call to the next. So to save a device is to copy its image, and to load it is to lend the copy. pch_pic_reset makes an image of any bytes of
  * such a length. The other calls test theirs and refuse one that breaks a rule of the form (4, 5, 8 to 11). To test an image and change nothing, read
  * ID from it: 0 says that it is accepted. What a done call leaves is always accepted. The test finds no other damage: most images with one byte
  * changed break no rule, and are the images of another device. So keep a checksum beside a saved image, as hosts/c/pic_file.c does.
  *
- * THE FORM. The length is the form: 259 bytes are form 1, 251 are form 2, which has no copy of IRR and all else. Every call takes both and leaves an
- * image in the form in which it was lent; pch_pic_reset too goes by the length. Both forms of a device answer every call alike. pch_pic_convert
- * moves an image from one form to the other, and back to the same bytes. Libraries before version 0.6.0 know form 1 alone: move an image to it before it
- * is sent to one of them. What they saved is lent as it is.
+ * THE FORM. The length is the form: 259 bytes are form 1; 251 are form 2, which has no copy of IRR and all else; 290 are form 2 with a fifth body, the
+ * numbers of events. A new host takes 290. Every call takes all three and leaves an image in the form in which it was lent; pch_pic_reset too goes by the
+ * length. All forms of a device answer every call alike, but for the numbers of events. pch_pic_convert moves an image from one form to another.
+ * Between 259 and 251 nothing is lost, and back it has the same bytes; from 290 to one of these the numbers are lost and nothing else. Libraries before
+ * version 0.8.0 do not know 290 bytes, and those before 0.6.0 know form 1 alone: move an image to a form that they know before it is sent to one of
+ * them. What they saved is lent as it is.
  *
  * THE CONTENTS. An image begins with a list: byte 0 is the form, byte 1 the number of bodies, and then come five bytes for each body: its kind,
  * its offset in the image and its length, two bytes each, little end first. Offsets and lengths differ from form to form, so a host that looks into
@@ -24,10 +26,13 @@
  *     kind 2    the route bytes, that of input n at n
  *     kind 3    the vector bytes, that of input n at n
  *     kind 4    the events: how many wait (one byte, 0 to 16), how many were dropped since reset (four bytes, little end first; it stops at
- *               4294967295), and those that wait
+ *               4294967295), and those that wait, two bytes each: vector and flag
+ *     kind 5    the numbers, in an image of 290 bytes: that of the next event (two bytes, little end first), and those of the events that wait,
+ *               oldest first, 16 in all, unused ones 0
  *
  * THE ANSWER. Each call hands back a number: 0 where it was done, else why it was refused. The number and the value, where there is one, are
- * also written to the answer area. It has at least 16 bytes; the first 16 are written, and those past them stay:
+ * also written to the answer area. It has at least 16 bytes; the first 16 are written, and those past them stay. (pch_pic_difference alone is lent
+ * nothing, refuses nothing and hands back a difference.)
  *
  *     byte 0        the number
  *     byte 1        1 if a value is present, else 0
@@ -41,6 +46,21 @@
  * EVENTS. An event is a vector to assert or to deassert at the interrupt controller above this one. Where the host moves a line (pch_pic_level,
  * pch_pic_poll) the event is returned at once, as the value. Where the guest writes MASK or CLEAR there can be many: they wait in the image, 16
  * at most, until pch_pic_drain moves them out; one that finds 16 waiting is dropped and counted.
+ *
+ * NUMBERS. Each event gets a number of 16 bits when it is made, whether it is then returned, waits or is dropped: the first after a reset gets 0, and after
+ * 65535 comes 0 again. A host that was written for a version before 0.8.0 has to know three things:
+ *     - a drained event is four bytes: the vector, the flag, and the number, little end first. They were two;
+ *     - 64 bytes have room for all events that can wait. A buffer of 32 bytes, which had, now takes eight, and the others wait on;
+ *     - the vector is the low byte of a returned value, (uint8_t)value, and not the whole of it: bits 16 to 31 are the number, so value is vector
+ *       + 65536 * number.
+ * All other values are what they were: that of a write is how many events it dropped, that of a drain how many it moved.
+ *
+ * THE ORDER OF EVENTS. One that is returned is there at once, one that waits only when it is drained: so they come to a host in another order than they
+ * were made. A recorder that wants that order keeps each event with its number, and sorts them by pch_pic_difference(number, that of one of them), the
+ * same one for all (pic_in_order of hosts/c/pic.c, Event::sort of hosts/rust). This is right where at most 32768 events were made from the oldest of them
+ * to the newest, dropped ones counted; numbers go round, so of more it cannot tell. A number that is missing was a dropped event's, or that event waits
+ * still. Numbers run on from call to call in an image of 290 bytes alone. In one of 259 or 251 each call begins with those of the waiting events, which
+ * are 0, 1 and so on, and the next comes after them: there they put the events of one call in order, and no more.
  *
  * WHAT A HOST MUST DO. hosts/c/pic.c and crate pch-pic in hosts/rust do all of this (pic_settle, pic_line, pic_resume):
  *     - After each write of the guest, drain, and pass the events on in their order. Then poll all 64 inputs, in any order, and pass on what they
@@ -81,9 +101,9 @@
 
 /* The version of the header and of what it says about the library. */
 #define PCH_PIC_VERSION_MAJOR 0
-#define PCH_PIC_VERSION_MINOR 7
+#define PCH_PIC_VERSION_MINOR 8
 #define PCH_PIC_VERSION_PATCH 0
-#define PCH_PIC_VERSION "0.7.0"
+#define PCH_PIC_VERSION "0.8.0"
 
 #ifdef __cplusplus
 extern "C" {
@@ -91,19 +111,30 @@ extern "C" {
 
 /* Sizes. */
 enum {
-    PCH_PIC_IMAGE_LEN = 259,  /* bytes of an image of form 1, the longest */
-    PCH_PIC_IMAGE2_LEN = 251, /* bytes of an image of form 2 */
-    PCH_PIC_ANSWER_LEN = 16,  /* bytes of an answer */
-    PCH_PIC_INPUTS = 64,      /* input lines, 0 to 63 */
-    PCH_PIC_EVENTS = 16,      /* events that wait at most */
-    PCH_PIC_EVENT_LEN = 2     /* bytes of a drained event */
+    PCH_PIC_IMAGE_LEN = 259,           /* bytes of an image of form 1 */
+    PCH_PIC_IMAGE2_LEN = 251,          /* bytes of an image of form 2 */
+    PCH_PIC_IMAGE2_NUMBERED_LEN = 290, /* bytes of an image of form 2 with numbers, the longest */
+    PCH_PIC_ANSWER_LEN = 16,           /* bytes of an answer */
+    PCH_PIC_INPUTS = 64,               /* input lines, 0 to 63 */
+    PCH_PIC_EVENTS = 16,               /* events that wait at most */
+    PCH_PIC_EVENT_LEN = 4              /* bytes of a drained event; of all 16 they are 64 */
+};
+
+/* Places in a drained event. */
+enum {
+    PCH_PIC_EVENT_VECTOR = 0, /* the vector */
+    PCH_PIC_EVENT_FLAG = 1,   /* 1 for an assert, 0 for a deassert */
+    PCH_PIC_EVENT_NUMBER = 2  /* the number, 2 bytes */
 };
 
 /* Places in an answer. */
 enum {
     PCH_PIC_ANSWER_NUMBER = 0,  /* the number handed back */
     PCH_PIC_ANSWER_PRESENT = 1, /* 1 if a value is present */
-    PCH_PIC_ANSWER_VALUE = 8    /* the value, 8 bytes */
+    PCH_PIC_ANSWER_VALUE = 8,   /* the value, 8 bytes */
+    /* Of a level and a poll the value, if present, is a returned event. */
+    PCH_PIC_ANSWER_VECTOR = 8,       /* its vector */
+    PCH_PIC_ANSWER_EVENT_NUMBER = 10 /* its number, 2 bytes */
 };
 
 /* The contents that an image begins with, and what a host may want to read in its bodies. All other places belong to the library. */
@@ -119,10 +150,12 @@ enum {
     PCH_PIC_KIND_ROUTES = 2,          /* the body of the route bytes */
     PCH_PIC_KIND_VECTORS = 3,         /* the body of the vector bytes */
     PCH_PIC_KIND_EVENTS = 4,          /* the body of the waiting events */
+    PCH_PIC_KIND_NUMBERS = 5,         /* the body of the numbers */
     PCH_PIC_REGISTERS_IRR_BACK = 40,  /* IRR is the 8 bytes from here on, counted back from the body's end */
     PCH_PIC_REGISTERS_ISR_BACK = 32,  /* ISR likewise */
     PCH_PIC_EVENTS_WAITING = 0,       /* in the body of the events: how many wait */
-    PCH_PIC_EVENTS_DROPS = 1          /* in the body of the events: how many were dropped, 4 bytes */
+    PCH_PIC_EVENTS_DROPS = 1,         /* in the body of the events: how many were dropped, 4 bytes */
+    PCH_PIC_NUMBERS_NEXT = 0          /* in the body of the numbers: that of the next event, 2 bytes */
 };
 
 /* The numbers handed back. A call tests for them in the order 7, 4, 5, 8, 9, 10, 11, then 3, or 2 before 1, and hands back the first
@@ -132,14 +165,14 @@ enum pch_pic_number {
     PCH_PIC_OUTSIDE = 1,  /* not all bytes of the access are inside the window; the value is the address */
     PCH_PIC_WIDTH = 2,    /* the width is not 1, 2, 4 or 8 */
     PCH_PIC_INPUT = 3,    /* the input is 64 or more */
-    PCH_PIC_LENGTH = 4,   /* an image, or a conversion's target, is neither 259 nor 251 bytes long */
-    PCH_PIC_CONTENTS = 5, /* the image's first 22 bytes are not those of the form that its length says */
+    PCH_PIC_LENGTH = 4,   /* an image, or a conversion's target, is not 290, 259 or 251 bytes long */
+    PCH_PIC_CONTENTS = 5, /* the image's first bytes, 27 of 290 or else 22, are not those of the form that its length says */
     PCH_PIC_ROOM = 7,     /* the answer area is under 16 bytes, or the place of a drain is past the end of its buffer */
     /* A rule of the form is broken; the value is the place in the image of the byte that breaks it, the first where there are several. */
     PCH_PIC_COPY = 8,     /* of form 1 alone: the copy of IRR differs from IRR; the place of its first byte */
     PCH_PIC_COUNT = 9,    /* more than 16 events wait */
     PCH_PIC_FLAG = 10,    /* the flag of a waiting event is neither 0 nor 1 */
-    PCH_PIC_UNUSED = 11   /* a byte behind the waiting events is not 0 */
+    PCH_PIC_UNUSED = 11   /* a byte behind the waiting events is not 0, or then one behind their numbers */
 };
 
 /* A number in words. */
@@ -150,13 +183,13 @@ static inline const char *pch_pic_why(int number)
     case PCH_PIC_OUTSIDE: return "the access is not wholly inside the window";
     case PCH_PIC_WIDTH: return "the width is not 1, 2, 4 or 8";
     case PCH_PIC_INPUT: return "the input is 64 or more";
-    case PCH_PIC_LENGTH: return "an image is neither 259 nor 251 bytes long";
+    case PCH_PIC_LENGTH: return "an image is not 290, 259 or 251 bytes long";
     case PCH_PIC_CONTENTS: return "the image does not begin as one of its length does";
     case PCH_PIC_ROOM: return "a buffer is too short";
     case PCH_PIC_COPY: return "the image's copy of IRR differs from IRR";
     case PCH_PIC_COUNT: return "the image says that more than 16 events wait";
     case PCH_PIC_FLAG: return "the flag of a waiting event in the image is neither 0 nor 1";
-    case PCH_PIC_UNUSED: return "the image has a byte that is not 0 behind its waiting events";
+    case PCH_PIC_UNUSED: return "the image has a byte that is not 0 behind its waiting events or their numbers";
     default: return "unknown number";
     }
 }
@@ -195,23 +228,26 @@ uint8_t pch_pic_read(const uint8_t *image, size_t image_len, uint64_t base, uint
 uint8_t pch_pic_write(uint8_t *image, size_t image_len, uint64_t base, uint64_t size, uint64_t address, uint64_t width, uint64_t value,
                       uint8_t *answer, size_t answer_len);
 
-/* The host lowers an input's line (level 0) or raises it (any other level). The value, if present, is a vector: to assert where the line was
- * raised, to deassert where it was lowered. Absent: nothing to pass on. Refusals: 7, 4, 5, 8 to 11, 3. */
+/* The host lowers an input's line (level 0) or raises it (any other level). The value, if present, is a vector, in its low byte, and the event's
+ * number, in bits 16 to 31: to assert where the line was raised, to deassert where it was lowered. Absent: nothing to pass on. Refusals: 7, 4, 5,
+ * 8 to 11, 3. */
 uint8_t pch_pic_level(uint8_t *image, size_t image_len, uint64_t input, uint64_t level, uint8_t *answer, size_t answer_len);
 
 /* The host asks for an input whose line was raised before. If it is latched, unmasked and not in service, it goes into service, and the value
- * is the vector to assert. An unmask announces only the lowest input that waits: poll the others. Refusals: 7, 4, 5, 8 to 11, 3. */
+ * is the vector to assert and the number, as above. An unmask announces only the lowest input that waits: poll the others. Refusals: 7, 4, 5,
+ * 8 to 11, 3. */
 uint8_t pch_pic_poll(uint8_t *image, size_t image_len, uint64_t input, uint8_t *answer, size_t answer_len);
 
-/* Moves waiting events to the event buffer, oldest first, from byte place on: two bytes each, the vector and then 1 for an assert or 0 for a
- * deassert. It moves as many as wait or as fit, whichever is fewer; the rest wait on, and all other bytes of the buffer stay. The value is how
- * many were moved, and is always present; 32 bytes have room for all. Refusals: 7, 4, 5, 8 to 11. */
+/* Moves waiting events to the event buffer, oldest first, from byte place on: four bytes each, the vector, then 1 for an assert or 0 for a
+ * deassert, then the number, little end first. It moves as many as wait or as fit, whichever is fewer; the rest wait on, and all other bytes of the
+ * buffer stay. The value is how many were moved, and is always present; 64 bytes have room for all, 32 for eight. Refusals: 7, 4, 5, 8 to 11. */
 uint8_t pch_pic_drain(uint8_t *image, size_t image_len, uint8_t *events, size_t events_len, size_t place,
                       uint8_t *answer, size_t answer_len);
 
 /* Makes target the same device in the form that the target's length says, whatever its bytes were. The image stays as it is; where both have one
- * form the target is a copy of it. There and back gives the same bytes. No value. A refusal leaves the target; 4 is told of the image or of the
- * target. Refusals: 7, 4, 5, 8 to 11. */
+ * form the target is a copy of it. There and back gives the same bytes, but for numbers, which only 290 bytes have: a target that gets them where the
+ * image has none has waiting events from 0 on, and the next after them. No value. A refusal leaves the target; 4 is told of the image or of the target.
+ * Refusals: 7, 4, 5, 8 to 11. */
 uint8_t pch_pic_convert(const uint8_t *image, size_t image_len, uint8_t *target, size_t target_len, uint8_t *answer, size_t answer_len);
 
 /* As pch_pic_read and pch_pic_write, in the number and in every byte, but decoded by a table of 1,024 entries, one for each byte offset, the one that
@@ -220,6 +256,10 @@ uint8_t pch_pic_table_read(const uint8_t *image, size_t image_len, uint64_t base
                            uint8_t *answer, size_t answer_len);
 uint8_t pch_pic_table_write(uint8_t *image, size_t image_len, uint64_t base, uint64_t size, uint64_t address, uint64_t width, uint64_t value,
                             uint8_t *answer, size_t answer_len);
+
+/* How far one event's number is ahead of another's: later minus earlier, below 0 where it is the older. Numbers go round, so it is the one from -32768 to
+ * 32767 that differs from later - earlier by a multiple of 65536: 3 is 5 ahead of 65534, and 32768 ahead reads as -32768. It refuses nothing. */
+int16_t pch_pic_difference(uint16_t later, uint16_t earlier);
 
 #ifdef __cplusplus
 }

@@ -11,7 +11,14 @@
 #include <sys/stat.h>
 #include <unistd.h>
 
-enum { BASE = 0x10000000, HEAD_LEN = 12, SUM_LEN = 4, SAVED_LEN = HEAD_LEN + PCH_PIC_IMAGE2_LEN + SUM_LEN, SAVED1_LEN = HEAD_LEN + PCH_PIC_IMAGE_LEN + SUM_LEN };
+enum {
+    BASE = 0x10000000,
+    HEAD_LEN = 12,
+    SUM_LEN = 4,
+    IMAGE_LEN = PCH_PIC_IMAGE2_NUMBERED_LEN,
+    SAVED_LEN = HEAD_LEN + IMAGE_LEN + SUM_LEN,
+    SAVED1_LEN = HEAD_LEN + PCH_PIC_IMAGE_LEN + SUM_LEN
+};
 
 static int passed, failed;
 
@@ -25,10 +32,11 @@ static void expect(const char *what, bool ok)
     }
 }
 
-/* The controller above: what it was told, and how often. */
+/* The controller above: what it was told, how often, how often by no event, and the last event's number. */
 struct above {
     bool on[PIC_VECTORS];
-    unsigned told, again;
+    unsigned told, again, counted;
+    int32_t number;
 };
 
 struct host {
@@ -44,6 +52,11 @@ static void route(void *whom, struct pic_event event)
     above->told++;
     above->again += above->on[event.vector] == on;
     above->on[event.vector] = on;
+    if (event.number == PIC_NO_NUMBER) {
+        above->counted++;
+    } else {
+        above->number = event.number;
+    }
 }
 
 static void start(struct host *host)
@@ -113,6 +126,7 @@ static void a_vector_changed_in_service(void)
     line(&host, 0, false);
     expect("no vector is left on", NONE(&host));
     expect("four things were told", host.above.told == 4 && host.above.again == 0);
+    expect("two of them by events, 0 and 1", host.above.counted == 2 && host.above.number == 1 && pic_next(&host.pic) == 2);
 }
 
 static void a_write_of_isr(void)
@@ -212,12 +226,16 @@ static void a_restore(const char *path)
     line(&old, 7, true);
     writes(&old, PCH_PIC_REG_ISR + PCH_PIC_REG_HIGH, 4, 0x100);
     expect("a write whose event waits", pic_write(&old.pic, BASE + PCH_PIC_REG_MASK, 4, 0xffffff00, NULL) == PCH_PIC_DONE && pic_waiting(&old.pic) == 1);
-    for (enum pic_form form = PIC_FORM_1; form <= PIC_FORM_2; form++) {
-        expect("the device is saved", pic_save(&old.pic, form, path) == PCH_PIC_DONE);
+    for (int form = PIC_FORM_1; form <= PIC_FORM_NUMBERED; form++) {
+        uint8_t saved[IMAGE_LEN], again[IMAGE_LEN];
+        expect("the device is saved", pic_save(&old.pic, (enum pic_form)form, path) == PCH_PIC_DONE);
         start(&fresh);
         expect("and loaded", pic_load(&fresh.pic, path, NULL) == PCH_PIC_DONE);
-        expect("whole", memcmp(old.pic.image, fresh.pic.image, sizeof old.pic.image) == 0);
+        expect("whole, but for numbers", pic_image(&old.pic, PIC_FORM_1, saved) == 259 && pic_image(&fresh.pic, PIC_FORM_1, again) == 259 &&
+                                             memcmp(saved, again, 259) == 0);
+        expect("which forms 1 and 2 lose", pic_next(&fresh.pic) == (form == PIC_FORM_NUMBERED ? 3 : 1));
     }
+    expect("whole, with numbers", memcmp(old.pic.image, fresh.pic.image, sizeof old.pic.image) == 0);
     expect("the fresh host goes on", pic_resume(&fresh.pic, &fresh.wires, 1 << 3 | 1 << 7) == PCH_PIC_DONE);
     expect("with what is in service, and no more", ONLY(&fresh, 3, 7, 40) && fresh.above.told == 3);
     expect("a line that fell is not latched", pic_latched(&fresh.pic) == (1 << 3 | 1 << 7));
@@ -310,7 +328,7 @@ static bool refused(const char *path, int number)
 /* With the checksum made anew, so that the library has to find it. */
 static bool forged(const char *path, const uint8_t *saved, size_t len, size_t place, uint8_t byte, int number)
 {
-    uint8_t bytes[SAVED1_LEN];
+    uint8_t bytes[SAVED_LEN];
     memcpy(bytes, saved, len);
     bytes[HEAD_LEN + place] = byte;
     uint32_t sum = checksum(bytes, len - SUM_LEN);
@@ -327,7 +345,7 @@ static void files(const char *path)
     uint8_t saved[SAVED_LEN + 1] = {0}, bytes[SAVED_LEN + 1];
     char beside[5000];
     pic_init(&pic, BASE);
-    expect("a device is saved", pic_save(&pic, PIC_FORM_2, path) == PCH_PIC_DONE && pic_load(&pic, path, NULL) == PCH_PIC_DONE);
+    expect("a device is saved", pic_save(&pic, PIC_FORM_NUMBERED, path) == PCH_PIC_DONE && pic_load(&pic, path, NULL) == PCH_PIC_DONE);
     FILE *file = fopen(path, "rb");
     expect("in as many bytes as the form says", file && fread(saved, 1, sizeof saved, file) == SAVED_LEN && fclose(file) == 0);
     snprintf(beside, sizeof beside, "%s.new", path);
@@ -348,7 +366,7 @@ static void files(const char *path)
     put_file(path, pic.image, sizeof pic.image);
     expect("a bare image is no saved device", refused(path, PIC_FOREIGN));
     expect("another form is refused by the library", forged(path, saved, SAVED_LEN, PCH_PIC_IMAGE_FORM, 1, PCH_PIC_CONTENTS));
-    expect("so is a broken rule", forged(path, saved, SAVED_LEN, PCH_PIC_IMAGE2_LEN - 1, 1, PCH_PIC_UNUSED));
+    expect("so is a broken rule", forged(path, saved, SAVED_LEN, IMAGE_LEN - 1, 1, PCH_PIC_UNUSED));
     remove(path);
     expect("no file, no load", refused(path, PIC_FILE));
     expect("what an earlier save left is no hindrance", mkfifo(beside, 0600) == 0 && pic_save(&pic, PIC_FORM_2, path) == PCH_PIC_DONE);
@@ -359,53 +377,99 @@ static void files(const char *path)
     expect("no folder, no save", pic_save(&pic, PIC_FORM_2, beside) == PIC_FILE);
 }
 
-/* The device in either form: there and back, in a file and in memory, and what is no image of a form. */
+/* The device in each form: there and back, in a file and in memory, and what is no image of a form. */
 static void forms(const char *path)
 {
     struct host host;
     struct pic other;
-    uint8_t one[PCH_PIC_IMAGE_LEN], two[PCH_PIC_IMAGE_LEN], again[PCH_PIC_IMAGE_LEN], saved[SAVED1_LEN + 1];
+    uint8_t one[IMAGE_LEN], two[IMAGE_LEN], numbered[IMAGE_LEN], again[IMAGE_LEN], saved[SAVED1_LEN + 1];
     uint64_t place = 0;
     start(&host);
     writes(&host, PCH_PIC_REG_MASK, 8, 0xfffffffffffffff0);
     line(&host, 2, true);
     line(&host, 40, true);
     expect("form 1 has 259 bytes and form 2 has 251", pic_image(&host.pic, PIC_FORM_1, one) == 259 && pic_image(&host.pic, PIC_FORM_2, two) == 251);
-    expect("each says which it is", one[PCH_PIC_IMAGE_FORM] == 1 && two[PCH_PIC_IMAGE_FORM] == 2 && memcmp(two, host.pic.image, 251) == 0);
-    expect("there is no other", pic_image(&host.pic, (enum pic_form)3, again) == 0 && pic_image(&host.pic, (enum pic_form)0, again) == 0);
+    expect("with numbers it has 290", pic_image(&host.pic, PIC_FORM_NUMBERED, numbered) == 290 && memcmp(numbered, host.pic.image, 290) == 0);
+    expect("each says which it is", one[PCH_PIC_IMAGE_FORM] == 1 && two[PCH_PIC_IMAGE_FORM] == 2 && two[PCH_PIC_IMAGE_BODIES] == 4);
+    expect("numbers are a fifth body of form 2", numbered[PCH_PIC_IMAGE_FORM] == 2 && numbered[PCH_PIC_IMAGE_BODIES] == 5 &&
+                                                     memcmp(numbered + 27, two + 22, 229) == 0);
+    expect("there is no other", pic_image(&host.pic, (enum pic_form)4, again) == 0 && pic_image(&host.pic, (enum pic_form)0, again) == 0);
     pic_init(&other, BASE);
-    expect("form 1 is taken", pic_take(&other, one, 259, &place) == PCH_PIC_DONE && memcmp(other.image, host.pic.image, 251) == 0);
+    expect("form 1 is taken", pic_take(&other, one, 259, &place) == PCH_PIC_DONE && memcmp(other.image, host.pic.image, 256) == 0);
+    expect("and its numbers begin anew", pic_next(&host.pic) == 1 && pic_next(&other) == 0);
     expect("and given back with the same bytes", pic_image(&other, PIC_FORM_1, again) == 259 && memcmp(again, one, 259) == 0 && place == 0);
-    expect("lengths between the two are refused", pic_take(&other, one, 258, &place) == PCH_PIC_LENGTH && pic_take(&other, one, 252, NULL) == PCH_PIC_LENGTH);
-    expect("so is one form in the other's length", pic_take(&other, one, 251, &place) == PCH_PIC_CONTENTS && place == 0);
+    expect("so is form 2", pic_take(&other, two, 251, &place) == PCH_PIC_DONE && pic_image(&other, PIC_FORM_2, again) == 251 &&
+                               memcmp(again, two, 251) == 0);
+    expect("and numbers", pic_take(&other, numbered, 290, &place) == PCH_PIC_DONE && memcmp(other.image, host.pic.image, 290) == 0);
+    expect("lengths between them are refused", pic_take(&other, one, 258, &place) == PCH_PIC_LENGTH && pic_take(&other, one, 252, NULL) == PCH_PIC_LENGTH &&
+                                                   pic_take(&other, numbered, 289, NULL) == PCH_PIC_LENGTH);
+    expect("so is one form in another's length", pic_take(&other, one, 251, &place) == PCH_PIC_CONTENTS && place == 0 &&
+                                                     pic_take(&other, numbered, 251, &place) == PCH_PIC_CONTENTS && place == 0);
     one[46] ^= 1;
     expect("form 1 has a copy of IRR to break", pic_take(&other, one, 259, &place) == PCH_PIC_COPY && place == 46);
     one[46] ^= 1;
-    one[222] = two[214] = 17;
+    one[222] = two[214] = numbered[219] = 17;
     expect("a count stands elsewhere in each form", pic_take(&other, one, 259, &place) == PCH_PIC_COUNT && place == 222 &&
-                                                        pic_take(&other, two, 251, &place) == PCH_PIC_COUNT && place == 214);
-    expect("no refusal changed the device", memcmp(other.image, host.pic.image, 251) == 0);
+                                                        pic_take(&other, two, 251, &place) == PCH_PIC_COUNT && place == 214 &&
+                                                        pic_take(&other, numbered, 290, &place) == PCH_PIC_COUNT && place == 219);
+    numbered[219] = 1;
+    numbered[258] = 9;
+    numbered[261] = 1;
+    expect("an unused number is not zero", pic_take(&other, numbered, 290, &place) == PCH_PIC_UNUSED && place == 261);
+    expect("no refusal changed the device", memcmp(other.image, host.pic.image, 290) == 0);
     expect("a file of form 1", pic_save(&host.pic, PIC_FORM_1, path) == PCH_PIC_DONE);
     FILE *file = fopen(path, "rb");
     expect("has the length of older hosts' files", file && fread(saved, 1, sizeof saved, file) == SAVED1_LEN && fclose(file) == 0);
     expect("and is loaded", pic_init(&other, BASE) == PCH_PIC_DONE && pic_load(&other, path, NULL) == PCH_PIC_DONE &&
-                                memcmp(other.image, host.pic.image, 251) == 0);
+                                memcmp(other.image, host.pic.image, 256) == 0);
     expect("the copy of IRR in it is tested", forged(path, saved, SAVED1_LEN, 46, (uint8_t)(saved[HEAD_LEN + 46] ^ 1), PCH_PIC_COPY));
     remove(path);
     expect("what is no form is not saved", pic_save(&host.pic, (enum pic_form)0, path) == PIC_FILE && access(path, F_OK) != 0);
 }
 
+/* Events that come to a recorder in another order than they were made in, with numbers that go round on the way. */
+static void in_order(void)
+{
+    struct pic pic;
+    struct pic_event events[7 + PCH_PIC_EVENTS], none = {PIC_ASSERT, 7, 9};
+    size_t count = 0, drained;
+    bool got = pic_init(&pic, BASE) == PCH_PIC_DONE && pic_write(&pic, BASE + PCH_PIC_REG_MASK, 4, 0, NULL) == PCH_PIC_DONE;
+    pic.image[256] = 0xfa;
+    pic.image[257] = 0xff;
+    for (unsigned input = 0; input < 4; input++) {
+        got = got && pic_level(&pic, input, true, &events[count++]) == PCH_PIC_DONE;
+    }
+    /* three deasserts wait, then an assert and a deassert are returned */
+    got = got && pic_write(&pic, BASE + PCH_PIC_REG_CLEAR, 4, 7, NULL) == PCH_PIC_DONE;
+    got = got && pic_level(&pic, 9, true, &events[count++]) == PCH_PIC_DONE && pic_level(&pic, 3, false, &events[count++]) == PCH_PIC_DONE;
+    got = got && pic_drain(&pic, events + count, &drained) == PCH_PIC_DONE && drained == 3;
+    expect("a returned event has its number", got && events[0].number == 65530 && events[4].number == 1 && events[5].number == 2);
+    expect("a drained one too", events[6].number == 65534 && events[7].number == 65535 && events[8].number == 0 && events[8].vector == 2);
+    pic_in_order(events, count + drained);
+    bool order = true;
+    for (size_t i = 0; i < count + drained; i++) {
+        order = order && events[i].number == (int32_t)((65530 + i) % 65536);
+    }
+    expect("by their numbers they are in order", order && events[8].vector == 3 && events[8].change == PIC_DEASSERT && events[3].vector == 3);
+    expect("the next number comes after them", pic_next(&pic) == 3);
+    pic_in_order(&none, 1);
+    pic_in_order(&none, 0);
+    expect("one and none are in order", none.number == 9);
+}
+
 /* Why reads may run side by side: on pages that cannot be written, a read that stored anything would end this program. */
 static void reads_only_load(void)
 {
+    static const size_t lens[] = {PCH_PIC_IMAGE_LEN, PCH_PIC_IMAGE2_LEN, PCH_PIC_IMAGE2_NUMBERED_LEN};
     uint8_t *page = mmap(NULL, 4096, PROT_READ | PROT_WRITE, MAP_PRIVATE | MAP_ANONYMOUS, -1, 0), answer[PCH_PIC_ANSWER_LEN];
     int numbers = 0;
     if (page == MAP_FAILED) {
         perror("mmap");
         exit(2);
     }
-    for (size_t len = PCH_PIC_IMAGE2_LEN; len <= PCH_PIC_IMAGE_LEN; len += PCH_PIC_IMAGE_LEN - PCH_PIC_IMAGE2_LEN) {
-        uint8_t target[PCH_PIC_IMAGE_LEN];
+    for (size_t form = 0; form < sizeof lens / sizeof *lens; form++) {
+        uint8_t target[IMAGE_LEN];
+        size_t len = lens[form];
         mprotect(page, 4096, PROT_READ | PROT_WRITE);
         pch_pic_reset(page, len, answer, sizeof answer);
         mprotect(page, 4096, PROT_READ);
@@ -415,8 +479,9 @@ static void reads_only_load(void)
                 numbers |= 1 << pch_pic_read(page, len, 0, PCH_PIC_WINDOW_LEN, address, width, answer, sizeof answer);
             }
         }
-        expect("a conversion only loads from the image", pch_pic_convert(page, len, target, PCH_PIC_IMAGE_LEN, answer, sizeof answer) == PCH_PIC_DONE &&
-                                                             pch_pic_convert(page, len, target, PCH_PIC_IMAGE2_LEN, answer, sizeof answer) == PCH_PIC_DONE);
+        for (size_t to = 0; to < sizeof lens / sizeof *lens; to++) {
+            expect("a conversion only loads from the image", pch_pic_convert(page, len, target, lens[to], answer, sizeof answer) == PCH_PIC_DONE);
+        }
     }
     expect("a read only loads from the image", numbers == (1 << PCH_PIC_DONE | 1 << PCH_PIC_OUTSIDE | 1 << PCH_PIC_WIDTH));
     munmap(page, 4096);
@@ -446,7 +511,7 @@ static void what_is_no_device(void)
     struct pic_event event;
     memset(&pic, 0xff, sizeof pic);
     expect("of no image, all is 0", pic_latched(&pic) == 0 && pic_service(&pic) == 0 && pic_vector(&pic, 63) == 0);
-    expect("the events' numbers too", pic_waiting(&pic) == 0 && pic_drops(&pic) == 0);
+    expect("the events' counts and numbers too", pic_waiting(&pic) == 0 && pic_drops(&pic) == 0 && pic_next(&pic) == 0);
     expect("and all is refused", pic_settle(&pic, &wires) == PCH_PIC_CONTENTS && pic_line(&pic, &wires, 0, true) == PCH_PIC_CONTENTS &&
                                      pic_resume(&pic, &wires, 1) == PCH_PIC_CONTENTS);
     pic_init(&pic, BASE);
@@ -470,6 +535,7 @@ static void another_form(void)
     pic.image[145 + 4] = 0x80;
     expect("IRR, ISR and a vector in another form", pic_latched(&pic) == 0x21 && pic_service(&pic) == 0x23 && pic_vector(&pic, 5) == 0x99);
     expect("how many wait and were dropped in it", pic_waiting(&pic) == 3 && pic_drops(&pic) == 0x80000000);
+    expect("it has no numbers", pic_next(&pic) == 0);
 }
 
 int main(int argc, char **argv)
@@ -488,6 +554,7 @@ int main(int argc, char **argv)
     any_guest();
     files(path);
     forms(path);
+    in_order();
     reads_only_load();
     by_the_table();
     what_is_no_device();

@@ -1,8 +1,9 @@
 /* A guest's day with a PCH-PIC, told in plain words: start-up as Linux's driver does it, a load sample's line up and down, the device saved to a
- * file and loaded into a fresh host, what comes after sixteen events, and a guest that is unkind.
- *     load_sample FILE              plays it; the device goes to FILE, in form 2
+ * file and loaded into a fresh host, what comes after sixteen events, a guest that is unkind, and a recorder that puts events in order.
+ *     load_sample FILE              plays it; the device goes to FILE, with the numbers of its events
  *     load_sample --show FILE       tells what a saved device holds
- *     load_sample --form N FROM TO  saves what FROM holds to TO, in form 1 or 2: a host of before version 0.6.0 loads form 1 alone */
+ *     load_sample --form F FROM TO  saves what FROM holds to TO, in form 1, 2 or numbered: a host of before version 0.8.0 does not load numbered, and
+ *                                   one of before 0.6.0 loads form 1 alone */
 #include "pic.h"
 
 #include <inttypes.h>
@@ -135,7 +136,7 @@ static void save_and_load(struct host *host, const char *path)
     printf("The guest clears and unmasks it. The event waits, and the device is saved.\n");
     guest_writes(host, PCH_PIC_REG_CLEAR, 4, UINT64_C(1) << SAMPLE);
     must(pic_write(&host->pic, BASE + PCH_PIC_REG_MASK, 4, mask_without(host, SAMPLE), NULL));
-    saved(path, pic_save(&host->pic, PIC_FORM_2, path));
+    saved(path, pic_save(&host->pic, PIC_FORM_NUMBERED, path));
     printf("A fresh host loads it; line %d is still high there.\n", SAMPLE);
     *host = new_host();
     load(&host->pic, path);
@@ -178,6 +179,36 @@ static void unkind(struct host *host)
     line(host, 1, false);
 }
 
+static void print_events(const struct pic_event *events, size_t count)
+{
+    for (size_t i = 0; i < count; i++) {
+        printf("  number %" PRId32 ": %s vector 0x%02x\n", events[i].number, events[i].change == PIC_ASSERT ? "assert" : "deassert", events[i].vector);
+    }
+}
+
+/* A recorder keeps every event. One that is returned comes to it at once, one that waits only when the host drains; the numbers say in which order the
+ * device made them. This host drains late, and so the order is another. */
+static void recorded(struct host *host)
+{
+    struct pic_event events[2 + PCH_PIC_EVENTS];
+    size_t drained;
+    printf("The guest masks everything, and line 3 goes up. It unmasks inputs 3 and 5, line 3 goes down, line 5 up, and it clears input 5.\n");
+    guest_writes(host, PCH_PIC_REG_MASK, 4, 0xffffffff);
+    line(host, 3, true);
+    must(pic_write(&host->pic, BASE + PCH_PIC_REG_MASK, 4, ~UINT64_C(0x28), NULL));
+    must(pic_level(&host->pic, 3, false, &events[0]));
+    must(pic_level(&host->pic, 5, true, &events[1]));
+    must(pic_write(&host->pic, BASE + PCH_PIC_REG_CLEAR, 4, 0x28, NULL));
+    must(pic_drain(&host->pic, events + 2, &drained));
+    printf("The recorder gets what is returned at once, and the rest from a drain at the end:\n");
+    print_events(events, 2 + drained);
+    printf("By their numbers it puts them in the order in which they were made:\n");
+    pic_in_order(events, 2 + drained);
+    print_events(events, 2 + drained);
+    line(host, 3, false);
+    line(host, 5, false);
+}
+
 static int play(const char *path)
 {
     struct host host = new_host();
@@ -187,6 +218,7 @@ static int play(const char *path)
     save_and_load(&host, path);
     after_sixteen(&host);
     unkind(&host);
+    recorded(&host);
     for (unsigned vector = 0; vector < PIC_VECTORS; vector++) {
         left += host.wires.on[vector];
     }
@@ -201,6 +233,7 @@ static void show(const char *path)
     printf("Latched 0x%016" PRIx64 ", in service 0x%016" PRIx64 ", masked 0x%016" PRIx64 ".\n", pic_latched(&host.pic), pic_service(&host.pic),
            guest_reads(&host, PCH_PIC_REG_MASK, 8));
     printf("Waiting events: %u. Dropped: %" PRIu32 ".\n", pic_waiting(&host.pic), pic_drops(&host.pic));
+    printf("The next event gets number %u.\n", (unsigned)pic_next(&host.pic));
 }
 
 static void convert(enum pic_form form, const char *from, const char *to)
@@ -208,6 +241,12 @@ static void convert(enum pic_form form, const char *from, const char *to)
     struct host host = new_host();
     load(&host.pic, from);
     saved(to, pic_save(&host.pic, form, to));
+}
+
+/* A form by the word for it; 0 for none. */
+static int form_of(const char *word)
+{
+    return strcmp(word, "1") == 0 ? PIC_FORM_1 : strcmp(word, "2") == 0 ? PIC_FORM_2 : strcmp(word, "numbered") == 0 ? PIC_FORM_NUMBERED : 0;
 }
 
 int main(int argc, char **argv)
@@ -219,10 +258,10 @@ int main(int argc, char **argv)
         show(argv[2]);
         return 0;
     }
-    if (argc == 5 && strcmp(argv[1], "--form") == 0 && (strcmp(argv[2], "1") == 0 || strcmp(argv[2], "2") == 0)) {
-        convert(argv[2][0] == '1' ? PIC_FORM_1 : PIC_FORM_2, argv[3], argv[4]);
+    if (argc == 5 && strcmp(argv[1], "--form") == 0 && form_of(argv[2]) != 0) {
+        convert((enum pic_form)form_of(argv[2]), argv[3], argv[4]);
         return 0;
     }
-    fprintf(stderr, "usage: load_sample FILE | load_sample --show FILE | load_sample --form 1|2 FROM TO\n");
+    fprintf(stderr, "usage: load_sample FILE | load_sample --show FILE | load_sample --form 1|2|numbered FROM TO\n");
     return 2;
 }

@@ -22,10 +22,11 @@ static uint64_t value_of(const uint8_t answer[PCH_PIC_ANSWER_LEN])
 /* The event that a done call returned. */
 static struct pic_event event_of(int number, const uint8_t answer[PCH_PIC_ANSWER_LEN], enum pic_change change)
 {
-    struct pic_event event = {PIC_NOTHING, 0};
+    struct pic_event event = {PIC_NOTHING, 0, PIC_NO_NUMBER};
     if (number == PCH_PIC_DONE && answer[PCH_PIC_ANSWER_PRESENT] == 1) {
         event.change = change;
-        event.vector = answer[PCH_PIC_ANSWER_VALUE];
+        event.vector = answer[PCH_PIC_ANSWER_VECTOR];
+        event.number = (int32_t)number_at(answer + PCH_PIC_ANSWER_EVENT_NUMBER, 2);
     }
     return event;
 }
@@ -95,21 +96,47 @@ int pic_poll(struct pic *pic, uint64_t input, struct pic_event *event)
 
 int pic_drain(struct pic *pic, struct pic_event events[PCH_PIC_EVENTS], size_t *count)
 {
-    uint8_t answer[PCH_PIC_ANSWER_LEN], pairs[PCH_PIC_EVENTS * PCH_PIC_EVENT_LEN];
-    int number = pch_pic_drain(pic->image, sizeof pic->image, pairs, sizeof pairs, 0, answer, sizeof answer);
+    uint8_t answer[PCH_PIC_ANSWER_LEN], drained[PCH_PIC_EVENTS * PCH_PIC_EVENT_LEN];
+    int number = pch_pic_drain(pic->image, sizeof pic->image, drained, sizeof drained, 0, answer, sizeof answer);
     *count = number == PCH_PIC_DONE ? (size_t)value_of(answer) : 0;
     for (size_t i = 0; i < *count; i++) {
-        const uint8_t *pair = pairs + PCH_PIC_EVENT_LEN * i;
-        events[i].vector = pair[0];
-        events[i].change = pair[1] == 1 ? PIC_ASSERT : PIC_DEASSERT;
+        const uint8_t *event = drained + PCH_PIC_EVENT_LEN * i;
+        events[i].vector = event[PCH_PIC_EVENT_VECTOR];
+        events[i].change = event[PCH_PIC_EVENT_FLAG] == 1 ? PIC_ASSERT : PIC_DEASSERT;
+        events[i].number = (int32_t)number_at(event + PCH_PIC_EVENT_NUMBER, 2);
     }
     return number;
 }
 
-size_t pic_image(const struct pic *pic, enum pic_form form, uint8_t image[PCH_PIC_IMAGE_LEN])
+/* Numbers go round, so they are compared by how far they are from one of them. Events come nearly in order, and then little is moved. */
+void pic_in_order(struct pic_event *events, size_t count)
+{
+    uint16_t from = count > 0 ? (uint16_t)events[0].number : 0;
+    for (size_t i = 1; i < count; i++) {
+        struct pic_event event = events[i];
+        int16_t far = pch_pic_difference((uint16_t)event.number, from);
+        size_t to = i;
+        for (; to > 0 && pch_pic_difference((uint16_t)events[to - 1].number, from) > far; to--) {
+            events[to] = events[to - 1];
+        }
+        events[to] = event;
+    }
+}
+
+static size_t image_len(enum pic_form form)
+{
+    switch (form) {
+    case PIC_FORM_1: return PCH_PIC_IMAGE_LEN;
+    case PIC_FORM_2: return PCH_PIC_IMAGE2_LEN;
+    case PIC_FORM_NUMBERED: return PCH_PIC_IMAGE2_NUMBERED_LEN;
+    }
+    return 0;
+}
+
+size_t pic_image(const struct pic *pic, enum pic_form form, uint8_t image[PCH_PIC_IMAGE2_NUMBERED_LEN])
 {
     uint8_t answer[PCH_PIC_ANSWER_LEN];
-    size_t len = form == PIC_FORM_1 ? PCH_PIC_IMAGE_LEN : form == PIC_FORM_2 ? PCH_PIC_IMAGE2_LEN : 0;
+    size_t len = image_len(form);
     return pch_pic_convert(pic->image, sizeof pic->image, image, len, answer, sizeof answer) == PCH_PIC_DONE ? len : 0;
 }
 
@@ -170,6 +197,11 @@ uint32_t pic_drops(const struct pic *pic)
     return (uint32_t)in_body(pic, PCH_PIC_KIND_EVENTS, PCH_PIC_EVENTS_DROPS, 4);
 }
 
+uint16_t pic_next(const struct pic *pic)
+{
+    return (uint16_t)in_body(pic, PCH_PIC_KIND_NUMBERS, PCH_PIC_NUMBERS_NEXT, 2);
+}
+
 void pic_count(const struct pic *pic, uint8_t held[PIC_VECTORS])
 {
     uint64_t service = pic_service(pic);
@@ -181,9 +213,9 @@ void pic_count(const struct pic *pic, uint8_t held[PIC_VECTORS])
     }
 }
 
-static void tell(struct pic_wires *wires, uint8_t vector, bool on)
+static void tell(struct pic_wires *wires, uint8_t vector, bool on, int32_t number)
 {
-    struct pic_event event = {on ? PIC_ASSERT : PIC_DEASSERT, vector};
+    struct pic_event event = {on ? PIC_ASSERT : PIC_DEASSERT, vector, number};
     wires->on[vector] = on;
     if (wires->route) {
         wires->route(wires->above, event);
@@ -196,7 +228,7 @@ static void pass_on(struct pic_wires *wires, const uint8_t held[PIC_VECTORS], st
 {
     bool on = held[event.vector] != 0;
     if ((event.change == PIC_ASSERT && on) || (event.change == PIC_DEASSERT && !on && wires->on[event.vector])) {
-        tell(wires, event.vector, on);
+        tell(wires, event.vector, on, event.number);
     }
 }
 
@@ -216,7 +248,7 @@ static int catch_up(struct pic *pic, struct pic_wires *wires)
     }
     for (unsigned vector = 0; vector < PIC_VECTORS; vector++) {
         if (wires->on[vector] != (held[vector] != 0)) {
-            tell(wires, (uint8_t)vector, held[vector] != 0);
+            tell(wires, (uint8_t)vector, held[vector] != 0, PIC_NO_NUMBER);
         }
     }
     return PCH_PIC_DONE;

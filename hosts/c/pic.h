@@ -22,21 +22,27 @@ enum {
 /* The vectors of the controller above. */
 enum { PIC_VECTORS = 256 };
 
-/* The forms that a device is saved in. Hosts of before version 0.6.0 load form 1 alone. */
-enum pic_form { PIC_FORM_1 = 1, PIC_FORM_2 = 2 };
+/* The forms that a device is saved in; the last is form 2 with the numbers of events. Hosts of before version 0.8.0 do not load that one, and those of
+ * before 0.6.0 load form 1 alone. The others lose the numbers and nothing else. */
+enum pic_form { PIC_FORM_1 = 1, PIC_FORM_2 = 2, PIC_FORM_NUMBERED = 3 };
 
-/* The image is kept in form 2; forms matter where a device comes and goes (pic_image, pic_take, pic_save, pic_load). */
+/* The image is kept with numbers; forms matter where a device comes and goes (pic_image, pic_take, pic_save, pic_load). */
 struct pic {
-    uint8_t image[PCH_PIC_IMAGE2_LEN];
+    uint8_t image[PCH_PIC_IMAGE2_NUMBERED_LEN];
     uint64_t base, size;
 };
 
 /* What is to be passed on to the interrupt controller above. */
 enum pic_change { PIC_NOTHING, PIC_ASSERT, PIC_DEASSERT };
 
+/* The number says when the device made the event, one after another; after 65535 comes 0. A route is also told of changes that no event told: those have
+ * PIC_NO_NUMBER. */
+enum { PIC_NO_NUMBER = -1 };
+
 struct pic_event {
     enum pic_change change;
     uint8_t vector;
+    int32_t number;
 };
 
 /* The wires of a device. All zero is a start: every line low, every vector off, nobody told.
@@ -63,13 +69,18 @@ int pic_level(struct pic *pic, uint64_t input, bool high, struct pic_event *even
 int pic_poll(struct pic *pic, uint64_t input, struct pic_event *event);
 int pic_drain(struct pic *pic, struct pic_event events[PCH_PIC_EVENTS], size_t *count);
 
+/* Puts events that pic_level, pic_poll and pic_drain gave into the order in which the device made them: a returned one is there at once, a drained one
+ * comes late. At most 32768 events may have been made from the oldest of them to the newest, dropped ones counted. */
+void pic_in_order(struct pic_event *events, size_t count);
+
 /* What the image holds: the inputs that are latched and those in service, masked ones too (bit n for input n), an input's vector, how many events
- * wait, and how many were dropped since reset. All are 0 where the image is none. */
+ * wait, how many were dropped since reset, and the number of the next event. All are 0 where the image is none. */
 uint64_t pic_latched(const struct pic *pic);
 uint64_t pic_service(const struct pic *pic);
 uint8_t pic_vector(const struct pic *pic, unsigned input);
 unsigned pic_waiting(const struct pic *pic);
 uint32_t pic_drops(const struct pic *pic);
+uint16_t pic_next(const struct pic *pic);
 
 /* Counts, for each vector, the inputs in service that carry it. A vector is on while its count is not 0. */
 void pic_count(const struct pic *pic, uint8_t held[PIC_VECTORS]);
@@ -85,13 +96,13 @@ int pic_line(struct pic *pic, struct pic_wires *wires, uint64_t input, bool high
 /* After a load: the lines are as high says, and the rest follows. wires->on says what the controller above has on: nothing where it is new. */
 int pic_resume(struct pic *pic, struct pic_wires *wires, uint64_t high);
 
-/* The device as an image of that form, and back from an image of either; its length says which. pic_image says how many bytes it wrote, 0 where pic
+/* The device as an image of that form, and back from an image of any; its length says which. pic_image says how many bytes it wrote, 0 where pic
  * or form is none. The window is not in an image: pic_init sets that, before a pic_take too. One that fails leaves pic as it was, and where the image
  * breaks a rule of its form (8 to 11) *place, if place is not NULL, is the byte of the image that does; after one that is done, pic_resume. */
-size_t pic_image(const struct pic *pic, enum pic_form form, uint8_t image[PCH_PIC_IMAGE_LEN]);
+size_t pic_image(const struct pic *pic, enum pic_form form, uint8_t image[PCH_PIC_IMAGE2_NUMBERED_LEN]);
 int pic_take(struct pic *pic, const uint8_t *image, size_t image_len, uint64_t *place);
 
-/* The same to a file and back (pic_file.c). The file has a magic, a length and a checksum, and is replaced whole or not at all. A file of either form
+/* The same to a file and back (pic_file.c). The file has a magic, a length and a checksum, and is replaced whole or not at all. A file of any form
  * is loaded, as pic_take takes its image. */
 int pic_save(const struct pic *pic, enum pic_form form, const char *path);
 int pic_load(struct pic *pic, const char *path, uint64_t *place);

@@ -10,7 +10,7 @@
 #include <sys/stat.h>
 #include <unistd.h>
 
-enum { MAGIC_LEN = 8, HEAD_LEN = MAGIC_LEN + 4, SUM_LEN = 4, MOST_LEN = HEAD_LEN + PCH_PIC_IMAGE_LEN + SUM_LEN, PATH_LEN = 4096 };
+enum { MAGIC_LEN = 8, HEAD_LEN = MAGIC_LEN + 4, SUM_LEN = 4, MOST_LEN = HEAD_LEN + PCH_PIC_IMAGE2_NUMBERED_LEN + SUM_LEN, PATH_LEN = 4096 };
 
 static const uint8_t magic[MAGIC_LEN] = {'P', 'C', 'H', '-', 'P', 'I', 'C', '\n'};
 

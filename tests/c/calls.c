@@ -1,11 +1,18 @@
-/* Each call, and each refusal, once, from C, on images of both forms: what is handed back, and which bytes change. Prints
+/* Each call, and each refusal, once, from C, on images of all forms: what is handed back, and which bytes change. Prints
  * 'N passed, M failed' last. */
 #include "pch_pic.h"
 
 #include <stdio.h>
 #include <string.h>
 
-enum { ANSWER = PCH_PIC_ANSWER_LEN, GUARD = 8, IMAGE = PCH_PIC_IMAGE_LEN, IMAGE2 = PCH_PIC_IMAGE2_LEN };
+enum {
+    ANSWER = PCH_PIC_ANSWER_LEN,
+    GUARD = 8,
+    IMAGE = PCH_PIC_IMAGE_LEN,
+    IMAGE2 = PCH_PIC_IMAGE2_LEN,
+    NUMBERED = PCH_PIC_IMAGE2_NUMBERED_LEN,
+    EVENTS = PCH_PIC_EVENTS * PCH_PIC_EVENT_LEN
+};
 
 static int passed, failed;
 
@@ -19,12 +26,13 @@ static void expect(const char *what, int ok)
     }
 }
 
-/* Buffers with a guard behind each: a byte written past the end shows. */
-static uint8_t image[IMAGE + GUARD], answer[ANSWER + GUARD], events[8 + GUARD];
+/* Buffers with a guard behind each: a byte written past the end shows. Of image and events these are lent. */
+static uint8_t image[NUMBERED + GUARD], answer[ANSWER + GUARD], events[EVENTS + GUARD];
+static size_t image_len = IMAGE, events_len = 8;
 
 static void guard(void)
 {
-    memset(image + IMAGE, 0xa5, GUARD);
+    memset(image + image_len, 0xa5, GUARD);
     memset(answer, 0x5a, sizeof answer);
     memset(events, 0xc3, sizeof events);
 }
@@ -32,7 +40,7 @@ static void guard(void)
 static int guarded(void)
 {
     for (int i = 0; i < GUARD; i++) {
-        if (image[IMAGE + i] != 0xa5 || answer[ANSWER + i] != 0x5a || events[8 + i] != 0xc3) {
+        if (image[image_len + i] != 0xa5 || answer[ANSWER + i] != 0x5a || events[events_len + i] != 0xc3) {
             return 0;
         }
     }
@@ -59,6 +67,18 @@ static int untouched(void)
         }
     }
     return guarded();
+}
+
+/* Whether the number in two bytes of the image is so. */
+static int number_at(size_t at, unsigned number)
+{
+    return image[at] == (number & 0xff) && image[at + 1] == number >> 8;
+}
+
+/* A drained event, four bytes. */
+static int event_at(size_t at, uint8_t vector, uint8_t flag, unsigned number)
+{
+    return events[at] == vector && events[at + 1] == flag && events[at + 2] == (number & 0xff) && events[at + 3] == number >> 8;
 }
 
 /* Form 2: the same device in 251 bytes. The eight bytes behind them are guarded like the rest. */
@@ -98,10 +118,10 @@ static void form_2(void)
     expect("form 2 to form 1", n == 0 && answers(0, 0, 0) && one[0] == 1 && one[46] == 0x20 && one[54] == 0x20 && one[62] == 0x20 && one[222] == 1);
     guard();
     n = pch_pic_drain(one, IMAGE, events, 8, 0, answer, ANSWER);
-    expect("what waits is drained there", n == 0 && answers(0, 1, 1) && events[0] == 5 && events[1] == 1 && one[0] == 1);
+    expect("what waits is drained there", n == 0 && answers(0, 1, 1) && event_at(0, 5, 1, 0) && one[0] == 1);
     guard();
     n = pch_pic_drain(image, IMAGE2, events, 8, 0, answer, ANSWER);
-    expect("and here alike", n == 0 && answers(0, 1, 1) && events[0] == 5 && events[1] == 1 && image[214] == 0 && image[219] == 0);
+    expect("and here alike", n == 0 && answers(0, 1, 1) && event_at(0, 5, 1, 0) && image[214] == 0 && image[219] == 0);
     memset(image, 0x77, IMAGE);
     guard();
     n = pch_pic_convert(one, IMAGE, image, IMAGE2, answer, ANSWER);
@@ -140,6 +160,138 @@ static void form_2(void)
     expect("11: a byte behind those that wait", n == 11 && answers(11, 1, 250));
 }
 
+/* Form 2 with numbers, 290 bytes: each event made takes the next number, returned, kept or dropped. */
+static void numbered(void)
+{
+    uint8_t other[NUMBERED], before[NUMBERED], n;
+    int same;
+
+    image_len = NUMBERED;
+    events_len = EVENTS;
+    memset(image, 0x77, sizeof image);
+    guard();
+    n = pch_pic_reset(image, NUMBERED, answer, ANSWER);
+    expect("reset takes any 290 bytes", n == 0 && answers(0, 0, 0));
+    expect("the image says form 2, five bodies", image[0] == 2 && image[1] == 5 && image[3] == 27 && image[5] == 64);
+    expect("the fifth has 34 bytes at 256", image[22] == 5 && image[23] == 0 && image[24] == 1 && image[25] == 34 && image[26] == 0);
+    same = 1;
+    for (int i = 256; i < NUMBERED; i++) {
+        same = same && image[i] == 0;
+    }
+    expect("all of them 0", same);
+    guard();
+    n = pch_pic_level(image, NUMBERED, 5, 1, answer, ANSWER);
+    expect("a masked input makes no event", n == 0 && answers(0, 0, 0) && number_at(256, 0));
+    guard();
+    n = pch_pic_write(image, NUMBERED, 0, 0x400, 0x20, 4, 0xffffffdf, answer, ANSWER);
+    expect("the event of an unmask waits with number 0",
+           n == 0 && answers(0, 1, 0) && image[219] == 1 && image[224] == 5 && number_at(256, 1) && number_at(258, 0));
+    guard();
+    n = pch_pic_level(image, NUMBERED, 5, 0, answer, ANSWER);
+    expect("the event that is returned has number 1, in bits 16 to 31", n == 0 && answers(0, 1, 0x10005) && number_at(256, 2));
+    expect("the vector is the low byte", answer[PCH_PIC_ANSWER_VECTOR] == 5 && answer[PCH_PIC_ANSWER_EVENT_NUMBER] == 1);
+    guard();
+    n = pch_pic_drain(image, NUMBERED, events, 8, 5, answer, ANSWER);
+    expect("three bytes are no room", n == 0 && answers(0, 1, 0) && events[5] == 0xc3 && image[219] == 1);
+    guard();
+    n = pch_pic_drain(image, NUMBERED, events, 8, 3, answer, ANSWER);
+    expect("four are", n == 0 && answers(0, 1, 1) && events[2] == 0xc3 && event_at(3, 5, 1, 0) && events[7] == 0xc3 && image[219] == 0);
+
+    image[256] = image[257] = 0xff;
+    guard();
+    n = pch_pic_level(image, NUMBERED, 5, 1, answer, ANSWER);
+    expect("number 65535", n == 0 && answers(0, 1, 0xffff0005) && number_at(256, 0));
+    guard();
+    n = pch_pic_level(image, NUMBERED, 5, 0, answer, ANSWER);
+    expect("and then 0", n == 0 && answers(0, 1, 5) && number_at(256, 1));
+    guard();
+    n = pch_pic_table_write(image, NUMBERED, 0, 0x400, 0x20, 4, 0, answer, ANSWER);
+    expect("by the table all are unmasked", n == 0 && answers(0, 1, 0));
+    guard();
+    n = pch_pic_table_read(image, NUMBERED, 0, 0x400, 0x20, 8, answer, ANSWER);
+    expect("and MASK is read", n == 0 && answers(0, 1, 0xffffffff00000000));
+    same = 1;
+    for (uint64_t input = 0; input < 17; input++) {
+        guard();
+        n = pch_pic_level(image, NUMBERED, input, 1, answer, ANSWER);
+        same = same && n == 0 && answers(0, 1, input + ((input + 1) << 16));
+    }
+    expect("seventeen are raised, numbers 1 to 17", same);
+    guard();
+    n = pch_pic_write(image, NUMBERED, 0, 0x400, 0x20, 4, 0xffffffff, answer, ANSWER);
+    expect("masked at once, one event is dropped, and it has a number too",
+           n == 0 && answers(0, 1, 1) && image[219] == 16 && image[220] == 1 && number_at(256, 35));
+    expect("18 to 33 wait", number_at(258, 18) && number_at(288, 33));
+    guard();
+    n = pch_pic_level(image, NUMBERED, 16, 1, answer, ANSWER);
+    expect("nothing is returned, and no number is taken", n == 0 && answers(0, 0, 0) && number_at(256, 35));
+
+    memcpy(before, image, NUMBERED);
+    guard();
+    memset(other, 0x66, sizeof other);
+    n = pch_pic_convert(image, NUMBERED, other, NUMBERED, answer, ANSWER);
+    expect("290 bytes to 290 is a copy", n == 0 && answers(0, 0, 0) && memcmp(other, image, NUMBERED) == 0);
+    guard();
+    n = pch_pic_convert(image, NUMBERED, other, IMAGE2, answer, ANSWER);
+    expect("to 251 the numbers are lost and nothing else", n == 0 && answers(0, 0, 0) && other[1] == 4 && memcmp(other + 22, image + 27, 229) == 0);
+    guard();
+    n = pch_pic_convert(other, IMAGE2, image, NUMBERED, answer, ANSWER);
+    expect("back they begin with 0",
+           n == 0 && answers(0, 0, 0) && number_at(256, 16) && number_at(258, 0) && number_at(288, 15) && memcmp(image, before, 256) == 0);
+    guard();
+    n = pch_pic_convert(before, NUMBERED, other, IMAGE, answer, ANSWER);
+    expect("to 259 too", n == 0 && answers(0, 0, 0) && other[0] == 1 && memcmp(other + 54, before + 51, 205) == 0);
+    guard();
+    n = pch_pic_drain(other, IMAGE, events, EVENTS, 60, answer, ANSWER);
+    expect("there the oldest is 0", n == 0 && answers(0, 1, 1) && event_at(60, 0, 0, 0));
+    guard();
+    n = pch_pic_drain(other, IMAGE, events, EVENTS, 60, answer, ANSWER);
+    expect("and in the next call again", n == 0 && answers(0, 1, 1) && event_at(60, 1, 0, 0));
+    other[22] = 0;
+    guard();
+    n = pch_pic_level(other, IMAGE, 0, 1, answer, ANSWER);
+    expect("what is returned comes after the fourteen that wait", n == 0 && answers(0, 1, 14 << 16));
+
+    memcpy(image, before, NUMBERED);
+    guard();
+    n = pch_pic_drain(image, NUMBERED, events, 32, 0, answer, ANSWER);
+    expect("32 bytes take eight", n == 0 && answers(0, 1, 8) && event_at(0, 0, 0, 18) && event_at(28, 7, 0, 25) && events[32] == 0xc3);
+    expect("eight wait on with their numbers", image[219] == 8 && number_at(258, 26) && number_at(272, 33) && number_at(274, 0) && number_at(288, 0));
+    guard();
+    n = pch_pic_drain(image, NUMBERED, events, EVENTS, 0, answer, ANSWER);
+    expect("64 bytes take all", n == 0 && answers(0, 1, 8) && event_at(28, 15, 0, 33) && image[219] == 0 && number_at(258, 0) && number_at(256, 35));
+    memcpy(image, before, NUMBERED);
+    guard();
+    n = pch_pic_drain(image, NUMBERED, events, EVENTS, 0, answer, ANSWER);
+    expect("sixteen in one drain", n == 0 && answers(0, 1, 16) && event_at(0, 0, 0, 18) && event_at(60, 15, 0, 33));
+
+    image[NUMBERED - 1] = 1;
+    guard();
+    n = pch_pic_poll(image, NUMBERED, 64, answer, ANSWER);
+    expect("11 before 3: an unused number, at its first byte that is not 0", n == 11 && answers(11, 1, 289));
+    image[255] = 1;
+    guard();
+    n = pch_pic_read(image, NUMBERED, 0, 0x400, 0, 3, answer, ANSWER);
+    expect("11 before 2: an unused pair comes first", n == 11 && answers(11, 1, 255));
+    image[255] = image[NUMBERED - 1] = 0;
+    image[219] = 1;
+    image[258] = image[259] = 0xff;
+    guard();
+    n = pch_pic_drain(image, NUMBERED, events, EVENTS, 0, answer, ANSWER);
+    expect("a waiting event may have any number", n == 0 && answers(0, 1, 1) && event_at(0, 0, 0, 65535));
+    guard();
+    n = pch_pic_poll(image, NUMBERED - 1, 0, answer, ANSWER);
+    expect("4: 289 bytes", n == 4 && answers(4, 0, 0));
+    image[26] = 1;
+    guard();
+    n = pch_pic_poll(image, NUMBERED, 0, answer, ANSWER);
+    expect("5: the last byte of the contents", n == 5 && answers(5, 0, 0));
+
+    expect("a difference", pch_pic_difference(7, 4) == 3 && pch_pic_difference(4, 7) == -3 && pch_pic_difference(9, 9) == 0);
+    expect("past 65535", pch_pic_difference(3, 65534) == 5 && pch_pic_difference(65534, 3) == -5);
+    expect("at most 32767", pch_pic_difference(32767, 0) == 32767 && pch_pic_difference(32768, 0) == -32768 && pch_pic_difference(0, 32768) == -32768);
+}
+
 int main(void)
 {
     uint8_t before[IMAGE];
@@ -170,7 +322,7 @@ int main(void)
 
     guard();
     n = pch_pic_drain(image, IMAGE, events, 8, 3, answer, ANSWER);
-    expect("the assert is drained at its place", n == 0 && answers(0, 1, 1) && events[2] == 0xc3 && events[3] == 5 && events[4] == 1 && events[5] == 0xc3);
+    expect("the assert is drained at its place", n == 0 && answers(0, 1, 1) && events[2] == 0xc3 && event_at(3, 5, 1, 0) && events[7] == 0xc3);
 
     guard();
     n = pch_pic_level(image, IMAGE, 5, 0, answer, ANSWER);
@@ -204,7 +356,7 @@ int main(void)
     expect("3: no such input", n == 3 && answers(3, 0, 0));
     guard();
     n = pch_pic_level(image, IMAGE - 1, 64, 1, answer, ANSWER);
-    expect("4 before 3: neither 259 nor 251 bytes", n == 4 && answers(4, 0, 0));
+    expect("4 before 3: 258 bytes", n == 4 && answers(4, 0, 0));
     guard();
     n = pch_pic_level(image, IMAGE2, 64, 1, answer, ANSWER);
     expect("5 before 3: form 1 in form 2's length", n == 5 && answers(5, 0, 0));
@@ -264,6 +416,7 @@ int main(void)
     expect("11 before 3: the first byte behind those that wait", n == 11 && answers(11, 1, 233));
 
     form_2();
+    numbered();
 
     printf("%d passed, %d failed\n", passed, failed);
     return failed != 0;

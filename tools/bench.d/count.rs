@@ -4,6 +4,7 @@
 
 use crate::Asked;
 use crate::call::Call;
+use crate::day::DAYS;
 use crate::kinds::Kind;
 use crate::measure::{BATCH, Bench};
 use std::hint::black_box;
@@ -40,23 +41,23 @@ pub fn counted(asked: &Asked, kinds: &[Kind], day: Option<&[Call]>) {
                 bench_mark();
             }
         }
-        if let Some(calls) = day {
+        for (length, calls) in DAYS.into_iter().flat_map(|length| day.map(|calls| (length, calls))) {
             for calls in [&calls[..1], calls] {
-                bench.day_once(side, calls);
+                bench.day_once(side, calls, length);
                 bench_mark();
             }
         }
     }
 }
 
-/// Instructions per call: for each kind, and then for the day, those of each side.
+/// Instructions per call: for each kind, and then for the day on each of its images, those of each side.
 pub fn per_call(asked: &Asked, kinds: usize, day: Option<usize>) -> Result<Vec<Vec<f64>>, String> {
     let folder = std::env::temp_dir().join(format!("bench-{}", std::process::id()));
     std::fs::create_dir_all(&folder).map_err(|error| error.to_string())?;
     let totals = run(asked, &folder);
     let _ = std::fs::remove_dir_all(&folder);
     let totals = totals?;
-    let rows = kinds + day.is_some() as usize;
+    let rows = kinds + if day.is_some() { DAYS.len() } else { 0 };
     if totals.len() != 2 * rows * asked.sides.len() {
         return Err(format!("there are {} totals, expected {}", totals.len(), 2 * rows * asked.sides.len()));
     }

@@ -1,4 +1,5 @@
-//! A mixed day of calls: a guest's start-up, and then interrupts as a host and a guest handle them, one after another on one image.
+//! A mixed day of calls: a guest's start-up, and then interrupts as a host and a guest handle them, one after another on one image, of form 1 and then with
+//! numbers.
 //!
 //! Start-up writes 64 vector bytes, 64 route bytes and the registers, and unmasks the inputs in use. Then, out of 100 episodes: 55 are an
 //! interrupt of a level input (raise, read ISR, write CLEAR, drain, lower, poll); 25 one of an edge input (raise, read ISR, write CLEAR,
@@ -8,7 +9,10 @@
 
 use crate::call::Call;
 use crate::chance::Chance;
-use crate::kinds::{BASE, SIZE};
+use crate::kinds::{BASE, LENGTH, NUMBERED, SIZE};
+
+/// The lengths of the images that the day is made on.
+pub const DAYS: [usize; 2] = [LENGTH, NUMBERED];
 
 struct Day {
     calls: Vec<Call>,

@@ -1,22 +1,23 @@
 //! Side c: the published Rust in memory, with no image to load and save. Its lock is the stand-in of tools/oracle, a mutex of the standard
-//! library that nobody else takes. What the Rust has no part in (refusals 2, 4, 5 and 7 to 11) is not measured.
+//! library that nobody else takes. What the Rust has no part in (refusals 2, 4, 5 and 7 to 11, drains of a part, conversions) is not measured. It numbers no
+//! events, so it does less than the others on any image.
 
 use crate::call::Call;
 use crate::image;
-use crate::kinds::{BASE, Kind, LENGTH, LENGTH_2, SIZE, Slot};
+use crate::kinds::{BASE, Kind, LENGTH, LENGTHS, SIZE, Slot};
 use oracle::{AccessWidth, DeviceError, GuestPhysAddr, LoongArchPchPic, PchPicOutputEvent, Plain};
 use std::hint::black_box;
 
 /// A device and the event buffer that its drain writes to.
 pub struct Standing {
     device: LoongArchPchPic,
-    events: [u8; 32],
+    events: [u8; 64],
 }
 
 impl Standing {
     pub fn new() -> Self {
         let device = LoongArchPchPic::new(GuestPhysAddr::from_usize(BASE as usize), SIZE as usize);
-        Standing { device, events: [0xdd; 32] }
+        Standing { device, events: [0xdd; 64] }
     }
 
     pub fn set(&mut self, plain: &Plain) {
@@ -26,12 +27,12 @@ impl Standing {
 
 /// Whether the Rust has this kind of call at all.
 pub fn has(kind: &Kind) -> bool {
-    matches!(kind.number, 0 | 1 | 3) && !kind.alone
+    matches!(kind.number, 0 | 1 | 3) && !matches!(kind.call, Call::Convert { .. } | Call::Drain { place: 1.. })
 }
 
 /// The state that the kind starts from.
 pub fn start(kind: &Kind) -> Plain {
-    let length = if kind.image_len == LENGTH_2 { LENGTH_2 } else { LENGTH };
+    let length = if LENGTHS.contains(&kind.image_len) { kind.image_len } else { LENGTH };
     image::decode(&kind.slot.image[..length], 0).0
 }
 
@@ -61,14 +62,13 @@ fn write(standing: &mut Standing, address: u64, width: AccessWidth, value: u64) 
     }
 }
 
-/// The events go to the buffer in the boundary's form, so that this side does no less.
+/// The events go to the buffer in the boundary's form, all but their numbers.
 #[inline(always)]
 fn drain(standing: &mut Standing) -> Option<u64> {
     let Standing { device, events } = standing;
     let mut moved = 0;
     device.drain_output_events(|event: PchPicOutputEvent| {
-        events[2 * moved] = event.vector as u8;
-        events[2 * moved + 1] = event.asserted as u8;
+        events[4 * moved..4 * moved + 4].copy_from_slice(&[event.vector as u8, event.asserted as u8, 0, 0]);
         moved += 1;
     });
     Some(moved as u64)
@@ -126,17 +126,30 @@ pub fn bench_timed_day_c(calls: &[Call], standing: &mut Standing) {
     }
 }
 
-/// Makes the call and says what the boundary would: the image, the events, and the value if there is one.
-pub fn as_boundary(call: &Call, standing: &mut Standing, drops: &mut u32, slot: &mut Slot) -> Option<u64> {
+/// Makes the call and says what the boundary would: the image, the events, and the value if there is one. Numbers, which it has not, are as they stand in the
+/// slot.
+pub fn as_boundary(call: &Call, standing: &mut Standing, drops: &mut u32, slot: &mut Slot, image_len: usize) -> Option<u64> {
     oracle::take_warnings();
     let value = make(call, standing);
     let dropped = oracle::take_warnings();
     *drops = if let Call::Reset = call { 0 } else { *drops + dropped as u32 };
-    image::encode(&standing.device.plain(), *drops, &mut slot.image);
-    slot.events = standing.events;
+    let image = &mut slot.image[..image_len];
+    let numbers = image::numbers(image);
+    image::encode(&standing.device.plain(), *drops, &numbers, image);
+    if let (Call::Drain { .. }, Some(moved)) = (call, value) {
+        for (event, drained) in slot.events.chunks_mut(4).zip(standing.events.chunks(4)).take(moved as usize) {
+            event[..2].copy_from_slice(&drained[..2]);
+        }
+    }
     match call {
+        Call::Level { .. } | Call::Poll { .. } if slot.answer[0] == 0 => value.map(|vector| vector + 65_536 * number(slot)),
         // 02, C-15: how many events a done write dropped; the Rust warned of each
         Call::Write { .. } if value.is_none() && slot.answer[0] == 0 => Some(dropped),
         _ => value,
     }
+}
+
+/// The number of the event that the slot's call returned.
+fn number(slot: &Slot) -> u64 {
+    u64::from(u16::from_le_bytes([slot.answer[10], slot.answer[11]]))
 }

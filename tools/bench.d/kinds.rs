@@ -5,24 +5,62 @@ use crate::call::Call;
 pub const LENGTH: usize = 259;
 /// Form 2 has no copy of IRR.
 pub const LENGTH_2: usize = 251;
+/// Form 2 with the numbers of events, the longest.
+pub const NUMBERED: usize = 290;
+pub const LENGTHS: [usize; 3] = [LENGTH, LENGTH_2, NUMBERED];
+const CONTENTS: [u8; 22] = [1, 4, 1, 22, 0, 72, 0, 2, 94, 0, 64, 0, 3, 158, 0, 64, 0, 4, 222, 0, 37, 0];
 const CONTENTS_2: [u8; 22] = [2, 4, 1, 22, 0, 64, 0, 2, 86, 0, 64, 0, 3, 150, 0, 64, 0, 4, 214, 0, 37, 0];
-pub const CONTENTS: [u8; 22] = [1, 4, 1, 22, 0, 72, 0, 2, 94, 0, 64, 0, 3, 158, 0, 64, 0, 4, 222, 0, 37, 0];
+const CONTENTS_5: [u8; 27] = [2, 5, 1, 27, 0, 64, 0, 2, 91, 0, 64, 0, 3, 155, 0, 64, 0, 4, 219, 0, 37, 0, 5, 0, 1, 34, 0];
 pub const BASE: u64 = 0x1000_0000;
 pub const SIZE: u64 = 0x400;
+
+/// Where an image of so many bytes has its count of waiting events.
+pub fn count_at(length: usize) -> usize {
+    match length {
+        LENGTH_2 => 214,
+        NUMBERED => 219,
+        _ => 222,
+    }
+}
 
 /// What is lent to one call, each area at its own fixed alignment.
 #[derive(Clone, PartialEq, Eq)]
 #[repr(C, align(64))]
 pub struct Slot {
-    pub image: [u8; LENGTH],
+    pub image: [u8; NUMBERED],
     pub answer: [u8; 16],
-    pub events: [u8; 32],
+    pub events: [u8; 64],
 }
 
 impl Slot {
-    pub fn new(image: [u8; LENGTH]) -> Self {
-        Slot { image, answer: [0xee; 16], events: [0xdd; 32] }
+    /// With this image of form 1, in the form of that length; behind it are zeros.
+    pub fn new(image: &[u8; LENGTH], length: usize) -> Self {
+        Slot { image: moved(image, length), answer: [0xee; 16], events: [0xdd; 64] }
     }
+}
+
+/// An image of form 1 in the form of that length. Its waiting events end with number 999.
+pub fn moved(image: &[u8; LENGTH], length: usize) -> [u8; NUMBERED] {
+    let mut to = [0; NUMBERED];
+    match length {
+        LENGTH_2 => {
+            to[..22].copy_from_slice(if image[..22] == CONTENTS { &CONTENTS_2 } else { &image[..22] });
+            to[22..46].copy_from_slice(&image[22..46]);
+            to[46..LENGTH_2].copy_from_slice(&image[54..]);
+        }
+        NUMBERED => {
+            to[..27].copy_from_slice(&CONTENTS_5);
+            to[27..51].copy_from_slice(&image[22..46]);
+            to[51..256].copy_from_slice(&image[54..]);
+            let count = usize::from(image[222]).min(16);
+            let waiting = 1000 - count as u16..1000;
+            for (place, number) in to[256..].chunks_mut(2).zip([1000].into_iter().chain(waiting)) {
+                place.copy_from_slice(&number.to_le_bytes());
+            }
+        }
+        _ => to[..LENGTH].copy_from_slice(image),
+    }
+    to
 }
 
 pub struct Kind {
@@ -37,8 +75,6 @@ pub struct Kind {
     pub number: u8,
     pub waiting: u8,
     pub drops: u32,
-    /// The library alone has it: the other sides know form 1 and no conversion.
-    pub alone: bool,
 }
 
 /// An image in the making.
@@ -92,16 +128,14 @@ impl Prepared {
 
 fn kind(name: &'static str, title: &'static str, image: Prepared, call: Call) -> Kind {
     let waiting = image.0[222];
-    let slot = Slot::new(image.0);
-    Kind { name, title, call, slot, image_len: LENGTH, answer_len: 16, number: 0, waiting, drops: 0, alone: false }
+    let slot = Slot::new(&image.0, LENGTH);
+    Kind { name, title, call, slot, image_len: LENGTH, answer_len: 16, number: 0, waiting, drops: 0 }
 }
 
-/// The kind on the same image in form 2.
-fn form_2(name: &'static str, title: &'static str, kind: Kind) -> Kind {
-    let mut slot = kind.slot.clone();
-    slot.image[..22].copy_from_slice(&CONTENTS_2);
-    slot.image.copy_within(54.., 46);
-    Kind { name, title, slot, image_len: LENGTH_2, alone: true, ..kind }
+/// The kind on the same image in the form of another length.
+fn in_form(length: usize, name: &'static str, title: &'static str, kind: Kind) -> Kind {
+    let image = kind.slot.image[..LENGTH].try_into().expect("a kind is made in form 1");
+    Kind { name, title, slot: Slot::new(image, length), image_len: length, ..kind }
 }
 
 fn refused(name: &'static str, title: &'static str, number: u8, image: Prepared, call: Call) -> Kind {
@@ -128,20 +162,42 @@ pub fn all() -> Vec<Kind> {
     kinds
 }
 
-/// Some kinds in form 2, and conversions.
+/// Some kinds in form 2 and with numbers, and conversions.
 fn forms(busy: &dyn Fn() -> Prepared) -> Vec<Kind> {
-    let again = |name: &'static str, title: &'static str, kinds: Vec<Kind>, which: &str| {
-        form_2(name, title, kinds.into_iter().find(|kind| kind.name == which).expect("a kind of that name"))
+    let again = |length, name, title, which: &str| {
+        let kinds = reads(busy).into_iter().chain(writes(busy)).chain(inputs(busy)).chain(refusals(busy));
+        let found = kinds.into_iter().find(|kind| kind.name == which).expect("a kind of that name");
+        in_form(length, name, title, found)
     };
-    let convert = |target| kind("convert-2", "convert, form 1 to 2", busy().waiting(3), Call::Convert { target });
+    let convert = |name, title, from, to| in_form(from, name, title, kind("", "", busy().waiting(3), Call::Convert { target: to }));
+    let mut unused = again(NUMBERED, "numbers-refusal-11", "numbers: refusal 11, last one (raise)", "raise");
+    unused.slot.image[NUMBERED - 1] = 1;
     vec![
-        again("form2-read", "form 2: read Dword, MASK", reads(busy), "read-mask"),
-        again("form2-mask-1", "form 2: write MASK, 1 event", writes(busy), "mask-1"),
-        again("form2-raise", "form 2: raise, vector returned", inputs(busy), "raise"),
-        again("form2-drain-1", "form 2: drain of 1", inputs(busy), "drain-1"),
-        Kind { alone: true, ..convert(LENGTH_2) },
-        form_2("convert-1", "convert, form 2 to 1", convert(LENGTH)),
-        Kind { name: "convert-same", title: "convert, form 1 to 1", alone: true, ..convert(LENGTH) },
+        again(LENGTH_2, "form2-read", "form 2: read Dword, MASK", "read-mask"),
+        again(LENGTH_2, "form2-mask-1", "form 2: write MASK, 1 event", "mask-1"),
+        again(LENGTH_2, "form2-raise", "form 2: raise, vector returned", "raise"),
+        again(LENGTH_2, "form2-drain-1", "form 2: drain of 1", "drain-1"),
+        in_form(NUMBERED, "numbers-reset", "numbers: reset", kind("", "", busy(), Call::Reset)),
+        again(NUMBERED, "numbers-read", "numbers: read Dword, MASK", "read-mask"),
+        again(NUMBERED, "numbers-mask-0", "numbers: write MASK, 0 events", "mask-0"),
+        again(NUMBERED, "numbers-mask-1", "numbers: write MASK, 1 event", "mask-1"),
+        again(NUMBERED, "numbers-mask-17", "numbers: write MASK, 17 events", "mask-17"),
+        again(NUMBERED, "numbers-clear", "numbers: write CLEAR, 1 event", "clear"),
+        again(NUMBERED, "numbers-raise", "numbers: raise, vector returned", "raise"),
+        again(NUMBERED, "numbers-lower", "numbers: lower, vector returned", "lower"),
+        again(NUMBERED, "numbers-poll", "numbers: poll, vector returned", "poll"),
+        again(NUMBERED, "numbers-poll-none", "numbers: poll, nothing", "poll-none"),
+        again(NUMBERED, "numbers-drain-16", "numbers: drain of 16", "drain-16"),
+        again(NUMBERED, "numbers-drain-8", "numbers: drain of 8 of 16", "drain-8"),
+        again(NUMBERED, "numbers-drain-1", "numbers: drain of 1", "drain-1"),
+        again(NUMBERED, "numbers-drain-0", "numbers: drain of 0", "drain-0"),
+        Kind { number: 11, ..unused },
+        convert("convert-2", "convert, form 1 to 2", LENGTH, LENGTH_2),
+        convert("convert-1", "convert, form 2 to 1", LENGTH_2, LENGTH),
+        convert("convert-same", "convert, form 1 to 1", LENGTH, LENGTH),
+        convert("convert-numbers", "convert, form 1 to numbers", LENGTH, NUMBERED),
+        convert("convert-from-numbers", "convert, numbers to form 1", NUMBERED, LENGTH),
+        convert("convert-numbers-same", "convert, numbers to numbers", NUMBERED, NUMBERED),
     ]
 }
 
@@ -182,6 +238,7 @@ fn inputs(busy: &dyn Fn() -> Prepared) -> Vec<Kind> {
         kind("poll", "poll, vector returned", busy().latched(0x228), Call::Poll { input: 9 }),
         kind("poll-none", "poll, nothing", busy(), Call::Poll { input: 9 }),
         Kind { waiting: 0, ..kind("drain-16", "drain of 16", busy().waiting(16), Call::Drain { place: 0 }) },
+        Kind { waiting: 8, ..kind("drain-8", "drain of 8 of 16", busy().waiting(16), Call::Drain { place: 32 }) },
         Kind { waiting: 0, ..kind("drain-1", "drain of 1", busy().waiting(1), Call::Drain { place: 0 }) },
         kind("drain-0", "drain of 0", busy(), Call::Drain { place: 0 }),
     ]
@@ -191,7 +248,7 @@ fn refusals(busy: &dyn Fn() -> Prepared) -> Vec<Kind> {
     let level = Call::Level { input: 9, level: 1 };
     vec![
         Kind { answer_len: 15, ..refused("refusal-7", "refusal 7: answer area (raise)", 7, busy(), level) },
-        refused("refusal-7-place", "refusal 7: place (drain)", 7, busy(), Call::Drain { place: 33 }),
+        refused("refusal-7-place", "refusal 7: place (drain)", 7, busy(), Call::Drain { place: 65 }),
         Kind { image_len: 258, ..refused("refusal-4", "refusal 4: length (raise)", 4, busy(), level) },
         refused("refusal-5", "refusal 5: contents (raise)", 5, busy().byte(21, 1), level),
         refused("refusal-11", "refusal 11: last unused pair (raise)", 11, busy().byte(258, 1), level),

@@ -1,57 +1,110 @@
-//! The boundary in lean plain Rust: what an expert would write who is given document 01, no prover, and time to make it quick. The 259 bytes are the
-//! device: each call checks them and then reads and writes words where they stand; nothing is loaded or saved whole. Measured by tools/bench.
+//! The boundary in lean plain Rust: what an expert would write who is given documents 01 and 02, no prover, and time to make it quick. The image's bytes are
+//! the device: each call checks them and then reads and writes words where they stand; nothing is loaded or saved whole. Each form of the image has
+//! code of its own, made from one text, so that every place is a constant. Measured by tools/bench.
 #![forbid(unsafe_code)]
 
-const LENGTH: usize = 259;
-const CONTENTS: [u8; 22] = [1, 4, 1, 22, 0, 72, 0, 2, 94, 0, 64, 0, 3, 158, 0, 64, 0, 4, 222, 0, 37, 0];
-const MASK: usize = 22;
-const HTMSI_EN: usize = 30;
-const EDGE: usize = 38;
-const IRR: usize = 46;
-const IRR_COPY: usize = 54;
-const ISR: usize = 62;
-const POLARITY: usize = 70;
-const AUTO0: usize = 78;
-const AUTO1: usize = 86;
-const ROUTES: usize = 94;
-const VECTORS: usize = 158;
-const COUNT: usize = 222;
-const DROPS: usize = 223;
-const PAIRS: usize = 227;
 const ID: u64 = 0x003f_0001_0700_0000;
-const RESET: [u8; LENGTH] = from_reset();
-/// For each count the bits that its 16 pairs may have: a vector and a flag of 0 or 1 where an event waits, and nothing behind.
-const ALLOWED: [[u64; 4]; 17] = allowed();
 
-type Image = [u8; LENGTH];
+/// Where things stand in the N bytes of an image.
+trait Form<const N: usize> {
+    const CONTENTS: &'static [u8];
+    /// The copy of IRR, behind MASK, HTMSI_EN and EDGE.
+    const COPY: Option<usize>;
+    const IRR: usize;
+    /// The next number, and those of waiting events.
+    const NUMBERS: Option<usize>;
+    const RESET: [u8; N];
+    const MASK: usize = Self::CONTENTS.len();
+    const HTMSI_EN: usize = Self::MASK + 8;
+    const EDGE: usize = Self::MASK + 16;
+    // from IRR on all forms go alike
+    const ISR: usize = Self::IRR + 8;
+    const POLARITY: usize = Self::IRR + 16;
+    const AUTO0: usize = Self::IRR + 24;
+    const AUTO1: usize = Self::IRR + 32;
+    const ROUTES: usize = Self::IRR + 40;
+    const VECTORS: usize = Self::ROUTES + 64;
+    const COUNT: usize = Self::VECTORS + 64;
+    const DROPS: usize = Self::COUNT + 1;
+    const PAIRS: usize = Self::DROPS + 4;
+}
+
+/// The bytes from IRR to the last pair.
+const ALIKE: usize = 40 + 64 + 64 + 5 + 32;
+
+struct One;
+struct Two;
+struct Numbered;
+
+impl Form<259> for One {
+    const CONTENTS: &'static [u8] = &[1, 4, 1, 22, 0, 72, 0, 2, 94, 0, 64, 0, 3, 158, 0, 64, 0, 4, 222, 0, 37, 0];
+    const COPY: Option<usize> = Some(46);
+    const IRR: usize = 54;
+    const NUMBERS: Option<usize> = None;
+    const RESET: [u8; 259] = from_reset(Self::CONTENTS, Self::ROUTES);
+}
+
+impl Form<251> for Two {
+    const CONTENTS: &'static [u8] = &[2, 4, 1, 22, 0, 64, 0, 2, 86, 0, 64, 0, 3, 150, 0, 64, 0, 4, 214, 0, 37, 0];
+    const COPY: Option<usize> = None;
+    const IRR: usize = 46;
+    const NUMBERS: Option<usize> = None;
+    const RESET: [u8; 251] = from_reset(Self::CONTENTS, Self::ROUTES);
+}
+
+impl Form<290> for Numbered {
+    const CONTENTS: &'static [u8] = &[2, 5, 1, 27, 0, 64, 0, 2, 91, 0, 64, 0, 3, 155, 0, 64, 0, 4, 219, 0, 37, 0, 5, 0, 1, 34, 0];
+    const COPY: Option<usize> = None;
+    const IRR: usize = 51;
+    const NUMBERS: Option<usize> = Some(256);
+    const RESET: [u8; 290] = from_reset(Self::CONTENTS, Self::ROUTES);
+}
+
+/// The work of a call in the form that the image's length says, or refusal 4.
+macro_rules! by_length {
+    ($image:expr, $work:ident $(, $word:expr)*) => {
+        match $image.len() {
+            259 => $work::<One, 259>($image $(, $word)*),
+            251 => $work::<Two, 251>($image $(, $word)*),
+            290 => $work::<Numbered, 290>($image $(, $word)*),
+            _ => (4, None),
+        }
+    };
+}
+
+/// For each count the bits that its 16 pairs may have: a vector and a flag of 0 or 1 where an event waits, and nothing behind; and those that its 16
+/// numbers may have.
+const PAIRS_ALLOWED: [[u64; 4]; 17] = allowed(0x01ff);
+const NUMBERS_ALLOWED: [[u64; 4]; 17] = allowed(0xffff);
+
 /// The number that is handed back, with the value that goes with it if there is one.
 type Outcome = (u8, Option<u64>);
 
-const fn from_reset() -> Image {
-    let mut image = [0; LENGTH];
+const fn from_reset<const N: usize>(contents: &[u8], routes: usize) -> [u8; N] {
+    let mut image = [0; N];
     let mut k = 0;
     while k < 64 {
-        image[ROUTES + k] = 1;
-        image[VECTORS + k] = k as u8;
-        if k < 22 {
-            image[k] = CONTENTS[k];
+        image[routes + k] = 1;
+        image[routes + 64 + k] = k as u8;
+        if k < contents.len() {
+            image[k] = contents[k];
         }
         if k < 8 {
-            image[MASK + k] = 0xff;
+            image[contents.len() + k] = 0xff;
         }
         k += 1;
     }
     image
 }
 
-const fn allowed() -> [[u64; 4]; 17] {
+const fn allowed(bits: u64) -> [[u64; 4]; 17] {
     let mut rows = [[0; 4]; 17];
     let mut count = 0;
     while count <= 16 {
-        let mut pair = 0;
-        while pair < count {
-            rows[count][pair / 4] |= 0x01ff << (16 * (pair % 4));
-            pair += 1;
+        let mut event = 0;
+        while event < count {
+            rows[count][event / 4] |= bits << (16 * (event % 4));
+            event += 1;
         }
         count += 1;
     }
@@ -59,64 +112,88 @@ const fn allowed() -> [[u64; 4]; 17] {
 }
 
 #[inline(always)]
-fn word(image: &Image, at: usize) -> u64 {
+fn word<const N: usize>(image: &[u8; N], at: usize) -> u64 {
     u64::from_le_bytes(image[at..at + 8].try_into().unwrap())
 }
 
 #[inline(always)]
-fn put(image: &mut Image, at: usize, value: u64) {
+fn put<const N: usize>(image: &mut [u8; N], at: usize, value: u64) {
     image[at..at + 8].copy_from_slice(&value.to_le_bytes());
 }
 
-/// IRR is stored twice.
 #[inline(always)]
-fn put_irr(image: &mut Image, value: u64) {
-    put(image, IRR, value);
-    put(image, IRR_COPY, value);
+fn number<const N: usize>(image: &[u8; N], at: usize) -> u16 {
+    u16::from_le_bytes(image[at..at + 2].try_into().unwrap())
+}
+
+#[inline(always)]
+fn put_number<const N: usize>(image: &mut [u8; N], at: usize, number: u16) {
+    image[at..at + 2].copy_from_slice(&number.to_le_bytes());
+}
+
+/// Form 1 stores IRR twice.
+#[inline(always)]
+fn put_irr<F: Form<N>, const N: usize>(image: &mut [u8; N], value: u64) {
+    put(image, F::IRR, value);
+    if let Some(copy) = F::COPY {
+        put(image, copy, value);
+    }
 }
 
 /// Whether an image keeps all rules. Only a refused one is searched.
 #[inline(always)]
-fn accepted(image: &Image) -> bool {
-    if image[..22] != CONTENTS {
+fn accepted<F: Form<N>, const N: usize>(image: &[u8; N]) -> bool {
+    if image[..F::CONTENTS.len()] != *F::CONTENTS {
         return false;
     }
-    let Some(allowed) = ALLOWED.get(image[COUNT] as usize) else { return false };
-    (0..4).fold(word(image, IRR) ^ word(image, IRR_COPY), |strange, k| strange | word(image, PAIRS + 8 * k) & !allowed[k]) == 0
+    let count = image[F::COUNT] as usize;
+    let (Some(pairs), Some(numbers)) = (PAIRS_ALLOWED.get(count), NUMBERS_ALLOWED.get(count)) else { return false };
+    let mut strange = F::COPY.map_or(0, |copy| word(image, F::IRR) ^ word(image, copy));
+    for k in 0..4 {
+        strange |= word(image, F::PAIRS + 8 * k) & !pairs[k];
+        if let Some(at) = F::NUMBERS {
+            strange |= word(image, at + 2 + 8 * k) & !numbers[k];
+        }
+    }
+    strange == 0
 }
 
 /// Refusal 5, or 8 to 11 with the place that breaks the rule.
 #[cold]
 #[inline(never)]
-fn fault(image: &Image) -> Outcome {
-    if image[..22] != CONTENTS {
+fn fault<F: Form<N>, const N: usize>(image: &[u8; N]) -> Outcome {
+    if image[..F::CONTENTS.len()] != *F::CONTENTS {
         return (5, None);
     }
-    if word(image, IRR) != word(image, IRR_COPY) {
-        return (8, Some(IRR.min(IRR_COPY) as u64));
+    if let Some(copy) = F::COPY
+        && word(image, F::IRR) != word(image, copy)
+    {
+        return (8, Some(copy as u64));
     }
-    let count = image[COUNT] as usize;
+    let count = image[F::COUNT] as usize;
     if count > 16 {
-        return (9, Some(COUNT as u64));
+        return (9, Some(F::COUNT as u64));
     }
-    let mut flags = (0..count).map(|pair| PAIRS + 2 * pair + 1);
+    let mut flags = (0..count).map(|pair| F::PAIRS + 2 * pair + 1);
     if let Some(place) = flags.find(|&place| image[place] > 1) {
         return (10, Some(place as u64));
     }
-    (11, (PAIRS + 2 * count..LENGTH).find(|&place| image[place] != 0).map(|place| place as u64))
+    let numbers = F::NUMBERS.map_or(0..0, |at| at + 2 + 2 * count..at + 34);
+    let mut unused = (F::PAIRS + 2 * count..F::PAIRS + 32).chain(numbers);
+    (11, unused.find(|&place| image[place] != 0).map(|place| place as u64))
 }
 
 /// A checked image, or the refusal.
 #[inline(always)]
-fn checked(image: &[u8]) -> Result<&Image, Outcome> {
-    let image: &Image = image.try_into().map_err(|_| (4, None))?;
-    if accepted(image) { Ok(image) } else { Err(fault(image)) }
+fn checked<F: Form<N>, const N: usize>(image: &[u8]) -> Result<&[u8; N], Outcome> {
+    let image: &[u8; N] = image.try_into().map_err(|_| (4, None))?;
+    if accepted::<F, N>(image) { Ok(image) } else { Err(fault::<F, N>(image)) }
 }
 
 #[inline(always)]
-fn checked_mut(image: &mut [u8]) -> Result<&mut Image, Outcome> {
-    let image: &mut Image = image.try_into().map_err(|_| (4, None))?;
-    if accepted(image) { Ok(image) } else { Err(fault(image)) }
+fn checked_mut<F: Form<N>, const N: usize>(image: &mut [u8]) -> Result<&mut [u8; N], Outcome> {
+    let image: &mut [u8; N] = image.try_into().map_err(|_| (4, None))?;
+    if accepted::<F, N>(image) { Ok(image) } else { Err(fault::<F, N>(image)) }
 }
 
 #[inline(always)]
@@ -129,23 +206,23 @@ fn told(answer: &mut [u8; 16], (number, value): Outcome) -> u8 {
 
 /// Where a register stands whose Dwords are plainly stored, by its offset without bit 2.
 #[inline(always)]
-fn stored(offset: u64) -> Option<usize> {
+fn stored<F: Form<N>, const N: usize>(offset: u64) -> Option<usize> {
     Some(match offset {
-        0x040 => HTMSI_EN,
-        0x060 => EDGE,
-        0x0c0 => AUTO0,
-        0x0e0 => AUTO1,
-        0x3e0 => POLARITY,
+        0x040 => F::HTMSI_EN,
+        0x060 => F::EDGE,
+        0x0c0 => F::AUTO0,
+        0x0e0 => F::AUTO1,
+        0x3e0 => F::POLARITY,
         _ => return None,
     })
 }
 
 /// The place of a route or vector byte, and how many bytes of its area stand there and behind.
 #[inline(always)]
-fn entry(offset: u64) -> Option<(usize, usize)> {
+fn entry<F: Form<N>, const N: usize>(offset: u64) -> Option<(usize, usize)> {
     let (area, k) = match offset {
-        0x100..=0x13f => (ROUTES, offset as usize - 0x100),
-        0x200..=0x23f => (VECTORS, offset as usize - 0x200),
+        0x100..=0x13f => (F::ROUTES, offset as usize - 0x100),
+        0x200..=0x23f => (F::VECTORS, offset as usize - 0x200),
         _ => return None,
     };
     Some((area + k, 64 - k))
@@ -156,13 +233,13 @@ fn half(register: u64, offset: u64) -> u32 {
     (register >> (8 * (offset & 4))) as u32
 }
 
-fn dword(image: &Image, offset: u64) -> u32 {
+fn dword<F: Form<N>, const N: usize>(image: &[u8; N], offset: u64) -> u32 {
     match offset & !4 {
         0x000 => half(ID, offset),
-        0x020 => half(word(image, MASK), offset),
-        0x380 => half(word(image, IRR), offset),
-        0x3a0 => half(word(image, ISR) & !word(image, MASK), offset),
-        plain => match (stored(plain), entry(offset)) {
+        0x020 => half(word(image, F::MASK), offset),
+        0x380 => half(word(image, F::IRR), offset),
+        0x3a0 => half(word(image, F::ISR) & !word(image, F::MASK), offset),
+        plain => match (stored::<F, N>(plain), entry::<F, N>(offset)) {
             (Some(at), _) => half(word(image, at), offset),
             (_, Some((at, left))) => {
                 let bytes = u32::from_le_bytes(image[at..at + 4].try_into().unwrap());
@@ -173,85 +250,108 @@ fn dword(image: &Image, offset: u64) -> u32 {
     }
 }
 
-fn byte(image: &Image, offset: u64) -> u8 {
-    match entry(offset) {
+fn byte<F: Form<N>, const N: usize>(image: &[u8; N], offset: u64) -> u8 {
+    match entry::<F, N>(offset) {
         Some((at, _)) => image[at],
         None if (0x100..0x3a0).contains(&offset) => 0,
-        None => (dword(image, offset & !3) >> (8 * (offset & 3))) as u8,
+        None => (dword::<F, N>(image, offset & !3) >> (8 * (offset & 3))) as u8,
     }
 }
 
 #[inline(always)]
-fn read_at(image: &Image, width: u64, offset: u64) -> u64 {
+fn read_at<F: Form<N>, const N: usize>(image: &[u8; N], width: u64, offset: u64) -> u64 {
     match width {
-        1 => u64::from(byte(image, offset)),
-        2 => match entry(offset) {
+        1 => u64::from(byte::<F, N>(image, offset)),
+        2 => match entry::<F, N>(offset) {
             Some((at, 2..)) => u64::from(u16::from_le_bytes(image[at..at + 2].try_into().unwrap())),
             None if offset & 3 != 3 && !(0x100..0x3a0).contains(&offset) => {
-                u64::from((dword(image, offset & !3) >> (8 * (offset & 3))) as u16)
+                u64::from((dword::<F, N>(image, offset & !3) >> (8 * (offset & 3))) as u16)
             }
-            _ => u64::from(byte(image, offset)) | u64::from(byte(image, offset + 1)) << 8,
+            _ => u64::from(byte::<F, N>(image, offset)) | u64::from(byte::<F, N>(image, offset + 1)) << 8,
         },
-        4 => u64::from(dword(image, offset)),
+        4 => u64::from(dword::<F, N>(image, offset)),
         _ => {
-            if let Some((at, 8..)) = entry(offset) {
+            if let Some((at, 8..)) = entry::<F, N>(offset) {
                 return word(image, at);
             }
-            let high = dword(image, offset + 4);
-            u64::from(dword(image, offset)) | u64::from(high) << 32
+            let high = dword::<F, N>(image, offset + 4);
+            u64::from(dword::<F, N>(image, offset)) | u64::from(high) << 32
         }
     }
 }
 
 /// Offers an event for each of these inputs, lowest first: as many as there is room for; the others are counted as dropped.
 #[inline(always)]
-fn offer(image: &mut Image, mut inputs: u64, flag: u8) -> u32 {
+fn offer<F: Form<N>, const N: usize>(image: &mut [u8; N], mut inputs: u64, flag: u8) -> u32 {
     if inputs == 0 {
         return 0;
     }
-    let mut count = image[COUNT] as usize;
+    let mut count = image[F::COUNT] as usize;
+    let mut next = F::NUMBERS.map_or(0, |at| number(image, at));
     while inputs != 0 && count < 16 {
-        image[PAIRS + 2 * count] = image[VECTORS + inputs.trailing_zeros() as usize];
-        image[PAIRS + 2 * count + 1] = flag;
+        image[F::PAIRS + 2 * count] = image[F::VECTORS + inputs.trailing_zeros() as usize];
+        image[F::PAIRS + 2 * count + 1] = flag;
+        if let Some(at) = F::NUMBERS {
+            put_number(image, at + 2 + 2 * count, next);
+            next = next.wrapping_add(1);
+        }
         inputs &= inputs - 1;
         count += 1;
     }
-    image[COUNT] = count as u8;
-    if inputs == 0 {
+    image[F::COUNT] = count as u8;
+    let lost = inputs.count_ones();
+    if let Some(at) = F::NUMBERS {
+        put_number(image, at, next.wrapping_add(lost as u16));
+    }
+    if lost == 0 {
         return 0;
     }
-    let (drops, lost) = (u32::from_le_bytes(image[DROPS..DROPS + 4].try_into().unwrap()), inputs.count_ones());
-    image[DROPS..DROPS + 4].copy_from_slice(&drops.saturating_add(lost).to_le_bytes());
+    let drops = u32::from_le_bytes(image[F::DROPS..F::DROPS + 4].try_into().unwrap());
+    image[F::DROPS..F::DROPS + 4].copy_from_slice(&drops.saturating_add(lost).to_le_bytes());
     lost
 }
 
-fn write_mask(image: &mut Image, new: u64) -> u32 {
-    let (old, isr) = (word(image, MASK), word(image, ISR));
-    put(image, MASK, new);
-    let pending = word(image, IRR) & !isr & old & !new;
+/// An event that is returned: the vector, and its number in bits 16 to 31.
+#[inline(always)]
+fn returned<F: Form<N>, const N: usize>(image: &mut [u8; N], input: usize) -> Outcome {
+    let number = match F::NUMBERS {
+        Some(at) => {
+            let number = number(image, at);
+            put_number(image, at, number.wrapping_add(1));
+            number
+        }
+        None => u16::from(image[F::COUNT]),
+    };
+    (0, Some(u64::from(image[F::VECTORS + input]) | u64::from(number) << 16))
+}
+
+fn write_mask<F: Form<N>, const N: usize>(image: &mut [u8; N], new: u64) -> u32 {
+    let (old, isr) = (word(image, F::MASK), word(image, F::ISR));
+    put(image, F::MASK, new);
+    let pending = word(image, F::IRR) & !isr & old & !new;
     let asserted = pending & pending.wrapping_neg();
     let retracted = isr & !old & new;
-    put(image, ISR, (isr | asserted) & !retracted);
-    offer(image, asserted, 1) + offer(image, retracted, 0)
+    put(image, F::ISR, (isr | asserted) & !retracted);
+    offer::<F, N>(image, asserted, 1) + offer::<F, N>(image, retracted, 0)
 }
 
-fn clear(image: &mut Image, inputs: u64) -> u32 {
-    let isr = word(image, ISR);
-    let irr = word(image, IRR) & !inputs;
-    put_irr(image, irr);
-    put(image, ISR, isr & !inputs);
-    offer(image, isr & inputs, 0)
+fn clear<F: Form<N>, const N: usize>(image: &mut [u8; N], inputs: u64) -> u32 {
+    let isr = word(image, F::ISR);
+    let irr = word(image, F::IRR) & !inputs;
+    put_irr::<F, N>(image, irr);
+    put(image, F::ISR, isr & !inputs);
+    offer::<F, N>(image, isr & inputs, 0)
 }
 
-fn write_dword(image: &mut Image, offset: u64, value: u32) -> u32 {
+fn write_dword<F: Form<N>, const N: usize>(image: &mut [u8; N], offset: u64, value: u32) -> u32 {
     let shift = 8 * (offset & 4);
     let placed = u64::from(value) << shift;
     let kept = !(0xffff_ffff << shift);
     let at = match offset & !4 {
-        0x020 => return write_mask(image, word(image, MASK) & kept | placed),
-        0x080 => return clear(image, placed),
-        0x3a0 => ISR,
-        plain => match (stored(plain), entry(offset)) {
+        0x020 => return write_mask::<F, N>(image, word(image, F::MASK) & kept | placed),
+        0x080 => return clear::<F, N>(image, placed),
+        0x3a0 => F::ISR,
+        plain => match (stored::<F, N>(plain), entry::<F, N>(offset)) {
             (Some(at), _) => at,
             (_, Some((at, left))) => {
                 let bytes = value.to_le_bytes();
@@ -269,35 +369,35 @@ fn write_dword(image: &mut Image, offset: u64, value: u32) -> u32 {
     0
 }
 
-fn write_byte(image: &mut Image, offset: u64, value: u8) -> u32 {
-    match entry(offset) {
+fn write_byte<F: Form<N>, const N: usize>(image: &mut [u8; N], offset: u64, value: u8) -> u32 {
+    match entry::<F, N>(offset) {
         Some((at, _)) => image[at] = value,
         None if (0x100..0x3a0).contains(&offset) => {}
         None => {
             let shift = 8 * (offset & 3);
-            let old = dword(image, offset & !3) & !(0xff << shift);
-            return write_dword(image, offset & !3, old | u32::from(value) << shift);
+            let old = dword::<F, N>(image, offset & !3) & !(0xff << shift);
+            return write_dword::<F, N>(image, offset & !3, old | u32::from(value) << shift);
         }
     }
     0
 }
 
 #[inline(always)]
-fn write_at(image: &mut Image, width: u64, offset: u64, value: u64) -> u32 {
+fn write_at<F: Form<N>, const N: usize>(image: &mut [u8; N], width: u64, offset: u64, value: u64) -> u32 {
     match width {
-        1 => write_byte(image, offset, value as u8),
+        1 => write_byte::<F, N>(image, offset, value as u8),
         2 => {
-            let first = write_byte(image, offset, value as u8);
-            first + write_byte(image, offset + 1, (value >> 8) as u8)
+            let first = write_byte::<F, N>(image, offset, value as u8);
+            first + write_byte::<F, N>(image, offset + 1, (value >> 8) as u8)
         }
-        4 => write_dword(image, offset, value as u32),
+        4 => write_dword::<F, N>(image, offset, value as u32),
         _ => {
-            if let Some((at, 8..)) = entry(offset) {
+            if let Some((at, 8..)) = entry::<F, N>(offset) {
                 put(image, at, value);
                 return 0;
             }
-            let first = write_dword(image, offset, value as u32);
-            first + write_dword(image, offset + 4, (value >> 32) as u32)
+            let first = write_dword::<F, N>(image, offset, value as u32);
+            first + write_dword::<F, N>(image, offset + 4, (value >> 32) as u32)
         }
     }
 }
@@ -318,97 +418,187 @@ fn offset_of(base: u64, size: u64, address: u64, width: u64) -> Result<u64, Outc
 
 /// An input that is latched, unmasked and not in service goes into service.
 #[inline(always)]
-fn served(image: &mut Image, input: usize, irr: u64) -> Outcome {
-    let isr = word(image, ISR);
-    if irr & !word(image, MASK) & !isr & (1 << input) == 0 {
+fn served<F: Form<N>, const N: usize>(image: &mut [u8; N], input: usize, irr: u64) -> Outcome {
+    let isr = word(image, F::ISR);
+    if irr & !word(image, F::MASK) & !isr & (1 << input) == 0 {
         return (0, None);
     }
-    put(image, ISR, isr | 1 << input);
-    (0, Some(u64::from(image[VECTORS + input])))
+    put(image, F::ISR, isr | 1 << input);
+    returned::<F, N>(image, input)
 }
 
 #[inline(always)]
-fn changed(image: &mut [u8], change: impl FnOnce(&mut Image) -> Outcome) -> Outcome {
-    match checked_mut(image) {
+fn read_in<F: Form<N>, const N: usize>(image: &[u8], base: u64, size: u64, address: u64, width: u64) -> Outcome {
+    let looked =
+        checked::<F, N>(image).and_then(|image| Ok((0, Some(read_at::<F, N>(image, width, offset_of(base, size, address, width)?)))));
+    looked.unwrap_or_else(|refused| refused)
+}
+
+#[inline(always)]
+fn changed<F: Form<N>, const N: usize>(image: &mut [u8], change: impl FnOnce(&mut [u8; N]) -> Outcome) -> Outcome {
+    match checked_mut::<F, N>(image) {
         Ok(image) => change(image),
         Err(refused) => refused,
     }
 }
 
-// The six calls. They stay calls of their own in the measured program, as those of a library do.
+#[inline(always)]
+fn reset_in<F: Form<N>, const N: usize>(image: &mut [u8]) -> Outcome {
+    image.copy_from_slice(&F::RESET);
+    (0, None)
+}
+
+#[inline(always)]
+fn write_in<F: Form<N>, const N: usize>(image: &mut [u8], base: u64, size: u64, address: u64, width: u64, value: u64) -> Outcome {
+    changed::<F, N>(image, |image| match offset_of(base, size, address, width) {
+        Ok(offset) => (0, Some(u64::from(write_at::<F, N>(image, width, offset, value)))),
+        Err(refused) => refused,
+    })
+}
+
+#[inline(always)]
+fn level_in<F: Form<N>, const N: usize>(image: &mut [u8], input: u64, level: u64) -> Outcome {
+    changed::<F, N>(image, |image| {
+        if input >= 64 {
+            return (3, None);
+        }
+        let (input, irr) = (input as usize, word(image, F::IRR));
+        if level != 0 {
+            put_irr::<F, N>(image, irr | 1 << input);
+            return served::<F, N>(image, input, irr | 1 << input);
+        }
+        let isr = word(image, F::ISR);
+        put_irr::<F, N>(image, irr & !(1 << input));
+        put(image, F::ISR, isr & !(1 << input));
+        if isr >> input & 1 == 1 { returned::<F, N>(image, input) } else { (0, None) }
+    })
+}
+
+#[inline(always)]
+fn poll_in<F: Form<N>, const N: usize>(image: &mut [u8], input: u64) -> Outcome {
+    changed::<F, N>(image, |image| if input >= 64 { (3, None) } else { served::<F, N>(image, input as usize, word(image, F::IRR)) })
+}
+
+/// Takes the first so many of 16 entries of two bytes out, out of those that are used.
+#[inline(always)]
+fn take_out(entries: &mut [u8; 32], moved: usize, count: usize) {
+    if moved == count {
+        *entries = [0; 32];
+    } else {
+        entries.copy_within(2 * moved.., 0);
+        entries[32 - 2 * moved..].fill(0);
+    }
+}
+
+#[inline(always)]
+fn drain_in<F: Form<N>, const N: usize>(image: &mut [u8], room: &mut [u8]) -> Outcome {
+    changed::<F, N>(image, |image| {
+        let count = image[F::COUNT] as usize;
+        let moved = count.min(room.len() / 4);
+        if moved == 0 {
+            return (0, Some(0));
+        }
+        for (k, event) in room.chunks_exact_mut(4).take(moved).enumerate() {
+            let made = F::NUMBERS.map_or(k as u16, |at| number(image, at + 2 + 2 * k));
+            let bytes = u32::from(number(image, F::PAIRS + 2 * k)) | u32::from(made) << 16;
+            event.copy_from_slice(&bytes.to_le_bytes());
+        }
+        take_out((&mut image[F::PAIRS..F::PAIRS + 32]).try_into().unwrap(), moved, count);
+        if let Some(at) = F::NUMBERS {
+            take_out((&mut image[at + 2..at + 34]).try_into().unwrap(), moved, count);
+        }
+        image[F::COUNT] = (count - moved) as u8;
+        (0, Some(moved as u64))
+    })
+}
+
+/// What a conversion takes over.
+struct Taken<'a> {
+    first: &'a [u8; 24],
+    alike: &'a [u8; ALIKE],
+    numbers: [u8; 34],
+}
+
+#[inline(always)]
+fn convert_in<F: Form<N>, const N: usize>(image: &[u8], target: &mut [u8]) -> Outcome {
+    if !matches!(target.len(), 259 | 251 | 290) {
+        return (4, None);
+    }
+    let image = match checked::<F, N>(image) {
+        Ok(image) => image,
+        Err(refused) => return refused,
+    };
+    let mut numbers = [0; 34];
+    if let Some(at) = F::NUMBERS {
+        numbers.copy_from_slice(&image[at..at + 34]);
+    } else {
+        let count = image[F::COUNT];
+        numbers[0] = count;
+        for k in 0..count {
+            numbers[2 + 2 * usize::from(k)] = k;
+        }
+    }
+    let first = image[F::MASK..F::MASK + 24].try_into().unwrap();
+    let alike = image[F::IRR..F::IRR + ALIKE].try_into().unwrap();
+    by_length!(target, put_in, &Taken { first, alike, numbers })
+}
+
+#[inline(always)]
+fn put_in<F: Form<N>, const N: usize>(target: &mut [u8], taken: &Taken) -> Outcome {
+    let target: &mut [u8; N] = target.try_into().unwrap();
+    target[..F::CONTENTS.len()].copy_from_slice(F::CONTENTS);
+    target[F::MASK..F::MASK + 24].copy_from_slice(taken.first);
+    target[F::IRR..F::IRR + ALIKE].copy_from_slice(taken.alike);
+    if let Some(copy) = F::COPY {
+        target[copy..copy + 8].copy_from_slice(&taken.alike[..8]);
+    }
+    if let Some(at) = F::NUMBERS {
+        target[at..at + 34].copy_from_slice(&taken.numbers);
+    }
+    (0, None)
+}
+
+// The calls. They stay calls of their own in the measured program, as those of a library do.
 
 #[inline(never)]
 pub fn reset(image: &mut [u8], answer: &mut [u8]) -> u8 {
     let Some(answer) = answer.first_chunk_mut() else { return 7 };
-    let Ok(image) = <&mut Image>::try_from(image) else { return told(answer, (4, None)) };
-    *image = RESET;
-    told(answer, (0, None))
+    told(answer, by_length!(image, reset_in))
 }
 
 #[inline(never)]
 pub fn read(image: &[u8], base: u64, size: u64, address: u64, width: u64, answer: &mut [u8]) -> u8 {
     let Some(answer) = answer.first_chunk_mut() else { return 7 };
-    let looked = checked(image).and_then(|image| Ok((0, Some(read_at(image, width, offset_of(base, size, address, width)?)))));
-    told(answer, looked.unwrap_or_else(|refused| refused))
+    told(answer, by_length!(image, read_in, base, size, address, width))
 }
 
 #[inline(never)]
 pub fn write(image: &mut [u8], base: u64, size: u64, address: u64, width: u64, value: u64, answer: &mut [u8]) -> u8 {
     let Some(answer) = answer.first_chunk_mut() else { return 7 };
-    let outcome = changed(image, |image| match offset_of(base, size, address, width) {
-        Ok(offset) => (0, Some(u64::from(write_at(image, width, offset, value)))),
-        Err(refused) => refused,
-    });
-    told(answer, outcome)
+    told(answer, by_length!(image, write_in, base, size, address, width, value))
 }
 
 #[inline(never)]
 pub fn level(image: &mut [u8], input: u64, level: u64, answer: &mut [u8]) -> u8 {
     let Some(answer) = answer.first_chunk_mut() else { return 7 };
-    let outcome = changed(image, |image| {
-        if input >= 64 {
-            return (3, None);
-        }
-        let (input, irr) = (input as usize, word(image, IRR));
-        if level != 0 {
-            put_irr(image, irr | 1 << input);
-            return served(image, input, irr | 1 << input);
-        }
-        let isr = word(image, ISR);
-        put_irr(image, irr & !(1 << input));
-        put(image, ISR, isr & !(1 << input));
-        (0, (isr >> input & 1 == 1).then(|| u64::from(image[VECTORS + input])))
-    });
-    told(answer, outcome)
+    told(answer, by_length!(image, level_in, input, level))
 }
 
 #[inline(never)]
 pub fn poll(image: &mut [u8], input: u64, answer: &mut [u8]) -> u8 {
     let Some(answer) = answer.first_chunk_mut() else { return 7 };
-    let outcome = changed(image, |image| if input >= 64 { (3, None) } else { served(image, input as usize, word(image, IRR)) });
-    told(answer, outcome)
+    told(answer, by_length!(image, poll_in, input))
 }
 
 #[inline(never)]
 pub fn drain(image: &mut [u8], events: &mut [u8], place: usize, answer: &mut [u8]) -> u8 {
     let Some(answer) = answer.first_chunk_mut() else { return 7 };
     let Some(room) = events.get_mut(place..) else { return 7 };
-    let outcome = changed(image, |image| {
-        let count = image[COUNT] as usize;
-        let moved = count.min(room.len() / 2);
-        if moved == 0 {
-            return (0, Some(0));
-        }
-        let pairs: &mut [u8; 32] = (&mut image[PAIRS..]).try_into().unwrap();
-        room[..2 * moved].copy_from_slice(&pairs[..2 * moved]);
-        if moved == count {
-            *pairs = [0; 32];
-        } else {
-            pairs.copy_within(2 * moved.., 0);
-            pairs[32 - 2 * moved..].fill(0);
-        }
-        image[COUNT] = (count - moved) as u8;
-        (0, Some(moved as u64))
-    });
-    told(answer, outcome)
+    told(answer, by_length!(image, drain_in, room))
+}
+
+#[inline(never)]
+pub fn convert(image: &[u8], target: &mut [u8], answer: &mut [u8]) -> u8 {
+    let Some(answer) = answer.first_chunk_mut() else { return 7 };
+    told(answer, by_length!(image, convert_in, target))
 }

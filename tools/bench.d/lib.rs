@@ -15,6 +15,10 @@ mod device;
 mod image;
 mod kinds;
 mod measure;
+#[cfg(oracle)]
+#[allow(dead_code)]
+#[path = "../harness/numbers.rs"]
+mod numbers;
 #[path = "../harness/quiet.rs"]
 mod quiet;
 mod sides;
@@ -23,6 +27,7 @@ mod table;
 mod verify;
 
 use call::Call;
+use day::DAYS;
 use kinds::Kind;
 use measure::{BATCH, Bench, Best};
 use std::process::ExitCode;
@@ -114,7 +119,9 @@ fn verified(day: &[Call]) -> Result<(), String> {
     for kind in kinds::all() {
         verify::kind(&kind)?;
     }
-    verify::day(day)?;
+    for length in day::DAYS {
+        verify::day(day, length)?;
+    }
     let numbers = verify::random()?;
     let beside = if WITH_C { ", on kinds and day beside the published Rust too" } else { "" };
     eprintln!(
@@ -131,7 +138,7 @@ const PASSES: usize = 20;
 
 fn timed(asked: &Asked, kinds: &[Kind], day: Option<&[Call]>) -> Vec<Vec<f64>> {
     let mut bench = Bench::new();
-    let lengths = kinds.iter().map(|_| asked.calls).chain(day.map(<[Call]>::len));
+    let lengths = kinds.iter().map(|_| asked.calls).chain(DAYS.iter().flat_map(|_| day.map(<[Call]>::len)));
     let mut rows: Vec<Best> = lengths.map(|calls| Best::new(asked.sides.len(), calls)).collect();
     let rounds = asked.rounds / PASSES;
     for pass in 0..PASSES {
@@ -140,8 +147,8 @@ fn timed(asked: &Asked, kinds: &[Kind], day: Option<&[Call]>) -> Vec<Vec<f64>> {
             for (row, kind) in rows.iter_mut().zip(kinds) {
                 row.rounds(rounds, &asked.sides, |side| bench.kind(side, kind, asked.calls / BATCH));
             }
-            if let Some(calls) = day {
-                rows[kinds.len()].rounds(rounds, &asked.sides, |side| bench.day(side, calls));
+            for (row, length) in rows[kinds.len()..].iter_mut().zip(DAYS) {
+                row.rounds(rounds, &asked.sides, |side| bench.day(side, day.unwrap_or(&[]), length));
             }
         });
     }
@@ -152,7 +159,7 @@ fn timed(asked: &Asked, kinds: &[Kind], day: Option<&[Call]>) -> Vec<Vec<f64>> {
 fn run(mut asked: Asked, kinds: Vec<Kind>, with_day: bool) -> Result<(), String> {
     if asked.list {
         kinds.iter().for_each(|kind| println!("{:20}{}", kind.name, kind.title));
-        println!("{:20}a mixed day of calls, on one image", "day");
+        println!("{:20}a mixed day of calls, on one image: of form 1, and with numbers", "day");
         return Ok(());
     }
     let calls = day::calls(asked.day);
@@ -177,13 +184,13 @@ fn run(mut asked: Asked, kinds: Vec<Kind>, with_day: bool) -> Result<(), String>
     } else {
         Vec::new()
     };
-    let titles = kinds.iter().map(|kind| (kind.title, has_c(kind), !kind.alone)).chain(day.map(|_| ("mixed day", true, true)));
-    let row = |(k, (title, c, plain)): (usize, (&str, bool, bool))| Row {
+    let days = ["mixed day", "numbers: mixed day"].into_iter().filter(|_| with_day).map(|title| (title, true));
+    let titles = kinds.iter().map(|kind| (kind.title, has_c(kind))).chain(days);
+    let row = |(k, (title, c)): (usize, (&str, bool))| Row {
         title: title.into(),
         times: times.get(k).cloned().unwrap_or_default(),
         instructions: instructions.get(k).cloned().unwrap_or_default(),
         c,
-        plain,
     };
     let rows: Vec<Row> = titles.enumerate().map(row).collect();
     table::print(&rows, &asked.sides, asked.times, asked.instructions, asked.markdown);

@@ -3,7 +3,7 @@
 
 use crate::call::Call;
 use crate::count::{BEGIN, END, sign};
-use crate::kinds::{Kind, LENGTH, Slot};
+use crate::kinds::{Kind, NUMBERED, Slot};
 use crate::sides;
 use std::time::Instant;
 
@@ -18,7 +18,7 @@ pub struct Bench {
 
 impl Bench {
     pub fn new() -> Self {
-        let slot = Slot { image: [0; LENGTH], answer: [0; 16], events: [0; 32] };
+        let slot = Slot { image: [0; NUMBERED], answer: [0; 16], events: [0; 64] };
         Bench {
             slots: vec![slot; BATCH],
             #[cfg(oracle)]
@@ -68,8 +68,8 @@ impl Bench {
         sign(END);
     }
 
-    /// Nanoseconds of the day, on one image from its first call on.
-    pub fn day(&mut self, side: char, calls: &[Call]) -> u64 {
+    /// Nanoseconds of the day, on one image of so many bytes from its first call on.
+    pub fn day(&mut self, side: char, calls: &[Call], image_len: usize) -> u64 {
         #[cfg(oracle)]
         if side == 'c' {
             let began = Instant::now();
@@ -78,12 +78,12 @@ impl Bench {
         }
         let timed = day(side);
         let began = Instant::now();
-        timed(calls, &mut self.slots[0]);
+        timed(calls, &mut self.slots[0], image_len);
         began.elapsed().as_nanos() as u64
     }
 
     /// The day once, for the counter.
-    pub fn day_once(&mut self, side: char, calls: &[Call]) {
+    pub fn day_once(&mut self, side: char, calls: &[Call], image_len: usize) {
         #[cfg(oracle)]
         if side == 'c' {
             sign(BEGIN);
@@ -92,7 +92,7 @@ impl Bench {
         }
         let timed = day(side);
         sign(BEGIN);
-        timed(calls, &mut self.slots[0]);
+        timed(calls, &mut self.slots[0], image_len);
         sign(END);
     }
 }
@@ -108,7 +108,7 @@ fn each(side: char) -> fn(&Kind, &mut [Slot]) {
 }
 
 /// A side's day.
-fn day(side: char) -> fn(&[Call], &mut Slot) {
+fn day(side: char) -> fn(&[Call], &mut Slot, usize) {
     match side {
         'a' => sides::bench_timed_day_a,
         'b' => sides::bench_timed_day_b,

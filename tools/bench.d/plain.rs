@@ -1,15 +1,64 @@
-//! The boundary in plain Rust: what a Rust engineer would write who is given document 01 and no prover. Each call checks the image, loads it
-//! whole into a struct, does its work there, saves the struct whole and writes the answer area; a read only loads. Measured by tools/bench.
+//! The boundary in plain Rust: what a Rust engineer would write who is given documents 01 and 02 and no prover. Each call checks the image, loads it
+//! whole into a struct, does its work there, saves the struct whole in the form in which it came and writes the answer area; a read only loads.
+//! Measured by tools/bench.
 #![forbid(unsafe_code)]
 
-const LENGTH: usize = 259;
-const CONTENTS: [u8; 22] = [1, 4, 1, 22, 0, 72, 0, 2, 94, 0, 64, 0, 3, 158, 0, 64, 0, 4, 222, 0, 37, 0];
-const REGISTERS: usize = 22;
-const ROUTES: usize = 94;
-const VECTORS: usize = 158;
-const COUNT: usize = 222;
-const DROPS: usize = 223;
-const PAIRS: usize = 227;
+/// Where things stand in the N bytes of an image of a form.
+trait Form<const N: usize> {
+    const CONTENTS: &'static [u8];
+    /// MASK, HTMSI_EN and EDGE; then, where there is one, the copy of IRR.
+    const REGISTERS: usize = Self::CONTENTS.len();
+    const COPY: Option<usize>;
+    /// IRR; ISR, POL, AUTO0 and AUTO1 follow.
+    const IRR: usize;
+    const ROUTES: usize = Self::IRR + 40;
+    const VECTORS: usize = Self::ROUTES + 64;
+    const COUNT: usize = Self::VECTORS + 64;
+    const DROPS: usize = Self::COUNT + 1;
+    const PAIRS: usize = Self::DROPS + 4;
+    /// The next number and those of waiting events.
+    const NUMBERS: Option<usize>;
+}
+
+struct One;
+struct Two;
+struct Numbered;
+
+impl Form<259> for One {
+    const CONTENTS: &'static [u8] = &[1, 4, 1, 22, 0, 72, 0, 2, 94, 0, 64, 0, 3, 158, 0, 64, 0, 4, 222, 0, 37, 0];
+    const COPY: Option<usize> = Some(46);
+    const IRR: usize = 54;
+    const NUMBERS: Option<usize> = None;
+}
+
+impl Form<251> for Two {
+    const CONTENTS: &'static [u8] = &[2, 4, 1, 22, 0, 64, 0, 2, 86, 0, 64, 0, 3, 150, 0, 64, 0, 4, 214, 0, 37, 0];
+    const COPY: Option<usize> = None;
+    const IRR: usize = 46;
+    const NUMBERS: Option<usize> = None;
+}
+
+impl Form<290> for Numbered {
+    const CONTENTS: &'static [u8] = &[2, 5, 1, 27, 0, 64, 0, 2, 91, 0, 64, 0, 3, 155, 0, 64, 0, 4, 219, 0, 37, 0, 5, 0, 1, 34, 0];
+    const COPY: Option<usize> = None;
+    const IRR: usize = 51;
+    const NUMBERS: Option<usize> = Some(256);
+}
+
+/// What a function of a form gives for an image in the form of its length, or refusal 4.
+macro_rules! by_length {
+    ($image:expr, $of:ident $(, $word:expr)*) => {
+        match $image.len() {
+            259 => $of::<One, 259>($image.try_into().unwrap() $(, $word)*),
+            251 => $of::<Two, 251>($image.try_into().unwrap() $(, $word)*),
+            290 => $of::<Numbered, 290>($image.try_into().unwrap() $(, $word)*),
+            _ => Err(refusal(4)),
+        }
+    };
+}
+
+/// The numbers of waiting events where the image has none.
+const FROM_0: [u8; 32] = [0, 0, 1, 0, 2, 0, 3, 0, 4, 0, 5, 0, 6, 0, 7, 0, 8, 0, 9, 0, 10, 0, 11, 0, 12, 0, 13, 0, 14, 0, 15, 0];
 
 /// Why a call was not done, and the value that is told with it.
 struct Refusal {
@@ -38,49 +87,55 @@ struct State {
     drops: u32,
     /// The waiting events, oldest first, two bytes each; zero behind them.
     pairs: [u8; 32],
+    /// The number of the next event, and those of the waiting ones, two bytes each; zero behind them.
+    next: u16,
+    numbers: [u8; 32],
     /// How many events the call dropped; no part of the image.
     lost: u64,
 }
 
-fn word(image: &[u8; LENGTH], at: usize) -> u64 {
+fn word<const N: usize>(image: &[u8; N], at: usize) -> u64 {
     u64::from_le_bytes(image[at..at + 8].try_into().unwrap())
+}
+
+fn put<const N: usize>(image: &mut [u8; N], at: usize, value: u64) {
+    image[at..at + 8].copy_from_slice(&value.to_le_bytes());
 }
 
 fn broken(number: u8, place: usize) -> Refusal {
     Refusal { number, value: Some(place as u64) }
 }
 
+/// Refusal 11 where of 16 entries of two bytes those behind the first so many are not all zero.
+fn unused<const N: usize>(image: &[u8; N], from: usize, count: usize) -> Result<(), Refusal> {
+    let unused = &image[from..from + 32][2 * count..];
+    if *unused == [0; 32][2 * count..] {
+        return Ok(());
+    }
+    let place = unused.iter().position(|&byte| byte != 0).unwrap_or(0);
+    Err(broken(11, from + 2 * count + place))
+}
+
 /// Refusals 5 and 8 to 11: the contents, and the rules of the bodies, which are the copy of IRR, the count, the flags of waiting pairs and the
-/// zeros of unused ones, each with the place that breaks it.
-fn check(image: &[u8; LENGTH]) -> Result<(), Refusal> {
-    if image[..REGISTERS] != CONTENTS {
+/// zeros of unused pairs and numbers, each with the place that breaks it.
+fn check<F: Form<N>, const N: usize>(image: &[u8; N]) -> Result<(), Refusal> {
+    if image[..F::CONTENTS.len()] != *F::CONTENTS {
         return Err(refusal(5));
     }
-    if word(image, REGISTERS + 24) != word(image, REGISTERS + 32) {
-        return Err(broken(8, REGISTERS + 24));
+    if let Some(copy) = F::COPY
+        && word(image, copy) != word(image, F::IRR)
+    {
+        return Err(broken(8, copy));
     }
-    let count = image[COUNT] as usize;
+    let count = image[F::COUNT] as usize;
     if count > 16 {
-        return Err(broken(9, COUNT));
+        return Err(broken(9, F::COUNT));
     }
-    let (waiting, unused) = image[PAIRS..].split_at(2 * count);
-    if let Some(pair) = waiting.chunks_exact(2).position(|pair| pair[1] > 1) {
-        return Err(broken(10, PAIRS + 2 * pair + 1));
+    if let Some(pair) = image[F::PAIRS..F::PAIRS + 2 * count].chunks_exact(2).position(|pair| pair[1] > 1) {
+        return Err(broken(10, F::PAIRS + 2 * pair + 1));
     }
-    if *unused != [0; 32][2 * count..] {
-        let place = unused.iter().position(|&byte| byte != 0).unwrap_or(0);
-        return Err(broken(11, PAIRS + 2 * count + place));
-    }
-    Ok(())
-}
-
-/// The image at its length, or refusal 4.
-fn whole(image: &[u8]) -> Result<&[u8; LENGTH], Refusal> {
-    image.try_into().map_err(|_| refusal(4))
-}
-
-fn whole_mut(image: &mut [u8]) -> Result<&mut [u8; LENGTH], Refusal> {
-    image.try_into().map_err(|_| refusal(4))
+    unused(image, F::PAIRS, count)?;
+    F::NUMBERS.map_or(Ok(()), |numbers| unused(image, numbers + 2, count))
 }
 
 impl State {
@@ -99,44 +154,74 @@ impl State {
             waiting: 0,
             drops: 0,
             pairs: [0; 32],
+            next: 0,
+            numbers: [0; 32],
             lost: 0,
         }
     }
 
     /// The state of an image that was checked.
-    fn load(image: &[u8; LENGTH]) -> Self {
+    fn load<F: Form<N>, const N: usize>(image: &[u8; N]) -> Self {
+        let waiting = image[F::COUNT] as usize;
+        let (mut next, mut numbers) = (waiting as u16, [0; 32]);
+        match F::NUMBERS {
+            Some(at) => {
+                next = u16::from_le_bytes([image[at], image[at + 1]]);
+                numbers.copy_from_slice(&image[at + 2..at + 34]);
+            }
+            None => numbers[..2 * waiting].copy_from_slice(&FROM_0[..2 * waiting]),
+        }
         State {
-            mask: word(image, REGISTERS),
-            htmsi_en: word(image, REGISTERS + 8),
-            edge: word(image, REGISTERS + 16),
-            irr: word(image, REGISTERS + 32),
-            isr: word(image, REGISTERS + 40),
-            polarity: word(image, REGISTERS + 48),
-            auto0: word(image, REGISTERS + 56),
-            auto1: word(image, REGISTERS + 64),
-            routes: image[ROUTES..ROUTES + 64].try_into().unwrap(),
-            vectors: image[VECTORS..VECTORS + 64].try_into().unwrap(),
-            waiting: image[COUNT] as usize,
-            drops: u32::from_le_bytes(image[DROPS..DROPS + 4].try_into().unwrap()),
-            pairs: image[PAIRS..].try_into().unwrap(),
+            mask: word(image, F::REGISTERS),
+            htmsi_en: word(image, F::REGISTERS + 8),
+            edge: word(image, F::REGISTERS + 16),
+            irr: word(image, F::IRR),
+            isr: word(image, F::IRR + 8),
+            polarity: word(image, F::IRR + 16),
+            auto0: word(image, F::IRR + 24),
+            auto1: word(image, F::IRR + 32),
+            routes: image[F::ROUTES..F::ROUTES + 64].try_into().unwrap(),
+            vectors: image[F::VECTORS..F::VECTORS + 64].try_into().unwrap(),
+            waiting,
+            drops: u32::from_le_bytes(image[F::DROPS..F::DROPS + 4].try_into().unwrap()),
+            pairs: image[F::PAIRS..F::PAIRS + 32].try_into().unwrap(),
+            next,
+            numbers,
             lost: 0,
         }
     }
 
-    fn save(&self, image: &mut [u8; LENGTH]) {
-        image[..REGISTERS].copy_from_slice(&CONTENTS);
-        let registers = [self.mask, self.htmsi_en, self.edge, self.irr, self.irr, self.isr, self.polarity, self.auto0, self.auto1];
-        for (place, register) in image[REGISTERS..ROUTES].chunks_exact_mut(8).zip(registers) {
-            place.copy_from_slice(&register.to_le_bytes());
+    fn save<F: Form<N>, const N: usize>(&self, image: &mut [u8; N]) {
+        image[..F::CONTENTS.len()].copy_from_slice(F::CONTENTS);
+        for (k, register) in [self.mask, self.htmsi_en, self.edge].into_iter().enumerate() {
+            put(image, F::REGISTERS + 8 * k, register);
         }
-        image[ROUTES..ROUTES + 64].copy_from_slice(&self.routes);
-        image[VECTORS..VECTORS + 64].copy_from_slice(&self.vectors);
-        image[COUNT] = self.waiting as u8;
-        image[DROPS..DROPS + 4].copy_from_slice(&self.drops.to_le_bytes());
-        image[PAIRS..].copy_from_slice(&self.pairs);
+        if let Some(copy) = F::COPY {
+            put(image, copy, self.irr);
+        }
+        for (k, register) in [self.irr, self.isr, self.polarity, self.auto0, self.auto1].into_iter().enumerate() {
+            put(image, F::IRR + 8 * k, register);
+        }
+        image[F::ROUTES..F::ROUTES + 64].copy_from_slice(&self.routes);
+        image[F::VECTORS..F::VECTORS + 64].copy_from_slice(&self.vectors);
+        image[F::COUNT] = self.waiting as u8;
+        image[F::DROPS..F::DROPS + 4].copy_from_slice(&self.drops.to_le_bytes());
+        image[F::PAIRS..F::PAIRS + 32].copy_from_slice(&self.pairs);
+        if let Some(at) = F::NUMBERS {
+            image[at..at + 2].copy_from_slice(&self.next.to_le_bytes());
+            image[at + 2..at + 34].copy_from_slice(&self.numbers);
+        }
+    }
+
+    /// The number of an event that is made; after 65,535 comes 0.
+    fn number(&mut self) -> u16 {
+        let number = self.next;
+        self.next = number.wrapping_add(1);
+        number
     }
 
     fn push(&mut self, input: usize, asserted: bool) {
+        let number = self.number();
         if self.waiting == 16 {
             self.drops = self.drops.saturating_add(1);
             self.lost += 1;
@@ -144,6 +229,7 @@ impl State {
         }
         self.pairs[2 * self.waiting] = self.vectors[input];
         self.pairs[2 * self.waiting + 1] = asserted as u8;
+        self.numbers[2 * self.waiting..2 * self.waiting + 2].copy_from_slice(&number.to_le_bytes());
         self.waiting += 1;
     }
 
@@ -165,12 +251,13 @@ impl State {
         Some(input)
     }
 
-    fn vector(&self, input: usize) -> u64 {
-        u64::from(self.vectors[input])
+    /// An event that is returned: the vector, and its number in bits 16 to 31.
+    fn returned(&mut self, input: usize) -> u64 {
+        u64::from(self.vectors[input]) | u64::from(self.number()) << 16
     }
 
     fn poll(&mut self, input: usize) -> Option<u64> {
-        self.assert_lowest(1 << input).map(|input| self.vector(input))
+        self.assert_lowest(1 << input).map(|input| self.returned(input))
     }
 
     fn raise(&mut self, input: usize) -> Option<u64> {
@@ -183,14 +270,20 @@ impl State {
         let in_service = self.isr & bit != 0;
         self.irr &= !bit;
         self.isr &= !bit;
-        in_service.then(|| self.vector(input))
+        in_service.then(|| self.returned(input))
     }
 
     fn drain(&mut self, room: &mut [u8]) -> u64 {
-        let moved = self.waiting.min(room.len() / 2);
-        room[..2 * moved].copy_from_slice(&self.pairs[..2 * moved]);
-        self.pairs.copy_within(2 * moved.., 0);
-        self.pairs[32 - 2 * moved..].fill(0);
+        let moved = self.waiting.min(room.len() / 4);
+        let waiting = self.pairs.chunks_exact(2).zip(self.numbers.chunks_exact(2));
+        for (event, (pair, number)) in room.chunks_exact_mut(4).zip(waiting).take(moved) {
+            event[..2].copy_from_slice(pair);
+            event[2..].copy_from_slice(number);
+        }
+        for bytes in [&mut self.pairs, &mut self.numbers] {
+            bytes.copy_within(2 * moved.., 0);
+            bytes[32 - 2 * moved..].fill(0);
+        }
         self.waiting -= moved;
         moved as u64
     }
@@ -347,38 +440,49 @@ fn told(answer: &mut [u8; 16], outcome: Outcome) -> u8 {
 }
 
 /// Load, change, save.
-fn changed(image: &mut [u8], change: impl FnOnce(&mut State) -> Outcome) -> Outcome {
-    let image = whole_mut(image)?;
-    check(image)?;
-    let mut state = State::load(image);
+fn changed_in<F: Form<N>, const N: usize>(image: &mut [u8; N], change: impl FnOnce(&mut State) -> Outcome) -> Outcome {
+    check::<F, N>(image)?;
+    let mut state = State::load::<F, N>(image);
     let value = change(&mut state)?;
-    state.save(image);
+    state.save::<F, N>(image);
     Ok(value)
 }
 
-// The six calls. They stay calls of their own in the measured program, as those of a library do.
+fn changed(image: &mut [u8], change: impl FnOnce(&mut State) -> Outcome) -> Outcome {
+    by_length!(image, changed_in, change)
+}
+
+/// Load, and look.
+fn looked_in<F: Form<N>, const N: usize>(image: &[u8; N], look: impl FnOnce(&State) -> Outcome) -> Outcome {
+    check::<F, N>(image)?;
+    look(&State::load::<F, N>(image))
+}
+
+fn looked(image: &[u8], look: impl FnOnce(&State) -> Outcome) -> Outcome {
+    by_length!(image, looked_in, look)
+}
+
+fn saved<F: Form<N>, const N: usize>(image: &mut [u8; N], state: &State) -> Outcome {
+    state.save::<F, N>(image);
+    Ok(None)
+}
+
+// The calls. They stay calls of their own in the measured program, as those of a library do.
 
 #[inline(never)]
 pub fn reset(image: &mut [u8], answer: &mut [u8]) -> u8 {
     let Some(answer) = answer.first_chunk_mut() else { return 7 };
-    let outcome = whole_mut(image).map(|image| {
-        State::reset().save(image);
-        None
-    });
-    told(answer, outcome)
+    told(answer, by_length!(image, saved, &State::reset()))
 }
 
 #[inline(never)]
 pub fn read(image: &[u8], base: u64, size: u64, address: u64, width: u64, answer: &mut [u8]) -> u8 {
     let Some(answer) = answer.first_chunk_mut() else { return 7 };
-    let looked = || {
-        let image = whole(image)?;
-        check(image)?;
-        let state = State::load(image);
+    let outcome = looked(image, |state| {
         let known = Width::of(width)?;
         Ok(Some(state.read(known, offset_of(base, size, address, width)?)))
-    };
-    told(answer, looked())
+    });
+    told(answer, outcome)
 }
 
 #[inline(never)]
@@ -413,4 +517,13 @@ pub fn drain(image: &mut [u8], events: &mut [u8], place: usize, answer: &mut [u8
     let Some(answer) = answer.first_chunk_mut() else { return 7 };
     let Some(room) = events.get_mut(place..) else { return 7 };
     told(answer, changed(image, |state| Ok(Some(state.drain(room)))))
+}
+
+#[inline(never)]
+pub fn convert(image: &[u8], target: &mut [u8], answer: &mut [u8]) -> u8 {
+    let Some(answer) = answer.first_chunk_mut() else { return 7 };
+    if !matches!(target.len(), 259 | 251 | 290) {
+        return told(answer, Err(refusal(4)));
+    }
+    told(answer, looked(image, |state| by_length!(target, saved, state)))
 }

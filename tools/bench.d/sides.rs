@@ -2,7 +2,7 @@
 //! costs.
 
 use crate::call::Call;
-use crate::kinds::{Kind, LENGTH, Slot};
+use crate::kinds::{Kind, NUMBERED, Slot};
 use std::hint::black_box;
 use std::slice::{from_raw_parts as part, from_raw_parts_mut as part_mut};
 
@@ -33,7 +33,7 @@ pub use library::*;
 /// An area as C lends it.
 type Area = (*mut u8, usize);
 
-/// The calls of a side. Only the library converts: the plain sides know form 1 alone, and refuse it.
+/// The calls of a side.
 ///
 /// SAFETY of each: the areas are there at the lengths said, apart from one another.
 pub trait Side {
@@ -43,9 +43,7 @@ pub trait Side {
     unsafe fn level(image: Area, input: u64, level: u64, answer: Area) -> u8;
     unsafe fn poll(image: Area, input: u64, answer: Area) -> u8;
     unsafe fn drain(image: Area, events: Area, place: usize, answer: Area) -> u8;
-    unsafe fn convert(_image: Area, _target: Area, _answer: Area) -> u8 {
-        4
-    }
+    unsafe fn convert(image: Area, target: Area, answer: Area) -> u8;
 }
 
 pub struct Library;
@@ -111,6 +109,10 @@ macro_rules! rust {
             unsafe fn drain(i: Area, e: Area, place: usize, a: Area) -> u8 {
                 unsafe { $of::drain(part_mut(i.0, i.1), part_mut(e.0, e.1), place, part_mut(a.0, a.1)) }
             }
+            #[inline(always)]
+            unsafe fn convert(i: Area, t: Area, a: Area) -> u8 {
+                unsafe { $of::convert(part(i.0, i.1), part_mut(t.0, t.1), part_mut(a.0, a.1)) }
+            }
         }
     };
 }
@@ -159,7 +161,7 @@ impl Side for Nothing {
 /// The call, made once, on the lengths said.
 #[inline(always)]
 pub fn make<S: Side>(call: &Call, slot: &mut Slot, image_len: usize, answer_len: usize) -> u8 {
-    assert!(image_len <= LENGTH && answer_len <= 16);
+    assert!(image_len <= NUMBERED && answer_len <= 16);
     let image = (slot.image.as_mut_ptr(), image_len);
     let answer = (slot.answer.as_mut_ptr(), answer_len);
     // SAFETY: the areas are the slot's, apart from one another, and no longer than they are.
@@ -172,18 +174,18 @@ pub fn make<S: Side>(call: &Call, slot: &mut Slot, image_len: usize, answer_len:
             Call::Poll { input } => S::poll(image, input, answer),
             Call::Drain { place } => S::drain(image, (slot.events.as_mut_ptr(), slot.events.len()), place as usize, answer),
             // What comes of it is looked at by converted.
-            Call::Convert { target } => S::convert(image, ([0; LENGTH].as_mut_ptr(), target.min(LENGTH)), answer),
+            Call::Convert { target } => S::convert(image, ([0; NUMBERED].as_mut_ptr(), target.min(NUMBERED)), answer),
         }
     }
 }
 
-/// A conversion by the library, and the target that it wrote.
-pub fn converted(slot: &mut Slot, image_len: usize, target_len: usize) -> (u8, [u8; LENGTH]) {
-    assert!(image_len <= LENGTH && target_len <= LENGTH);
-    let mut target = [0xcc; LENGTH];
-    let (image, answer) = ((slot.image.as_mut_ptr(), image_len), (slot.answer.as_mut_ptr(), slot.answer.len()));
+/// A conversion, and the target that it wrote.
+pub fn converted<S: Side>(slot: &mut Slot, image_len: usize, answer_len: usize, target_len: usize) -> (u8, [u8; NUMBERED]) {
+    assert!(image_len <= NUMBERED && answer_len <= 16 && target_len <= NUMBERED);
+    let mut target = [0xcc; NUMBERED];
+    let (image, answer) = ((slot.image.as_mut_ptr(), image_len), (slot.answer.as_mut_ptr(), answer_len));
     // SAFETY: as in make.
-    let number = unsafe { Library::convert(image, (target.as_mut_ptr(), target_len), answer) };
+    let number = unsafe { S::convert(image, (target.as_mut_ptr(), target_len), answer) };
     (number, target)
 }
 
@@ -191,7 +193,7 @@ pub fn converted(slot: &mut Slot, image_len: usize, target_len: usize) -> (u8, [
 #[inline(always)]
 fn each<S: Side>(kind: &Kind, slots: &mut [Slot]) {
     let (il, al) = (black_box(kind.image_len), black_box(kind.answer_len));
-    assert!(il <= LENGTH && al <= 16);
+    assert!(il <= NUMBERED && al <= 16);
     macro_rules! all {
         ($call:ident, $($number:expr),*) => {
             for slot in slots {
@@ -214,7 +216,7 @@ fn each<S: Side>(kind: &Kind, slots: &mut [Slot]) {
             }
         }
         Call::Convert { target } => {
-            let (mut bytes, tl) = ([0; LENGTH], target.min(LENGTH));
+            let (mut bytes, tl) = ([0; NUMBERED], target.min(NUMBERED));
             for slot in slots {
                 let target = (bytes.as_mut_ptr(), tl);
                 // SAFETY: as in make; one target serves all.
@@ -225,9 +227,9 @@ fn each<S: Side>(kind: &Kind, slots: &mut [Slot]) {
 }
 
 #[inline(always)]
-fn day<S: Side>(calls: &[Call], slot: &mut Slot) {
+fn day<S: Side>(calls: &[Call], slot: &mut Slot, image_len: usize) {
     for call in calls {
-        black_box(make::<S>(call, slot, LENGTH, 16));
+        black_box(make::<S>(call, slot, image_len, 16));
     }
 }
 
@@ -242,8 +244,8 @@ macro_rules! timed {
 
         #[unsafe(no_mangle)]
         #[inline(never)]
-        pub fn $day(calls: &[Call], slot: &mut Slot) {
-            day::<$side>(calls, slot)
+        pub fn $day(calls: &[Call], slot: &mut Slot, image_len: usize) {
+            day::<$side>(calls, slot, image_len)
         }
     };
 }

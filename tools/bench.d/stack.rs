@@ -2,7 +2,7 @@
 
 use crate::call::Call;
 use crate::chance::Chance;
-use crate::kinds::{self, LENGTH, Slot};
+use crate::kinds::{self, LENGTHS, NUMBERED, Slot};
 use crate::sides;
 use crate::verify;
 use std::arch::asm;
@@ -14,7 +14,7 @@ const DEPTH: usize = 1 << 14;
 struct Painted([u8; DEPTH]);
 
 /// The C function and its numbers, in the order of the C prototype; those past its own are not looked at.
-fn numbers(call: &Call, slot: &mut Slot, target: &mut [u8; LENGTH], il: usize, al: usize) -> (usize, [u64; 9]) {
+fn numbers(call: &Call, slot: &mut Slot, target: &mut [u8; NUMBERED], il: usize, al: usize) -> (usize, [u64; 9]) {
     let (i, il) = (slot.image.as_mut_ptr() as u64, il as u64);
     let (a, al) = (slot.answer.as_mut_ptr() as u64, al as u64);
     match *call {
@@ -32,7 +32,7 @@ fn numbers(call: &Call, slot: &mut Slot, target: &mut [u8; LENGTH], il: usize, a
             (sides::pch_pic_drain as *const () as usize, [i, il, e, el, place, a, al, 0, 0])
         }
         Call::Convert { target: length } => {
-            let (t, tl) = (target.as_mut_ptr() as u64, length.min(LENGTH) as u64);
+            let (t, tl) = (target.as_mut_ptr() as u64, length.min(NUMBERED) as u64);
             (sides::pch_pic_convert as *const () as usize, [i, il, t, tl, a, al, 0, 0, 0])
         }
     }
@@ -45,7 +45,7 @@ fn used(call: &Call, slot: &Slot, il: usize, al: usize, stack: &mut Painted) -> 
     for paint in [0xa5, 0x5a] {
         stack.0.fill(paint);
         let mut slot = slot.clone();
-        let mut target = [0; LENGTH];
+        let mut target = [0; NUMBERED];
         let (function, n) = numbers(call, &mut slot, &mut target, il, al);
         let top = stack.0.as_mut_ptr().wrapping_add(DEPTH) as u64;
         // SAFETY: the stack is 16-aligned at the call, has room, and is left before the block ends. Numbers past the sixth go by the stack.
@@ -101,20 +101,22 @@ pub fn print(markdown: bool) -> Result<(), String> {
     for kind in &all {
         note(&kind.call, &kind.slot, kind.image_len, kind.answer_len);
     }
-    let slot = &all[0].slot;
+    let resets = || all.iter().filter(|kind| kind.call == Call::Reset);
     for address in 0..0x400 {
-        for width in [1, 2, 4, 8] {
-            note(&Call::Read { base: 0, size: 0x400, address, width }, slot, 259, 16);
+        for (width, kind) in [1, 2, 4, 8].into_iter().flat_map(|width| resets().map(move |kind| (width, kind))) {
+            note(&Call::Read { base: 0, size: 0x400, address, width }, &kind.slot, kind.image_len, 16);
             for value in [0, !0] {
-                note(&Call::Write { base: 0, size: 0x400, address, width, value }, slot, 259, 16);
+                note(&Call::Write { base: 0, size: 0x400, address, width, value }, &kind.slot, kind.image_len, 16);
             }
         }
     }
     let mut chance = Chance::new(3);
     for _ in 0..RANDOM {
-        let slot = Slot::new(verify::random_image(&mut chance));
-        note(&verify::random_call(&mut chance), &slot, 259, 16);
-        note(&Call::Convert { target: chance.one_of(&[251, 259]) }, &slot, 259, 16);
+        let length = chance.one_of(&LENGTHS);
+        let mut slot = all[0].slot.clone();
+        slot.image = verify::random_image(&mut chance, length);
+        note(&verify::random_call(&mut chance), &slot, length, 16);
+        note(&Call::Convert { target: chance.one_of(&LENGTHS) }, &slot, length, 16);
     }
     if most.iter().any(|one| one.1 > DEPTH / 2) {
         return Err("the painted stack is too small".into());

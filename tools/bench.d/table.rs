@@ -5,18 +5,13 @@ pub struct Row {
     pub title: String,
     pub times: Vec<f64>,
     pub instructions: Vec<f64>,
-    /// Whether side c has this kind of call, and whether b and d have it.
+    /// Whether side c has this kind of call.
     pub c: bool,
-    pub plain: bool,
 }
 
 impl Row {
     fn has(&self, side: char) -> bool {
-        match side {
-            'b' | 'd' => self.plain,
-            'c' => self.c,
-            _ => true,
-        }
+        side != 'c' || self.c
     }
 }
 

@@ -2,43 +2,46 @@
 
 use crate::call::Call;
 use crate::chance::Chance;
-use crate::kinds::{BASE, Kind, LENGTH, LENGTH_2, Prepared, SIZE, Slot};
-use crate::sides::{Lean, Library, Plain, converted, make};
+use crate::kinds::{BASE, Kind, LENGTH, LENGTHS, NUMBERED, Prepared, SIZE, Slot, count_at, moved};
+use crate::sides::{Lean, Library, Plain, Side, converted, make};
 
-/// The sides make the call; they must hand back the same number and leave the same bytes.
-fn same(what: &str, call: &Call, slot: &mut Slot, image_len: usize, answer_len: usize) -> Result<u8, String> {
+/// What a side hands back, and the target of a conversion.
+fn by<S: Side>(call: &Call, slot: &mut Slot, image_len: usize, answer_len: usize) -> (u8, [u8; NUMBERED]) {
+    match *call {
+        Call::Convert { target } => converted::<S>(slot, image_len, answer_len, target),
+        _ => (make::<S>(call, slot, image_len, answer_len), [0; NUMBERED]),
+    }
+}
+
+/// The sides make the call; they must hand back the same number and leave the same bytes. The number, and the image or target that is left.
+fn same(what: &str, call: &Call, slot: &mut Slot, image_len: usize, answer_len: usize) -> Result<(u8, [u8; NUMBERED]), String> {
     let (mut plain, mut lean) = (slot.clone(), slot.clone());
-    let number = make::<Library>(call, slot, image_len, answer_len);
+    let (number, target) = by::<Library>(call, slot, image_len, answer_len);
     let others = [
-        ("plain Rust", make::<Plain>(call, &mut plain, image_len, answer_len), plain),
-        ("lean Rust", make::<Lean>(call, &mut lean, image_len, answer_len), lean),
+        ("plain Rust", by::<Plain>(call, &mut plain, image_len, answer_len), plain),
+        ("lean Rust", by::<Lean>(call, &mut lean, image_len, answer_len), lean),
     ];
     let first = |a: &[u8], b: &[u8]| a.iter().zip(b).position(|(a, b)| a != b);
-    for (name, handed, other) in &others {
-        if number != *handed || slot != other {
+    for (name, (handed, written), other) in &others {
+        if number != *handed || slot != other || target != *written {
             return Err(format!(
-                "{what}: {call:?}: the library hands back {number}, {name} {handed}; first different byte: image {:?}, answer {:?}, events {:?}",
+                "{what}: {call:?} on {image_len} bytes: the library hands back {number}, {name} {handed}; first different byte: image {:?}, answer \
+                 {:?}, events {:?}, target {:?}",
                 first(&slot.image, &other.image),
                 first(&slot.answer, &other.answer),
-                first(&slot.events, &other.events)
+                first(&slot.events, &other.events),
+                first(&target, written)
             ));
         }
     }
-    Ok(number)
+    Ok((number, if let Call::Convert { .. } = call { target } else { slot.image }))
 }
 
 /// A kind is what its name says, and the sides agree on it.
 pub fn kind(kind: &Kind) -> Result<(), String> {
     let mut slot = kind.slot.clone();
-    let (number, left, length) = match kind.call {
-        Call::Convert { target } => {
-            let (number, left) = converted(&mut slot, kind.image_len, target);
-            (number, left, target)
-        }
-        _ if kind.alone => (make::<Library>(&kind.call, &mut slot, kind.image_len, kind.answer_len), slot.image, kind.image_len),
-        _ => (same(kind.name, &kind.call, &mut slot, kind.image_len, kind.answer_len)?, slot.image, kind.image_len),
-    };
-    let count = if length == LENGTH_2 { 214 } else { 222 };
+    let (number, left) = same(kind.name, &kind.call, &mut slot, kind.image_len, kind.answer_len)?;
+    let count = count_at(if let Call::Convert { target } = kind.call { target } else { kind.image_len });
     let drops = u32::from_le_bytes(left[count + 1..count + 5].try_into().unwrap());
     let told = (number, left[count], drops);
     let reset = kind.call == Call::Reset;
@@ -49,33 +52,40 @@ pub fn kind(kind: &Kind) -> Result<(), String> {
     if crate::device::has(kind) {
         let mut standing = crate::device::Standing::new();
         standing.set(&crate::device::start(kind));
-        return device(kind.name, &kind.call, &mut standing, &mut 0, &slot);
+        return device(kind.name, &kind.call, &mut standing, &mut 0, &slot, kind.image_len);
     }
     Ok(())
 }
 
-/// The published Rust must come to the image, the value and the events that the library left.
+/// The published Rust must come to the image, the value and the events that the library left, but for numbers.
 #[cfg(oracle)]
-fn device(what: &str, call: &Call, standing: &mut crate::device::Standing, drops: &mut u32, left: &Slot) -> Result<(), String> {
+fn device(
+    what: &str,
+    call: &Call,
+    standing: &mut crate::device::Standing,
+    drops: &mut u32,
+    left: &Slot,
+    image_len: usize,
+) -> Result<(), String> {
     let mut slot = left.clone();
-    let value = crate::device::as_boundary(call, standing, drops, &mut slot);
+    let value = crate::device::as_boundary(call, standing, drops, &mut slot, image_len);
     let told = (left.answer[1] == 1).then(|| u64::from_le_bytes(left.answer[8..].try_into().unwrap()));
-    if value == told && slot.image == left.image && (!matches!(call, Call::Drain { .. }) || slot.events == left.events) {
+    if value == told && slot.image == left.image && slot.events == left.events {
         return Ok(());
     }
     Err(format!("{what}: {call:?}: the published Rust gives {value:?}, the library {told:?}, or another state"))
 }
 
-pub fn day(calls: &[Call]) -> Result<(), String> {
-    let mut slot = Slot::new([0; LENGTH]);
+pub fn day(calls: &[Call], image_len: usize) -> Result<(), String> {
+    let mut slot = Slot::new(&[0; LENGTH], image_len);
     #[cfg(oracle)]
     let (mut standing, mut drops) = (crate::device::Standing::new(), 0);
     for call in calls {
-        same("mixed day", call, &mut slot, LENGTH, 16)?;
+        same("mixed day", call, &mut slot, image_len, 16)?;
         #[cfg(oracle)]
-        device("mixed day", call, &mut standing, &mut drops, &slot)?;
+        device("mixed day", call, &mut standing, &mut drops, &slot, image_len)?;
     }
-    if slot.image[223..227] != [0; 4] {
+    if slot.image[count_at(image_len) + 1..][..4] != [0; 4] {
         return Err("the mixed day drops events".into());
     }
     Ok(())
@@ -88,23 +98,26 @@ pub const RANDOM: u64 = 300_000;
 pub fn random() -> Result<[u64; 12], String> {
     let mut chance = Chance::new(7);
     let mut numbers = [0; 12];
-    let mut slot = Slot::new(Prepared::new().0);
+    let mut slot = Slot::new(&Prepared::new().0, LENGTH);
+    let mut length = LENGTH;
     for k in 0..RANDOM {
         if k % 40 == 0 {
-            slot.image = random_image(&mut chance);
+            length = chance.one_of(&LENGTHS);
+            slot.image = random_image(&mut chance, length);
         }
         if chance.percent(2) {
-            slot.image[chance.below(LENGTH as u64) as usize] = chance.one_of(&[0, 1, 2, 16, 17, 255]);
+            slot.image[chance.below(length as u64) as usize] = chance.one_of(&[0, 1, 2, 16, 17, 255]);
         }
         slot.answer = chance.number().to_le_bytes().repeat(2).try_into().unwrap();
-        slot.events = chance.number().to_le_bytes().repeat(4).try_into().unwrap();
-        // form 2's length is left out: the plain sides know form 1 alone
-        let image_len = if chance.percent(1) { chance.below(LENGTH_2 as u64) as usize } else { LENGTH };
+        slot.events = chance.number().to_le_bytes().repeat(8).try_into().unwrap();
+        let image_len = if chance.percent(1) { chance.below(NUMBERED as u64 + 1) as usize } else { length };
         let answer_len = if chance.percent(1) { chance.below(17) as usize } else { 16 };
-        let number = same("random", &random_call(&mut chance), &mut slot, image_len, answer_len)?;
+        let target = if chance.percent(90) { chance.one_of(&LENGTHS) } else { chance.below(NUMBERED as u64 + 1) as usize };
+        let call = if chance.percent(5) { Call::Convert { target } } else { random_call(&mut chance) };
+        let (number, _) = same("random", &call, &mut slot, image_len, answer_len)?;
         numbers[number as usize] += 1;
         if number == 5 || number >= 8 {
-            slot.image = random_image(&mut chance);
+            slot.image = random_image(&mut chance, length);
         }
     }
     // 02, C-16: there is no 6 any more
@@ -114,7 +127,7 @@ pub fn random() -> Result<[u64; 12], String> {
     }
 }
 
-pub fn random_image(chance: &mut Chance) -> [u8; LENGTH] {
+pub fn random_image(chance: &mut Chance, length: usize) -> [u8; NUMBERED] {
     let few = |chance: &mut Chance| chance.number() & chance.number() & chance.one_of(&[0, !0, chance_mask(3), chance_mask(20)]);
     let (latched, in_service) = (few(chance), few(chance));
     let mut image = Prepared::new().latched(latched).in_service(in_service).waiting(chance.below(17) as usize);
@@ -129,7 +142,14 @@ pub fn random_image(chance: &mut Chance) -> [u8; LENGTH] {
         let near = u32::MAX - chance.below(3) as u32;
         image.0[223..227].copy_from_slice(&near.to_le_bytes());
     }
-    image.0
+    let mut image = moved(&image.0, length);
+    if length == NUMBERED && chance.percent(50) {
+        // numbers that go round within some events, and any of those that wait
+        let waiting = 2 * usize::from(image[count_at(NUMBERED)]);
+        image[256..258].copy_from_slice(&(u16::MAX - chance.below(20) as u16).to_le_bytes());
+        image[258..258 + waiting].fill_with(|| chance.number() as u8);
+    }
+    image
 }
 
 fn chance_mask(bits: u32) -> u64 {
@@ -154,6 +174,6 @@ pub fn random_call(chance: &mut Chance) -> Call {
         6..12 => Call::Write { base, size, address, width, value },
         12..16 => Call::Level { input, level: chance.one_of(&[0, 1, 1, 256, !0]) },
         16..18 => Call::Poll { input },
-        _ => Call::Drain { place: chance.below(34) },
+        _ => Call::Drain { place: chance.below(66) },
     }
 }

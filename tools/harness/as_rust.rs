@@ -93,3 +93,7 @@ pub unsafe fn pch_pic_table_write(
 ) -> u8 {
     unsafe { pch_pic_table::pch_pic_table_write(area(image, image_len), base, size, address, width, value, area(answer, answer_len)) }
 }
+
+pub unsafe fn pch_pic_difference(later: u16, earlier: u16) -> i16 {
+    difference::pch_pic_difference(later, earlier)
+}

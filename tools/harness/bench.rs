@@ -1,12 +1,13 @@
 //! One call made on both sides, and everything compared: the number handed back, and every byte of image, answer area, event buffer, target and
-//! of the edges around them. Then it is made on the same image in the other form, and must come to the same.
+//! of the edges around them. Then it is made on the same image in the other forms, and must come to the same.
 
 use crate::boundary::{Boundary, straddles};
 use crate::call::Call;
 use crate::caught::caught;
 use crate::fixed::{History, Says};
-use crate::image::{self, Form, Image, MASK, ONE};
+use crate::image::{self, Form, Image, ONE};
 use crate::lent::Areas;
+use crate::numbers::is_difference;
 use crate::text;
 use crate::under_test;
 
@@ -31,9 +32,13 @@ pub struct Met {
     pub masked_isr: u64,
     /// Accesses over the window's end, where 02's rule is expected and not the Rust.
     pub straddling: u64,
-    /// Calls on an image of form 2, and calls that were made again in the other form.
-    pub form_2: u64,
+    /// Calls on an image of each form, and calls that were made again in another form.
+    pub forms: [u64; 3],
     pub again: u64,
+    /// Calls on numbered images that made an event after number 65,535.
+    pub wrapping: u64,
+    /// Differences of two numbers.
+    pub differences: u64,
 }
 
 pub struct Bench {
@@ -43,7 +48,7 @@ pub struct Bench {
     // The image as the call found it, and what answer area and event buffer were filled with.
     before: Vec<u8>,
     fill: u64,
-    // The call in the other form: what the library got and left, what is wanted, and the image that it found.
+    // The call in another form: what the library got and left, what is wanted, and the image that it found.
     got_again: Areas,
     want_again: Areas,
     moved: Image,
@@ -170,11 +175,13 @@ impl Bench {
             && self.got.events.same(&self.want.events)
             && (!matches!(call, Call::Convert { .. }) || self.got.target.same(&self.want.target))
         {
-            if let Some((what, number)) = self.again(call, wanted) {
-                self.before.clone_from(&self.moved);
-                self.fail(call, head, format!("in the other form: {what}"));
-                self.wrong = Some((number, self.got_again.clone()));
-                return None;
+            for other in Form::of(self.before.len()).into_iter().flat_map(Form::others) {
+                if let Some((what, number)) = self.again(call, wanted, other) {
+                    self.before.clone_from(&self.moved);
+                    self.fail(call, head, format!("in another form: {what}"));
+                    self.wrong = Some((number, std::mem::replace(&mut self.got_again, self.want_again.clone())));
+                    return None;
+                }
             }
             self.passed += 1;
             self.meet(call, wanted);
@@ -186,17 +193,23 @@ impl Bench {
         None
     }
 
-    /// Makes the call on the same image in the other form, from the same answer area and event buffer. It must come to the same number, value and events,
-    /// and leave the image that the first did, moved; the place of a broken rule is the moved one. What differs, and the number handed back.
-    fn again(&mut self, call: &Call, wanted: u8) -> Option<(String, u8)> {
+    /// Makes the call on the same image in another form, from the same answer area and event buffer. It must come to the same number, value and events, but
+    /// for the events' numbers where those of the image went; and leave the image that the first did, moved; the place of a broken rule is the moved one.
+    /// What differs, and the number handed back.
+    fn again(&mut self, call: &Call, wanted: u8, other: Form) -> Option<(String, u8)> {
         let form = Form::of(self.before.len())?;
-        // Only form 1 has a copy of IRR, so that rule has no like in form 2; a conversion makes the other form itself.
+        // Only form 1 has a copy of IRR, so that rule has no like in others; a conversion makes the other forms itself.
         if wanted == 8 || matches!(call, Call::Convert { .. }) {
             return None;
         }
-        image::moved(&self.before, &mut self.moved);
+        // Nor have others numbers that could be used or not.
+        let place = self.want.answer.bytes().get(8..16).map_or(0, |bytes| u64::from_le_bytes(bytes.try_into().unwrap()));
+        if wanted == 11 && form.numbers.is_some_and(|numbers| place >= numbers as u64) {
+            return None;
+        }
+        image::moved(&self.before, other, &mut self.moved);
         // Contents that were those of the other form are right there.
-        if wanted == 5 && self.moved[..22] == form.other().contents {
+        if wanted == 5 && self.moved.starts_with(other.contents) {
             return None;
         }
         for areas in [&mut self.got_again, &mut self.want_again] {
@@ -212,15 +225,20 @@ impl Bench {
             Ok(number) => number,
             Err(words) => return Some((format!("the library panicked: {words}"), 0)),
         };
-        let mut after = Image::with_capacity(image::LONGEST);
-        image::moved(self.want.image.bytes(), &mut after);
-        self.want_again.image.slice().copy_from_slice(&after);
         self.want_again.answer = self.want.answer.clone();
         self.want_again.events = self.want.events.clone();
+        if wanted == 0 {
+            let mut after = Image::with_capacity(image::LONGEST);
+            image::moved(self.want.image.bytes(), other, &mut after);
+            image::set_numbers(self.expected.numbers(), &mut after);
+            self.want_again.image.slice().copy_from_slice(&after);
+        }
+        if wanted == 0 && form.numbers.is_some() {
+            self.renumber(call, form);
+        }
         if (9..=11).contains(&wanted) {
-            let answer = self.want_again.answer.slice();
-            let place = u64::from_le_bytes(answer[8..16].try_into().unwrap()) + form.other().irr as u64 - form.irr as u64;
-            answer[8..16].copy_from_slice(&place.to_le_bytes());
+            let place = place + other.irr as u64 - form.irr as u64;
+            self.want_again.answer.slice()[8..16].copy_from_slice(&place.to_le_bytes());
         }
         self.met.again += 1;
         let same = number == wanted
@@ -228,6 +246,42 @@ impl Bench {
             && self.got_again.answer.same(&self.want_again.answer)
             && self.got_again.events.same(&self.want_again.events);
         if same { None } else { Some((what(&self.got_again, &self.want_again, number, wanted), number)) }
+    }
+
+    /// The numbers of an image went with its form: the call in the other form begins with waiting events from 0 on.
+    fn renumber(&mut self, call: &Call, form: Form) {
+        let answer = self.want_again.answer.slice();
+        match *call {
+            // a vector returned has the number after those that wait
+            Call::Level { .. } | Call::Poll { .. } if answer[1] == 1 => {
+                answer[10..12].copy_from_slice(&u16::from(self.before[form.count]).to_le_bytes());
+            }
+            Call::Drain { place } => {
+                let moved = usize::from(answer[8]);
+                let drained = self.want_again.events.slice()[place as usize..].chunks_mut(4).take(moved);
+                for (number, event) in (0_u16..).zip(drained) {
+                    event[2..].copy_from_slice(&number.to_le_bytes());
+                }
+            }
+            _ => {}
+        }
+    }
+
+    /// The difference of two numbers, held against what 02 says of it.
+    pub fn difference(&mut self, later: u16, earlier: u16) {
+        if self.over() {
+            return;
+        }
+        let difference = caught(|| under_test::difference(later, earlier));
+        if matches!(difference, Ok(difference) if is_difference(later, earlier, difference)) {
+            self.passed += 1;
+            self.met.differences += 1;
+        } else {
+            self.failed += 1;
+            println!("FAILED: the difference is {difference:?}");
+            println!("  seed {}, after {} calls; the call alone:", self.seed, self.passed + self.failed);
+            println!("  pch_pic_difference({later}, {earlier})");
+        }
     }
 
     /// The bytes after the last call, on both sides where they differ.
@@ -248,17 +302,22 @@ impl Bench {
         tell("expected", &self.want);
     }
 
-    /// Plays a fixed history from reset in a form, and holds both sides against what 01 says of its steps.
+    /// Plays a fixed history from reset in a form, and holds both sides against what the papers say of its steps.
     pub fn play(&mut self, history: &History, form: Form) {
         self.set_image(&vec![0; form.length]);
         if self.call(&Call::Reset, FILL).is_none() {
             return;
         }
+        if let Some(numbers) = form.numbers {
+            let mut image = self.image().to_vec();
+            image[numbers..numbers + 2].copy_from_slice(&history.next.to_le_bytes());
+            self.set_image(&image);
+        }
         for (k, (call, says)) in history.steps.iter().enumerate() {
             let Some(number) = self.call(call, FILL) else { return };
             if !self.holds(number, says) {
                 self.passed -= 1;
-                self.fail(call, self.expected.head, format!("{}, step {}: 01 says otherwise", history.name, k + 1));
+                self.fail(call, self.expected.head, format!("{}, step {}: the papers say otherwise", history.name, k + 1));
                 return;
             }
         }
@@ -270,6 +329,7 @@ impl Bench {
         match says {
             Says::Done => number == 0,
             Says::Gives(wanted) => number == 0 && answer[1] == 1 && value == *wanted,
+            Says::Vector(vector) => number == 0 && answer[1] == 1 && value < 1 << 32 && value % 65_536 == *vector,
             Says::GivesNone => number == 0 && answer[1] == 0 && value == 0,
             Says::Refused(wanted) => number == *wanted,
             Says::Waiting(events, drops) => {
@@ -280,6 +340,18 @@ impl Bench {
                     && image[form.count] as usize == events.len()
                     && image[form.pairs..].starts_with(&pairs)
                     && image[form.drops..form.drops + 4] == drops.to_le_bytes()
+            }
+            Says::Drained(events) => {
+                let bytes: Vec<u8> = events.iter().flat_map(|&(vector, flag, n)| [vector, flag, n as u8, (n >> 8) as u8]).collect();
+                number == 0 && value as usize == events.len() && self.got.events.bytes().starts_with(&bytes)
+            }
+            Says::Numbers(next, waiting) => {
+                let image = self.image();
+                let body: Vec<u8> = [next].into_iter().chain(waiting).flat_map(|number| number.to_le_bytes()).collect();
+                number == 0
+                    && image.len() == 290
+                    && image[256..].starts_with(&body)
+                    && image[256 + body.len()..].iter().all(|&byte| byte == 0)
             }
         }
     }
@@ -309,7 +381,9 @@ impl Bench {
         {
             met.straddling += u64::from(straddles(base, size, address, width));
         }
-        met.form_2 += u64::from(self.before.len() == image::TWO.length);
+        for (met, form) in met.forms.iter_mut().zip(image::FORMS) {
+            *met += u64::from(self.before.len() == form.length);
+        }
         if number != 0 {
             return;
         }
@@ -332,8 +406,14 @@ impl Bench {
             met.at_stop += 1;
         }
         let register = |place: usize| u64::from_le_bytes(after[place..place + 8].try_into().unwrap());
-        if register(MASK) & register(form.isr) != 0 {
+        if register(form.mask) & register(form.isr) != 0 {
             met.masked_isr += 1;
+        }
+        if let Some(at) = form.numbers
+            && !matches!(call, Call::Reset)
+        {
+            let next = |bytes: &[u8]| u16::from_le_bytes([bytes[at], bytes[at + 1]]);
+            met.wrapping += u64::from(next(after) < next(&self.before));
         }
     }
 }

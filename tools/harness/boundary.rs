@@ -1,13 +1,15 @@
-//! What 01 and 02 expect of a call: its refusals and its answer area, over the device of the published Rust. This is the expected side of every
-//! comparison.
+//! What 01 and 02 expect of a call: its refusals and its answer area, over the device of the published Rust, with the events' numbers beside it. This is
+//! the expected side of every comparison.
 
 use crate::call::Call;
 use crate::image::{self, Form, Image};
+use crate::numbers::Numbers;
 use oracle::{AccessWidth, DeviceError, GuestPhysAddr, LoongArchPchPic, PchPicOutputEvent, PchPicOutputPort};
 
 pub struct Boundary {
     device: LoongArchPchPic,
     drops: u32,
+    numbers: Numbers,
     // The image that the last call left. Handed on, it is no load: the device goes on as it is, its ring's head where it was.
     left: Image,
     /// The slot where the ring of a loaded image starts. 01 cannot see it.
@@ -21,7 +23,13 @@ impl Boundary {
     pub fn new() -> Self {
         // a call that was given up may have left some
         oracle::take_warnings();
-        Boundary { device: LoongArchPchPic::new(GuestPhysAddr::from_usize(0), 0), drops: 0, left: Image::new(), head: 0 }
+        let device = LoongArchPchPic::new(GuestPhysAddr::from_usize(0), 0);
+        Boundary { device, drops: 0, numbers: Numbers::from_0(0), left: Image::new(), head: 0 }
+    }
+
+    /// The numbers that the last call left, whether its image holds them or not.
+    pub fn numbers(&self) -> &Numbers {
+        &self.numbers
     }
 
     pub fn perform(&mut self, call: &Call, image: &mut [u8], answer: &mut [u8], events: &mut [u8], target: &mut [u8]) -> u8 {
@@ -52,6 +60,7 @@ impl Boundary {
             }
             self.device.reset();
             self.drops = 0;
+            self.numbers = Numbers::from_0(0);
             self.save(image);
             return Ok(None);
         }
@@ -61,8 +70,11 @@ impl Boundary {
         }
         if *image != *self.left {
             self.load(image);
+        } else if Form::of(image.len()).is_some_and(|form| form.numbers.is_none()) {
+            // 02, C-19: without the fifth body numbers hold within one call only
+            self.numbers = image::numbers(image);
         }
-        let mut dropped = None;
+        let (mut dropped, waited) = (None, self.numbers.waiting.len());
         let value = match *call {
             Call::Reset | Call::Convert { .. } => unreachable!("these are done apart"),
             Call::Read { base, size, address, width } => Some(self.read(base, size, address, width_of(width)?)?),
@@ -70,10 +82,17 @@ impl Boundary {
                 self.write(base, size, address, width_of(width)?, value)?;
                 // 02, C-15: how many events this write dropped; the Rust warned of each
                 dropped = Some(oracle::take_warnings());
+                self.numbers.offered(self.device.plain().output_len - waited, dropped.unwrap_or(0));
                 dropped
             }
-            Call::Level { input, level } => self.device.set_irq_level(input_of(input)?, level != 0).map(|vector| vector as u64),
-            Call::Poll { input } => self.device.pending_vector(input_of(input)?).map(|vector| vector as u64),
+            Call::Level { input, level } => {
+                let vector = self.device.set_irq_level(input_of(input)?, level != 0);
+                self.returned(vector)
+            }
+            Call::Poll { input } => {
+                let vector = self.device.pending_vector(input_of(input)?);
+                self.returned(vector)
+            }
             Call::Drain { place } => Some(self.drain(&mut events[place as usize..])),
         };
         let dropped = dropped.unwrap_or_else(oracle::take_warnings);
@@ -82,7 +101,13 @@ impl Boundary {
         Ok(value)
     }
 
-    /// 02, C-17: what the image holds, written in the form of the target's length. The device does not take part, and it is no load.
+    /// 02, C-19: a returned vector carries its number in value bits 16 to 31.
+    fn returned(&mut self, vector: Option<usize>) -> Option<u64> {
+        vector.map(|vector| vector as u64 + 65_536 * u64::from(self.numbers.made()))
+    }
+
+    /// 02, C-17: what the image holds, written in the form of the target's length. The device does not take part, and it is no load. Where the target has
+    /// numbers and the image none, C-19, they are those with which it loads.
     fn convert(&self, image: &[u8], target: &mut [u8]) -> Done {
         if Form::of(image.len()).is_none() || Form::of(target.len()).is_none() {
             return Err((4, None));
@@ -92,7 +117,7 @@ impl Boundary {
             refused => return Err(refused),
         }
         let (plain, drops) = image::decode(image, self.head);
-        image::encode(&plain, drops, target);
+        image::encode(&plain, drops, &image::numbers(image), target);
         Ok(None)
     }
 
@@ -108,19 +133,20 @@ impl Boundary {
         inside(base, size, address, self.device.write_register(GuestPhysAddr::from_usize(address as usize), width, value as usize))
     }
 
-    /// Draining by the Rust's own drain where all fits, else by taking one event after another.
+    /// Draining by the Rust's own drain where all fits, else by taking one event after another. 02, C-19: a drained event has four bytes.
     fn drain(&mut self, room: &mut [u8]) -> u64 {
-        let pairs = room.len() / 2;
+        let (most, numbers) = (room.len() / 4, &mut self.numbers);
         let mut moved = 0;
         let mut put = |event: PchPicOutputEvent| {
-            room[2 * moved] = event.vector as u8;
-            room[2 * moved + 1] = event.asserted as u8;
+            room[4 * moved] = event.vector as u8;
+            room[4 * moved + 1] = event.asserted as u8;
+            room[4 * moved + 2..4 * moved + 4].copy_from_slice(&numbers.drained().to_le_bytes());
             moved += 1;
         };
-        if pairs >= 16 {
+        if most >= 16 {
             self.device.drain_output_events(&mut put);
         } else {
-            for _ in 0..pairs {
+            for _ in 0..most {
                 let Some(event) = PchPicOutputPort::take_output_event(&self.device) else { break };
                 put(event);
             }
@@ -132,11 +158,12 @@ impl Boundary {
         let (plain, drops) = image::decode(image, self.head);
         self.device.set_plain(&plain);
         self.drops = drops;
+        self.numbers = image::numbers(image);
         self.leave(image);
     }
 
     fn save(&mut self, image: &mut [u8]) {
-        image::encode(&self.device.plain(), self.drops, image);
+        image::encode(&self.device.plain(), self.drops, &self.numbers, image);
         self.leave(image);
     }
 

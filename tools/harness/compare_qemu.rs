@@ -27,7 +27,7 @@ struct Ours {
 impl Ours {
     fn start() -> Result<Self, String> {
         let mut areas = Areas::new();
-        (areas.image.len, areas.answer.len, areas.events.len) = (259, 16, 32);
+        (areas.image.len, areas.answer.len, areas.events.len) = (259, 16, 64);
         let mut ours = Ours { areas, high: [false; 256] };
         ours.call(Call::Reset)?;
         Ok(ours)
@@ -55,7 +55,7 @@ impl Ours {
             }
         }
         let drained = self.call(Call::Drain { place: 0 })?.unwrap_or(0) as usize;
-        events.extend(self.areas.events.bytes().chunks(2).take(drained).map(|pair| (pair[0], pair[1] == 1)));
+        events.extend(self.areas.events.bytes().chunks(4).take(drained).map(|event| (event[0], event[1] == 1)));
         events.retain(|&(vector, level)| std::mem::replace(&mut self.high[vector as usize], level) != level);
         Ok((read, events))
     }

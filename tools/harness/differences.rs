@@ -26,7 +26,7 @@ struct Library(Areas);
 impl Library {
     fn new() -> Self {
         let mut areas = Areas::new();
-        (areas.image.len, areas.answer.len, areas.events.len) = (ONE.length, 16, 32);
+        (areas.image.len, areas.answer.len, areas.events.len) = (ONE.length, 16, 64);
         let mut library = Library(areas);
         library.call(Call::Reset);
         library
@@ -129,6 +129,6 @@ fn draining() {
     let waited = (device.plain().output_len, library.waiting());
     let mut moved = 0;
     device.drain_output_events(|_| moved += 1);
-    let drained = library.call(Call::Drain { place: 30 });
+    let drained = library.call(Call::Drain { place: 60 });
     println!("  Rust: {} wait, a drain calls its closure {moved} times; library: {} wait, a drain moves {drained}", waited.0, waited.1);
 }

@@ -11,6 +11,7 @@ mod generate;
 mod histories;
 mod image;
 mod lent;
+mod numbers;
 mod quiet;
 mod sweeps;
 mod text;
@@ -61,9 +62,9 @@ fn run(mut words: Vec<String>) -> Result<ExitCode, String> {
     let mut chance = Chance::new(seed);
     if !random_only {
         let start = Instant::now();
-        bench.set_lengths(16, 32, false);
+        bench.set_lengths(16, 64, false);
         for form in image::FORMS {
-            for history in fixed::histories() {
+            for history in fixed::histories(form) {
                 bench.play(&history, form);
             }
         }
@@ -97,14 +98,22 @@ fn one(words: &[String]) -> Result<ExitCode, String> {
 fn tell(bench: &Bench) {
     let met = &bench.met;
     let [reset, read, write, level, poll, drain, convert] = met.kinds;
-    eprintln!("differential: reset {reset}, read {read}, write {write}, level {level}, poll {poll}, drain {drain}, convert {convert}");
-    eprintln!("differential: calls on form 2 {}, calls made again in the other form {}", met.form_2, met.again);
+    let differences = met.differences;
+    eprintln!(
+        "differential: reset {reset}, read {read}, write {write}, level {level}, poll {poll}, drain {drain}, convert {convert}, \
+         difference {differences}"
+    );
+    let [one, two, numbered] = met.forms;
+    eprintln!(
+        "differential: calls on form 1 {one}, on form 2 {two}, with numbers {numbered}, calls made again in another form {}",
+        met.again
+    );
     let numbers: Vec<String> = met.numbers.iter().enumerate().map(|(number, count)| format!("{number}: {count}")).collect();
     eprintln!("differential: numbers handed back {}", numbers.join(", "));
     eprintln!(
         "differential: vectors returned {}, events drained {}, calls on a full ring {}, calls that dropped {}, count at its stop {}, \
-         masked bits in ISR {}, accesses over the window's end {}",
-        met.vectors_returned, met.events_drained, met.full_ring, met.dropping, met.at_stop, met.masked_isr, met.straddling
+         masked bits in ISR {}, accesses over the window's end {}, numbers that went round {}",
+        met.vectors_returned, met.events_drained, met.full_ring, met.dropping, met.at_stop, met.masked_isr, met.straddling, met.wrapping
     );
 }
 

@@ -1,9 +1,10 @@
 //! Random windows, calls and images, weighted so that they reach what matters: registers and their neighbours, ends of ranges, the far
-//! end, full rings, drop counts near their stop, masked bits in service, unknown widths, inputs from 64 up.
+//! end, full rings, drop counts near their stop, numbers that go round, masked bits in service, unknown widths, inputs from 64 up.
 
 use crate::call::Call;
 use crate::chance::Chance;
-use crate::image::{FORMS, Form, Image};
+use crate::image::{self, FORMS, Form, Image};
+use crate::numbers::Numbers;
 
 /// The low halves of 01's registers; each high half stands 4 above.
 pub const REGISTERS: [u64; 10] = [0x000, 0x020, 0x040, 0x060, 0x080, 0x0c0, 0x0e0, 0x380, 0x3a0, 0x3e0];
@@ -208,7 +209,7 @@ fn register_bits(chance: &mut Chance) -> u64 {
 /// An image of that form that every rule accepts, masked bits in ISR, full rings and counts near the stop among them.
 pub fn accepted(chance: &mut Chance, form: Form) -> Image {
     let mut image = vec![0; form.length];
-    image[..22].copy_from_slice(&form.contents);
+    image[..form.contents.len()].copy_from_slice(form.contents);
     for place in form.registers() {
         image[place..place + 8].copy_from_slice(&register_bits(chance).to_le_bytes());
     }
@@ -237,16 +238,34 @@ pub fn accepted(chance: &mut Chance, form: Form) -> Image {
     for pair in image[form.pairs..form.pairs + 2 * count].chunks_mut(2) {
         pair.copy_from_slice(&[chance.number() as u8, chance.below(2) as u8]);
     }
+    image::set_numbers(&numbers(chance, count), &mut image);
     image
 }
 
-/// A damaged image of a form: some bytes changed, or another length, that of the other form too. It may still be accepted.
+/// Numbers for so many waiting events: mostly such as a history leaves, next numbers near where they go round among them, else any.
+pub fn numbers(chance: &mut Chance, count: usize) -> Numbers {
+    let next = match chance.below(5) {
+        0 => 0,
+        1 => u16::MAX - chance.below(40) as u16,
+        2 => chance.one_of(&[1, 16, 0x7fff, 0x8000, 0xff, 0x100, u16::MAX]),
+        _ => chance.number() as u16,
+    };
+    let any = chance.percent(30);
+    let mut number = next.wrapping_sub(count as u16).wrapping_sub(chance.below(3) as u16);
+    let waiting = (0..count).map(|_| {
+        number = if any { chance.number() as u16 } else { number.wrapping_add(1) };
+        number
+    });
+    Numbers { next, waiting: waiting.collect() }
+}
+
+/// A damaged image of a form: some bytes changed, or another length, that of another form too. It may still be accepted.
 pub fn damage(chance: &mut Chance, bytes: &mut Vec<u8>, form: Form) {
     match chance.below(8) {
         0 => bytes.truncate(chance.below(form.length as u64) as usize),
         1 => bytes.resize(length(chance), chance.number() as u8),
-        // contents, copy of IRR and IRR, count, pairs: where the rules look
-        2 => flip(chance, bytes, 0, 22),
+        // contents, copy of IRR and IRR, count, pairs and numbers: where the rules look
+        2 => flip(chance, bytes, 0, form.contents.len()),
         3 => flip(chance, bytes, form.copy.unwrap_or(form.irr), form.irr + 8),
         4 => bytes[form.count] = chance.number() as u8,
         5 => flip(chance, bytes, form.pairs, form.length),
@@ -259,12 +278,13 @@ pub fn damage(chance: &mut Chance, bytes: &mut Vec<u8>, form: Form) {
     }
 }
 
-/// A length for an image or a target: mostly one of a form, else near to them, or that of no form yet.
+/// A length for an image or a target: mostly one of a form, else near to them, or of parts of them.
 pub fn length(chance: &mut Chance) -> usize {
     match chance.below(10) {
         0..=5 => chance.one_of(&FORMS).length,
-        6..=7 => chance.between(249, 261) as usize,
-        8 => chance.one_of(&[0, 22, 290]),
+        6 => chance.between(249, 261) as usize,
+        7 => chance.between(288, 300) as usize,
+        8 => chance.one_of(&[0, 22, 27, 256]),
         _ => chance.below(301) as usize,
     }
 }

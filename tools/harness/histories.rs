@@ -23,16 +23,17 @@ pub fn run(bench: &mut Bench, chance: &mut Chance, calls: u64) {
 fn history(bench: &mut Bench, chance: &mut Chance, length: u64, good: &mut Vec<u8>, bad: &mut Vec<u8>) {
     let mut mood = generate::mood(chance);
     bench.set_head(chance.below(16) as usize);
+    bench.difference(chance.number() as u16, chance.number() as u16);
+    let mut made = 1;
     let form = chance.one_of(&FORMS);
     bench.set_image(&generate::accepted(chance, form));
-    let mut made = 0;
-    if chance.percent(60) {
+    if made < length && chance.percent(60) {
         // any bytes of a form's length will do for a reset, accepted or not
         bench.set_lengths(16, 0, false);
         if bench.call(&Call::Reset, chance.number()).is_none() {
             return;
         }
-        made = 1;
+        made += 1;
     }
     while made < length {
         made += 1;
@@ -70,7 +71,7 @@ pub fn lend(bench: &mut Bench, chance: &mut Chance, mood: &generate::Mood) -> Ca
     };
     let mut events = 0;
     if let Call::Drain { place } = &mut call {
-        events = if chance.percent(40) { chance.between(32, 64) } else { chance.below(40) } as usize;
+        events = if chance.percent(40) { chance.between(64, 96) } else { chance.below(72) } as usize;
         *place = generate::place(chance, events);
     }
     let answer = if chance.percent(97) { chance.between(16, 40) } else { chance.below(21) };

@@ -64,4 +64,5 @@ unsafe extern "C" {
         answer: *mut u8,
         answer_len: usize,
     ) -> u8;
+    pub fn pch_pic_difference(later: u16, earlier: u16) -> i16;
 }

@@ -8,6 +8,7 @@ mod boundary;
 mod call;
 mod chance;
 mod image;
+mod numbers;
 mod quiet;
 
 use boundary::Boundary;
@@ -33,18 +34,19 @@ impl Device {
 
     /// The call's answer as a line.
     fn answer(&mut self, call: &Call) -> String {
-        let (mut answer, mut events) = ([0; 16], [0; 32]);
+        let (mut answer, mut events) = ([0; 16], [0; 64]);
         let number = self.rust.perform(call, &mut self.image, &mut answer, &mut events, &mut []);
         let value = u64::from_le_bytes(answer[8..].try_into().unwrap());
         match (number, call) {
             (0, Call::Read { .. }) => format!("= {value:016x}"),
             (0, Call::Write { .. }) => "ok".into(),
             (0, Call::Drain { .. }) => {
-                let event = |pair: &[u8]| format!(" {}{:02x}", if pair[1] == 1 { '+' } else { '-' }, pair[0]);
-                let drained: String = events.chunks(2).take(value as usize).map(event).collect();
+                // a session prints no numbers
+                let event = |event: &[u8]| format!(" {}{:02x}", if event[1] == 1 { '+' } else { '-' }, event[0]);
+                let drained: String = events.chunks(4).take(value as usize).map(event).collect();
                 format!("d{drained}")
             }
-            (0, _) if answer[1] == 1 => format!("v {value:02x}"),
+            (0, _) if answer[1] == 1 => format!("v {:02x}", value % 65_536),
             (0, _) => "-".into(),
             (number, _) => format!("e{number}"),
         }

@@ -9,6 +9,7 @@ mod chance;
 mod fixed;
 mod generate;
 mod image;
+mod numbers;
 mod quiet;
 mod records;
 
@@ -98,8 +99,8 @@ impl Recorder {
     }
 }
 
-/// The fixed histories, the read sweep and broken rules in both forms, and random histories, in one form after the other, until there are so many records.
-const RECORDS: usize = 6000;
+/// The fixed histories, the read sweep and broken rules in all forms, and random histories, in one form after the other, until there are so many records.
+const RECORDS: usize = 9000;
 const SEED: u64 = 20;
 
 fn main() {
@@ -108,10 +109,17 @@ fn main() {
     let mut recorder = Recorder::new();
     let mut chance = Chance::new(SEED);
     for form in FORMS {
-        for history in fixed::histories() {
+        for history in fixed::histories(form) {
             recorder.call(Call::Reset, form.length, 16, 0);
+            if let Some(numbers) = form.numbers
+                && history.next != 0
+            {
+                let [low, high] = history.next.to_le_bytes();
+                recorder.set_byte(numbers, low);
+                recorder.set_byte(numbers + 1, high);
+            }
             for (call, _) in history.steps {
-                let events = if let Call::Drain { .. } = call { 32 } else { 0 };
+                let events = if let Call::Drain { .. } = call { EVENT_BUFFER } else { 0 };
                 recorder.call(call, form.length, 16, events);
             }
             recorder.with_image(WHOLE);
@@ -159,8 +167,9 @@ fn broken_rules(recorder: &mut Recorder, chance: &mut Chance, form: Form) {
         }
     };
     recorder.load(&image);
-    let mut breaches = vec![(0, 9), (form.count, 17), (form.pairs + 3, 2), (form.length - 1, 1)];
+    let mut breaches = vec![(0, 9), (form.count, 17), (form.pairs + 3, 2), (form.pairs + 31, 1)];
     breaches.extend(form.copy.map(|copy| (copy, image[copy] ^ 1)));
+    breaches.extend(form.numbers.map(|numbers| (numbers + 33, 1)));
     let (base, size) = (0, 0x400);
     for (place, byte) in breaches {
         recorder.set_byte(place, byte);
@@ -168,7 +177,7 @@ fn broken_rules(recorder: &mut Recorder, chance: &mut Chance, form: Form) {
         recorder.call(Call::Write { base, size, address: 0x020, width: 4, value: 0 }, form.length, 16, 0);
         recorder.call(Call::Level { input: 7, level: 0 }, form.length, 16, 0);
         recorder.call(Call::Poll { input: 64 }, form.length, 16, 0);
-        recorder.call(Call::Drain { place: 0 }, form.length, 16, 32);
+        recorder.call(Call::Drain { place: 0 }, form.length, 16, EVENT_BUFFER);
         recorder.set_byte(place, image[place]);
     }
 }

@@ -28,8 +28,8 @@
 //!     62..64  zero; so is every field that the call has no use for
 //!   The answer area follows from it. After number 7 all its bytes are 0xee still. Else byte 0 is the number, 1 as field 2, 2..7 are zero,
 //!   8..15 are the value, and the rest are 0xee.
-//!   7 image: the next five records are 320 bytes; the first 259 become the first 259 of the image buffer, whose others become zero. An image of
-//!     form 2 has 251 bytes, and zeros behind them.
+//!   7 image: the next five records are 320 bytes; the first 290 become the first 290 of the image buffer, whose others become zero. An image of
+//!     259 or 251 bytes has zeros behind them.
 //!   8 whole: the next five records are 320 bytes; the first 300 must equal the image buffer.
 //!   9 byte: the byte of the image buffer at the place in 16..24 becomes the number in 24..32. So damage is done and undone.
 //!

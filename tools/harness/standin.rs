@@ -7,6 +7,7 @@
 mod boundary;
 mod call;
 mod image;
+mod numbers;
 
 use boundary::Boundary;
 use call::Call;
@@ -126,4 +127,10 @@ pub unsafe fn pch_pic_table_write(
 ) -> u8 {
     let call = Call::Write { base, size, address, width, value };
     unsafe { perform(call, (image, image_len), (answer, answer_len), NONE) }
+}
+
+/// Of the two numbers below 65,536 in size that are congruent, the one in range.
+pub unsafe fn pch_pic_difference(later: u16, earlier: u16) -> i16 {
+    let apart = (i32::from(later) - i32::from(earlier)).rem_euclid(65_536);
+    (if apart < 32_768 { apart } else { apart - 65_536 }) as i16
 }

@@ -28,6 +28,12 @@ pub fn call(call: &Call, lent: &mut Areas) -> u8 {
     number
 }
 
+#[allow(dead_code)]
+pub fn difference(later: u16, earlier: u16) -> i16 {
+    // SAFETY: it is lent nothing.
+    unsafe { library::pch_pic_difference(later, earlier) }
+}
+
 type Area = (*mut u8, usize);
 
 fn on(call: &Call, lent: &mut Areas, make: fn(&Call, [Area; 4]) -> u8) -> u8 {
@@ -66,7 +72,9 @@ fn make_by_table(call: &Call, [(i, il), (a, al), ..]: [Area; 4]) -> u8 {
     unsafe {
         match *call {
             Call::Read { base, size, address, width } => library::pch_pic_table_read(i, il, base, size, address, width, a, al),
-            Call::Write { base, size, address, width, value } => library::pch_pic_table_write(i, il, base, size, address, width, value, a, al),
+            Call::Write { base, size, address, width, value } => {
+                library::pch_pic_table_write(i, il, base, size, address, width, value, a, al)
+            }
             _ => unreachable!("only reads and writes are decoded"),
         }
     }

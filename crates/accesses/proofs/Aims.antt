@@ -5,14 +5,17 @@ use Prim.Native.Nat.{ℕ}
 use Rattle.rules.specs.Access.{Width, readAt, writeActs}
 use Rattle.rules.specs.Device.{Call, none, some, actsOf, acted, step, value}
 use Rattle.rules.specs.Device as device
+use Rattle.rules.specs.Core.{turns}
+use Rattle.rules.specs.Numbering.{takesAll, valueWith}
 use lib.ListN.{length}
 use Rattle.rules.specs.Form.{Form}
-use Rattle.rules.specs.Image.{decode}
+use Rattle.rules.specs.Image.{decode, numbersIn}
 use Rattle.rules.specs.Calls.{noWidth, outside, pass, widthTest, addressTest, accessCall, Request, calls, askedBy, bufferOf, ending}
 use Rattle.rules.specs.Calls as asked
 use Rattle.rules.proofs.laws.Images.{encode-same}
 use Rattle.rules.proofs.laws.Outcomes.{call-refused, call-done, no-events, width-refused, address-refused, access-passed}
 use Rattle.rules.proofs.laws.Steps.{read-device, write-device}
+use Rattle.rules.proofs.laws.Numbered.{undrained, read-numbers}
 use Rattle.window.specs.Tests.{knownView, locatedView}
 use Rattle.window.specs.declared.Known.{Known}
 use Rattle.window.specs.declared.Known.the-variants.{As, Unknown}
@@ -43,15 +46,18 @@ module _ {f : Form} {i : List ℕ} (p : Passed f i) (base size address width : �
     aimed f = access-passed base size address width f (widthView w) o (sym e ∙ ap knownView wide) (sym g ∙ ap (locatedView address) at)
 
     pub read-done : (v : ℕ) → Reads i v (λ d. readAt (d .core) (widthView w) o) → record { number = 0; value = some v; image = i; events = [] } ≡ ending (asked.read base size address width) i
-    unfolding value
+    unfolding value valueWith
     read-done v r =
         let c = device.read (widthView w) o in
-        call-done (asked.read base size address width) i _ refl (p .good) c (aimed device.read) (decode i) (some v) i []
-        (here p .image) (sym (read-device (decode i) (widthView w) o)) (ap some (r (decode i) (here p))) (no-events (decode i) c refl)
+        call-done (asked.read base size address width) i _ refl (p .good) c (aimed device.read) (decode i) (numbersIn i) (some v) i []
+        (here p .image) (sym (read-device (decode i) (widthView w) o)) (sym (read-numbers (decode i) (numbersIn i) (widthView w) o)) (ap some (r (decode i) (numbersIn i) (here p)))
+        (no-events (decode i) (numbersIn i) c refl)
 
     pub write-done : (v : ℕ) {n : ℕ} {j : List ℕ} → length j ≡ length i → Writes i j n (λ c. writeActs c (widthView w) o v) → record { number = 0; value = some n; image = j; events = [] } ≡ ending (asked.write base size address width v) i
-    unfolding value step actsOf
+    unfolding value valueWith step actsOf
     write-done v {n} {j} s r =
         let c = device.write (widthView w) o v in
-        call-done (asked.write base size address width v) i _ refl (p .good) c (aimed (λ w o. device.write w o v)) (acted (decode i) (writeActs (decode i .core) (widthView w) o v)) (some n) j []
-        (r .becomes (decode i) (here p) .image ∙ encode-same j i s _) (sym (write-device (decode i) (widthView w) o v)) (ap some (r .gives (decode i) (here p))) (no-events (decode i) c refl)
+        call-done (asked.write base size address width v) i _ refl (p .good) c (aimed (λ w o. device.write w o v)) (acted (decode i) (writeActs (decode i .core) (widthView w) o v))
+        (takesAll (numbersIn i) (turns (decode i .core) (writeActs (decode i .core) (widthView w) o v) .made)) (some n) j []
+        (r .becomes (decode i) (numbersIn i) (here p) .image ∙ encode-same j i s _ _) (sym (write-device (decode i) (widthView w) o v)) (sym (undrained (decode i) (numbersIn i) c refl))
+        (ap some (r .gives (decode i) (numbersIn i) (here p))) (no-events (decode i) (numbersIn i) c refl)

@@ -5,15 +5,18 @@ use answer::Value;
 use answer::done;
 use cells::read_dword;
 use cells::write_dword;
-use checked::Verdict;
-use checked::check;
+use checked::Bodies;
+use checked::Head;
+use checked::test_bodies;
+use checked::test_head;
 use map::Width;
 use narrow::read_byte;
 use narrow::read_word;
 use narrow::write_byte;
 use narrow::write_word;
 use refusals::no_width;
-use refusals::of_image;
+use refusals::of_bodies;
+use refusals::of_head;
 use refusals::outside;
 use wide::read_qword;
 use wide::write_qword;
@@ -36,9 +39,12 @@ fn gives(number: u64) -> Told
 pub fn read(image: &[u8], base: u64, size: u64, address: u64, width: u64) -> Told
     ensures { λ r. ⌜ ends r (now (image .entry)) [] ≡ ending (asked.read base size address width) (now (image .entry)) ⌝ }
 {
-    let checked = check(image);
-    let Verdict::Accepted(form) = checked else {
-        return of_image(image);
+    let told = test_head(image);
+    let Head::Of(form) = told else {
+        return of_head(told);
+    };
+    let Bodies::Good = test_bodies(image, form) else {
+        return of_bodies(image, form);
     };
     let Known::As(known) = window::width_of(width) else {
         return no_width();
@@ -58,9 +64,12 @@ pub fn read(image: &[u8], base: u64, size: u64, address: u64, width: u64) -> Tol
 pub fn write(image: &mut [u8], base: u64, size: u64, address: u64, width: u64, value: u64) -> Told
     ensures { λ r. ⌜ ends r (now (image .exit)) [] ≡ ending (asked.write base size address width value) (now (image .entry)) ⌝ }
 {
-    let checked = check(image);
-    let Verdict::Accepted(form) = checked else {
-        return of_image(image);
+    let told = test_head(image);
+    let Head::Of(form) = told else {
+        return of_head(told);
+    };
+    let Bodies::Good = test_bodies(image, form) else {
+        return of_bodies(image, form);
     };
     let Known::As(known) = window::width_of(width) else {
         return no_width();

@@ -13,6 +13,7 @@ use Rattle.rules.specs.Numbers.{numberOf, bytesOf, byteOf, part}
 use Rattle.rules.specs.Core.{Core, CoreTurn, setRoute, withRoutes, turns, lineTurn}
 use Rattle.rules.specs.Map.{Row, Cell, bytes, nothing, table, lookup, within, routesAt, routesEnd, vectorsAt, vectorsEnd, inRoutes, inVectors, cellAt}
 use Rattle.rules.specs.Access.{qword, entry, readCell, readAt, entryActs, cellActs, writeActs}
+use Rattle.rules.specs.Numbering.{Numbers}
 use Rattle.rules.specs.Device.{Device, acted}
 use Rattle.rules.proofs.laws.Acts.{turns-append, acted-none, acted-append}
 use Rattle.rules.proofs.laws.Bits.{test}
@@ -83,24 +84,24 @@ module _ (c : Core) (l : List ℕ) (base : ℕ) (size : length l ≡ 64) (each :
 
 module _ (i : List ℕ) (o : ℕ) {x : ℕ} where
   pub route-entry : o / 64 ≡ 4 → Reads i x (λ d. getD (d .core .stored .routes) (o % 64) 0) → Reads i x (λ d. entry (d .core) o)
-  route-entry e r d h = let n : o % 64 ≡ o - 0x100 = omega arith in r d h ∙ ap (λ k. getD (d .core .stored .routes) k 0) n ∙ sym (entry-route (d .core) o (omega arith) (omega arith))
+  route-entry e r d ns h = let n : o % 64 ≡ o - 0x100 = omega arith in r d ns h ∙ ap (λ k. getD (d .core .stored .routes) k 0) n ∙ sym (entry-route (d .core) o (omega arith) (omega arith))
 
   pub vector-entry : o / 64 ≡ 8 → Reads i x (λ d. getD (d .core .vectors) (o % 64) 0) → Reads i x (λ d. entry (d .core) o)
-  vector-entry e r d h = let n : o % 64 ≡ o - 0x200 = omega arith in r d h ∙ ap (λ k. getD (d .core .vectors) k 0) n ∙ sym (entry-vector (d .core) o (omega arith) (omega arith))
+  vector-entry e r d ns h = let n : o % 64 ≡ o - 0x200 = omega arith in r d ns h ∙ ap (λ k. getD (d .core .vectors) k 0) n ∙ sym (entry-vector (d .core) o (omega arith) (omega arith))
 
   module _ (n : ℕ) (run : Run o n) where
     pub routes-run : o < 0x200 → Reads i x (λ d. numberOf (part (o % 64) n (d .core .stored .routes))) → Reads i x (λ d. numberOf (entriesOf (d .core) o n))
-    routes-run l r d h =
+    routes-run l r d ns h =
         let e : o ≡ 0x100 + o % 64 = ⊎-elim (λ e. omega arith) (λ e. omega arith) (run .table) in
-        r d h ∙ ap numberOf (run-is (d .core) (d .core .stored .routes) 0x100 (h .well .routes) (λ k p q. entry-route (d .core) k p q) n (o % 64) o e (run .fits))
+        r d ns h ∙ ap numberOf (run-is (d .core) (d .core .stored .routes) 0x100 (h .well .routes) (λ k p q. entry-route (d .core) k p q) n (o % 64) o e (run .fits))
 
     pub vectors-run : 0x200 ≤ o → Reads i x (λ d. numberOf (part (o % 64) n (d .core .vectors))) → Reads i x (λ d. numberOf (entriesOf (d .core) o n))
-    vectors-run l r d h =
+    vectors-run l r d ns h =
         let e : o ≡ 0x200 + o % 64 = ⊎-elim (λ e. omega arith) (λ e. omega arith) (run .table) in
-        r d h ∙ ap numberOf (run-is (d .core) (d .core .vectors) 0x200 (h .well .vectors) (λ k p q. entry-vector (d .core) k p q) n (o % 64) o e (run .fits))
+        r d ns h ∙ ap numberOf (run-is (d .core) (d .core .vectors) 0x200 (h .well .vectors) (λ k p q. entry-vector (d .core) k p q) n (o % 64) o e (run .fits))
 
 pub none-entry : (i : List ℕ) (o : ℕ) → (o / 64 ≡ 4 → ⊥) → (o / 64 ≡ 8 → ⊥) → Reads i 0 (λ d. entry (d .core) o)
-none-entry i o p q d h = sym (entry-none (d .core) o (elsewhere o p q))
+none-entry i o p q d ns h = sym (entry-none (d .core) o (elsewhere o p q))
 
 -- four bytes of a run are a Dword's, and eight a Qword's
 four-cell : (c : Core) (o : ℕ) → numberOf (entriesOf c o 4) ≡ readCell c o bytes
@@ -110,27 +111,27 @@ four-cell c o =
     let o3 : o + 1 + 1 + 1 ≡ o + 3 = omega arith in
     λ t. numberOf (entry c o ∷ entry c (o + 1) ∷ entry c (o2 t) ∷ entry c (o3 t) ∷ [])
 
-entry-below : (i : List ℕ) (d : Device) → Holds i d → (o : ℕ) → entry (d .core) o < 256
+entry-below : (i : List ℕ) (d : Device) (ns : Numbers) → Holds i d ns → (o : ℕ) → entry (d .core) o < 256
 unfolding entry
-entry-below i d h o =
+entry-below i d ns h o =
     test (inRoutes o) (λ t. rw t (h .well .routeBytes (o - routesAt))) (λ t. rw t (test (inVectors o) (λ u. rw u (h .well .vectorBytes (o - vectorsAt))) (λ u. rw u (omega arith))))
 
 pub four-read : (i : List ℕ) (o : ℕ) {x y : ℕ} → y ≡ x % 2 ^ 32 → Reads i x (λ d. numberOf (entriesOf (d .core) o 4)) → Reads i y (λ d. readCell (d .core) o bytes)
-four-read i o {x} e r d h =
-    let b = entry-below i d h in
-    let s : x % 2 ^ 32 ≡ x = omega (arith, r d h, b o, b (o + 1), b (o + 1 + 1), b (o + 1 + 1 + 1)) in
-    e ∙ s ∙ r d h ∙ four-cell (d .core) o
+four-read i o {x} e r d ns h =
+    let b = entry-below i d ns h in
+    let s : x % 2 ^ 32 ≡ x = omega (arith, r d ns h, b o, b (o + 1), b (o + 1 + 1), b (o + 1 + 1 + 1)) in
+    e ∙ s ∙ r d ns h ∙ four-cell (d .core) o
 
 pub eight-read : (i : List ℕ) (o : ℕ) {x : ℕ} → Run o 8 → Reads i x (λ d. numberOf (entriesOf (d .core) o 8)) → Reads i x (λ d. readAt (d .core) qword o)
 unfolding readAt
-eight-read i o run r d h =
+eight-read i o run r d ns h =
     let c = d .core in
     let y : o + 0 ≡ o = omega arith in
     let four : o + 1 + 1 + 1 + 1 ≡ o + 4 = omega arith in
     let low = four-cell c o ∙ dword-of c o (sym (rw y at (run-cell run 0 (omega arith)))) in
     let high = four-cell c (o + 4) ∙ dword-of c (o + 4) (sym (run-cell run 4 (omega arith))) in
     let both : numberOf (entriesOf c o 8) ≡ numberOf (entriesOf c o 4) + 2 ^ 32 * numberOf (entriesOf c (o + 1 + 1 + 1 + 1) 4) = omega arith in
-    r d h ∙ both ∙ ap (λ k. numberOf (entriesOf c o 4) + 2 ^ 32 * numberOf (entriesOf c k 4)) four ∙ (λ t. low t + 2 ^ 32 * high t)
+    r d ns h ∙ both ∙ ap (λ k. numberOf (entriesOf c o 4) + 2 ^ 32 * numberOf (entriesOf c k 4)) four ∙ (λ t. low t + 2 ^ 32 * high t)
 
 -- ---- written
 
@@ -209,29 +210,29 @@ module _ (i : List ℕ) (o n x : ℕ) (fits : o % 64 + n ≤ 64) {j : List ℕ} 
   routes-acts e s =
       let at : o ≡ 0x100 + o % 64 = omega arith in
       stores-write (λ c. entriesActs o n x) s
-      (λ d h. run-bytes 0x100 (routed d) (λ l p b low high. ap (acted (routed d l)) (entry-acts-route p b low high) ∙ acted-store (routed d l) (setRoute (p - 0x100) b)) n (o % 64) o x (d .core .stored .routes) at fits (h .well .routes))
+      (λ d ns h. run-bytes 0x100 (routed d) (λ l p b low high. ap (acted (routed d l)) (entry-acts-route p b low high) ∙ acted-store (routed d l) (setRoute (p - 0x100) b)) n (o % 64) o x (d .core .stored .routes) at fits (h .well .routes))
       (λ c. run-quiet n c o x)
 
   pub vectors-acts : o / 64 ≡ 8 → Becomes i j (λ d. withVectors d (withBytes (o % 64) n x (d .core .vectors))) → Writes i j 0 (λ c. entriesActs o n x)
   vectors-acts e s =
       let at : o ≡ 0x200 + o % 64 = omega arith in
       stores-write (λ c. entriesActs o n x) s
-      (λ d h. run-bytes 0x200 (withVectors d) (λ l p b low high. ap (acted (withVectors d l)) (entry-acts-vector p b low high) ∙ acted-vector (withVectors d l) (p - 0x200) b) n (o % 64) o x (d .core .vectors) at fits (h .well .vectors))
+      (λ d ns h. run-bytes 0x200 (withVectors d) (λ l p b low high. ap (acted (withVectors d l)) (entry-acts-vector p b low high) ∙ acted-vector (withVectors d l) (p - 0x200) b) n (o % 64) o x (d .core .vectors) at fits (h .well .vectors))
       (λ c. run-quiet n c o x)
 
 module _ (i : List ℕ) (o : ℕ) {j : List ℕ} where
   -- a single one
   pub entry-written : (v : ℕ) → v < 256 → Writes i j 0 (λ c. entriesActs o 1 v) → Writes i j 0 (λ c. entryActs o v)
-  entry-written v h p = let e : v % 256 ≡ v = omega arith in writes-same (λ c. entriesActs o 1 v) (λ c. entryActs o v) p (λ d g. append-nil (entryActs o (v % 256)) ∙ ap (entryActs o) e)
+  entry-written v h p = let e : v % 256 ≡ v = omega arith in writes-same (λ c. entriesActs o 1 v) (λ c. entryActs o v) p (λ d ns g. append-nil (entryActs o (v % 256)) ∙ ap (entryActs o) e)
 
   pub four-together : (v : ℕ) → Writes i j 0 (λ c. entriesActs o 4 v) → Writes i j 0 (λ c. cellActs o v bytes)
-  four-together v p = writes-same (λ c. entriesActs o 4 v) (λ c. cellActs o v bytes) p (λ d h. four-acts o v)
+  four-together v p = writes-same (λ c. entriesActs o 4 v) (λ c. cellActs o v bytes) p (λ d ns h. four-acts o v)
 
   pub eight-together : (v : ℕ) → Run o 8 → Writes i j 0 (λ c. entriesActs o 8 v) → Writes i j 0 (λ c. writeActs c qword o v)
-  eight-together v run p = writes-same (λ c. entriesActs o 8 v) (λ c. writeActs c qword o v) p (λ d h. eight-acts (d .core) o v run)
+  eight-together v run p = writes-same (λ c. entriesActs o 8 v) (λ c. writeActs c qword o v) p (λ d ns h. eight-acts (d .core) o v run)
 
 pub none-written : (i : List ℕ) (o v : ℕ) → (o / 64 ≡ 4 → ⊥) → (o / 64 ≡ 8 → ⊥) → Writes i i 0 (λ c. entryActs o v)
-none-written i o v p q = writes-same (λ c. []) (λ c. entryActs o v) (writes-none i) (λ d h. sym (entry-acts-none o v (elsewhere o p q)))
+none-written i o v p q = writes-same (λ c. []) (λ c. entryActs o v) (writes-none i) (λ d ns h. sym (entry-acts-none o v (elsewhere o p q)))
 
 -- four, one after another
 pub four-written : (o v : ℕ) {b₀ b₁ b₂ b₃ : ℕ} {i j k l m : List ℕ} → b₀ ≡ byteOf v 0 → b₁ ≡ byteOf v 1 → b₂ ≡ byteOf v 2 → b₃ ≡ byteOf v 3 → Writes i j 0 (λ c. entryActs o b₀)
@@ -240,4 +241,4 @@ unfolding cellActs
 four-written o v {b₀} {b₁} {b₂} {b₃} e₀ e₁ e₂ e₃ p q r s =
     writes-same _ (λ c. cellActs o v bytes)
     (writes-then (λ c. entryActs o b₀) _ p (writes-then (λ c. entryActs (o + 1) b₁) _ q (writes-then (λ c. entryActs (o + 2) b₂) (λ c. entryActs (o + 3) b₃) r s)))
-    (λ d h t. entryActs o (e₀ t) ++ (entryActs (o + 1) (e₁ t) ++ (entryActs (o + 2) (e₂ t) ++ entryActs (o + 3) (e₃ t))))
+    (λ d ns h t. entryActs o (e₀ t) ++ (entryActs (o + 1) (e₁ t) ++ (entryActs (o + 2) (e₂ t) ++ entryActs (o + 3) (e₃ t))))

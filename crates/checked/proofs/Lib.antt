@@ -1,4 +1,6 @@
 -- The laws that the proofs of this crate cite.
 pub mod Pairs
 pub mod Tested
+pub mod Heads
+pub mod Rings
 pub mod Orders

@@ -14,13 +14,14 @@ use lib.Seq.{drop-drop, drop-append-le, getD-drop}
 use borrow.Author.Tests.{eq-eqb, ne-eqb, eqb-true, le-leb, leb-true}
 use Rattle.rules.specs.Numbers.{numberOf, part, Bytes}
 use Rattle.rules.specs.Ring.{capacity}
+use Rattle.rules.specs.Form.{Form, numbers, has, read}
 use Rattle.rules.specs.Image.{registerAt}
 use Rattle.rules.specs.Inputs.{on}
 use Rattle.rules.proofs.laws.Lists.{length-part, part-then}
 use Rattle.rules.proofs.laws.Bytes.{bytes-drop, bytes-part}
 use Rattle.rules.proofs.laws.Bits.{test, on-and, on-or, on-ext}
 use Rattle.rules.proofs.laws.Tests.{Flags, Unused}
-use Rattle.checked.specs.Good.{flagsGood, allZero, pairsGood, bitsOf}
+use Rattle.checked.specs.Good.{flagsGood, allZero, pairsGood, numbersGood, bitsOf}
 
 -- ---- what the tests say
 
@@ -53,6 +54,16 @@ zeros-allZero : (l : List ℕ) → ((i : ℕ) → getD l i 0 ≡ 0) → allZero 
 zeros-allZero [] z = refl
 zeros-allZero (x ∷ l) z = rw (eq-eqb x 0 (z 0), zeros-allZero l (λ i. z (suc i)))
 
+-- zeros behind n things of two bytes
+module _ (n : ℕ) (l : List ℕ) where
+  zero-unused : allZero (drop (2 * n) l) ≡ true → Unused n l
+  zero-unused e i h =
+      let s : 2 * n + (i - 2 * n) ≡ i = omega arith in
+      rw s at (sym (getD-drop (2 * n) l (i - 2 * n) 0) ∙ allZero-zeros (drop (2 * n) l) e (i - 2 * n))
+
+  unused-zero : Unused n l → allZero (drop (2 * n) l) ≡ true
+  unused-zero z = zeros-allZero (drop (2 * n) l) (λ i. getD-drop (2 * n) l i 0 ∙ z (2 * n + i) (omega arith))
+
 -- the two rules on pairs, as the rules have them
 module _ (n : ℕ) (l : List ℕ) where
   pub pairsGood-flags : pairsGood n l ≡ true → Flags n l
@@ -62,14 +73,18 @@ module _ (n : ℕ) (l : List ℕ) where
       rw s at (flagsGood-flags n l good (i / 2) (omega arith))
 
   pub pairsGood-unused : pairsGood n l ≡ true → Unused n l
-  pairsGood-unused e i h =
-      let s : 2 * n + (i - 2 * n) ≡ i = omega arith in
-      let good = and-eq-true-iff (flagsGood n l) (allZero (drop (2 * n) l)) .0 e .1 in
-      rw s at (sym (getD-drop (2 * n) l (i - 2 * n) 0) ∙ allZero-zeros (drop (2 * n) l) good (i - 2 * n))
+  pairsGood-unused e = zero-unused n l (and-eq-true-iff (flagsGood n l) (allZero (drop (2 * n) l)) .0 e .1)
 
   pub good-pairs : Flags n l → Unused n l → pairsGood n l ≡ true
-  good-pairs g z =
-      rw (flags-flagsGood n l (λ i h. g (2 * i + 1) (omega arith) (omega arith)), zeros-allZero (drop (2 * n) l) (λ i. getD-drop (2 * n) l i 0 ∙ z (2 * n + i) (omega arith)))
+  good-pairs g z = rw (flags-flagsGood n l (λ i h. g (2 * i + 1) (omega arith) (omega arith)), unused-zero n l z)
+
+-- and that on numbers
+module _ (f : Form) (n : ℕ) (l : List ℕ) where
+  pub numbersGood-unused : numbersGood f n l ≡ true → has f numbers ≡ true → Unused n (read f l numbers)
+  numbersGood-unused e h = zero-unused n (read f l numbers) (rw h at e)
+
+  pub good-numbers : (has f numbers ≡ true → Unused n (read f l numbers)) → numbersGood f n l ≡ true
+  good-numbers z = test (has f numbers) (λ h. rw h (unused-zero n (read f l numbers) (z h))) (λ h. rw h)
 
 -- ---- tests of numbers for zero
 
@@ -84,7 +99,7 @@ zero-both x a b f g h =
     (λ t. let r = and-eq-true-iff (eqb a 0) (eqb b 0) .0 t in h (eqb-true a 0 (r .0)) (eqb-true b 0 (r .1)))
 
 -- what is gathered by `or`
-zero-or : (a b : ℕ) → eqb (bitOr a b) 0 ≡ (eqb a 0 && eqb b 0)
+pub zero-or : (a b : ℕ) → eqb (bitOr a b) 0 ≡ (eqb a 0 && eqb b 0)
 zero-or a b =
     zero-both (bitOr a b) a b (λ e. omega (arith, or-add-and a b, and-le-r a b)) (λ e. omega (arith, or-add-and a b, and-le-l a b))
     (λ e f. omega (arith, or-add-and a b))
@@ -137,6 +152,33 @@ zeros-more i found x l b h e inv =
 -- no word is left: what is gathered decides
 pub none-more : (i found : ℕ) (l : List ℕ) {goal : Bool} → length l ≤ 8 * i → (eqb found 0 && allZero (drop (8 * i) l)) ≡ goal → eqb found 0 ≡ goal
 none-more i found l h inv = sym (and-true (eqb found 0)) ∙ ap (λ m. eqb found 0 && allZero m) (sym (drop-of-length-le l h)) ∙ inv
+
+-- two lists side by side: what is gathered of both, and what is still to come of both
+pub shuffle : (f x y a b : Bool) → ((f && (x && y)) && (a && b)) ≡ (f && ((x && a) && (y && b)))
+shuffle false x y a b = refl
+shuffle true false y a b = refl
+shuffle true true true a b = refl
+shuffle true true false true b = refl
+shuffle true true false false b = refl
+
+word-whole : (i x : ℕ) (l : List ℕ) → Bytes l → 8 * i + 8 ≤ length l → x ≡ registerAt (8 * i) l → (eqb x 0 && allZero (drop (8 * (i + 1)) l)) ≡ allZero (drop (8 * i) l)
+word-whole i x l b h e =
+    let end : 8 * (i + 1) ≡ 8 * i + 8 = omega arith in
+    let start : 8 * i + 0 ≡ 8 * i = omega arith in
+    let whole : x ≡ registerAt (8 * i) l / 2 ^ (8 * 0) = omega arith in
+    (λ t. eqb (whole t) 0 && allZero (drop (end t) l)) ∙ zero-word (8 * i) 0 l b h (omega arith) ∙ ap (λ k. allZero (drop k l)) start
+
+module _ (l m : List ℕ) where
+  pub both-more : (i found x y : ℕ) {goal : Bool} → Bytes l → Bytes m → 8 * i + 8 ≤ length l → 8 * i + 8 ≤ length m → x ≡ registerAt (8 * i) l → y ≡ registerAt (8 * i) m
+      → (eqb found 0 && (allZero (drop (8 * i) l) && allZero (drop (8 * i) m))) ≡ goal
+      → (eqb (bitOr found (bitOr x y)) 0 && (allZero (drop (8 * (i + 1)) l) && allZero (drop (8 * (i + 1)) m))) ≡ goal
+  both-more i found x y b c h k e g inv =
+      ap (λ t. t && (allZero (drop (8 * (i + 1)) l) && allZero (drop (8 * (i + 1)) m))) (zero-or found (bitOr x y) ∙ ap (λ t. eqb found 0 && t) (zero-or x y))
+      ∙ shuffle (eqb found 0) (eqb x 0) (eqb y 0) (allZero (drop (8 * (i + 1)) l)) (allZero (drop (8 * (i + 1)) m))
+      ∙ (λ t. eqb found 0 && (word-whole i x l b h e t && word-whole i y m c k g t)) ∙ inv
+
+  pub both-none : (i found : ℕ) {goal : Bool} → length l ≤ 8 * i → length m ≤ 8 * i → (eqb found 0 && (allZero (drop (8 * i) l) && allZero (drop (8 * i) m))) ≡ goal → eqb found 0 ≡ goal
+  both-none i found h k inv = sym (and-true (eqb found 0)) ∙ (λ t. eqb found 0 && (allZero (sym (drop-of-length-le l h) t) && allZero (sym (drop-of-length-le m k) t))) ∙ inv
 
 -- ---- flags
 
@@ -196,7 +238,7 @@ and-or a b c h =
 -- ---- what pairs_good looks at
 
 -- the bits above the lowest of a word's four flags
-abbrev flagBits : ℕ
+abbrev pub flagBits : ℕ
 flagBits = numberOf (overOne 4)
 
 -- zeros are good flags

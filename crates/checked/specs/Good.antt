@@ -1,34 +1,35 @@
 -- What the tests of an accepted image look at, as the rules see it.
-use mathlib.Core.Bool.{Bool, true, false, _&&_}
+use mathlib.Core.Path.{_≡_}
+use mathlib.Core.Bool.{Bool, true, false, cond, _&&_}
 use mathlib.Core.List.{List, [], _∷_}
 use Prim.Native.Nat.{ℕ, zero, suc, _*_}
 use lib.Bits.{bitOr}
 use lib.Dec.{eqb, leb}
 use lib.ListN.{length, drop}
 use Rattle.rules.specs.Numbers.{part}
-use Rattle.rules.specs.Form.{Form, contentsLength, contentsOf, Known, unknown, known, formOf}
-use Rattle.rules.specs.Image.{registerAt, Finding, clear, found, rules, firstFault, same, ImageTest, accepted, wrongLength, wrongContents, broken, imageTest}
+use Rattle.rules.specs.Form.{Form, pairs, numbers, has, place, contentsLength, contentsOf, known, formOf, read}
+use Rattle.rules.specs.Image.{registerAt, Finding, clear, found, rules, firstFault, same, ImageTest, accepted, wrongLength, wrongContents, broken, bodyTest, imageTest}
 use Rattle.image.specs.Shown.{formView}
-use Rattle.checked.specs.declared.Verdict.{Verdict}
-use Rattle.checked.specs.declared.Verdict.the-variants.{Accepted, Refused}
+use Rattle.checked.specs.declared.Head.{Head}
+use Rattle.checked.specs.declared.Head.the-variants.{WrongLength, WrongContents, Of}
+use Rattle.checked.specs.declared.Bodies.{Bodies}
+use Rattle.checked.specs.declared.Bodies.the-variants.{Broken, Good}
 
-abbrev pub verdictView : Verdict → Known
-verdictView (Accepted f) = known (formView f)
-verdictView Refused = unknown
+-- what an image is told to be, and whether the rules of its bodies hold
+abbrev pub headTest : Head → ImageTest
+headTest WrongLength = wrongLength
+headTest WrongContents = wrongContents
+headTest (Of f) = accepted
+
+abbrev pub holds : Bodies → Bool
+holds Broken = false
+holds Good = true
 
 abbrev pub isAccepted : ImageTest → Bool
 isAccepted accepted = true
 isAccepted wrongLength = false
 isAccepted wrongContents = false
 isAccepted (broken k a) = false
-
--- the form of an image, if it is accepted
-abbrev pub formIf : Bool → Known → Known
-formIf true k = k
-formIf false k = unknown
-
-abbrev pub acceptedForm : List ℕ → Known
-acceptedForm l = formIf (isAccepted (imageTest l)) (formOf (length l))
 
 -- the contents are those of a form; no rule of the bodies finds anything
 abbrev pub headGood : Form → List ℕ → Bool
@@ -40,6 +41,16 @@ isClear (found k a) = false
 
 abbrev pub bodiesGood : Form → List ℕ → Bool
 bodiesGood f l = isClear (firstFault f l (rules f l))
+
+-- with good contents the bodies decide
+abbrev pub bodiesTest : Form → List ℕ → ImageTest
+bodiesTest f l = bodyTest (firstFault f l (rules f l))
+
+-- the length and the contents were tested: the image is refused by them, or is one of the form with good contents
+abbrev pub Headed : Head → List ℕ → Type 0
+Headed WrongLength l = wrongLength ≡ imageTest l
+Headed WrongContents l = wrongContents ≡ imageTest l
+Headed (Of f) l = (formOf (length l) ≡ known (formView f)) × (headGood (formView f) l ≡ true)
 
 -- the flags of the first n pairs are 0 or 1; all bytes are zero; of pairs the first n of which wait both rules hold
 abbrev pub flagsGood : ℕ → List ℕ → Bool
@@ -54,6 +65,17 @@ allZero (x ∷ l) = eqb x 0 && allZero l
 
 abbrev pub pairsGood : ℕ → List ℕ → Bool
 pairsGood n l = flagsGood n l && allZero (drop (2 * n) l)
+
+-- of numbers the first n of which wait the others are zero, if the form has numbers
+abbrev pub numbersGood : Form → ℕ → List ℕ → Bool
+numbersGood f n l = cond (has f numbers) (allZero (drop (2 * n) (read f l numbers))) true
+
+-- both rules of the ring's events, the first n of which wait; where the numbers stand, or the pairs in a form without them
+abbrev pub ringGood : Form → ℕ → List ℕ → Bool
+ringGood f n l = pairsGood n (read f l pairs) && numbersGood f n l
+
+abbrev pub spareAt : Form → ℕ
+spareAt f = cond (has f numbers) (place f numbers) (place f pairs)
 
 -- the bits that any of the first k words has
 abbrev pub bitsOf : ℕ → List ℕ → ℕ

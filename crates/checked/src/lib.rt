@@ -1,29 +1,34 @@
-// Whether an image may be loaded. Bytes are compared as numbers, eight at a time. Of the ring's pairs the bits are gathered that any has:
-// they settle the commonest ring, and all flags at once. What is wrong, and where, is searched for only in an image that is not accepted.
+// Whether an image may be loaded, in two steps: its length and its contents, which tell its form, and then the rules of its bodies. Bytes are compared as
+// numbers, eight at a time. Of the ring's pairs and numbers the bits are gathered that any has: they settle the commonest ring, and all flags at once. What
+// is wrong in a body, and where, is searched for only in an image that is not accepted.
 use bytes::word_at;
-use faults::Checked;
-use faults::first_fault;
 use image::form::CAPACITY;
 use image::form::Form;
 use image::form::KnownForm;
+use image::form::NUMBERS_LENGTH;
 use image::form::PAIRS_LENGTH;
 use image::form::contents_of;
 use image::form::form_of;
 use image::form::places_of;
 ghost use mathlib.Core.Path.{_≡_};
+ghost use mathlib.Core.Bool.{_&&_};
 ghost use Prim.Native.Nat.{_*_, _≤_};
 ghost use lib.ListN.{length, drop};
 ghost use Rattle.rules.specs.Ring.{capacity};
-ghost use Rattle.rules.specs.Form.{formLength};
-ghost use Rattle.rules.specs.Image.{imageTest};
+ghost use Rattle.rules.specs.Form.{formLength, formOf, known};
 ghost use Rattle.image.specs.Shown.{formView};
-ghost use Rattle.faults.specs.Found.{checkedView};
-ghost use Rattle.checked.specs.Good.{verdictView, acceptedForm, bitsOf, allZero, pairsGood, headGood, bodiesGood};
+ghost use Rattle.checked.specs.Good.{Headed, holds, bitsOf, allZero, spareAt, headGood, bodiesGood};
 
-// An accepted image is one of a form.
-pub enum Verdict {
-    Accepted(Form),
-    Refused,
+// What the length and the contents tell: an image of a form, or why it is none.
+pub enum Head {
+    WrongLength,
+    WrongContents,
+    Of(Form),
+}
+
+pub enum Bodies {
+    Broken,
+    Good,
 }
 
 // The bits that any of the four words of the pairs has.
@@ -40,39 +45,23 @@ fn all_bits(pairs: &[u8]) -> u64
     found
 }
 
-// Unused pairs are zero. In the word where they begin, the pairs that wait are shifted out.
-fn unused_zero(count: usize, pairs: &[u8]) -> bool
-    requires { ⌜ (length (now pairs) ≡ 2 * capacity) × (count ≤ capacity) ⌝ }
-    ensures { λ r. ⌜ r ≡ allZero (drop (2 * count) (now (pairs .entry))) ⌝ }
+// Unused pairs and unused numbers are zero. In the word where they begin, those that wait are shifted out.
+fn unused_zero(count: usize, pairs: &[u8], spare: &[u8]) -> bool
+    requires { ⌜ (length (now pairs) ≡ 2 * capacity) × (length (now spare) ≡ 2 * capacity) × (count ≤ capacity) ⌝ }
+    ensures { λ r. ⌜ r ≡ (allZero (drop (2 * count) (now (pairs .entry))) && allZero (drop (2 * count) (now (spare .entry)))) ⌝ }
 {
     if count == CAPACITY {
         return true;
     }
     let first = count / 4;
-    let mut found = word_at(pairs, 8 * first) >> (16 * (count % 4));
+    let shift = 16 * (count % 4);
+    let mut found = (word_at(pairs, 8 * first) >> shift) | (word_at(spare, 8 * first) >> shift);
     let mut i = first + 1;
     while i < 4 {
-        found |= word_at(pairs, 8 * i);
+        found |= word_at(pairs, 8 * i) | word_at(spare, 8 * i);
         i += 1;
     }
     found == 0
-}
-
-// Flags of waiting pairs are 0 or 1, and unused pairs are zero.
-fn pairs_good(count: usize, pairs: &[u8]) -> bool
-    requires { ⌜ (length (now pairs) ≡ 2 * capacity) × (count ≤ capacity) ⌝ }
-    ensures { λ r. ⌜ r ≡ pairsGood count (now (pairs .entry)) ⌝ }
-{
-    let found = all_bits(pairs);
-    // every pair is zero: the commonest ring
-    if found == 0 {
-        return true;
-    }
-    // a flag is over 1, of a waiting pair or of an unused one
-    if found & 0xfe00_fe00_fe00_fe00 != 0 {
-        return false;
-    }
-    unused_zero(count, pairs)
 }
 
 fn contents_good(image: &[u8], form: Form) -> bool
@@ -86,52 +75,77 @@ fn contents_good(image: &[u8], form: Form) -> bool
     if word_at(image, 8) != c.second {
         return false;
     }
+    if word_at(image, 14) != c.third {
+        return false;
+    }
     word_at(image, c.last_at) == c.last
 }
 
-// The rules of the bodies. A form without a copy of IRR has IRR's own place there.
-fn body_good(image: &[u8], form: Form) -> bool
+fn headed(image: &[u8], form: Form) -> Head
+    requires { ⌜ formOf (length (now image)) ≡ known (formView form) ⌝ }
+    ensures { λ r. ⌜ Headed r (now (image .entry)) ⌝ }
+{
+    if contents_good(image, form) {
+        return Head::Of(form);
+    }
+    Head::WrongContents
+}
+
+// An arm for each form, so that each compares with constants.
+pub fn test_head(image: &[u8]) -> Head
+    ensures { λ r. ⌜ Headed r (now (image .entry)) ⌝ }
+{
+    let KnownForm::As(form) = form_of(image.len()) else {
+        return Head::WrongLength;
+    };
+    match form {
+        Form::One => headed(image, Form::One),
+        Form::Two => headed(image, Form::Two),
+        Form::Numbered => headed(image, Form::Numbered),
+    }
+}
+
+// Where the numbers stand; in a form without numbers, the pairs.
+fn spare_of(form: Form) -> usize
+    ensures { λ r. ⌜ r ≡ spareAt (formView form) ⌝ }
+{
+    let p = places_of(form);
+    match form {
+        Form::One => p.pairs,
+        Form::Two => p.pairs,
+        Form::Numbered => p.numbers,
+    }
+}
+
+// The rules of the bodies. A form without a copy of IRR has IRR's own place there, and one without numbers the pairs' place.
+pub fn test_bodies(image: &[u8], form: Form) -> Bodies
     requires { ⌜ length (now image) ≡ formLength (formView form) ⌝ }
-    ensures { λ r. ⌜ r ≡ bodiesGood (formView form) (now (image .entry)) ⌝ }
+    ensures { λ r. ⌜ holds r ≡ bodiesGood (formView form) (now (image .entry)) ⌝ }
 {
     let p = places_of(form);
     if word_at(image, p.last_intirr) != word_at(image, p.intirr) {
-        return false;
+        return Bodies::Broken;
     }
     let place = p.count;
     let count = image[place] as usize;
     if count > CAPACITY {
-        return false;
+        return Bodies::Broken;
     }
     let at = p.pairs;
     let end = at + PAIRS_LENGTH;
-    pairs_good(count, &image[at..end])
-}
-
-pub fn check(image: &[u8]) -> Verdict
-    ensures { λ r. ⌜ verdictView r ≡ acceptedForm (now (image .entry)) ⌝ }
-{
-    let KnownForm::As(form) = form_of(image.len()) else {
-        return Verdict::Refused;
-    };
-    if !contents_good(image, form) {
-        return Verdict::Refused;
+    let spare = spare_of(form);
+    let last = spare + NUMBERS_LENGTH;
+    let found = all_bits(&image[at..end]);
+    // every pair and every number is zero: the commonest ring
+    if found | all_bits(&image[spare..last]) == 0 {
+        return Bodies::Good;
     }
-    if !body_good(image, form) {
-        return Verdict::Refused;
+    // a flag is over 1, of a waiting pair or of an unused one
+    if found & 0xfe00_fe00_fe00_fe00 != 0 {
+        return Bodies::Broken;
     }
-    Verdict::Accepted(form)
-}
-
-// What is wrong with an image. Apart from `check`, which is small so that each call has it in place.
-pub fn fault_of(image: &[u8]) -> Checked
-    ensures { λ r. ⌜ checkedView r ≡ imageTest (now (image .entry)) ⌝ }
-{
-    let KnownForm::As(form) = form_of(image.len()) else {
-        return Checked::WrongLength;
-    };
-    if !contents_good(image, form) {
-        return Checked::WrongContents;
+    if !unused_zero(count, &image[at..end], &image[spare..last]) {
+        return Bodies::Broken;
     }
-    first_fault(image, form)
+    Bodies::Good
 }

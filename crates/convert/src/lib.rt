@@ -3,11 +3,14 @@
 use answer::Told;
 use answer::Value;
 use answer::done;
-use checked::Verdict;
-use checked::check;
+use checked::Bodies;
+use checked::Head;
+use checked::test_bodies;
+use checked::test_head;
 use image::form::KnownForm;
 use image::form::form_of;
-use refusals::of_image;
+use refusals::of_bodies;
+use refusals::of_head;
 use refusals::wrong_length;
 ghost use mathlib.Core.Path.{_≡_};
 ghost use mathlib.Core.List.{[]};
@@ -24,10 +27,14 @@ pub fn convert(image: &[u8], target: &mut [u8]) -> Told
     let KnownForm::As(form) = form_of(target.len()) else {
         return wrong_length();
     };
-    let checked = check(image);
-    let Verdict::Accepted(own) = checked else {
-        return of_image(image);
+    let told = test_head(image);
+    let Head::Of(own) = told else {
+        return of_head(told);
     };
-    saved::save(target, form, loaded::load(image, own));
+    let Bodies::Good = test_bodies(image, own) else {
+        return of_bodies(image, own);
+    };
+    let numbers = loaded::load_numbers(image, own);
+    saved::save(target, form, loaded::load(image, own), &numbers);
     done(Value::Absent)
 }

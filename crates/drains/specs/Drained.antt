@@ -1,32 +1,38 @@
--- What a drain promises: of whatever device the image holds, its ring draws for the room that there is.
+-- What a drain promises: of whatever device and numbers the image holds, its ring draws for the room that there is, and each event that comes out has its number.
 use mathlib.Core.Path.{_≡_}
-use mathlib.Core.List.{List, _++_}
-use Prim.Native.Nat.{ℕ, _+_, _*_, _/_, _≤_}
-use lib.ListN.{length, drop}
-use Rattle.rules.specs.Ring.{Event, eventTwos, Drawn, drawn, pairsOf}
+use mathlib.Core.List.{List, [], _∷_, _++_}
+use Prim.Native.Nat.{ℕ, _*_, _/_, _≤_}
+use lib.ListN.{length, take, drop}
+use Rattle.rules.specs.Ring.{Drawn, drawn}
 use Rattle.rules.specs.Device.{Device}
-use Rattle.rules.specs.Form.{Form, place, formLength}
-use Rattle.rules.specs.Form as rules-form
-use Rattle.rules.specs.Image.{sixteen, ringLength}
-use Rattle.inplace.specs.Held.{Reads, Does, withRing}
+use Rattle.rules.specs.Numbering.{Numbers, withNumbers, drainedLength, quadsOf, fewer}
+use Rattle.rules.specs.Image.{numbersIn}
+use Rattle.inplace.specs.Held.{Holds, Does, withRing}
 
--- the count and the pairs of the ring's body stand at these places, in the form that the image has
-pub record RingAt (i : List ℕ) (count at : ℕ) : Type 0 where
-  pub form : Form
-  pub sized : length i ≡ formLength form
-  pub here : count ≡ place form rules-form.count
-  pub pairs : at ≡ count + 5
-  pub fits : count + ringLength ≤ length i
+-- ---- what comes out
+
+-- two bytes of one list and then two of another, as long as both have them
+abbrev pub woven : List ℕ → List ℕ → List ℕ
+woven [] ns = []
+woven (v ∷ []) ns = []
+woven (v ∷ f ∷ l) [] = []
+woven (v ∷ f ∷ l) (a ∷ []) = []
+woven (v ∷ f ∷ l) (a ∷ b ∷ m) = v ∷ f ∷ a ∷ b ∷ woven l m
+
+-- the first n of the events that wait, each with its number
+abbrev pub CopiesOut : (i out : List ℕ) (n : ℕ) → Type 0
+CopiesOut i out n =
+    (d : Device) (s : Numbers) → Holds i d s → n ≤ length (d .ring .waiting)
+    → out ≡ quadsOf (withNumbers (take n (d .ring .waiting)) (take n (numbersIn i .waiting)))
+
+-- ---- a drain
 
 -- what the ring of d draws into a buffer
 abbrev pub drew : Device → List ℕ → Drawn
-drew d entry = drawn (d .ring) (length entry / 2)
+drew d entry = drawn (d .ring) (length entry / drainedLength)
 
--- n events come out as pairs in front of the buffer, and every other byte stays
+-- n events come out with their numbers in front of the buffer, and every other byte stays (02, C-19)
 pub record Drains (i j entry exit : List ℕ) (n : ℕ) : Type 0 where
-  pub does : Does i j n (λ d. withRing d (drew d entry .after)) (λ d. length (drew d entry .drained))
-  pub pairs : Reads i exit (λ d. pairsOf (drew d entry .drained) ++ drop (2 * n) entry)
-
--- of whatever m events the pairs hold before, they hold those past the first n after
-abbrev pub Leaves : (before after : List ℕ) (m n : ℕ) → Type 0
-Leaves before after m n = (es : List Event) → length es ≡ m → before ≡ sixteen eventTwos es → after ≡ sixteen eventTwos (drop n es)
+  pub does : Does i j n (λ d. withRing d (drew d entry .after)) (λ d s. fewer s (length entry / drainedLength)) (λ d. length (drew d entry .drained))
+  pub events : (d : Device) (s : Numbers) → Holds i d s
+      → exit ≡ quadsOf (withNumbers (drew d entry .drained) (take (length entry / drainedLength) (numbersIn i .waiting))) ++ drop (drainedLength * n) entry

@@ -1,86 +1,60 @@
-// A drain in place: the oldest pairs are copied out, the others move to the front, and zeros follow them.
-use bytes::copy;
-use bytes::put_zeros;
+// A drain in place: the oldest events are copied out, each pair with its number, and no longer wait.
 use image::form;
 use image::form::Form;
 use image::form::places_of;
+use numbers::from_zero;
+use shifts::shift;
 ghost use mathlib.Core.Path.{_≡_};
-ghost use mathlib.Core.List.{_++_};
-ghost use Prim.Native.Nat.{_/_, _≤_, min};
-ghost use lib.ListN.{length, drop, getD, replicate};
+ghost use Prim.Native.Nat.{_*_, _/_, _≤_, min};
+ghost use lib.ListN.{length};
 ghost use Rattle.rules.specs.Ring.{capacity};
 ghost use Rattle.rules.specs.Form.{formLength};
-ghost use Rattle.rules.specs.Image.{pairsLength, countIn};
+ghost use Rattle.rules.specs.Image.{countIn};
 ghost use Rattle.image.specs.Shown.{formView};
-ghost use Rattle.drains.specs.Drained.{RingAt, Drains, Leaves};
+ghost use Rattle.drains.specs.Drained.{woven, CopiesOut, Drains};
 
 // As many events as wait or as fit, whichever is fewer.
 fn fitting(waiting: usize, bytes: usize) -> usize
-    ensures { λ r. ⌜ r ≡ min waiting (bytes / 2) ⌝ }
+    ensures { λ r. ⌜ r ≡ min waiting (bytes / 4) ⌝ }
 {
-    let pairs = bytes / form::PAIR;
-    if waiting < pairs { waiting } else { pairs }
+    let events = bytes / form::EVENT;
+    if waiting < events { waiting } else { events }
 }
 
-// The byte at a place; past the end, zero.
-fn byte_or_zero(src: &[u8], at: usize) -> u8
-    ensures { λ r. ⌜ r ≡ getD (now (src .entry)) at 0 ⌝ }
+// Each pair, and then its number.
+fn put_events(out: &mut [u8], pairs: &[u8], numbers: &[u8], n: usize)
+    requires { ⌜ (length (now out) ≡ 4 * n) × (length (now pairs) ≡ 2 * n) × (length (now numbers) ≡ 2 * n) ⌝ }
+    ensures { λ _. ⌜ now (out .exit) ≡ woven (now (pairs .entry)) (now (numbers .entry)) ⌝ }
 {
-    if at < src.len() { src[at] } else { 0 }
-}
-
-// The first `taken` bytes go, and as many zeros follow the others. In one loop, since the compiler turns a loop of zeros into a call of memset.
-fn drop_front(dst: &mut [u8], taken: usize)
-    requires { ⌜ taken ≤ length (now dst) ⌝ }
-    ensures { λ _. ⌜ now (dst .exit) ≡ drop taken (now (dst .entry)) ++ replicate taken 0 ⌝ }
-{
-    let mut i = 0;
-    while i < dst.len() {
-        dst[i] = byte_or_zero(dst, taken + i);
-        i += 1;
+    let mut k = 0;
+    while k < n {
+        let from = form::PAIR * k;
+        let to = form::EVENT * k;
+        out[to] = pairs[from];
+        out[to + 1] = pairs[from + 1];
+        out[to + 2] = numbers[from];
+        out[to + 3] = numbers[from + 1];
+        k += 1;
     }
 }
 
-// Of `len` pairs the first n go. Where none is left nothing moves: the whole room becomes zeros, by stores of a fixed length.
-fn leave(dst: &mut [u8], n: usize, len: usize)
-    requires { ⌜ (n ≤ len) × (len ≤ capacity) × (length (now dst) ≡ pairsLength) ⌝ }
-    ensures { λ _. ⌜ Leaves (now (dst .entry)) (now (dst .exit)) len n ⌝ }
+// The first n events, with the numbers that the image has or those from 0 on.
+fn copy_out(image: &[u8], form: Form, out: &mut [u8], n: usize)
+    requires { ⌜ (length (now image) ≡ formLength (formView form)) × (n ≤ capacity) × (length (now out) ≡ 4 * n) ⌝ }
+    ensures { λ _. ⌜ CopiesOut (now (image .entry)) (now (out .exit)) n ⌝ }
 {
-    if n < len {
-        let used = form::PAIR * len;
-        drop_front(&mut dst[0..used], form::PAIR * n);
-    } else {
-        put_zeros(dst);
-    }
-}
-
-// All of src over all of dst. One pair, the common case, goes without a loop.
-fn copy_out(dst: &mut [u8], src: &[u8])
-    requires { ⌜ length (now dst) ≡ length (now src) ⌝ }
-    ensures { λ _. ⌜ now (dst .exit) ≡ now (src .entry) ⌝ }
-{
-    if src.len() == form::PAIR {
-        dst[0] = src[0];
-        dst[1] = src[1];
-    } else {
-        copy(dst, src);
-    }
-}
-
-// With the places of the count and of the pairs.
-fn drain_from(image: &mut [u8], out: &mut [u8], count: usize, at: usize) -> usize
-    requires { ⌜ RingAt (now image) count at × (getD (now image) count 0 ≤ capacity) ⌝ }
-    ensures { λ r. ⌜ Drains (now (image .entry)) (now (image .exit)) (now (out .entry)) (now (out .exit)) r ⌝ }
-{
-    let len = image[count] as usize;
-    let n = fitting(len, out.len());
+    let p = places_of(form);
     let taken = form::PAIR * n;
+    let at = p.pairs;
     let end = at + taken;
-    copy_out(&mut out[0..taken], &image[at..end]);
-    let last = at + form::PAIRS_LENGTH;
-    leave(&mut image[at..last], n, len);
-    image[count] = (len - n) as u8;
-    n
+    let Form::Numbered = form else {
+        let first = from_zero();
+        put_events(out, &image[at..end], &first[0..taken], n);
+        return;
+    };
+    let first = p.numbers;
+    let last = first + taken;
+    put_events(out, &image[at..end], &image[first..last], n);
 }
 
 pub fn drain(image: &mut [u8], form: Form, out: &mut [u8]) -> usize
@@ -88,5 +62,11 @@ pub fn drain(image: &mut [u8], form: Form, out: &mut [u8]) -> usize
     ensures { λ r. ⌜ Drains (now (image .entry)) (now (image .exit)) (now (out .entry)) (now (out .exit)) r ⌝ }
 {
     let p = places_of(form);
-    drain_from(image, out, p.count, p.pairs)
+    let count = p.count;
+    let len = image[count] as usize;
+    let n = fitting(len, out.len());
+    let room = form::EVENT * n;
+    copy_out(image, form, &mut out[0..room], n);
+    shift(image, form, n, len);
+    n
 }

@@ -10,12 +10,14 @@ use borrow.Rule.Slice.PartMut.{putMid}
 use Rattle.rules.specs.Numbers.{numberOf, bytesOf, part, Bytes}
 use Rattle.rules.specs.Core.{withRoutes, htmsiEn, edge, pol, auto0, auto1}
 use Rattle.rules.specs.Device.{Device, WellFormed}
+use Rattle.rules.specs.Numbering.{Numbers, WellNumbered, fromZero}
 use Rattle.rules.specs.Form.{Field, routes, vectors, Form, size, has, place, formLength}
 use Rattle.rules.specs.Image.{bytesLength, fieldOf, encodeAs}
 use Rattle.rules.proofs.laws.Bytes.{bytes-append, bytes-take, bytes-drop, bytes-bytesOf, length-bytesOf}
 use Rattle.rules.proofs.laws.Lists.{part-part}
 use Rattle.rules.proofs.laws.Layout.{always, has-all}
-use Rattle.rules.proofs.laws.Saved.{fields-sized, field-stands}
+use Rattle.rules.proofs.laws.Saved.{fields-sized, field-stands, field-same}
+use Rattle.rules.proofs.laws.Numbered.{same-ring}
 use Rattle.rules.proofs.laws.InPlace.{within, Apart, part-written, routes-apart, vectors-apart}
 use Rattle.bytes.specs.Put.{withBytes}
 use Rattle.inplace.specs.Held.{Holds, Reads, Becomes, withVectors, withStored}
@@ -78,37 +80,38 @@ element l a n h = sym (getD-drop a l n 0) ∙ sym (getD-take 64 (drop a l) n 0 h
 
 -- of a field of 64 bytes that every form has: one, and some as a number
 module _ (f : Form) (i : List ℕ) (long : length i ≡ formLength f) (p : Field) (a : always p ≡ true) (s : 64 ≡ size p) {at : ℕ} (e : at ≡ place f p) where
-  stands : (d : Device) → Holds i d → part at 64 i ≡ fieldOf d p
-  stands d h = (λ t. part (e t) (s t) (holds-as f i long h t)) ∙ field-stands d (h .well) f p a
+  stands : (d : Device) (ns : Numbers) → Holds i d ns → part at 64 i ≡ fieldOf d (fromZero 0) p
+  stands d ns h = (λ t. part (e t) (s t) (holds-as f i long h t)) ∙ field-stands d (h .well) ns (h .numbered) f p a ∙ field-same d ns (fromZero 0) p a
 
-  pub entry-read : (n : ℕ) → n < 64 → Reads i (getD i (at + n) 0) (λ d. getD (fieldOf d p) n 0)
-  entry-read n k d h = element i at n k ∙ ap (λ l. getD l n 0) (stands d h)
+  pub entry-read : (n : ℕ) → n < 64 → Reads i (getD i (at + n) 0) (λ d. getD (fieldOf d (fromZero 0) p) n 0)
+  entry-read n k d ns h = element i at n k ∙ ap (λ l. getD l n 0) (stands d ns h)
 
-  pub entries-read : (n m : ℕ) → n + m ≤ 64 → {x : ℕ} → x ≡ numberOf (part (at + n) (at + n + m - (at + n)) i) → Reads i x (λ d. numberOf (part n m (fieldOf d p)))
-  entries-read n m k g d h =
+  pub entries-read : (n m : ℕ) → n + m ≤ 64 → {x : ℕ} → x ≡ numberOf (part (at + n) (at + n + m - (at + n)) i) → Reads i x (λ d. numberOf (part n m (fieldOf d (fromZero 0) p)))
+  entries-read n m k g d ns h =
       let size : at + n + m - (at + n) ≡ m = omega arith in
-      g ∙ ap (λ z. numberOf (part (at + n) z i)) size ∙ ap numberOf (sym (part-part i at 64 n m k)) ∙ ap (λ l. numberOf (part n m l)) (stands d h)
+      g ∙ ap (λ z. numberOf (part (at + n) z i)) size ∙ ap numberOf (sym (part-part i at 64 n m k)) ∙ ap (λ l. numberOf (part n m l)) (stands d ns h)
 
 -- ---- stored
 
 -- some bytes of a field, put over the image of a device
-entries-put : (f : Form) (d : Device) → WellFormed d → (c : Device) (p : Field) (at n x : ℕ) → has f p ≡ true → at + n ≤ size p → length (fieldOf d p) ≡ size p → fieldOf c p ≡ withBytes at n x (fieldOf d p)
-    → (fieldOf c p ≡ putMid at n (fieldOf d p) (part at n (fieldOf c p)) → Apart f (fieldOf d) (fieldOf c) (within p at n)) → withBytes (place f p + at) n x (encodeAs f d) ≡ encodeAs f c
-entries-put f d w c p at n x a h s g apart =
-    let l = fieldOf d p in
-    let new : part at n (fieldOf c p) ≡ bytesOf n x = ap (part at n) g ∙ there at n x l (omega arith) in
-    over (place f p + at) n x (encodeAs f d) ∙ ap (putMid (place f p + at) n (encodeAs f d)) (sym new)
-    ∙ part-written f (fieldOf d) (fieldOf c) (fields-sized d w) (within p at n) (a, h) (apart (g ∙ over at n x l ∙ ap (putMid at n l) (sym new)))
+entries-put : (f : Form) (d : Device) → WellFormed d → (ns : Numbers) → WellNumbered d ns → (c : Device) (p : Field) (at n x : ℕ) → has f p ≡ true → at + n ≤ size p → length (fieldOf d ns p) ≡ size p
+    → fieldOf c ns p ≡ withBytes at n x (fieldOf d ns p) → (fieldOf c ns p ≡ putMid at n (fieldOf d ns p) (part at n (fieldOf c ns p)) → Apart f (fieldOf d ns) (fieldOf c ns) (within p at n))
+    → withBytes (place f p + at) n x (encodeAs f d ns) ≡ encodeAs f c ns
+entries-put f d w ns v c p at n x a h s g apart =
+    let l = fieldOf d ns p in
+    let new : part at n (fieldOf c ns p) ≡ bytesOf n x = ap (part at n) g ∙ there at n x l (omega arith) in
+    over (place f p + at) n x (encodeAs f d ns) ∙ ap (putMid (place f p + at) n (encodeAs f d ns)) (sym new)
+    ∙ part-written f (fieldOf d ns) (fieldOf c ns) (fields-sized d w ns v) (within p at n) (a, h) (apart (g ∙ over at n x l ∙ ap (putMid at n l) (sym new)))
 
 module _ (f : Form) (i : List ℕ) (s : length i ≡ formLength f) (n m x : ℕ) (k : n + m ≤ 64) {at : ℕ} {j : List ℕ} (g : j ≡ withBytes (at + n) m x i) where
   pub routes-stored : at ≡ place f routes → Becomes i j (λ d. withStored d (withRoutes (d .core .stored) (withBytes n m x (d .core .stored .routes))))
-  routes-stored e d h =
+  routes-stored e d ns h =
       let after = withStored d (withRoutes (d .core .stored) (withBytes n m x (d .core .stored .routes))) in
-      as-holds f (routes-well (h .well) n m x k)
-      (g ∙ (λ t. withBytes (e t + n) m x (holds-as f i s h t)) ∙ entries-put f d (h .well) after routes n m x (has-all f routes refl) k (h .well .routes) refl (routes-apart f d _ n m))
+      as-holds f (routes-well (h .well) n m x k) (same-ring refl (h .numbered))
+      (g ∙ (λ t. withBytes (e t + n) m x (holds-as f i s h t)) ∙ entries-put f d (h .well) ns (h .numbered) after routes n m x (has-all f routes refl) k (h .well .routes) refl (routes-apart f d ns _ n m))
 
   pub vectors-stored : at ≡ place f vectors → Becomes i j (λ d. withVectors d (withBytes n m x (d .core .vectors)))
-  vectors-stored e d h =
+  vectors-stored e d ns h =
       let after = withVectors d (withBytes n m x (d .core .vectors)) in
-      as-holds f (vectors-well (h .well) n m x k)
-      (g ∙ (λ t. withBytes (e t + n) m x (holds-as f i s h t)) ∙ entries-put f d (h .well) after vectors n m x (has-all f vectors refl) k (h .well .vectors) refl (vectors-apart f d _ n m))
+      as-holds f (vectors-well (h .well) n m x k) (same-ring refl (h .numbered))
+      (g ∙ (λ t. withBytes (e t + n) m x (holds-as f i s h t)) ∙ entries-put f d (h .well) ns (h .numbered) after vectors n m x (has-all f vectors refl) k (h .well .vectors) refl (vectors-apart f d ns _ n m))

@@ -46,7 +46,7 @@ module _ {i j : List ℕ} {n set x : ℕ} (q : Offering i j n set x) where
   offering-done z = (
     omega (arith, q .few),
     offers-same (λ d. q .sofar (d .core)) (λ d. deasserts (d .core) set) (q .does)
-        (λ d h. sym (append-nil (q .sofar (d .core))) ∙ ap (λ ns. q .sofar (d .core) ++ offers (map (lines.event (d .core .vectors) true false) ns)) (sym (no-input x z)) ∙ q .rest (d .core)),
+        (λ d s h. sym (append-nil (q .sofar (d .core))) ∙ ap (λ ns. q .sofar (d .core) ++ offers (map (lines.event (d .core .vectors) true false) ns)) (sym (no-input x z)) ∙ q .rest (d .core)),
   )
 
   -- with the number dropped by another name
@@ -59,7 +59,7 @@ module _ {i j : List ℕ} {n set x : ℕ} (q : Offering i j n set x) where
     omega (arith, q .few, o .0),
     offers-same (λ d. q .sofar (d .core) ++ deasserts (d .core) x) (λ d. deasserts (d .core) set)
         (offers-then (λ d. q .sofar (d .core)) (λ d. deasserts (d .core) x) (q .does) (o .1) (λ d r. refl))
-        (λ d h. q .rest (d .core)),
+        (λ d s h. q .rest (d .core)),
   )
 
   module _ (some : x ≡ 0 → ⊥) where
@@ -81,7 +81,7 @@ module _ {i j : List ℕ} {n set x : ℕ} (q : Offering i j n set x) where
     pub offering-next : (k : List ℕ) (m v : ℕ) → Reads j v (λ d. getD (d .core .vectors) lowest 0) → m ≤ 1 → Offers j k m (λ d. offering v false) → length k ≡ length i → Offering i k (n + m) set (bitAnd x (x - 1))
     offering-next k m v e h o s = record {
       sofar = λ c. q .sofar c ++ one c;
-      does = offers-then (λ d. q .sofar (d .core)) (λ d. one (d .core)) (q .does) (offers-same (λ d. offering v false) (λ d. one (d .core)) o (λ d g. ap (λ u. offering u false) (e d g))) (λ d r. refl);
+      does = offers-then (λ d. q .sofar (d .core)) (λ d. one (d .core)) (q .does) (offers-same (λ d. offering v false) (λ d. one (d .core)) o (λ d s g. ap (λ u. offering u false) (e d s g))) (λ d r. refl);
       rest = λ c. append-assoc (q .sofar c) (one c) (deasserts c (bitAnd x (x - 1))) ∙ ap (λ l. q .sofar c ++ l) (one-more c) ∙ q .rest c;
       below = lt-of-le-of-lt (and-le-l x (x - 1)) (q .below);
       few = omega (arith, q .few, less);

@@ -1,20 +1,21 @@
 -- The premises of the theorems over exported calls can be met, and what they count is not nothing: requests, each given the image that the one before it
 -- left, with what they hand back computed.
-use mathlib.Core.Path.{_≡_, refl, sym, _∙_}
+use mathlib.Core.Path.{_≡_, refl, sym, ap, _∙_}
 use mathlib.Core.Bool.{Bool, true, false, not, _&&_, and-eq-true-iff}
-use mathlib.Core.List.{List, [], _∷_, _++_}
-use Prim.Native.Nat.{ℕ, _+_, _-_}
+use mathlib.Core.List.{List, [], _∷_, _++_, map}
+use Prim.Native.Nat.{ℕ, _+_, _-_, _*_}
 use native.Mathlib.Omega.{arith}
 use lib.Dec.{lit<, lit≤}
-use lib.ListN.{take, drop, getD, replicate}
+use lib.ListN.{length, take, drop, getD, replicate}
 use borrow.Author.Tests.{not-true}
 use Rattle.rules.specs.Numbers.{Bytes}
 use Rattle.rules.specs.Access.{dword}
 use Rattle.rules.specs.Ring.{dropped}
 use Rattle.rules.specs.Device.{Device, WellFormed, Call, level, poll, write, drain, none, step, reset, withRing}
-use Rattle.rules.specs.Form.{Form, one, two, copy}
-use Rattle.rules.specs.Image.{wordIn, encodeAs, decode}
-use Rattle.rules.specs.Calls.{pass, Request, askedBy, answered, outcome}
+use Rattle.rules.specs.Numbering.{Numbers, fromZero, WellNumbered}
+use Rattle.rules.specs.Form.{Form, one, two, numbered, copy}
+use Rattle.rules.specs.Image.{wordIn, encodeAs, decode, numbersIn, imageTest, accepted}
+use Rattle.rules.specs.Calls.{pass, Request, askedBy, answered, valueIn, outcome}
 use Rattle.rules.specs.Calls as request
 use Rattle.rules.specs.Convert.{converted}
 use Rattle.rules.specs.History.{history, fromReset}
@@ -23,18 +24,19 @@ use Rattle.histories.specs.Premises.{Along, Admitted}
 use Rattle.rules.specs.Account.{tally, asserts, deasserts, carrying, assertsAmong, deassertsAmong}
 use Rattle.histories.specs.Demands.{inService, someAct, ringActs}
 use Rattle.histories.specs.Exported.{Exported, leftBy, isReset, isLoad, Underway, carriedOn, carriedThrough, NoLoads, HandedOn, doneCalls}
-use Rattle.histories.specs.Exported.{inImage, Faithful, afterReset, atLoad, returnedBy, drainedBy, lossesRead, Balances}
-use Rattle.histories.specs.Alike.{Asking, madeOn, AllAlike}
+use Rattle.histories.specs.Exported.{leftAfter, inImage, Faithful, numbersThrough, afterReset, atLoad, returnedBy, drainedBy, lossesRead, Balances}
+use Rattle.histories.specs.Alike.{Asking, madeOn, NoFifth, AllAlike, AllAlikeBut}
 use Rattle.rules.proofs.laws.Computing.{computing}
 use Rattle.histories.proofs.laws.WellFormed.{history-well}
-use Rattle.histories.proofs.laws.Chains.{faithful-after-reset, faithful-at-load}
-use Rattle.rules.proofs.demands.RoundTrip.{saved-is-bytes, saved-is-accepted, reset-can-be-saved}
+use Rattle.histories.proofs.laws.Chains.{faithful-after-reset, faithful-at-load, through-numbered}
+use Rattle.rules.proofs.demands.RoundTrip.{saved-is-bytes, saved-is-accepted, saved-and-loaded, numbers-not-saved, reset-can-be-saved}
+use Rattle.rules.proofs.demands.Convert.{can-be-converted}
 use Rattle.histories.proofs.demands.FromCalls.{handed-on-is-no-load}
 use Rattle.histories.proofs.demands.HandedBack.{account-from-load, drops-of-calls, service-of-calls, service-once-raised, account-since-load, account-under-way}
 use Rattle.histories.proofs.demands.Losses.{losses-of-calls, losses-below-the-stop, losses-up-to-the-stop, losses-from-load}
 use Rattle.histories.proofs.demands.ClearedCalls.{cleared-polled-in-vain, cleared-asserts-had-waited}
 use Rattle.histories.proofs.demands.Copy.{copy-of-calls}
-use Rattle.histories.proofs.demands.Convert.{converted-answers-alike}
+use Rattle.histories.proofs.demands.Convert.{numbers-within-each-call, converted-answers-alike, converted-answers-alike-but-for-numbers}
 use Rattle.histories.proofs.demands.ReadAlike.{converted-read-alike}
 use Rattle.rules.proofs.demands.Refused.{Unchanged, refused-changes-nothing}
 use Rattle.examples.proofs.PremisesMet.{all-admitted, all-spared, all-undisturbed, all-unraised, all-carried-alone, begun, seventeen}
@@ -59,41 +61,94 @@ handed-on i (q ∷ qs) e =
     let both = and-eq-true-iff (not (isReset (askedBy q))) (noReset qs) .0 e in
     (refl, not-true (isReset (askedBy q)) (both .0), handed-on _ qs (both .1))
 
--- raise 5, unmask it, a level call on input 64, lower 5, and drain into seven bytes from place 1 on
+-- raise 5, unmask it, a level call on input 64, lower 5, and drain into thirteen bytes from place 1 on
 abbrev asked : List Request
-asked = request.level 5 1 ∷ request.write 0 0x400 0x020 4 0xffffffdf ∷ request.level 64 1 ∷ request.level 5 0 ∷ request.drain (replicate 7 0xee) 1 ∷ []
+asked = request.level 5 1 ∷ request.write 0 0x400 0x020 4 0xffffffdf ∷ request.level 64 1 ∷ request.level 5 0 ∷ request.drain (replicate 13 0xee) 1 ∷ []
 
 abbrev exported : Form → List Exported
-exported f = handedOn (encodeAs f reset) asked
+exported f = handedOn (encodeAs f reset (fromZero 0)) asked
 
 exported-carried-on : (f : Form) → NoLoads (afterReset f) (exported f)
-exported-carried-on f = handed-on-is-no-load (afterReset f) (exported f) (handed-on (encodeAs f reset) asked refl)
+exported-carried-on f = handed-on-is-no-load (afterReset f) (exported f) (handed-on (encodeAs f reset (fromZero 0)) asked refl)
 
 -- the refused call is no call of the history
 exported-calls : (f : Form) → doneCalls (exported f) ≡ level 5 true ∷ write dword 0x020 0xffffffdf ∷ level 5 false ∷ drain 3 ∷ []
 unfolding computing doneCalls
 exported-calls one = refl
 exported-calls two = refl
+exported-calls numbered = refl
 
 -- a deassert of 5 comes back in an answer area, its assert in the event buffer
 exported-returned : (f : Form) → returnedBy (exported f) ≡ record { vector = 5; asserted = false } ∷ []
 unfolding computing returnedBy
 exported-returned one = refl
 exported-returned two = refl
+exported-returned numbered = refl
 
 exported-drained : (f : Form) → drainedBy (exported f) ≡ record { vector = 5; asserted = true } ∷ []
 unfolding computing drainedBy
 exported-drained one = refl
 exported-drained two = refl
+exported-drained numbered = refl
 
--- the history that an image of calls from reset begins
-abbrev imageOf : Form → List Call → List ℕ
-imageOf f cs = encodeAs f (fromReset cs .after)
+-- the assert of 5 waits with number 0, so that the returned deassert has 1, at bits 16 to 31: where the image keeps numbers it is the second event made, and where
+-- it keeps none the number after those that wait
+lowered-value : (f : Form) → valueIn (leftBy (getD (exported f) 3 (record { given = []; asked = request.reset; answer = [] })) .answer) ≡ 0x10005
+unfolding computing
+lowered-value one = refl
+lowered-value two = refl
+lowered-value numbered = refl
+
+-- the image that calls from reset leave, with the numbers that they give, and the history that it begins
+abbrev pub numbersOf : List Call → Numbers
+numbersOf cs = numbersThrough reset (fromZero 0) cs
+
+abbrev pub imageOf : Form → List Call → List ℕ
+imageOf f cs = encodeAs f (fromReset cs .after) (numbersOf cs)
+
+pub left-well : (cs : List Call) → WellFormed (fromReset cs .after)
+left-well cs = history-well reset cs (reset-can-be-saved .0)
+
+pub left-numbered : (cs : List Call) → WellNumbered (fromReset cs .after) (numbersOf cs)
+left-numbered cs = through-numbered reset (fromZero 0) cs (reset-can-be-saved .1)
+
+pub left-bytes : (f : Form) (cs : List Call) → Bytes (imageOf f cs)
+left-bytes f cs = saved-is-bytes (fromReset cs .after) (left-well cs) (numbersOf cs) (left-numbered cs) f
+
+pub left-accepted : (f : Form) (cs : List Call) → imageTest (imageOf f cs) ≡ accepted
+left-accepted f cs = saved-is-accepted (fromReset cs .after) (left-well cs) (numbersOf cs) (left-numbered cs) f
 
 begins : (f : Form) (cs : List Call) → Faithful (atLoad (imageOf f cs))
-begins f cs =
-    let well = history-well reset cs reset-can-be-saved in
-    faithful-at-load (imageOf f cs) (saved-is-bytes (fromReset cs .after) well f) (saved-is-accepted (fromReset cs .after) well f)
+begins f cs = faithful-at-load (imageOf f cs) (left-bytes f cs) (left-accepted f cs)
+
+-- ---- numbers within one call
+
+-- unmask all, raise 1, 2 and 3, which are returned, and mask them: three deasserts wait, and six events were made. Then 5 is raised, and then 6: both are returned
+abbrev threeWait : List Call
+threeWait = write dword 0x020 0 ∷ level 1 true ∷ level 2 true ∷ level 3 true ∷ write dword 0x020 0xe ∷ []
+
+abbrev raised : List Asking
+raised = record { asked = request.level 5 1; answer = replicate 16 0 } ∷ record { asked = request.level 6 1; answer = replicate 16 0 } ∷ []
+
+abbrev valueOf : Form → ℕ → ℕ
+valueOf f k = valueIn (leftBy (getD (madeOn (imageOf f threeWait) raised) k (record { given = []; asked = request.reset; answer = [] })) .answer)
+
+-- of 259 bytes, which keep no numbers, each has 3, the number after those that wait; of 290 bytes they have 6 and 7
+three-wait-without : (valueOf one 0 ≡ 5 + 3 * 65536) × (valueOf one 1 ≡ 6 + 3 * 65536)
+unfolding computing madeOn
+three-wait-without = (refl, refl)
+
+three-wait-with : (valueOf numbered 0 ≡ 5 + 6 * 65536) × (valueOf numbered 1 ≡ 6 + 7 * 65536)
+unfolding computing madeOn numbersThrough
+three-wait-with = (refl, refl)
+
+-- the theorem that says so: its premises are met, and three wait still
+three-wait-none : NoFifth (imageOf one threeWait)
+unfolding computing
+three-wait-none e = let z : _≡_ {A = ℕ} 259 290 = e in omega arith
+
+three-wait-left : let last = leftAfter (imageOf one threeWait) (madeOn (imageOf one threeWait) raised) in numbersIn last ≡ fromZero (length (decode last .ring .waiting))
+three-wait-left = numbers-within-each-call (imageOf one threeWait) (left-bytes one threeWait) (left-accepted one threeWait) three-wait-none raised
 
 -- ---- the account from a load
 
@@ -101,15 +156,12 @@ begins f cs =
 abbrev savedCalls : List Call
 savedCalls = level 5 true ∷ write dword 0x020 0xffffffdf ∷ []
 
-abbrev savedDevice : Device
-savedDevice = fromReset savedCalls .after
-
 -- it is loaded after a reset in form 1 by a call that lowers 5; then a drain
 abbrev loading : Exported
-loading = record { given = encodeAs two savedDevice; asked = request.level 5 0; answer = replicate 16 0 }
+loading = record { given = imageOf two savedCalls; asked = request.level 5 0; answer = replicate 16 0 }
 
 abbrev thenDrained : List Exported
-thenDrained = handedOn (leftBy loading .image) (request.drain (replicate 7 0xee) 1 ∷ [])
+thenDrained = handedOn (leftBy loading .image) (request.drain (replicate 13 0xee) 1 ∷ [])
 
 loading-loads : isLoad ((afterReset one) .left) loading ≡ true
 unfolding computing
@@ -117,21 +169,21 @@ loading-loads = refl
 
 drained-handed-on : NoLoads (carriedOn (afterReset one) loading) thenDrained
 unfolding computing carriedOn
-drained-handed-on = handed-on-is-no-load (carriedOn (afterReset one) loading) thenDrained (handed-on (leftBy loading .image) (request.drain (replicate 7 0xee) 1 ∷ []) refl)
+drained-handed-on = handed-on-is-no-load (carriedOn (afterReset one) loading) thenDrained (handed-on (leftBy loading .image) (request.drain (replicate 13 0xee) 1 ∷ []) refl)
 
 -- an assert is read that no call made, and a deassert of an input that no call put into service: both were loaded
-loaded-balances : Balances 5 (decode (encodeAs two savedDevice)) (loading ∷ thenDrained) [] (inImage (carriedThrough (afterReset one) (loading ∷ thenDrained)))
+loaded-balances : Balances 5 (decode (imageOf two savedCalls)) (loading ∷ thenDrained) [] (inImage (carriedThrough (afterReset one) (loading ∷ thenDrained)))
 unfolding computing doneCalls dropped ringActs
 loaded-balances =
-    account-from-load 5 (afterReset one) loading loading-loads refl (saved-is-bytes savedDevice (history-well reset savedCalls reset-can-be-saved) two) thenDrained drained-handed-on
-    (all-admitted (decode (encodeAs two savedDevice)) (doneCalls (loading ∷ thenDrained)) refl) [] refl
+    account-from-load 5 (afterReset one) loading loading-loads refl (left-bytes two savedCalls) thenDrained drained-handed-on
+    (all-admitted (decode (imageOf two savedCalls)) (doneCalls (loading ∷ thenDrained)) refl) [] refl
 
 -- the same of the history that is under way once it is loaded, and of the events made since
-under-way-balances : Balances 5 (decode (encodeAs two savedDevice)) (loading ∷ thenDrained) [] (inImage (carriedThrough (atLoad (imageOf two savedCalls)) (loading ∷ thenDrained)))
+under-way-balances : Balances 5 (decode (imageOf two savedCalls)) (loading ∷ thenDrained) [] (inImage (carriedThrough (atLoad (imageOf two savedCalls)) (loading ∷ thenDrained)))
 unfolding computing doneCalls dropped ringActs NoLoads carriedOn
 under-way-balances =
     account-under-way 5 (atLoad (imageOf two savedCalls)) (begins two savedCalls) (loading ∷ thenDrained) (refl, drained-handed-on)
-    (all-admitted (decode (encodeAs two savedDevice)) (doneCalls (loading ∷ thenDrained)) refl) [] refl
+    (all-admitted (decode (imageOf two savedCalls)) (doneCalls (loading ∷ thenDrained)) refl) [] refl
 
 abbrev once : Underway
 once = carriedThrough (afterReset one) (loading ∷ [])
@@ -143,7 +195,7 @@ once-admitted = all-admitted (once .began) (once .calls) refl
 since-load : asserts 5 (history (once .began) (once .calls) .made) + carrying 5 (once .began .core)
     ≡ deasserts 5 (history (once .began) (once .calls) .made) + carrying 5 (inImage once .core)
 since-load =
-    account-since-load 5 (afterReset one) (loading ∷ []) (faithful-after-reset one) (saved-is-bytes savedDevice (history-well reset savedCalls reset-can-be-saved) two, tt)
+    account-since-load 5 (afterReset one) (loading ∷ []) (faithful-after-reset one) (left-bytes two savedCalls, tt)
     once-admitted
 
 loaded-returned : deassertsAmong 5 (returnedBy (loading ∷ thenDrained)) ≡ 1
@@ -154,11 +206,11 @@ loaded-drained : assertsAmong 5 (drainedBy (loading ∷ thenDrained)) ≡ 1
 unfolding computing drainedBy tally
 loaded-drained = refl
 
-loaded-waiting : assertsAmong 5 (decode (encodeAs two savedDevice) .ring .waiting) ≡ 1
+loaded-waiting : assertsAmong 5 (decode (imageOf two savedCalls) .ring .waiting) ≡ 1
 unfolding computing tally
 loaded-waiting = refl
 
-loaded-carrying : carrying 5 (decode (encodeAs two savedDevice) .core) ≡ 1
+loaded-carrying : carrying 5 (decode (imageOf two savedCalls) .core) ≡ 1
 unfolding computing
 loaded-carrying = refl
 
@@ -207,7 +259,7 @@ nearStop = withRing (fromReset seventeen .after) (record { waiting = fromReset s
 
 near-stop-well : WellFormed nearStop
 near-stop-well =
-    let w = history-well reset seventeen reset-can-be-saved in
+    let w = left-well seventeen in
     record {
       mask = w .mask;
       irr = w .irr;
@@ -222,8 +274,22 @@ near-stop-well =
       drops = lit≤ tt;
     }
 
+near-stop-numbered : WellNumbered nearStop (numbersOf seventeen)
+near-stop-numbered =
+    let v = left-numbered seventeen in
+    record { next = v .next; each = v .each; waiting = v .waiting }
+
+abbrev stopImage : List ℕ
+stopImage = encodeAs one nearStop (numbersOf seventeen)
+
+stop-bytes : Bytes stopImage
+stop-bytes = saved-is-bytes nearStop near-stop-well (numbersOf seventeen) near-stop-numbered one
+
+stop-accepted : imageTest stopImage ≡ accepted
+stop-accepted = saved-is-accepted nearStop near-stop-well (numbersOf seventeen) near-stop-numbered one
+
 abbrev stopping : Exported
-stopping = record { given = encodeAs one nearStop; asked = request.write 0 0x400 0x020 4 0xffffffff; answer = replicate 16 0 }
+stopping = record { given = stopImage; asked = request.write 0 0x400 0x020 4 0xffffffff; answer = replicate 16 0 }
 
 abbrev afterStopping : List Exported
 afterStopping = handedOn (leftBy stopping .image) (drop 1 losing)
@@ -243,14 +309,14 @@ five-told-at-the-stop = refl
 one-counted : inImage (carriedThrough (afterReset one) (stopping ∷ afterStopping)) .ring .drops ≡ 4294967295
 unfolding computing dropped lossesRead
 one-counted =
-    losses-from-load (afterReset one) stopping stopping-loads refl (saved-is-bytes nearStop near-stop-well one) afterStopping stopping-handed-on
+    losses-from-load (afterReset one) stopping stopping-loads refl stop-bytes afterStopping stopping-handed-on
 
-rise-fits : inImage (atLoad (encodeAs one nearStop)) .ring .drops + (4294967295 - inImage (atLoad (encodeAs one nearStop)) .ring .drops)
-    ≡ inImage (carriedThrough (atLoad (encodeAs one nearStop)) (handedOn (encodeAs one nearStop) losing)) .ring .drops
+rise-fits : inImage (atLoad stopImage) .ring .drops + (4294967295 - inImage (atLoad stopImage) .ring .drops)
+    ≡ inImage (carriedThrough (atLoad stopImage) (handedOn stopImage losing)) .ring .drops
 unfolding computing dropped lossesRead
 rise-fits =
-    losses-up-to-the-stop (atLoad (encodeAs one nearStop)) (faithful-at-load (encodeAs one nearStop) (saved-is-bytes nearStop near-stop-well one) (saved-is-accepted nearStop near-stop-well one))
-    (handedOn (encodeAs one nearStop) losing) (handed-on-is-no-load (atLoad (encodeAs one nearStop)) (handedOn (encodeAs one nearStop) losing) (handed-on (encodeAs one nearStop) losing refl)) (lit≤ tt)
+    losses-up-to-the-stop (atLoad stopImage) (faithful-at-load stopImage stop-bytes stop-accepted)
+    (handedOn stopImage losing) (handed-on-is-no-load (atLoad stopImage) (handedOn stopImage losing) (handed-on stopImage losing refl)) (lit≤ tt)
 
 -- ---- service
 
@@ -297,7 +363,7 @@ unfolding computing doneCalls copyActed copyThrough
 five-and-seven-copied =
     copy-of-calls fromBegun (begins one begun) refl raisingCalls (handed-on-is-no-load fromBegun raisingCalls (handed-on (imageOf one begun) raising refl))
 
--- ---- two forms
+-- ---- two forms, and numbers
 
 abbrev asks : Request → Asking
 asks q = record { asked = q; answer = replicate 16 0 }
@@ -314,10 +380,18 @@ unfolding computing converted
 moved = refl
 
 begun-bytes : Bytes (imageOf one begun)
-begun-bytes = saved-is-bytes (fromReset begun .after) (history-well reset begun reset-can-be-saved) one
+begun-bytes = left-bytes one begun
+
+-- neither has numbers
+begun-has-none : NoFifth (imageOf one begun)
+unfolding computing
+begun-has-none e = let z : _≡_ {A = ℕ} 259 290 = e in omega arith
+
+target-has-none : NoFifth (replicate 251 0)
+target-has-none e = let z : _≡_ {A = ℕ} 251 290 = e in omega arith
 
 begun-alike : AllAlike (madeOn (imageOf one begun) asking) (madeOn (imageOf two begun) asking)
-begun-alike = converted-answers-alike (imageOf one begun) (replicate 251 0) (imageOf two begun) begun-bytes moved asking
+begun-alike = converted-answers-alike (imageOf one begun) (replicate 251 0) (imageOf two begun) begun-bytes moved begun-has-none target-has-none asking
 
 -- the assert of 3 waits there, its deassert comes behind it, and both are drained; so they are of form 2
 drained-from-one : drainedBy (madeOn (imageOf one begun) asking) ≡ record { vector = 3; asserted = true } ∷ record { vector = 3; asserted = false } ∷ []
@@ -327,6 +401,52 @@ drained-from-one = refl
 drained-from-two : drainedBy (madeOn (imageOf two begun) asking) ≡ record { vector = 3; asserted = true } ∷ record { vector = 3; asserted = false } ∷ []
 drained-from-two =
     sym (converted-read-alike (imageOf one begun) (replicate 251 0) (imageOf two begun) begun-bytes moved asking .drained) ∙ drained-from-one
+
+-- moved to form 2 with numbers it has those that it loads with: the assert of 3 has 0, and 1 is next
+abbrev withNumbers : List ℕ
+withNumbers = encodeAs numbered (fromReset begun .after) (fromZero 1)
+
+one-waits : length (fromReset begun .after .ring .waiting) ≡ 1
+unfolding computing
+one-waits = refl
+
+moved-with-numbers : converted (imageOf one begun) (replicate 290 0) ≡ pass withNumbers
+moved-with-numbers =
+    let d = fromReset begun .after in
+    let holds = saved-and-loaded d (left-well begun) (numbersOf begun) (left-numbered begun) one in
+    let loads = numbers-not-saved d (left-well begun) (numbersOf begun) (left-numbered begun) .0 ∙ ap fromZero one-waits in
+    can-be-converted (imageOf one begun) (replicate 290 0) (left-accepted one begun) numbered refl ∙ (λ i. pass (encodeAs numbered (holds i) (loads i)))
+
+begun-alike-but : AllAlikeBut (madeOn (imageOf one begun) asking) (madeOn withNumbers asking)
+begun-alike-but = converted-answers-alike-but-for-numbers (imageOf one begun) (replicate 290 0) withNumbers begun-bytes moved-with-numbers asking
+
+-- raise 7, and then poll 5: there the second event has the next number, and here the same again, since the image that the first call left says nothing of it
+abbrev twoAsserts : List Asking
+twoAsserts = asks (request.level 7 1) ∷ asks (request.poll 5) ∷ []
+
+abbrev valuesOf : List Exported → List ℕ
+valuesOf xs = map (λ x. valueIn (leftBy x .answer)) xs
+
+values-with-numbers : valuesOf (madeOn withNumbers twoAsserts) ≡ 0x10007 ∷ 0x20005 ∷ []
+unfolding computing madeOn
+values-with-numbers = refl
+
+values-without : valuesOf (madeOn (imageOf one begun) twoAsserts) ≡ 0x10007 ∷ 0x10005 ∷ []
+unfolding computing madeOn
+values-without = refl
+
+-- so the images are not alike in every byte, and to move it first or last is not the same: the numbers differ
+not-wholly-alike : AllAlike (madeOn (imageOf one begun) twoAsserts) (madeOn withNumbers twoAsserts) → ⊥
+unfolding computing madeOn AllAlike
+not-wholly-alike a = let z : _≡_ {A = ℕ} 0x10005 0x20005 = ap valueIn (a .1 .0 .answer) in omega arith
+
+next-if-first : numbersIn (leftAfter withNumbers (madeOn withNumbers twoAsserts)) .next ≡ 3
+unfolding computing madeOn leftAfter
+next-if-first = refl
+
+next-if-last : numbersIn (leftAfter (imageOf one begun) (madeOn (imageOf one begun) twoAsserts)) .next ≡ 1
+unfolding computing madeOn leftAfter
+next-if-last = refl
 
 -- ---- a cleared input
 

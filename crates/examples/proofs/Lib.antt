@@ -3,4 +3,6 @@
 pub mod PremisesMet
 pub mod ExportedMet
 pub mod SweepMet
+pub mod OrderMet
 pub mod WorkedDay
+pub mod TracePlayed

@@ -12,8 +12,9 @@ use Rattle.rules.specs.Numbers.{Bytes}
 use Rattle.rules.specs.Ring.{Event}
 use Rattle.rules.specs.Access.{byte, dword}
 use Rattle.rules.specs.Device.{Device, Call, level, poll, read, write, drain, reset, upFrom}
+use Rattle.rules.specs.Numbering.{fromZero}
 use Rattle.rules.specs.Form.{one, two}
-use Rattle.rules.specs.Image.{encodeAs, decode, imageTest, accepted}
+use Rattle.rules.specs.Image.{decode, imageTest, accepted}
 use Rattle.rules.specs.Calls.{Request}
 use Rattle.rules.specs.Calls as request
 use Rattle.rules.specs.History.{history, fromReset}
@@ -24,7 +25,6 @@ use Rattle.sweep.specs.Sweeps.{sweeping, isPoll, everyCall, someCall, Sweep, Wa
 use Rattle.sweep.specs.Handed.{WakesAllRead, pollsFrom, pollsAll}
 use Rattle.rules.proofs.laws.Computing.{computing}
 use Rattle.rules.proofs.demands.RoundTrip.{saved-is-bytes, saved-is-accepted, reset-can-be-saved}
-use Rattle.histories.proofs.laws.WellFormed.{history-well}
 use Rattle.histories.proofs.laws.Chains.{faithful-at-load, calls-split}
 use Rattle.histories.proofs.demands.FromCalls.{handed-on-is-no-load}
 use Rattle.histories.proofs.demands.HandedBack.{returned-is-read, drained-is-read}
@@ -32,7 +32,7 @@ use Rattle.sweep.proofs.laws.Polls.{polls-done}
 use Rattle.sweep.proofs.demands.WakesAll.{one-sweep-wakes-all}
 use Rattle.sweep.proofs.demands.OfCalls.{sweep-of-an-image, polls-are-a-sweep, polls-wake-all}
 use Rattle.examples.proofs.PremisesMet.{allBelow, all-below, seventeen, maskAll}
-use Rattle.examples.proofs.ExportedMet.{handedOn, handed-on}
+use Rattle.examples.proofs.ExportedMet.{handedOn, handed-on, imageOf, left-bytes, left-accepted}
 
 -- ---- a test that decides whether calls are a sweep
 
@@ -52,6 +52,10 @@ begun =
 
 abbrev start : Device
 start = fromReset begun .after
+
+-- its image in form 1
+abbrev image : List ℕ
+image = imageOf one begun
 
 abbrev polls : ℕ → ℕ → List Call
 polls n k = map poll (upFrom n k)
@@ -140,20 +144,20 @@ abbrev asked : List Request
 asked =
     map request.poll (upFrom 32 32)
     ++ (request.poll 64 ∷ request.level 9 1 ∷ request.write 0 0x400 0x020 3 0 ∷ request.write 0 0x400 0x205 1 0x55 ∷ request.read 0 0x400 0x3a0 4 ∷
-    request.write 0 0x20 0x020 4 0 ∷ request.drain (replicate 7 0xee) 1 ∷ map request.poll (upFrom 0 32))
+    request.write 0 0x20 0x020 4 0 ∷ request.drain (replicate 13 0xee) 1 ∷ map request.poll (upFrom 0 32))
 
 abbrev exported : List Exported
-exported = handedOn (encodeAs one start) asked
+exported = handedOn image asked
 
-start-bytes : Bytes (encodeAs one start)
-start-bytes = saved-is-bytes start (history-well reset begun reset-can-be-saved) one
+start-bytes : Bytes image
+start-bytes = left-bytes one begun
 
-start-accepted : imageTest (encodeAs one start) ≡ accepted
-start-accepted = saved-is-accepted start (history-well reset begun reset-can-be-saved) one
+start-accepted : imageTest image ≡ accepted
+start-accepted = left-accepted one begun
 
-exported-handed-on : HandedOn (encodeAs one start) exported
+exported-handed-on : HandedOn image exported
 unfolding upFrom
-exported-handed-on = handed-on (encodeAs one start) asked refl
+exported-handed-on = handed-on image asked refl
 
 -- the refused ones are no calls
 abbrev done : List Call
@@ -167,32 +171,32 @@ done-is-a-sweep : Sweep done
 unfolding computing
 done-is-a-sweep = is-sweep done refl refl
 
-exported-wakes-all : WakesAllRead (decode (encodeAs one start)) exported (decode (leftAfter (encodeAs one start) exported))
+exported-wakes-all : WakesAllRead (decode image) exported (decode (leftAfter image exported))
 exported-wakes-all =
-    sweep-of-an-image (encodeAs one start) start-bytes start-accepted exported exported-handed-on (subst Sweep (sym exported-calls) done-is-a-sweep)
+    sweep-of-an-image image start-bytes start-accepted exported exported-handed-on (subst Sweep (sym exported-calls) done-is-a-sweep)
 
 -- what the host reads: the three asserts in answer areas, and in the event buffer the two that waited
 abbrev asserts : ℕ → Event
 asserts v = record { vector = v; asserted = true }
 
 abbrev loaded : Underway
-loaded = atLoad (encodeAs one start)
+loaded = atLoad image
 
 exported-returned : returnedBy exported ≡ asserts 63 ∷ asserts 9 ∷ asserts 0x55 ∷ []
 unfolding computing returnedIn
 exported-returned =
-    returned-is-read loaded (faithful-at-load (encodeAs one start) start-bytes start-accepted) exported (handed-on-is-no-load loaded exported exported-handed-on)
-    ∙ ap (λ cs. returnedIn (history (decode (encodeAs one start)) cs .made)) exported-calls
+    returned-is-read loaded (faithful-at-load image start-bytes start-accepted) exported (handed-on-is-no-load loaded exported exported-handed-on)
+    ∙ ap (λ cs. returnedIn (history (decode image) cs .made)) exported-calls
 
 exported-drained : drainedBy exported ≡ asserts 3 ∷ asserts 60 ∷ []
 unfolding computing
 exported-drained =
-    drained-is-read loaded (faithful-at-load (encodeAs one start) start-bytes start-accepted) exported (handed-on-is-no-load loaded exported exported-handed-on)
-    ∙ ap (λ cs. history (decode (encodeAs one start)) cs .drained) exported-calls
+    drained-is-read loaded (faithful-at-load image start-bytes start-accepted) exported (handed-on-is-no-load loaded exported exported-handed-on)
+    ∙ ap (λ cs. history (decode image) cs .drained) exported-calls
 
 -- the 64 polls of a host
-hosts-polls : WakesAllRead (decode (encodeAs one start)) (pollsAll (encodeAs one start) (replicate 16 0)) (decode (leftAfter (encodeAs one start) (pollsAll (encodeAs one start) (replicate 16 0))))
-hosts-polls = polls-wake-all (encodeAs one start) (replicate 16 0) start-bytes start-accepted (lit≤ tt)
+hosts-polls : WakesAllRead (decode image) (pollsAll image (replicate 16 0)) (decode (leftAfter image (pollsAll image (replicate 16 0))))
+hosts-polls = polls-wake-all image (replicate 16 0) start-bytes start-accepted (lit≤ tt)
 
 -- ---- no load, and no reset
 
@@ -206,10 +210,10 @@ abbrev other : List Call
 other = level 0 true ∷ write dword 0x020 0 ∷ write dword 0x3a0 0 ∷ []
 
 abbrev loading : Exported
-loading = record { given = encodeAs two (fromReset other .after); asked = request.poll 63; answer = replicate 16 0 }
+loading = record { given = imageOf two other; asked = request.poll 63; answer = replicate 16 0 }
 
 abbrev withLoad : List Exported
-withLoad = pollsFrom 0 63 (encodeAs one start) (replicate 16 0) ++ (loading ∷ [])
+withLoad = pollsFrom 0 63 image (replicate 16 0) ++ (loading ∷ [])
 
 loading-polls : doneCall loading ≡ poll 63 ∷ []
 unfolding computing
@@ -218,14 +222,14 @@ loading-polls = refl
 with-load-polls-all : Sweep (doneCalls withLoad)
 unfolding computing doneCalls
 with-load-polls-all =
-    let calls-are = calls-split (pollsFrom 0 63 (encodeAs one start) (replicate 16 0)) loading [] (poll 63) loading-polls in
-    let polled = polls-done 0 63 (lit≤ tt) (encodeAs one start) (replicate 16 0) start-bytes start-accepted (lit≤ tt) .1 in
+    let calls-are = calls-split (pollsFrom 0 63 image (replicate 16 0)) loading [] (poll 63) loading-polls in
+    let polled = polls-done 0 63 (lit≤ tt) image (replicate 16 0) start-bytes start-accepted (lit≤ tt) .1 in
     subst Sweep (sym (calls-are ∙ ap (λ cs. cs ++ (poll 63 ∷ [])) polled)) (is-sweep (polls 0 63 ++ (poll 63 ∷ [])) refl refl)
 
-no-load-needed : WakesAllRead (decode (encodeAs one start)) withLoad (decode (leftAfter (encodeAs one start) withLoad)) → ⊥
+no-load-needed : WakesAllRead (decode image) withLoad (decode (leftAfter image withLoad)) → ⊥
 unfolding computing
 no-load-needed w =
-    let v = subst (λ i. WakesAllRead (decode (encodeAs one start)) withLoad (decode i)) (left-last (encodeAs one start) (pollsFrom 0 63 (encodeAs one start) (replicate 16 0)) loading) w in
+    let v = subst (λ i. WakesAllRead (decode image) withLoad (decode i)) (left-last image (pollsFrom 0 63 image (replicate 16 0)) loading) w in
     true≢false (sym (v .served 0 (lit< tt) (record { latched = refl; unmasked = refl })))
 
 -- a reset: in front of the 64 polls it is no call of the device, and takes back the drop that the first image counts
@@ -233,7 +237,7 @@ abbrev dropping : List Call
 dropping = seventeen ++ (maskAll ∷ [])
 
 abbrev resetting : Exported
-resetting = record { given = encodeAs two (fromReset dropping .after); asked = request.reset; answer = replicate 16 0 }
+resetting = record { given = imageOf two dropping; asked = request.reset; answer = replicate 16 0 }
 
 abbrev afterReset : List ℕ
 afterReset = leftBy resetting .image
@@ -243,7 +247,8 @@ withReset = resetting ∷ pollsAll afterReset (replicate 16 0)
 
 left-by-reset : (Bytes afterReset) × (imageTest afterReset ≡ accepted)
 unfolding computing
-left-by-reset = (saved-is-bytes reset reset-can-be-saved two, saved-is-accepted reset reset-can-be-saved two)
+left-by-reset =
+    (saved-is-bytes reset (reset-can-be-saved .0) (fromZero 0) (reset-can-be-saved .1) two, saved-is-accepted reset (reset-can-be-saved .0) (fromZero 0) (reset-can-be-saved .1) two)
 
 with-reset-polls-all : Sweep (doneCalls withReset)
 unfolding computing doneCalls

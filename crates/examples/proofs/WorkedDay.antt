@@ -8,6 +8,7 @@ use Rattle.rules.specs.Ring as ring
 use Rattle.rules.specs.Ring.{Event}
 use Rattle.rules.specs.Access.{byte, dword}
 use Rattle.rules.specs.Device.{Device, WellFormed, Call, level, poll, read, write, drain, Value, none, some, reset}
+use Rattle.rules.specs.Numbering.{fromZero}
 use Rattle.rules.specs.Form.{one, two}
 use Rattle.rules.specs.Image.{encodeAs}
 use Rattle.rules.specs.Calls.{answered}
@@ -15,6 +16,7 @@ use Rattle.rules.specs.Calls as request
 use Rattle.rules.specs.History.{fromReset}
 use Rattle.histories.specs.Exported.{Exported, leftBy, isDone, isLoad, carriedOn, afterReset}
 use Rattle.rules.proofs.laws.Computing.{computing}
+use Rattle.rules.proofs.laws.Saved.{from-zero-well}
 use Rattle.rules.proofs.demands.RoundTrip.{saved-is-bytes, reset-can-be-saved}
 use Rattle.histories.proofs.laws.WellFormed.{history-well}
 use Rattle.plain.specs.Events.{input, asLoaded, Fate, returned, kept, dropped, Note, waiting, dropCount}
@@ -59,7 +61,7 @@ unfolding computing
 saved-left = refl
 
 saved-well : WellFormed saved
-saved-well = subst WellFormed saved-left (history-well reset savedCalls reset-can-be-saved)
+saved-well = subst WellFormed saved-left (history-well reset savedCalls (reset-can-be-saved .0))
 
 abbrev day : List Item
 day =
@@ -190,20 +192,22 @@ worked-list old = refl
 
 worked-as-ported : (old : Engine) → plainSees (loadOf old reset) day ≡ portedSees reset day
 unfolding WellLoaded
-worked-as-ported old = plain-is-ported old reset reset-can-be-saved day (saved-well, tt)
+worked-as-ported old = plain-is-ported old reset (reset-can-be-saved .0) day (saved-well, tt)
 
 -- ---- exported calls
 
 -- from reset in form 1 a raise of 3; then the load of an image of form 2, by the call that masks all 32
 abbrev raising : Exported
-raising = record { given = encodeAs one reset; asked = request.level 3 1; answer = replicate 16 0 }
+raising = record { given = encodeAs one reset (fromZero 0); asked = request.level 3 1; answer = replicate 16 0 }
 
 abbrev loading : Exported
-loading = record { given = encodeAs two saved; asked = request.write 0 0x400 0x020 4 0xffffffff; answer = replicate 16 0 }
+loading = record { given = encodeAs two saved (fromZero 15); asked = request.write 0 0x400 0x020 4 0xffffffff; answer = replicate 16 0 }
 
 exported-agree : (old : Engine) → AllAgree (loadOf old reset) (afterReset one) (raising ∷ loading ∷ [])
 exported-agree old =
-    calls-as-plain-from-reset old one (raising ∷ loading ∷ []) (saved-is-bytes reset reset-can-be-saved one, (saved-is-bytes saved saved-well two, tt))
+    let fresh = saved-is-bytes reset (reset-can-be-saved .0) (fromZero 0) (reset-can-be-saved .1) one in
+    let waits = saved-is-bytes saved saved-well (fromZero 15) (from-zero-well saved (saved-well .waiting)) two in
+    calls-as-plain-from-reset old one (raising ∷ loading ∷ []) (fresh, (waits, tt))
 
 -- both are done, the second is a load, and it tells the one event that it dropped
 both-done : map isDone (raising ∷ loading ∷ []) ≡ true ∷ true ∷ []

@@ -1,5 +1,5 @@
 -- The first bad byte, found by looking at one after another; and what the rules find, by what the first bad bytes are.
-use mathlib.Core.Path.{_≡_, sym, subst}
+use mathlib.Core.Path.{_≡_, sym, ap, _∙_, subst}
 use mathlib.Core.Bool.{Bool, true, false, and-false}
 use mathlib.Core.List.{List}
 use Prim.Native.Nat.{ℕ, _+_, _*_, _%_, _<_, _≤_}
@@ -8,12 +8,12 @@ use lib.Dec.{eqb, ltb}
 use lib.ListN.{length, getD}
 use borrow.Author.Tests.{eq-eqb, eqb-true, eqb-false, lt-ltb, le-ltb, ltb-true, ltb-false, le-leb, lt-leb}
 use Rattle.rules.specs.Ring.{capacity}
-use Rattle.rules.specs.Form.{pairs}
+use Rattle.rules.specs.Form.{pairs, Form, size, has, place, formLength, read}
 use Rattle.rules.specs.Numbers.{part}
-use Rattle.rules.specs.Image.{Fault, badFlag, unusedSet, clear, found, flagRule, unusedRule, search, accepted, broken, bodyTest}
+use Rattle.rules.specs.Image.{Fault, badFlag, unusedSet, clear, found, Rule, flagRule, unusedRule, search, finding, accepted, broken, bodyTest}
 use Rattle.rules.proofs.laws.Lists.{length-part}
 use Rattle.rules.proofs.laws.Bits.{test}
-use Rattle.rules.proofs.laws.Tests.{clean-search, search-first}
+use Rattle.rules.proofs.laws.Tests.{clean-search, search-first, length-read}
 use Rattle.faults.specs.Found.{First, pairFault}
 
 -- none of the first j bytes is bad
@@ -93,6 +93,21 @@ module _ (k : Fault) (bad : ℕ → ℕ → Bool) (a : ℕ) (l : List ℕ) (j : 
 
   pub first-clear : length l ≤ j → search k bad a l ≡ clear
   first-clear h = clean-search k bad a l (λ m g. f .before m (omega arith))
+
+-- a rule that finds its first bad byte in the w bytes of its field
+module _ (f : Form) (l : List ℕ) (s : length l ≡ formLength f) (r : Rule) where
+  pub lacks-clear : has f (r .field) ≡ false → clear ≡ finding f l r
+  lacks-clear h = sym (rw h)
+
+  module _ (h : has f (r .field) ≡ true) {a w j : ℕ} (at : a ≡ place f (r .field)) (e : w ≡ size (r .field)) (u : First (r .bad) (part a w l) j) where
+    in-field : First (r .bad) (read f l (r .field)) j
+    in-field = subst (λ m. First (r .bad) m j) (λ t. part (at t) (e t) l) u
+
+    pub rule-told : j < size (r .field) → found (r .fault) (a + j) ≡ finding f l r
+    rule-told t = sym (rw h (first-found (r .fault) (r .bad) (place f (r .field)) (read f l (r .field)) j in-field (omega (arith, length-read f l s (r .field) h)) ∙ ap (λ b. found (r .fault) (b + j)) (sym at)))
+
+    pub rule-clear : size (r .field) ≤ j → clear ≡ finding f l r
+    rule-clear t = sym (rw h (first-clear (r .fault) (r .bad) (place f (r .field)) (read f l (r .field)) j in-field (omega (arith, length-read f l s (r .field) h))))
 
 -- the rules of n waiting pairs and the unused ones, in the w bytes from place a on; flags first
 module _ (a n : ℕ) (i : List ℕ) (h : a + 2 * capacity ≤ length i) {w : ℕ} (e : w ≡ 2 * capacity) where

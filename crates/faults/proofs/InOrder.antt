@@ -9,9 +9,9 @@ use lib.ListN.{length, getD}
 use borrow.Author.Tests.{ne-eqb, lt-ltb}
 use Rattle.rules.specs.Numbers.{part}
 use Rattle.rules.specs.Ring.{capacity}
-use Rattle.rules.specs.Form.{Form, word, copy, irr, count, pairs, has, place, formLength, read}
+use Rattle.rules.specs.Form.{Form, word, copy, irr, count, pairs, numbers, has, place, formLength, read}
 use Rattle.rules.specs.Image.{registerAt, wordIn, countIn, copyDiffers, manyWait, badFlag, unusedSet, Finding, clear, found, copyRule, countRule, flagRule, unusedRule, rules}
-use Rattle.rules.specs.Image.{search, finding, orElse, firstFault, ImageTest, broken, bodyTest}
+use Rattle.rules.specs.Image.{search, finding, orElse, firstFault, ImageTest, accepted, broken, bodyTest}
 use Rattle.rules.proofs.laws.Bits.{test}
 use Rattle.rules.proofs.laws.Layout.{has-all}
 use Rattle.rules.proofs.laws.Tests.{search-first, finds-nothing, length-read, count-read, hold-copy, hold-count}
@@ -20,16 +20,30 @@ use Rattle.image.specs.declared.form.Places.{Places}
 use Rattle.image.proofs.Forms.{always-at}
 use Rattle.faults.specs.Found.{pairFault}
 
-or-clear : (x : Finding) → orElse x clear ≡ x
-or-clear clear = refl
-or-clear (found k a) = refl
+-- three rules that are looked at one after another, the first two together
+two-and-one : (x y z : Finding) → orElse x (orElse y (orElse z clear)) ≡ orElse (orElse x y) z
+two-and-one clear clear clear = refl
+two-and-one clear clear (found k a) = refl
+two-and-one clear (found k a) z = refl
+two-and-one (found k a) y z = refl
+
+-- the first two decide, or else the third
+first-two : (x y : Finding) → (bodyTest x ≡ accepted → ⊥) → bodyTest x ≡ bodyTest (orElse x y)
+first-two clear y n = absurd (n refl)
+first-two (found k a) y n = refl
+
+then-third : (x y : Finding) → bodyTest x ≡ accepted → bodyTest y ≡ bodyTest (orElse x y)
+then-third clear y e = refl
+then-third (found k a) y e = absurd (let z : _≡_ {A = ℕ} 0 1 = cc in omega arith)
 
 module _ (f : Form) (l : List ℕ) (s : length l ≡ formLength f) (p : Places) (o : PlacesOf f p) where
   abbrev copies : Finding
   copies = finding f l (copyRule (wordIn f l copy) (wordIn f l irr))
 
   abbrev rest : Finding
-  rest = orElse (finding f l (flagRule (countIn f l))) (orElse (finding f l (unusedRule pairs (countIn f l))) clear)
+  rest =
+      orElse (finding f l (flagRule (countIn f l)))
+      (orElse (finding f l (unusedRule pairs (countIn f l))) (orElse (finding f l (unusedRule numbers (countIn f l))) clear))
 
   counts : getD l (p .count) 0 ≡ countIn f l
   counts = ap (λ a. getD l a 0) (always-at f l s p o count refl)
@@ -72,16 +86,30 @@ module _ (f : Form) (l : List ℕ) (s : length l ≡ formLength f) (p : Places) 
           let found-count : finding f l countRule ≡ found manyWait (p .count) = rw (there, told) in
           sym (λ i. bodyTest (orElse (copy-clear i) (orElse (found-count i) rest)))
 
-      -- the rules of the pairs decide
-      pub by-pairs : getD l (p .count) 0 ≤ capacity → (r : ImageTest) → r ≡ bodyTest (pairFault (p .pairs) (getD l (p .count) 0) (part (p .pairs) (2 * capacity) l))
-          → r ≡ bodyTest (firstFault f l (rules f l))
-      by-pairs h r q =
-          let there = has-all f pairs refl in
-          let few : countIn f l ≤ capacity = omega (arith, counts) in
-          let n = countIn f l in
-          let count-clear : finding f l countRule ≡ clear =
-          finds-nothing f l countRule (λ k. hold-count (read f l count) (length-read f l s count k) (omega (arith, few, count-read f l))) in
-          let flags : finding f l (flagRule n) ≡ search badFlag (flagRule n .bad) (place f pairs) (read f l pairs) = rw there in
-          let unused : finding f l (unusedRule pairs n) ≡ search unusedSet (unusedRule pairs n .bad) (place f pairs) (read f l pairs) = rw there in
-          q ∙ (λ i. bodyTest (pairFault (always-at f l s p o pairs refl i) (counts i) (part (always-at f l s p o pairs refl i) (2 * capacity) l)))
-          ∙ sym (λ i. bodyTest (orElse (copy-clear i) (orElse (count-clear i) (orElse (flags i) ((ap (λ z. orElse z clear) unused ∙ or-clear (search unusedSet (unusedRule pairs n .bad) (place f pairs) (read f l pairs))) i)))))
+      -- the rules of the pairs and then that of the numbers are left
+      module _ (h : getD l (p .count) 0 ≤ capacity) where
+        abbrev ofPairs : Finding
+        ofPairs = pairFault (p .pairs) (getD l (p .count) 0) (part (p .pairs) (2 * capacity) l)
+
+        abbrev ofNumbers : Finding
+        ofNumbers = finding f l (unusedRule numbers (getD l (p .count) 0))
+
+        left-over : bodyTest (orElse ofPairs ofNumbers) ≡ bodyTest (firstFault f l (rules f l))
+        left-over =
+            let there = has-all f pairs refl in
+            let few : countIn f l ≤ capacity = omega (arith, counts) in
+            let n = countIn f l in
+            let count-clear : finding f l countRule ≡ clear =
+            finds-nothing f l countRule (λ k. hold-count (read f l count) (length-read f l s count k) (omega (arith, few, count-read f l))) in
+            let flags : finding f l (flagRule n) ≡ search badFlag (flagRule n .bad) (place f pairs) (read f l pairs) = rw there in
+            let unused : finding f l (unusedRule pairs n) ≡ search unusedSet (unusedRule pairs n .bad) (place f pairs) (read f l pairs) = rw there in
+            (λ i. bodyTest (orElse (pairFault (always-at f l s p o pairs refl i) (counts i) (part (always-at f l s p o pairs refl i) (2 * capacity) l)) (finding f l (unusedRule numbers (counts i)))))
+            ∙ sym (ap bodyTest (two-and-one (search badFlag (flagRule n .bad) (place f pairs) (read f l pairs)) (search unusedSet (unusedRule pairs n .bad) (place f pairs) (read f l pairs)) (finding f l (unusedRule numbers n))))
+            ∙ sym (λ i. bodyTest (orElse (copy-clear i) (orElse (count-clear i) (orElse (flags i) (orElse (unused i) (orElse (finding f l (unusedRule numbers n)) clear))))))
+
+        module _ (r : ImageTest) (q : r ≡ bodyTest ofPairs) where
+          pub by-pairs : (r ≡ accepted → ⊥) → r ≡ bodyTest (firstFault f l (rules f l))
+          by-pairs n = q ∙ first-two ofPairs ofNumbers (λ t. n (q ∙ t)) ∙ left-over
+
+          pub by-numbers : r ≡ accepted → (t : ImageTest) → t ≡ bodyTest ofNumbers → t ≡ bodyTest (firstFault f l (rules f l))
+          by-numbers e t u = u ∙ then-third ofPairs ofNumbers (sym q ∙ e) ∙ left-over

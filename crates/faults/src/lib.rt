@@ -4,6 +4,7 @@ use bytes::word_at;
 use image::form::CAPACITY;
 use image::form::FLAG;
 use image::form::Form;
+use image::form::NUMBERS_LENGTH;
 use image::form::PAIR;
 use image::form::PAIRS_LENGTH;
 use image::form::places_of;
@@ -14,11 +15,11 @@ ghost use Rattle.rules.specs.Numbers.{part};
 ghost use Rattle.rules.specs.Ring.{capacity};
 ghost use Rattle.rules.specs.Form.{formLength};
 ghost use Rattle.rules.specs.Form as rules-form;
-ghost use Rattle.rules.specs.Image.{flagRule, unusedRule, rules, firstFault, bodyTest};
+ghost use Rattle.rules.specs.Image.{flagRule, unusedRule, finding, rules, firstFault, bodyTest};
 ghost use Rattle.image.specs.Shown.{formView};
 ghost use Rattle.faults.specs.Found.{checkedView, First, pairFault};
 
-// The copy of IRR differs, too many wait, a waiting pair's flag is neither 0 nor 1, an unused pair is not zero.
+// The copy of IRR differs, too many wait, a waiting pair's flag is neither 0 nor 1, an unused pair or number is not zero.
 pub enum Fault {
     Copy,
     Count,
@@ -50,7 +51,7 @@ fn bad_flag(count: usize, pairs: &[u8]) -> usize
     pairs.len()
 }
 
-// The first byte behind the waiting pairs that is not zero, or the length.
+// The first byte behind the waiting pairs, or numbers, that is not zero, or the length.
 fn used_byte(count: usize, pairs: &[u8]) -> usize
     requires { ⌜ (length (now pairs) ≡ 2 * capacity) × (count ≤ capacity) ⌝ }
     ensures { λ r. ⌜ First (unusedRule rules-form.pairs count .bad) (now (pairs .entry)) r ⌝ }
@@ -82,6 +83,24 @@ fn pair_fault(image: &[u8], at: usize, count: usize) -> Checked
     Checked::Accepted
 }
 
+// The rule of the numbers, in the form that has them.
+fn number_fault(image: &[u8], form: Form, count: usize) -> Checked
+    requires { ⌜ (length (now image) ≡ formLength (formView form)) × (count ≤ capacity) ⌝ }
+    ensures { λ r. ⌜ checkedView r ≡ bodyTest (finding (formView form) (now (image .entry)) (unusedRule rules-form.numbers count)) ⌝ }
+{
+    let Form::Numbered = form else {
+        return Checked::Accepted;
+    };
+    let p = places_of(form);
+    let at = p.numbers;
+    let end = at + NUMBERS_LENGTH;
+    let byte = used_byte(count, &image[at..end]);
+    if byte < NUMBERS_LENGTH {
+        return Checked::Broken(Fault::Unused, at + byte);
+    }
+    Checked::Accepted
+}
+
 // A form without a copy of IRR has IRR's own place there.
 pub fn first_fault(image: &[u8], form: Form) -> Checked
     requires { ⌜ length (now image) ≡ formLength (formView form) ⌝ }
@@ -97,5 +116,9 @@ pub fn first_fault(image: &[u8], form: Form) -> Checked
     if count > CAPACITY {
         return Checked::Broken(Fault::Count, place);
     }
-    pair_fault(image, p.pairs, count)
+    let pairs = pair_fault(image, p.pairs, count);
+    let Checked::Accepted = pairs else {
+        return pairs;
+    };
+    number_fault(image, form, count)
 }

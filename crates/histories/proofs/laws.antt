@@ -7,4 +7,5 @@ pub mod Draining
 pub mod WellFormed
 pub mod Chains
 pub mod Readings
+pub mod Without
 pub mod Dropping

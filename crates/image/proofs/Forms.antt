@@ -1,17 +1,23 @@
 -- A form in code and in the rules.
-use mathlib.Core.Path.{_≡_, refl, ap, _∙_}
-use mathlib.Core.Bool.{true}
-use mathlib.Core.List.{List}
+use mathlib.Core.Path.{_≡_, refl, sym, ap, _∙_}
+use mathlib.Core.Bool.{true, false}
+use mathlib.Core.List.{List, [], _∷_}
+use mathlib.Core.Logic.{⊎-elim}
 use Prim.Native.Nat.{ℕ, _+_, _≤_}
 use native.Mathlib.Omega.{arith}
 use lib.ListN.{length}
-use Rattle.rules.specs.Form.{Word, Field, word, copy, irr, has, size, place, formLength}
+use types.Run.{OneOf}
+use denote.Enum.Declared.{tagOf}
+use Rattle.rules.specs.Form.{Word, Field, word, copy, irr, next, numbers, one, two, numbered, has, size, place, formLength}
 use Rattle.rules.specs.Form as rules-form
-use Rattle.rules.specs.Image.{registerAt, wordIn}
+use Rattle.rules.specs.Image.{registerAt, wordIn, numberBodyLength}
 use Rattle.rules.proofs.laws.Bits.{test}
-use Rattle.rules.proofs.laws.Layout.{always, has-all, field-fits}
-use Rattle.image.specs.Shown.{placeIn, PlacesOf}
+use Rattle.rules.proofs.laws.Layout.{never, always, has-all, field-fits}
+use Rattle.image.specs.Shown.{formView, placeIn, PlacesOf}
+use Rattle.image.specs.declared.form.Form.{Form}
+use Rattle.image.specs.declared.form.Form.the-variants.{One, Two, Numbered}
 use Rattle.image.specs.declared.form.Places.{Places}
+use Rattle.image.proofs.form.Form.{the-type}
 
 -- where a field stands that every form has
 pub placed : {f : rules-form.Form} {p : Places} → PlacesOf f p → (q : Field) → always q ≡ true → placeIn p q ≡ place f q
@@ -19,6 +25,24 @@ placed {f} o q h = o .fields q (has-all f q h)
 
 pub always-fits : (f : rules-form.Form) (q : Field) → always q ≡ true → place f q + size q ≤ formLength f
 always-fits f q h = field-fits f q (has-all f q h)
+
+-- a test for the form with numbers, passed and not
+pub has-numbers : (x : Form) → x ≡ Numbered → has (formView x) numbers ≡ true
+has-numbers x e = rw e
+
+pub has-next : (x : Form) → x ≡ Numbered → has (formView x) next ≡ true
+has-next x e = rw e
+
+pub no-numbers : (x : Form) → OneOf (0 ∷ 1 ∷ []) (tagOf the-type x) → has (formView x) numbers ≡ false
+no-numbers One h = refl
+no-numbers Two h = refl
+no-numbers Numbered h = absurd (⊎-elim (λ e. omega (arith, e)) (λ e. omega (arith, e)) h)
+
+-- the numbers stand behind the next one
+pub behind-next : (f : rules-form.Form) → has f numbers ≡ true → place f next + size next ≡ place f numbers
+behind-next one h = never (sym h)
+behind-next two h = never (sym h)
+behind-next numbered h = refl
 
 -- a field ends within the image
 module _ (f : rules-form.Form) (l : List ℕ) (s : length l ≡ formLength f) (p : Places) (o : PlacesOf f p) where
@@ -38,3 +62,7 @@ module _ (f : rules-form.Form) (l : List ℕ) (s : length l ≡ formLength f) (p
 
   pub copy-within : p .«last_intirr» + 8 ≤ length l
   copy-within = test (has f (word copy)) (field-within (word copy)) (λ h. omega (arith, o .copy h, field-within (word irr) (has-all f (word irr) refl)))
+
+  -- and so does the body of the numbers
+  pub body-within : has f next ≡ true → has f numbers ≡ true → p .next + numberBodyLength ≤ length l
+  body-within h k = omega (arith, o .fields next h, field-within numbers k, o .fields numbers k, behind-next f k)

@@ -1,1 +1,2 @@
--- The contracts cite the definitions of rules, engine and answer alone.
+-- What the functions of this crate promise, in the rules' terms.
+pub mod Returned

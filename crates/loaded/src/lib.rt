@@ -17,10 +17,11 @@ ghost use lib.ListN.{length};
 ghost use Rattle.rules.specs.Numbers.{numberOf, part};
 ghost use Rattle.rules.specs.Ring.{capacity};
 ghost use Rattle.rules.specs.Form.{formLength};
-ghost use Rattle.rules.specs.Image.{countIn, decodeAs};
+ghost use Rattle.rules.specs.Numbering.{fromZero};
+ghost use Rattle.rules.specs.Image.{countIn, decodeAs, numberBody};
 ghost use Rattle.state.specs.View.{IsRing, Is};
 ghost use Rattle.image.specs.Shown.{formView};
-ghost use Rattle.loaded.specs.Shown.{IsLines, IsStored};
+ghost use Rattle.loaded.specs.Shown.{IsLines, IsStored, LoadsNumbers};
 
 pub fn load_lines(image: &[u8], form: Form) -> Lines
     requires { ⌜ length (now image) ≡ formLength (formView form) ⌝ }
@@ -98,7 +99,7 @@ pub fn load_ring(image: &[u8], form: Form) -> Ring
     ring_of(&image[at..end], len, drops)
 }
 
-// The vector body, a part that starts at byte 158 or, in form 2, 150, is handed on to the leaf that fills 64 entries.
+// The vector body, a part that starts at byte 158 or, in form 2, 150 or, with numbers, 155, is handed on to the leaf that fills 64 entries.
 fn load_vectors(image: &[u8], form: Form) -> [u8; 64]
     requires { ⌜ length (now image) ≡ formLength (formView form) ⌝ }
     ensures { λ r. ⌜ r ≡ decodeAs (formView form) (now (image .entry)) .core .vectors ⌝ }
@@ -106,7 +107,41 @@ fn load_vectors(image: &[u8], form: Form) -> [u8; 64]
     match form {
         Form::One => fill_entries(&image[158..222]),
         Form::Two => fill_entries(&image[150..214]),
+        Form::Numbered => fill_entries(&image[155..219]),
     }
+}
+
+// The numbers of an image that has none: the waiting events have those from 0 on, and the next is how many wait. Stored one by one: a copy of so many bytes would be
+// a call of memcpy.
+fn counted(count: usize) -> [u8; 34]
+    requires { ⌜ count ≤ capacity ⌝ }
+    ensures { λ r. ⌜ r ≡ numberBody (fromZero count) ⌝ }
+{
+    let mut body = [0u8; 34];
+    body[0] = count as u8;
+    let mut i = 0;
+    while i < count {
+        body[form::NEXT_LENGTH + form::NUMBER * i] = i as u8;
+        i += 1;
+    }
+    body
+}
+
+// The body of the numbers with which an image loads.
+pub fn load_numbers(image: &[u8], form: Form) -> [u8; 34]
+    requires { ⌜ (length (now image) ≡ formLength (formView form)) × (countIn (formView form) (now image) ≤ capacity) ⌝ }
+    ensures { λ r. ⌜ LoadsNumbers (formView form) (now (image .entry)) r ⌝ }
+{
+    let p = places_of(form);
+    let Form::Numbered = form else {
+        let place = p.count;
+        return counted(image[place] as usize);
+    };
+    let at = p.next;
+    let end = at + form::NUMBER_BODY_LENGTH;
+    let mut body = [0u8; 34];
+    copy(&mut body, &image[at..end]);
+    body
 }
 
 pub fn load(image: &[u8], form: Form) -> PchPicState

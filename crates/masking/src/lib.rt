@@ -12,6 +12,7 @@ ghost use Rattle.rules.specs.Inputs.{on};
 ghost use Rattle.rules.specs.Lines as lines;
 ghost use Rattle.rules.specs.Core as core;
 ghost use Rattle.rules.specs.Device.{lost};
+ghost use Rattle.rules.specs.Numbering.{takesAll};
 ghost use Rattle.rules.specs.Form.{formLength};
 ghost use Rattle.image.specs.Shown.{formView};
 ghost use Rattle.inplace.specs.Held.{MovesIn, Writes};
@@ -19,7 +20,7 @@ ghost use Rattle.inplace.specs.Held.{MovesIn, Writes};
 // All of a set that are in service leave it, and their deasserts are offered; the answer is how many were lost.
 fn leave(image: &mut [u8], form: Form, set: u64) -> u32
     requires { ⌜ length (now image) ≡ formLength (formView form) ⌝ }
-    ensures { λ r. ⌜ (r ≤ 64) × MovesIn (now (image .entry)) (now (image .exit)) r lost (λ vs. lines.leave vs true (on set)) ⌝ }
+    ensures { λ r. ⌜ (r ≤ 64) × MovesIn (now (image .entry)) (now (image .exit)) r takesAll lost (λ vs. lines.leave vs true (on set)) ⌝ }
 {
     let isr = words::isr(image, form);
     let served = decide::served(set, isr);

@@ -3,9 +3,9 @@ use mathlib.Core.Bool.{Bool, true, cond}
 use mathlib.Core.List.{List, [], _∷_}
 use mathlib.Core.Path.{_≡_}
 use Rattle.rules.specs.Device as device
-use Rattle.rules.specs.Image.{encodeLike, decode}
+use Rattle.rules.specs.Image.{encodeLike, decode, numbersIn}
 use Rattle.rules.specs.Calls.{pass, refuse, Asked, afresh, calls, askedBy, answered, bufferOf, placeOf, written}
-use Rattle.histories.specs.Exported.{Exported, leftBy, isDone, isReset, isLoad, Underway, carriedOn}
+use Rattle.histories.specs.Exported.{Exported, leftBy, isDone, answerWithout, eventsWithout, unnumbered, isReset, isLoad, Underway, carriedOn}
 use Rattle.plain.specs.Plain.{Engine, counted, Gave, idle, gives}
 use Rattle.plain.specs.Sequence.{loadOf, shown}
 
@@ -27,11 +27,12 @@ unfoldable pub meets : Engine → Underway → Exported → Gave
 meets e h x = givesTo (isDone x) (isLoad (h .left) x) (askedBy (x .asked)) e x
 
 -- the bytes of a done call are what the plain engine gives: the image is of what it shows, in the form that it was given, the answer area has its value, the
--- event buffer the events that it drained (01, The boundary; 01, The ring; 02, C-17)
+-- event buffer the events that it drained (01, The boundary; 01, The ring; 02, C-17). The plain engine has no numbers of events, and is compared without them: those
+-- of the image, if its form has them, are whatever they are (02, C-19)
 pub record Agrees (g : Gave) (x : Exported) : Type 0 where
-  pub image : leftBy x .image ≡ encodeLike (x .given) (shown (g .after))
-  pub answer : leftBy x .answer ≡ answered 0 (g .value) (x .answer)
-  pub events : leftBy x .events ≡ written (bufferOf (x .asked)) (placeOf (x .asked)) (g .drained)
+  pub image : leftBy x .image ≡ encodeLike (x .given) (shown (g .after)) (numbersIn (leftBy x .image))
+  pub answer : answerWithout x ≡ answered 0 (g .value) (x .answer)
+  pub events : eventsWithout x ≡ written (bufferOf (x .asked)) (placeOf (x .asked)) (unnumbered (g .drained))
 
 -- each of the exported calls that is done
 unfoldable pub AllAgree : Engine → Underway → List Exported → Type 0

@@ -1,15 +1,16 @@
 -- The image's test, as a call goes on or leaves by it, and what an image that passed it holds.
-use mathlib.Core.Path.{_≡_, refl, sym, ap, _∙_}
-use mathlib.Core.List.{List}
+use mathlib.Core.Path.{_≡_, refl, sym, ap, subst, _∙_}
+use mathlib.Core.List.{List, [], _∷_}
 use Prim.Native.Nat.{ℕ, _≤_}
 use native.Mathlib.Omega.{arith}
+use types.Run.{OneOf}
+use denote.Enum.Declared.{tagOf}
 use lib.ListN.{length}
 use Rattle.rules.specs.Numbers.{Bytes}
-use Rattle.rules.specs.Device.{Call, Value}
-use Rattle.rules.specs.Form.{Form, forms, Known, unknown, known, formOf, formLength}
-use Rattle.rules.specs.Image.{ImageTest, accepted, wrongLength, wrongContents, broken, imageTest, decode, countIn}
+use Rattle.rules.specs.Device.{Call, Value, none}
+use Rattle.rules.specs.Form.{Form, forms, known, formOf, formLength}
+use Rattle.rules.specs.Image.{accepted, imageTest, decode, numbersIn, countIn}
 use Rattle.rules.specs.Calls.{imageNumber, imageValue, Tested, Request, calls, askedBy, bufferOf, Ending, ending}
-use Rattle.rules.proofs.laws.Images.{form-of, accepted-has}
 use Rattle.rules.proofs.laws.Tests.{form-known, test-known}
 use Rattle.rules.proofs.laws.Tests as tests
 use Rattle.rules.proofs.laws.Outcomes.{image-refused}
@@ -17,9 +18,14 @@ use Rattle.inplace.specs.Held.{Holds}
 use Rattle.inplace.proofs.Doing.{held}
 use Rattle.image.specs.Shown.{formView}
 use Rattle.image.specs.declared.form.Form as code
-use Rattle.checked.specs.Good.{verdictView, isAccepted, formIf, acceptedForm}
-use Rattle.checked.specs.declared.Verdict.{Verdict}
-use Rattle.checked.specs.declared.Verdict.the-variants.{Accepted, Refused}
+use Rattle.checked.specs.Good.{headTest, Headed, holds, bodiesGood, bodiesTest}
+use Rattle.checked.specs.declared.Head.{Head}
+use Rattle.checked.specs.declared.Head.the-variants.{Of}
+use Rattle.checked.specs.declared.Bodies.{Bodies}
+use Rattle.checked.specs.declared.Bodies.the-variants.{Broken, Good}
+use Rattle.checked.proofs.Head.{the-type}
+use Rattle.checked.proofs.Orders.{left-head, head-refuses, head-value, sized, accepts, refuses}
+use Rattle.checked.proofs.Orders as orders
 use Rattle.answer.specs.Given.{Tells, ends}
 use Rattle.answer.specs.declared.Told.{Told}
 
@@ -27,31 +33,38 @@ use Rattle.answer.specs.declared.Told.{Told}
 pub tells : (t : Told) {n : ℕ} {v : Value} → Tells t n v → {j e : List ℕ} {x : Ending} → record { number = n; value = v; image = j; events = e } ≡ x → ends t j e ≡ x
 tells t p {j} {e} d = (λ s. record { number = p .0 s; value = p .1 s; image = j; events = e }) ∙ d
 
--- ---- the answer of the image's test
+-- ---- an image that is not accepted
 
-known-unknown : {f : Form} → known f ≡ unknown → ⊥
-known-unknown {f} e = let z = apart e in omega (arith, z)
-  where
-    apart : known f ≡ unknown → _≡_ {A = ℕ} 0 1
-    apart h = cc
+-- 4 and 5: what is told of its length or its contents is what its test finds, and how a call on it ends
+module _ (i : List ℕ) (h : Head) (o : OneOf (0 ∷ 1 ∷ []) (tagOf the-type h)) (d : Headed h i) (t : Told) (p : Tells t (imageNumber (headTest h)) none) where
+  pub head-told : Tells t (imageNumber (imageTest i)) (imageValue (imageTest i))
+  head-told = let e = left-head i h o d in (p .0 ∙ ap imageNumber e, p .1 ∙ head-value h ∙ ap imageValue e)
 
--- `let .. else` went on: the image is accepted, and is one of the form
-passed : {f : Form} (t : ImageTest) (k : Known) → known f ≡ formIf (isAccepted t) k → (t ≡ accepted) × (k ≡ known f)
-passed accepted k e = (refl, sym e)
-passed wrongLength k e = absurd (known-unknown e)
-passed wrongContents k e = absurd (known-unknown e)
-passed (broken g a) k e = absurd (known-unknown e)
+pub by-head : (q : Request) (i : List ℕ) {x : Tested Call} → askedBy q ≡ calls x → (h : Head) → OneOf (0 ∷ 1 ∷ []) (tagOf the-type h) → Headed h i
+    → (t : Told) → Tells t (imageNumber (headTest h)) none → ends t i (bufferOf q) ≡ ending q i
+by-head q i {x} asks h o d t p = tells t (head-told i h o d t p) (sym (image-refused q i x asks (imageTest i) refl (head-refuses i h o d)))
 
--- it left: the image is not
-pub failed : (i : List ℕ) → unknown ≡ acceptedForm i → imageTest i ≡ accepted → ⊥
-failed i e f =
-    let its = accepted-has i f in
-    known-unknown (sym (form-of (its .form) i (its .has .sized)) ∙ ap (λ t. formIf (isAccepted t) (formOf (length i))) (sym f) ∙ sym e)
+-- the image has a form and good contents
+opened : (i : List ℕ) (h : Head) (f : code.Form) → h ≡ Of f → Headed h i → Headed (Of f) i
+opened i h f e d = subst (λ k. Headed k i) e d
 
--- 4, 5, 8 to 11: what is told of an image that is not accepted is how a call on it ends
-pub by-image : (q : Request) {i : List ℕ} {x : Tested Call} → askedBy q ≡ calls x → (k : Verdict) → k ≡ Refused → verdictView k ≡ acceptedForm i
-    → (t : Told) → Tells t (imageNumber (imageTest i)) (imageValue (imageTest i)) → ends t i (bufferOf q) ≡ ending q i
-by-image q {i} {x} asks k h e t p = tells t p (sym (image-refused q i x asks (imageTest i) refl (failed i (sym (ap verdictView h) ∙ e))))
+pub fitting : (i : List ℕ) (h : Head) (f : code.Form) → h ≡ Of f → Headed h i → length i ≡ formLength (formView f)
+fitting i h f e d = sized i (formView f) (opened i h f e d .0)
+
+module _ (i : List ℕ) (h : Head) (f : code.Form) (e : h ≡ Of f) (d : Headed h i) (b : Bodies) (g : holds b ≡ bodiesGood (formView f) i) where
+  pub broken-refused : b ≡ Broken → imageTest i ≡ accepted → ⊥
+  broken-refused z = let o = opened i h f e d in refuses i (formView f) (o .0) (o .1) (sym g ∙ ap holds z)
+
+  -- 8 to 11: what is told of its bodies is
+  pub bodies-told : (t : Told) → Tells t (imageNumber (bodiesTest (formView f) i)) (imageValue (bodiesTest (formView f) i)) → Tells t (imageNumber (imageTest i)) (imageValue (imageTest i))
+  bodies-told t p =
+      let o = opened i h f e d in
+      let w = orders.by-bodies i (formView f) (o .0) (o .1) in
+      (p .0 ∙ ap imageNumber w, p .1 ∙ ap imageValue w)
+
+  pub by-bodies : (q : Request) {x : Tested Call} → askedBy q ≡ calls x → b ≡ Broken
+      → (t : Told) → Tells t (imageNumber (bodiesTest (formView f) i)) (imageValue (bodiesTest (formView f) i)) → ends t i (bufferOf q) ≡ ending q i
+  by-bodies q {x} asks z t p = tells t (bodies-told t p) (sym (image-refused q i x asks (imageTest i) refl (broken-refused z)))
 
 -- ---- the image was accepted
 
@@ -60,8 +73,10 @@ pub record Passed (f : Form) (i : List ℕ) : Type 0 where
   pub good : imageTest i ≡ accepted
   pub known : formOf (length i) ≡ known f
 
-pub goes-on : {i : List ℕ} → Bytes i → (k : Verdict) (f : code.Form) → k ≡ Accepted f → verdictView k ≡ acceptedForm i → Passed (formView f) i
-goes-on {i} b k f h e = let both = passed (imageTest i) (formOf (length i)) (sym (ap verdictView h) ∙ e) in record { bytes = b; good = both .0; known = both .1 }
+pub goes-on : (i : List ℕ) → Bytes i → (h : Head) (f : code.Form) → h ≡ Of f → Headed h i → (b : Bodies) → b ≡ Good → holds b ≡ bodiesGood (formView f) i → Passed (formView f) i
+goes-on i y h f e d b z g =
+    let o = opened i h f e d in
+    record { bytes = y; good = accepts i (formView f) (o .0) (o .1) (sym g ∙ ap holds z); known = o .0 }
 
 module _ {f : Form} {i : List ℕ} (p : Passed f i) where
   pub long : length i ≡ formLength f
@@ -70,5 +85,5 @@ module _ {f : Form} {i : List ℕ} (p : Passed f i) where
   pub few : countIn f i ≤ 16
   few = tests.accepted-has f i (sym (test-known i (p .known)) ∙ p .good) .ruled .counted
 
-  pub here : Holds i (decode i)
+  pub here : Holds i (decode i) (numbersIn i)
   here = held i (p .bytes) (p .good)

@@ -1,13 +1,19 @@
 // What a call tells that is refused: 01's and 02's numbers, and the value that goes with each. Which refusal comes first is known above.
 use answer::Told;
 use answer::Value;
-use checked::fault_of;
+use checked::Head;
 use faults::Checked;
 use faults::Fault;
+use faults::first_fault;
+use image::form::Form;
 ghost use mathlib.Core.Path.{_≡_};
+ghost use Rattle.rules.specs.Device.{none};
 ghost use Rattle.rules.specs.Calls.{faultNumber, refusalNumber, refusalValue, noWidth, noInput, wrongLength, imageNumber, imageValue};
 ghost use Rattle.rules.specs.Calls as asked;
-ghost use Rattle.rules.specs.Image.{imageTest};
+ghost use lib.ListN.{length};
+ghost use Rattle.rules.specs.Form.{formLength};
+ghost use Rattle.image.specs.Shown.{formView};
+ghost use Rattle.checked.specs.Good.{headTest, bodiesTest};
 ghost use Rattle.faults.specs.Found.{faultView, checkedView};
 ghost use Rattle.answer.specs.Given.{valueView, Tells};
 
@@ -82,10 +88,32 @@ fn image_value(checked: Checked) -> Value
     }
 }
 
-pub fn of_image(image: &[u8]) -> Told
-    ensures { λ r. ⌜ Tells r (imageNumber (imageTest (now (image .entry)))) (imageValue (imageTest (now (image .entry)))) ⌝ }
+fn head_number(head: Head) -> u8
+    ensures { λ r. ⌜ r ≡ imageNumber (headTest head) ⌝ }
 {
-    let checked = fault_of(image);
+    match head {
+        Head::WrongLength => 4,
+        Head::WrongContents => 5,
+        Head::Of(_) => 0,
+    }
+}
+
+// By the length or the contents.
+pub fn of_head(head: Head) -> Told
+    ensures { λ r. ⌜ Tells r (imageNumber (headTest head)) none ⌝ }
+{
+    Told {
+        number: head_number(head),
+        value: Value::Absent,
+    }
+}
+
+// By the first rule that a body breaks.
+pub fn of_bodies(image: &[u8], form: Form) -> Told
+    requires { ⌜ length (now image) ≡ formLength (formView form) ⌝ }
+    ensures { λ r. ⌜ Tells r (imageNumber (bodiesTest (formView form) (now (image .entry)))) (imageValue (bodiesTest (formView form) (now (image .entry)))) ⌝ }
+{
+    let checked = first_fault(image, form);
     Told {
         number: image_number(checked),
         value: image_value(checked),

@@ -10,7 +10,7 @@ use Rattle.replay_call.specs.Recorded.{Recorded}
 
 -- the image buffer that a recorded image makes
 abbrev pub loaded : List ℕ → List ℕ
-loaded b = take 259 b ++ replicate 41 0
+loaded b = take 290 b ++ replicate 10 0
 
 -- one byte of it is damaged, or mended
 abbrev pub damagedBy : List ℕ → List ℕ → List ℕ

@@ -15,8 +15,8 @@ fn set_image(bytes: &[u8], image: &mut [u8])
     requires { ⌜ (length (now bytes) ≡ 320) × (length (now image) ≡ 300) ⌝ }
     ensures { λ _. ⌜ now (image .exit) ≡ loaded (now (bytes .entry)) ⌝ }
 {
-    copy(&mut image[0..259], &bytes[0..259]);
-    put_zeros(&mut image[259..300]);
+    copy(&mut image[0..290], &bytes[0..290]);
+    put_zeros(&mut image[290..300]);
 }
 
 // The whole buffer, held against a recorded one.

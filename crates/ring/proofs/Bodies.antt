@@ -1,6 +1,6 @@
 -- Body 4 as bytes: an event stored behind those that wait, or counted as lost.
 use mathlib.Core.Path.{_≡_, refl, sym, ap, _∙_}
-use mathlib.Core.Bool.{Bool}
+use mathlib.Core.Bool.{Bool, true}
 use mathlib.Core.List.{List, [], _∷_, _++_, map, append-assoc, append-nil}
 use Prim.Native.Nat.{ℕ, zero, suc, _+_, _-_, _*_, _<_, _≤_, min}
 use native.Mathlib.Omega.{arith}
@@ -12,14 +12,17 @@ use borrow.Rule.Slice.PartMut.{putMid}
 use Rattle.rules.specs.Numbers.{numberOf, bytesOf, part, Bytes}
 use Rattle.rules.specs.Ring.{capacity, stop, flag, pairsOf, Event, Ring, offer, offered, ringStep, ringRun, droppedBy, dropped, lostOf}
 use Rattle.rules.specs.Device.{Device, WellFormed, reset}
+use Rattle.rules.specs.Numbering.{Numbers, takes}
 use Rattle.rules.specs.Form.{Form, count, place, formLength}
-use Rattle.rules.specs.Image.{ringLength, ringBody}
+use Rattle.rules.specs.Image.{ringLength, ringBody, encodeAs}
 use Rattle.rules.proofs.laws.Bytes.{numberOf-bytesOf}
 use Rattle.rules.proofs.laws.Bits.{test}
 use Rattle.rules.proofs.laws.Rings.{offered-room, offered-full}
+use Rattle.rules.proofs.laws.Images.{encode-as}
+use Rattle.rules.proofs.laws.Numbered.{fits, fitting, takes-offered}
 use Rattle.bytes.specs.Put.{withBytes}
-use Rattle.inplace.specs.Held.{Holds, Offers, withRing}
-use Rattle.inplace.proofs.Doing.{holds-as, as-holds}
+use Rattle.inplace.specs.Held.{Holds, Offers, NumberOffered, withRing}
+use Rattle.inplace.proofs.Doing.{as-holds}
 use Rattle.inplace.proofs.Bodies.{ring-part, ring-put}
 use Rattle.ring.specs.Fields.{RingOffered, event, offering}
 
@@ -98,18 +101,27 @@ offered-well {d} e h w =
     (λ t. rw t (ring-well w _ (w .eventBytes) (w .waiting) (omega arith)))
 
 -- to body 4, lent from its place on
-pub ring-offered : (f : Form) (i : List ℕ) → length i ≡ formLength f → (ys : List ℕ) (at n v : ℕ) (a : Bool) → at ≡ place f count → v < 256 → RingOffered (part at (at + 37 - at) i) ys n (event v a)
-    → Offers i (putMid at (at + 37 - at) i ys) n (λ d. offering v a)
+pub ring-offered : (f : Form) (i : List ℕ) → length i ≡ formLength f → {j : List ℕ} → NumberOffered i j → (ys : List ℕ) (at n v : ℕ) (a : Bool) → at ≡ place f count → v < 256
+    → RingOffered (part at (at + 37 - at) j) ys n (event v a) → Offers i (putMid at (at + 37 - at) j ys) n (λ d. offering v a)
 unfolding dropped ringRun ringStep ringBody
-ring-offered f i s ys at n v a e h g = record {
-  becomes = λ d k.
-      as-holds f (offered-well (event v a) h (k .well))
-      ((λ t. putMid (e t) (long t) (holds-as f i s k t) (g (d .ring) (k .well .waiting) (k .well .drops) (spells d k) .0 t)) ∙ ring-put f d (k .well) (offered (d .ring) (event v a)));
-  gives = λ d k. g (d .ring) (k .well .waiting) (k .well .drops) (spells d k) .1 ∙ sym (ap length (append-nil (droppedBy (d .ring) (offer (event v a)))));
+ring-offered f i long {j} numbered ys at n v a e h g = record {
+  becomes = λ d s k.
+      let after = takes-offered (d .ring) (event v a) (fits (k .numbered)) in
+      as-holds f (offered-well (event v a) h (k .well)) (fitting after)
+      ((λ t. putMid (e t) (all t) (numbers-first d s k t) (g (d .ring) (k .well .waiting) (k .well .drops) (spells d s k) .0 t)) ∙ ring-put f d (k .well) (takes s true) (few d s k) (offered (d .ring) (event v a)));
+  gives = λ d s k. g (d .ring) (k .well .waiting) (k .well .drops) (spells d s k) .1 ∙ sym (ap length (append-nil (droppedBy (d .ring) (offer (event v a)))));
 }
   where
-    long : at + 37 - at ≡ ringLength
-    long = omega arith
+    all : at + 37 - at ≡ ringLength
+    all = omega arith
 
-    spells : (d : Device) → Holds i d → part at (at + 37 - at) i ≡ ringBody (withRing reset (d .ring))
-    spells d k = (λ t. part (e t) (long t) (holds-as f i s k t)) ∙ ring-part f d (k .well)
+    numbers-first : (d : Device) (s : Numbers) → Holds i d s → j ≡ encodeAs f d (takes s true)
+    numbers-first d s k = numbered d s k ∙ encode-as f i long d (takes s true)
+
+    few : (d : Device) (s : Numbers) → Holds i d s → length (takes s true .waiting) ≤ capacity
+    few d s k =
+        let w = offered-well {d = d} (event v a) h (k .well) in
+        omega (arith, takes-offered (d .ring) (event v a) (fits (k .numbered)) .waiting, w .waiting)
+
+    spells : (d : Device) (s : Numbers) → Holds i d s → part at (at + 37 - at) j ≡ ringBody (withRing reset (d .ring))
+    spells d s k = (λ t. part (e t) (all t) (numbers-first d s k t)) ∙ ring-part f d (k .well) (takes s true) (few d s k)

@@ -49,11 +49,12 @@ fn offer_to(body: &mut [u8], vector: u8, asserted: bool) -> u32
     0
 }
 
-// An event is offered to the ring of an image of a form.
+// An event is offered to the ring of an image of a form, and takes its number.
 pub fn offer(image: &mut [u8], form: Form, vector: u8, asserted: bool) -> u32
     requires { ⌜ length (now image) ≡ formLength (formView form) ⌝ }
     ensures { λ r. ⌜ (r ≤ 1) × Offers (now (image .entry)) (now (image .exit)) r (λ d. offering vector asserted) ⌝ }
 {
+    numbers::take_offered(image, form);
     let p = places_of(form);
     let at = p.count;
     let end = at + form::RING_LENGTH;

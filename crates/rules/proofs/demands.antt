@@ -7,6 +7,7 @@ pub mod EasyToGetWrong
 pub mod OneOutcome
 pub mod Refused
 pub mod Losses
+pub mod Numbered
 pub mod Broken
 pub mod Copy
 pub mod Convert

@@ -14,6 +14,7 @@ pub mod Saved
 pub mod Images
 pub mod InPlace
 pub mod Rings
+pub mod Numbered
 pub mod Acts
 pub mod Steps
 pub mod Outcomes

@@ -6,13 +6,13 @@ use Prim.Native.Nat.{ℕ, _+_, _-_, _*_, _/_}
 use lib.Dec.{eqb, leb, ltb}
 use lib.ListN.{length, take, drop, getD}
 use Rattle.rules.specs.Numbers.{bytesOf, numberOf, part}
-use Rattle.rules.specs.Ring.{Event, pairsOf}
 use Rattle.rules.specs.Access.{Width, byte, word, dword, qword}
-use Rattle.rules.specs.Device.{Device, Call, Value, none, some, step, value}
+use Rattle.rules.specs.Device.{Device, Call, Value, none, some, step}
 use Rattle.rules.specs.Device as device
+use Rattle.rules.specs.Numbering.{Numbers, fromZero, Numbered, drainedLength, quadsOf, numbersAfter, drainedWith, valueWith}
 use Rattle.rules.specs.Window.{inside, offset}
 use Rattle.rules.specs.Form.{Known, unknown, known, formOf}
-use Rattle.rules.specs.Image.{Fault, copyDiffers, manyWait, badFlag, unusedSet, ImageTest, imageTest, encodeLike, decode}
+use Rattle.rules.specs.Image.{Fault, copyDiffers, manyWait, badFlag, unusedSet, ImageTest, imageTest, encodeLike, decode, numbersIn}
 use Rattle.rules.specs.Image as image
 
 -- ---- refusals
@@ -114,33 +114,34 @@ pub data Asked : Type 0 where
   afresh : Asked
   calls : Tested Call → Asked
 
--- level 0 lowers, any other raises; a drain has room for the pairs that fit behind its place (01, The boundary; 01, The ring)
+-- level 0 lowers, any other raises; a drain has room for the events that fit behind its place (01, The boundary; 01, The ring; 02, C-19)
 abbrev pub askedBy : Request → Asked
 askedBy reset = afresh
 askedBy (read base size address width) = calls (accessCall base size address width device.read)
 askedBy (write base size address width v) = calls (accessCall base size address width (λ w o. device.write w o v))
 askedBy (level n v) = calls (inputCall n (device.level n (not (eqb v 0))))
 askedBy (poll n) = calls (inputCall n (device.poll n))
-askedBy (drain events place) = calls (pass (device.drain ((length events - place) / 2)))
+askedBy (drain events place) = calls (pass (device.drain ((length events - place) / drainedLength)))
 
 -- what a call that was done gives
 pub record Done : Type 0 where
   pub device : Device
+  pub numbers : Numbers
   pub value : Value
-  pub drained : List Event
+  pub drained : List Numbered
 
-abbrev pub doneOn : Device → Call → Done
-doneOn d c = record { device = step d c .after; value = value d c; drained = step d c .drained }
+abbrev pub doneOn : Device → Numbers → Call → Done
+doneOn d s c = record { device = step d c .after; numbers = numbersAfter d s c; value = valueWith d s c; drained = drainedWith d s c }
 
--- reset takes any bytes that have the length of a form (01, Saved image; 02, C-17)
+-- reset takes any bytes that have the length of a form; numbers begin at 0 (01, Saved image; 02, C-17, C-19)
 abbrev pub resetAs : Known → Tested Done
 resetAs unknown = refuse wrongLength
-resetAs (known f) = pass (record { device = device.reset; value = none; drained = [] })
+resetAs (known f) = pass (record { device = device.reset; numbers = fromZero 0; value = none; drained = [] })
 
 -- a call wants an accepted image, and then what it asks is tested (01, Numbers handed back: 4, 5, 8 to 11, then 3, or 2 before 1)
 unfoldable pub performed : Asked → List ℕ → Tested Done
 performed afresh i = resetAs (formOf (length i))
-performed (calls t) i = onPass (imageAnswer (imageTest i) (decode i)) (λ d. onPass t (λ c. pass (doneOn d c)))
+performed (calls t) i = onPass (imageAnswer (imageTest i) (decode i)) (λ d. onPass t (λ c. pass (doneOn d (numbersIn i) c)))
 
 -- ---- the bytes afterwards
 
@@ -186,9 +187,9 @@ placeOf (level n v) = 0
 placeOf (poll n) = 0
 placeOf (drain events place) = place
 
--- pairs are written from a place on, all other bytes stay (01, The ring)
-unfoldable pub written : List ℕ → ℕ → List Event → List ℕ
-written buffer place es = take place buffer ++ (pairsOf es ++ drop (place + 2 * length es) buffer)
+-- events are written from a place on, four bytes each, and all other bytes stay (01, The ring; 02, C-19)
+unfoldable pub written : List ℕ → ℕ → List Numbered → List ℕ
+written buffer place es = take place buffer ++ (quadsOf es ++ drop (place + drainedLength * length es) buffer)
 
 -- what a call leaves: the number handed back, and every byte lent
 pub record Outcome : Type 0 where
@@ -207,9 +208,9 @@ pub record Ending : Type 0 where
   pub image : List ℕ
   pub events : List ℕ
 
--- done: the image, in the form that it was given in, and the drained pairs are written; refused: neither (01, Numbers handed back; 02, C-17)
+-- done: the image, in the form that it was given in, and the drained events are written; refused: neither (01, Numbers handed back; 02, C-17)
 abbrev pub ended : Request → List ℕ → Tested Done → Ending
-ended q i (pass x) = record { number = 0; value = x .value; image = encodeLike i (x .device); events = written (bufferOf q) (placeOf q) (x .drained) }
+ended q i (pass x) = record { number = 0; value = x .value; image = encodeLike i (x .device) (x .numbers); events = written (bufferOf q) (placeOf q) (x .drained) }
 ended q i (refuse r) = record { number = refusalNumber r; value = refusalValue r; image = i; events = bufferOf q }
 
 abbrev pub ending : Request → List ℕ → Ending

@@ -6,7 +6,7 @@ use lib.Dec.{leb}
 use lib.ListN.{length}
 use Rattle.rules.specs.Device.{none}
 use Rattle.rules.specs.Form.{Form, Known, unknown, known, formOf}
-use Rattle.rules.specs.Image.{imageTest, encodeAs, decode}
+use Rattle.rules.specs.Image.{imageTest, encodeAs, decode, numbersIn}
 use Rattle.rules.specs.Calls.{wrongLength, noRoom, refusalNumber, refusalValue, Tested, pass, refuse, onPass, imageAnswer, answerLength, Outcome, leaves, Ending, settled}
 
 -- 4: the form that a length tells, if it tells one
@@ -17,7 +17,7 @@ lengthTest (known f) = pass f
 -- the image in the form of the target's length: 4 of the image and then of the target come before 5 and 8 to 11 (02, C-17)
 unfoldable pub converted : (image target : List ℕ) → Tested (List ℕ)
 converted i t =
-    onPass (lengthTest (formOf (length i))) (λ f. onPass (lengthTest (formOf (length t))) (λ g. onPass (imageAnswer (imageTest i) (decode i)) (λ d. pass (encodeAs g d))))
+    onPass (lengthTest (formOf (length i))) (λ f. onPass (lengthTest (formOf (length t))) (λ g. onPass (imageAnswer (imageTest i) (decode i)) (λ d. pass (encodeAs g d (numbersIn i)))))
 
 -- done: the target has the image and there is no value; refused: the target stays
 abbrev pub convertEnded : List ℕ → Tested (List ℕ) → Ending

@@ -20,7 +20,7 @@ pub data Word : Type 0 where
 -- a field of an image
 pub data Field : Type 0 where
   word : Word → Field
-  routes vectors count drops pairs : Field
+  routes vectors count drops pairs next numbers : Field
   deriving Discrete as Field-discrete
 
 -- how many bytes it has
@@ -31,46 +31,56 @@ size vectors = 64
 size count = 1
 size drops = 4
 size pairs = 2 * capacity
+size next = 2
+size numbers = 2 * capacity
 
 -- a body: its kind, and its fields in their order
 pub record Body : Type 0 where
   pub kind : ℕ
   pub fields : List Field
 
--- form 1 as 01 has it, and form 2, which has no copy of IRR (02, C-17)
+-- form 1 as 01 has it; form 2, which has no copy of IRR (02, C-17); and form 2 with a fifth body, the numbers of events (02, C-19)
 pub data Form : Type 0 where
-  one two : Form
+  one two numbered : Form
 
 -- the first byte of the contents
 abbrev pub firstByte : Form → ℕ
 firstByte one = 1
 firstByte two = 2
+firstByte numbered = 2
 
--- the words of body 1
-abbrev pub words : Form → List Word
-words one = mask ∷ stored htmsiEn ∷ stored edge ∷ copy ∷ irr ∷ isr ∷ stored pol ∷ stored auto0 ∷ stored auto1 ∷ []
-words two = mask ∷ stored htmsiEn ∷ stored edge ∷ irr ∷ isr ∷ stored pol ∷ stored auto0 ∷ stored auto1 ∷ []
+-- the words of body 1, with the copy of IRR and without (01, Saved image; 02, C-17)
+abbrev pub nineWords : List Word
+nineWords = mask ∷ stored htmsiEn ∷ stored edge ∷ copy ∷ irr ∷ isr ∷ stored pol ∷ stored auto0 ∷ stored auto1 ∷ []
+
+abbrev pub eightWords : List Word
+eightWords = mask ∷ stored htmsiEn ∷ stored edge ∷ irr ∷ isr ∷ stored pol ∷ stored auto0 ∷ stored auto1 ∷ []
 
 -- the fields of body 4: the waiting count, the drop count, sixteen pairs
 abbrev pub ringFields : List Field
 ringFields = count ∷ drops ∷ pairs ∷ []
 
--- the bodies: the registers, the route bytes, the vector bytes, the ring
-abbrev pub fourBodies : List Word → List Body
-fourBodies ws =
+-- and of body 5: the next number, sixteen numbers (02, C-19)
+abbrev pub numberFields : List Field
+numberFields = next ∷ numbers ∷ []
+
+-- the bodies: the registers, the route bytes, the vector bytes, the ring, and others behind them
+abbrev pub fourBodies : List Word → List Body → List Body
+fourBodies ws others =
     record { kind = 1; fields = map word ws }
     ∷ record { kind = 2; fields = routes ∷ [] }
     ∷ record { kind = 3; fields = vectors ∷ [] }
     ∷ record { kind = 4; fields = ringFields }
-    ∷ []
+    ∷ others
 
 abbrev pub bodies : Form → List Body
-bodies one = fourBodies (words one)
-bodies two = fourBodies (words two)
+bodies one = fourBodies nineWords []
+bodies two = fourBodies eightWords []
+bodies numbered = fourBodies eightWords (record { kind = 5; fields = numberFields } ∷ [])
 
 -- all forms
 abbrev pub forms : List Form
-forms = one ∷ two ∷ []
+forms = one ∷ two ∷ numbered ∷ []
 
 -- ---- fields in a list
 

@@ -8,7 +8,7 @@
 --   A record has named fields, r .field; a data type has the cases that it lists (`deriving Discrete`: two of them can be told apart, `yes` or `no`). `x ≡ y` in a Type says that both are the same.
 --   `abbrev` and `unfoldable` say only how a proof opens a definition; to a reader they are the same.
 --   A Made is an event as an input makes it; a Turn is what a step leaves of the lines and makes; an Act is one thing that a call does to the device
---   without its ring; a Step is what a whole call gives: the device after, the events made, the events drained.
+--   without its ring; a Step is what a whole call gives: the device after, the events made, the events drained; Numbers stand beside the device, of events and not of bytes.
 pub mod Numbers
 pub mod Inputs
 pub mod Lines
@@ -17,6 +17,7 @@ pub mod Core
 pub mod Map
 pub mod Access
 pub mod Device
+pub mod Numbering
 pub mod Window
 pub mod Form
 pub mod Image

@@ -16,10 +16,9 @@ ghost use mathlib.Core.Path.{_≡_};
 ghost use mathlib.Core.List.{_++_};
 ghost use lib.ListN.{length, drop};
 ghost use Rattle.rules.specs.Form.{formLength, contentsLength, contentsOf};
-ghost use Rattle.rules.specs.Image.{encodeAs};
 ghost use Rattle.state.specs.View.{WellRing, Well, view};
 ghost use Rattle.image.specs.Shown.{formView};
-ghost use Rattle.saved.specs.Shown.{SavesLines, SavesStored, SavesTables, SavesRing};
+ghost use Rattle.saved.specs.Shown.{SavesLines, SavesStored, SavesTables, SavesRing, SavesNumbers, SavedAs};
 
 fn put_contents(image: &mut [u8], form: Form)
     requires { ⌜ length (now image) ≡ formLength (formView form) ⌝ }
@@ -28,6 +27,7 @@ fn put_contents(image: &mut [u8], form: Form)
     let c = contents_of(form);
     put_word(image, 0, c.first);
     put_word(image, 8, c.second);
+    put_word(image, 14, c.third);
     put_word(image, c.last_at, c.last);
 }
 
@@ -79,13 +79,29 @@ pub fn save_ring(image: &mut [u8], form: Form, ring: Ring)
     put_pairs(&mut image[at..end], ring);
 }
 
-pub fn save(image: &mut [u8], form: Form, state: PchPicState)
+// The numbers, as their body has them, in the form that has it.
+fn save_numbers(image: &mut [u8], form: Form, body: &[u8; 34])
+    requires { ⌜ length (now image) ≡ formLength (formView form) ⌝ }
+    ensures { λ _. ⌜ SavesNumbers (formView form) (now (body .entry)) (now (image .entry)) (now (image .exit)) ⌝ }
+{
+    let Form::Numbered = form else {
+        return;
+    };
+    let p = places_of(form);
+    let at = p.next;
+    let end = at + form::NUMBER_BODY_LENGTH;
+    copy(&mut image[at..end], body);
+}
+
+// The state, and beside it the body of the numbers.
+pub fn save(image: &mut [u8], form: Form, state: PchPicState, numbers: &[u8; 34])
     requires { ⌜ (length (now image) ≡ formLength (formView form)) × Well state ⌝ }
-    ensures { λ _. ⌜ now (image .exit) ≡ encodeAs (formView form) (view state) ⌝ }
+    ensures { λ _. ⌜ SavedAs (formView form) (view state) (now (numbers .entry)) (now (image .exit)) ⌝ }
 {
     put_contents(image, form);
     save_lines(image, form, state.lines);
     save_stored(image, form, state.stored);
     save_tables(image, form, state.tables);
     save_ring(image, form, state.ring);
+    save_numbers(image, form, numbers);
 }

@@ -13,13 +13,13 @@ ghost use Rattle.rules.specs.Core as core;
 ghost use Rattle.rules.specs.Form.{formLength};
 ghost use Rattle.image.specs.Shown.{formView};
 ghost use Rattle.engine.specs.Moves.{answerValue};
-ghost use Rattle.inplace.specs.Held.{MovesIn, Returns, given};
+ghost use Rattle.inplace.specs.Held.{MovesIn, Returns, given, untaken};
 ghost use Rattle.service.specs.Offered.{levelMove};
 
 // The lowest of a set that waits goes into service; the answer is its vector.
 pub fn enter(image: &mut [u8], form: Form, set: u64) -> Answer
     requires { ⌜ length (now image) ≡ formLength (formView form) ⌝ }
-    ensures { λ r. ⌜ MovesIn (now (image .entry)) (now (image .exit)) (answerValue r) given (λ vs. lines.enter vs false (on set)) ⌝ }
+    ensures { λ r. ⌜ MovesIn (now (image .entry)) (now (image .exit)) (answerValue r) untaken given (λ vs. lines.enter vs false (on set)) ⌝ }
 {
     let isr = words::isr(image, form);
     let waiting = decide::pending(set, words::irr(image, form), words::mask(image, form), isr);
@@ -34,7 +34,7 @@ pub fn enter(image: &mut [u8], form: Form, set: u64) -> Answer
 // An input that is in service leaves it; the answer is its vector.
 fn leave_one(image: &mut [u8], form: Form, irq: usize) -> Answer
     requires { ⌜ (length (now image) ≡ formLength (formView form)) × (irq < 64) ⌝ }
-    ensures { λ r. ⌜ MovesIn (now (image .entry)) (now (image .exit)) (answerValue r) given (λ vs. lines.leave vs false (only irq)) ⌝ }
+    ensures { λ r. ⌜ MovesIn (now (image .entry)) (now (image .exit)) (answerValue r) untaken given (λ vs. lines.leave vs false (only irq)) ⌝ }
 {
     let isr = words::isr(image, form);
     let bit = 1u64 << irq;

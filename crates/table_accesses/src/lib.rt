@@ -2,10 +2,13 @@
 use answer::Told;
 use answer::Value;
 use answer::done;
-use checked::Verdict;
-use checked::check;
+use checked::Bodies;
+use checked::Head;
+use checked::test_bodies;
+use checked::test_head;
 use refusals::no_width;
-use refusals::of_image;
+use refusals::of_bodies;
+use refusals::of_head;
 use refusals::outside;
 use window::Known;
 use window::Located;
@@ -18,9 +21,12 @@ ghost use Rattle.answer.specs.Given.{ends};
 pub fn read(image: &[u8], base: u64, size: u64, address: u64, width: u64) -> Told
     ensures { λ r. ⌜ ends r (now (image .entry)) [] ≡ ending (asked.read base size address width) (now (image .entry)) ⌝ }
 {
-    let checked = check(image);
-    let Verdict::Accepted(form) = checked else {
-        return of_image(image);
+    let told = test_head(image);
+    let Head::Of(form) = told else {
+        return of_head(told);
+    };
+    let Bodies::Good = test_bodies(image, form) else {
+        return of_bodies(image, form);
     };
     let Known::As(known) = window::width_of(width) else {
         return no_width();
@@ -36,9 +42,12 @@ pub fn read(image: &[u8], base: u64, size: u64, address: u64, width: u64) -> Tol
 pub fn write(image: &mut [u8], base: u64, size: u64, address: u64, width: u64, value: u64) -> Told
     ensures { λ r. ⌜ ends r (now (image .exit)) [] ≡ ending (asked.write base size address width value) (now (image .entry)) ⌝ }
 {
-    let checked = check(image);
-    let Verdict::Accepted(form) = checked else {
-        return of_image(image);
+    let told = test_head(image);
+    let Head::Of(form) = told else {
+        return of_head(told);
+    };
+    let Bodies::Good = test_bodies(image, form) else {
+        return of_bodies(image, form);
     };
     let Known::As(known) = window::width_of(width) else {
         return no_width();

@@ -15,7 +15,7 @@ use Rattle.rules.proofs.laws.Losses.{entry-quiet}
 use Rattle.rules.proofs.laws.Widths.{dword-of}
 use Rattle.rules.proofs.laws.Writes.{dword-acts-of, dword-acts-four}
 use Rattle.inplace.specs.Held.{Reads, Writes}
-use Rattle.inplace.proofs.Doing.{stores-write, writes-none, writes-same, writes-then}
+use Rattle.inplace.proofs.Doing.{writes-quiet, writes-none, writes-same, writes-then}
 use Rattle.table.specs.Meaning.{part, route, vector, nothing, meant}
 use Rattle.table.proofs.Meant.{cellOf, cell-of}
 
@@ -37,20 +37,20 @@ module _ (o : ℕ) where
   module _ (i : List ℕ) where
     pub half-reads : (r : Register) (h : Bool) → halfOf r h ≡ cellAt o → {x y : ℕ} → Reads i x (λ d. valueOf (d .core) r) → y ≡ half h x → Reads i y (λ d. readDword (d .core) o)
     unfolding readCell
-    half-reads r h e v p d g = p ∙ ap (half h) (v d g) ∙ dword-of (d .core) o e
+    half-reads r h e v p d ns g = p ∙ ap (half h) (v d ns g) ∙ dword-of (d .core) o e
 
     pub none-reads : map.nothing ≡ cellAt o → Reads i 0 (λ d. readDword (d .core) o)
     unfolding readCell
-    none-reads e d g = dword-of (d .core) o e
+    none-reads e d ns g = dword-of (d .core) o e
 
     module _ (v : ℕ) where
       pub half-writes : {j : List ℕ} {n : ℕ} (r : Register) (h : Bool) → halfOf r h ≡ cellAt o → Writes i j n (λ c. registerActs r h v) → Writes i j n (λ c. dwordActs o v)
       unfolding cellActs
-      half-writes r h e w = writes-same (λ c. registerActs r h v) (λ c. dwordActs o v) w (λ d g. dword-acts-of o v e)
+      half-writes r h e w = writes-same (λ c. registerActs r h v) (λ c. dwordActs o v) w (λ d ns g. dword-acts-of o v e)
 
       pub none-writes : map.nothing ≡ cellAt o → Writes i i 0 (λ c. dwordActs o v)
       unfolding cellActs
-      none-writes e = writes-same (λ c. []) (λ c. dwordActs o v) (writes-none i) (λ d g. dword-acts-of o v e)
+      none-writes e = writes-same (λ c. []) (λ c. dwordActs o v) (writes-none i) (λ d ns g. dword-acts-of o v e)
 
 -- ---- among the route and vector bytes
 
@@ -77,7 +77,7 @@ pub four-writes : (o v : ℕ) → cellAt o ≡ bytes → {b₀ b₁ b₂ b₃ n�
     → Writes j k n₁ (λ c. byteActs c (o + 1) b₁) → Writes k l n₂ (λ c. byteActs c (o + 2) b₂) → Writes l m n₃ (λ c. byteActs c (o + 3) b₃) → Writes i m 0 (λ c. dwordActs o v)
 four-writes o v e {b₀} {b₁} {b₂} {b₃} e₀ e₁ e₂ e₃ p q r s =
     let w = writes-then (λ c. byteActs c o b₀) _ p (writes-then (λ c. byteActs c (o + 1) b₁) _ q (writes-then (λ c. byteActs c (o + 2) b₂) (λ c. byteActs c (o + 3) b₃) r s)) in
-    stores-write (λ c. dwordActs o v) (w .becomes) (λ d h. ap (acted d) (all (d .core))) (four-quiet o v e)
+    writes-quiet (λ c. dwordActs o v) (writes-same _ (λ c. dwordActs o v) w (λ d ns h. all (d .core))) (four-quiet o v e)
   where
     one : Core → Core
     one c = turns c (byteActs c o b₀) .after

@@ -2,11 +2,14 @@
 use answer::Told;
 use answer::Value;
 use answer::done;
-use checked::Verdict;
-use checked::check;
+use checked::Bodies;
+use checked::Head;
+use checked::test_bodies;
+use checked::test_head;
 use image::form::KnownForm;
 use image::form::form_of;
-use refusals::of_image;
+use refusals::of_bodies;
+use refusals::of_head;
 use refusals::wrong_length;
 use state::PchPicState;
 ghost use mathlib.Core.Path.{_≡_};
@@ -23,7 +26,8 @@ pub fn reset(image: &mut [u8]) -> Told
     let KnownForm::As(form) = form_of(length) else {
         return wrong_length();
     };
-    saved::save(image, form, PchPicState::reset());
+    let numbers = [0u8; 34];
+    saved::save(image, form, PchPicState::reset(), &numbers);
     done(Value::Absent)
 }
 
@@ -31,9 +35,12 @@ pub fn reset(image: &mut [u8]) -> Told
 pub fn drain(image: &mut [u8], events: &mut [u8]) -> Told
     ensures { λ r. ⌜ ends r (now (image .exit)) (now (events .exit)) ≡ ending (asked.drain (now (events .entry)) 0) (now (image .entry)) ⌝ }
 {
-    let checked = check(image);
-    let Verdict::Accepted(form) = checked else {
-        return of_image(image);
+    let told = test_head(image);
+    let Head::Of(form) = told else {
+        return of_head(told);
+    };
+    let Bodies::Good = test_bodies(image, form) else {
+        return of_bodies(image, form);
     };
     let count = drains::drain(image, form, events);
     done(Value::Present(count as u64))

@@ -11,11 +11,13 @@ use Rattle.rules.specs.Numbers.{bytesOf, Bytes}
 use Rattle.rules.specs.Lines.{Lines}
 use Rattle.rules.specs.Core.{Core, Stored, Plain, htmsiEn, edge, pol, auto0, auto1, plain, withPlain}
 use Rattle.rules.specs.Device.{Device, WellFormed}
-use Rattle.rules.specs.Form.{Word, mask, irr, isr, copy, stored, Field, word, pairs, Form, is, has, place, formLength, image}
+use Rattle.rules.specs.Numbering.{Numbers, WellNumbered}
+use Rattle.rules.specs.Form.{Word, mask, irr, isr, copy, stored, Field, word, pairs, numbers, Form, is, has, place, formLength, image}
 use Rattle.rules.specs.Image.{wordOf, fieldOf, registerAt, encodeAs}
 use Rattle.rules.proofs.laws.Bits.{test}
 use Rattle.rules.proofs.laws.Layout.{Sized, never, by-word, by-field, always, has-all, field-fits}
 use Rattle.rules.proofs.laws.Saved.{fields-sized, word-stands}
+use Rattle.rules.proofs.laws.Numbered.{same-ring}
 use Rattle.rules.proofs.laws.InPlace.{withCore, coreWord, field-written, word-apart}
 use Rattle.bytes.specs.Put.{withWord}
 use Rattle.image.specs.Shown.{PlacesOf}
@@ -92,68 +94,68 @@ module _ (f : Form) (i : List ℕ) (s : length i ≡ formLength f) where
   -- ---- read
 
   pub word-read : (w : Word) {x at : ℕ} → at ≡ place f (word w) → always (word w) ≡ true → x ≡ registerAt at i → Reads i x (λ d. wordOf (d .core) w)
-  word-read w e a g d h = g ∙ (λ t. registerAt (e t) (holds-as f i s h t)) ∙ word-stands d (h .well) f w a (word-small (h .well) w)
+  word-read w e a g d ns h = g ∙ (λ t. registerAt (e t) (holds-as f i s h t)) ∙ word-stands d (h .well) ns (h .numbered) f w a (word-small (h .well) w)
 
   -- ---- stored
 
   -- a word that has no copy
   word-put : (w : Word) {x at : ℕ} → at ≡ place f (word w) → {j : List ℕ} → j ≡ withWord at x i → isIrr w ≡ false → always (word w) ≡ true
-      → ((c : Core) → wordOf (coreWord w x c) w ≡ x) → (d : Device) → Holds i d → j ≡ encodeAs f (withCore (coreWord w x (d .core)) d)
-  word-put w {x} e g n a back d h =
-      let after = fieldOf (withCore (coreWord w x (d .core)) d) in
-      g ∙ (λ t. withWord (e t) x (holds-as f i s h t)) ∙ over (place f (word w)) x (encodeAs f d) ∙ ap (λ y. putMid (place f (word w)) 8 (encodeAs f d) (bytesOf 8 y)) (sym (back (d .core)))
-      ∙ field-written f (fieldOf d) after (fields-sized d (h .well)) (word w) (has-all f (word w) a) (word-apart f d w x (λ q. false≢true (sym n ∙ ap isIrr q)))
+      → ((c : Core) → wordOf (coreWord w x c) w ≡ x) → (d : Device) (ns : Numbers) → Holds i d ns → j ≡ encodeAs f (withCore (coreWord w x (d .core)) d) ns
+  word-put w {x} e g n a back d ns h =
+      let after = fieldOf (withCore (coreWord w x (d .core)) d) ns in
+      g ∙ (λ t. withWord (e t) x (holds-as f i s h t)) ∙ over (place f (word w)) x (encodeAs f d ns) ∙ ap (λ y. putMid (place f (word w)) 8 (encodeAs f d ns) (bytesOf 8 y)) (sym (back (d .core)))
+      ∙ field-written f (fieldOf d ns) after (fields-sized d (h .well) ns (h .numbered)) (word w) (has-all f (word w) a) (word-apart f d ns w x (λ q. false≢true (sym n ∙ ap isIrr q)))
 
   module _ {x at : ℕ} (below : x < 2 ^ 64) {j : List ℕ} (g : j ≡ withWord at x i) where
     pub mask-stored : at ≡ place f (word mask) → Becomes i j (λ d. withCore (coreWord mask x (d .core)) d)
-    mask-stored e d h = as-holds f (lines-well (h .well) _ below (h .well .irr) (h .well .isr)) (word-put mask e g refl refl (λ c. refl) d h)
+    mask-stored e d ns h = as-holds f (lines-well (h .well) _ below (h .well .irr) (h .well .isr)) (same-ring refl (h .numbered)) (word-put mask e g refl refl (λ c. refl) d ns h)
 
     pub isr-stored : at ≡ place f (word isr) → Becomes i j (λ d. withCore (coreWord isr x (d .core)) d)
-    isr-stored e d h = as-holds f (lines-well (h .well) _ (h .well .mask) (h .well .irr) below) (word-put isr e g refl refl (λ c. refl) d h)
+    isr-stored e d ns h = as-holds f (lines-well (h .well) _ (h .well .mask) (h .well .irr) below) (same-ring refl (h .numbered)) (word-put isr e g refl refl (λ c. refl) d ns h)
 
     pub plain-stored : (p : Plain) → at ≡ place f (word (stored p)) → Becomes i j (λ d. withCore (coreWord (stored p) x (d .core)) d)
-    plain-stored p e d h = as-holds f (plain-well (h .well) p x below) (word-put (stored p) e g refl refl (λ c. put-back p (c .stored)) d h)
+    plain-stored p e d ns h = as-holds f (plain-well (h .well) p x below) (same-ring refl (h .numbered)) (word-put (stored p) e g refl refl (λ c. put-back p (c .stored)) d ns h)
       where
         put-back : (p : Plain) (s : Stored) → plain (withPlain s p x) p ≡ x
         put-back = elim [ htmsiEn ↦ λ s. refl | edge ↦ λ s. refl | pol ↦ λ s. refl | auto0 ↦ λ s. refl | auto1 ↦ λ s. refl ]
 
 -- ---- IRR, and then its copy; in a form that has none, IRR twice
 
-module _ (f : Form) (d : Device) (w : WellFormed d) (x : ℕ) where
+module _ (f : Form) (d : Device) (w : WellFormed d) (ns : Numbers) (v : WellNumbered d ns) (x : ℕ) where
   abbrev after : Device
   after = withCore (coreWord irr x (d .core)) d
 
   -- the fields when IRR is stored and its copy is not
   abbrev between : Field → List ℕ
-  between q = cond (is q (word irr)) (bytesOf 8 x) (fieldOf d q)
+  between q = cond (is q (word irr)) (bytesOf 8 x) (fieldOf d ns q)
 
   between-sized : Sized between
-  between-sized = by-field _ (by-word _ refl refl refl refl (λ p. refl)) (w .routes) (w .vectors) (refl, refl, fields-sized d w pairs)
+  between-sized = by-field _ (by-word _ refl refl refl refl (λ p. refl)) (w .routes) (w .vectors) (refl, refl, fields-sized d w ns v pairs) (refl, fields-sized d w ns v numbers)
 
-  irr-first : putMid (place f (word irr)) 8 (encodeAs f d) (bytesOf 8 x) ≡ image f between
-  irr-first = field-written f (fieldOf d) between (fields-sized d w) (word irr) (has-all f (word irr) refl) (λ q a t. rw t)
+  irr-first : putMid (place f (word irr)) 8 (encodeAs f d ns) (bytesOf 8 x) ≡ image f between
+  irr-first = field-written f (fieldOf d ns) between (fields-sized d w ns v) (word irr) (has-all f (word irr) refl) (λ q a t. rw t)
 
   -- with a copy
-  copied : has f (word copy) ≡ true → putMid (place f (word copy)) 8 (image f between) (bytesOf 8 x) ≡ encodeAs f after
+  copied : has f (word copy) ≡ true → putMid (place f (word copy)) 8 (image f between) (bytesOf 8 x) ≡ encodeAs f after ns
   copied h =
-      field-written f between (fieldOf after) between-sized (word copy) h
-      (by-field _ (by-word _ (λ a t. refl) (λ a t. refl) (λ a t. refl) (λ a. never) (λ p a t. refl)) (λ a t. refl) (λ a t. refl) (λ a t. refl, λ a t. refl, λ a t. refl))
+      field-written f between (fieldOf after ns) between-sized (word copy) h
+      (by-field _ (by-word _ (λ a t. refl) (λ a t. refl) (λ a t. refl) (λ a. never) (λ p a t. refl)) (λ a t. refl) (λ a t. refl) (λ a t. refl, λ a t. refl, λ a t. refl) (λ a t. refl, λ a t. refl))
 
   -- without: IRR's bytes are those that are there
-  twice : has f (word copy) ≡ false → putMid (place f (word irr)) 8 (image f between) (bytesOf 8 x) ≡ encodeAs f after
+  twice : has f (word copy) ≡ false → putMid (place f (word irr)) 8 (image f between) (bytesOf 8 x) ≡ encodeAs f after ns
   twice h =
-      field-written f between (fieldOf after) between-sized (word irr) (has-all f (word irr) refl)
-      (by-field _ (by-word _ (λ a t. refl) (λ a. never) (λ a t. refl) (λ a. absurd (false≢true (sym h ∙ a))) (λ p a t. refl)) (λ a t. refl) (λ a t. refl) (λ a t. refl, λ a t. refl, λ a t. refl))
+      field-written f between (fieldOf after ns) between-sized (word irr) (has-all f (word irr) refl)
+      (by-field _ (by-word _ (λ a t. refl) (λ a. never) (λ a t. refl) (λ a. absurd (false≢true (sym h ∙ a))) (λ p a t. refl)) (λ a t. refl) (λ a t. refl) (λ a t. refl, λ a t. refl, λ a t. refl) (λ a t. refl, λ a t. refl))
 
   irr-put : {at to : ℕ} → at ≡ place f (word irr) → (has f (word copy) ≡ true → to ≡ place f (word copy)) → (has f (word copy) ≡ false → to ≡ at)
-      → withWord to x (withWord at x (encodeAs f d)) ≡ encodeAs f after
+      → withWord to x (withWord at x (encodeAs f d ns)) ≡ encodeAs f after ns
   irr-put {at} {to} e g k =
-      over to x (withWord at x (encodeAs f d)) ∙ ap (λ l. putMid to 8 l (bytesOf 8 x)) (over at x (encodeAs f d) ∙ ap (λ a. putMid a 8 (encodeAs f d) (bytesOf 8 x)) e ∙ irr-first)
+      over to x (withWord at x (encodeAs f d ns)) ∙ ap (λ l. putMid to 8 l (bytesOf 8 x)) (over at x (encodeAs f d ns) ∙ ap (λ a. putMid a 8 (encodeAs f d ns) (bytesOf 8 x)) e ∙ irr-first)
       ∙ test (has f (word copy)) (λ h. ap (λ a. putMid a 8 (image f between) (bytesOf 8 x)) (g h) ∙ copied h) (λ h. ap (λ a. putMid a 8 (image f between) (bytesOf 8 x)) (k h ∙ e) ∙ twice h)
 
 pub irr-stored : (f : Form) (i : List ℕ) → length i ≡ formLength f → {x : ℕ} → x < 2 ^ 64 → (p : Places) → PlacesOf f p → {j k : List ℕ}
     → j ≡ withWord (p .intirr) x i → k ≡ withWord (p .«last_intirr») x j → Becomes i k (λ d. withCore (coreWord irr x (d .core)) d)
-irr-stored f i s {x} below p o g q d h =
-    as-holds f (lines-well (h .well) _ (h .well .mask) below (h .well .isr))
+irr-stored f i s {x} below p o g q d ns h =
+    as-holds f (lines-well (h .well) _ (h .well .mask) below (h .well .isr)) (same-ring refl (h .numbered))
     (q ∙ ap (λ l. withWord (p .«last_intirr») x l) (g ∙ ap (λ l. withWord (p .intirr) x l) (holds-as f i s h))
-    ∙ irr-put f d (h .well) x (o .fields (word irr) (has-all f (word irr) refl)) (o .fields (word copy)) (o .copy))
+    ∙ irr-put f d (h .well) ns (h .numbered) x (o .fields (word irr) (has-all f (word irr) refl)) (o .fields (word copy)) (o .copy))

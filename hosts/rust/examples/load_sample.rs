@@ -1,11 +1,11 @@
 //! A guest's day with a PCH-PIC, told in plain words: start-up as Linux's driver does it, a load sample's line up and down, the device saved
-//! to a file and loaded into a fresh host, what comes after sixteen events, and a guest that is unkind.
+//! to a file and loaded into a fresh host, what comes after sixteen events, a guest that is unkind, and a recorder that puts events in order.
 //!
-//! `load_sample FILE` plays it, and the device goes to FILE, in form 2; `load_sample --show FILE` tells what a saved device holds; `load_sample
-//! --form N FROM TO` saves what FROM holds to TO, in form 1 or 2: a host of before version 0.6.0 loads form 1 alone. It prints the same as
-//! `hosts/c/load_sample.c`.
+//! `load_sample FILE` plays it, and the device goes to FILE, with the numbers of its events; `load_sample --show FILE` tells what a saved device holds;
+//! `load_sample --form F FROM TO` saves what FROM holds to TO, in form 1, 2 or numbered: a host of before version 0.8.0 does not load numbered, and one of
+//! before 0.6.0 loads form 1 alone. It prints the same as `hosts/c/load_sample.c`.
 
-use pch_pic::{file, reg, Error, Event, Form, PchPic, Width, Window, Wires};
+use pch_pic::{file, reg, Change, Error, Event, Form, PchPic, Width, Window, Wires};
 use std::process::ExitCode;
 
 const WINDOW: Window = Window::at(0x1000_0000);
@@ -23,8 +23,8 @@ struct Host {
 }
 
 /// A real host asserts or deasserts the vector at its CPUs here.
-fn route(event: Event) {
-    println!("  {event}");
+fn route(change: Change) {
+    println!("  {change}");
 }
 
 impl Host {
@@ -104,7 +104,7 @@ fn save_and_load(host: &mut Host, path: &str) -> Result<(), Failure> {
     host.guest_writes(reg::CLEAR, Width::Dword, SAMPLE_BIT)?;
     let mask = mask_without_sample(host)?;
     host.pic.write(WINDOW, WINDOW.base + reg::MASK, Width::Dword, mask)?;
-    save(&host.pic, Form::Two, path)?;
+    save(&host.pic, Form::Numbered, path)?;
     println!("A fresh host loads it; line {SAMPLE} is still high there.");
     *host = Host::new(loaded(path)?);
     host.wires.resume(&mut host.pic, SAMPLE_BIT, route);
@@ -145,6 +145,35 @@ fn unkind(host: &mut Host) -> Result<(), Error> {
     host.line(1, false)
 }
 
+fn print_events(events: &[Event]) {
+    for event in events {
+        println!("  number {}: {event}", event.number);
+    }
+}
+
+/// A recorder keeps every event. One that is returned comes to it at once, one that waits only when the host drains; the numbers say in which order
+/// the device made them. This host drains late, and so the order is another.
+fn recorded(host: &mut Host) -> Result<(), Error> {
+    println!(
+        "The guest masks everything, and line 3 goes up. It unmasks inputs 3 and 5, line 3 goes down, line 5 up, and it clears input 5."
+    );
+    host.guest_writes(reg::MASK, Width::Dword, 0xffff_ffff)?;
+    host.line(3, true)?;
+    let mut events = Vec::new();
+    host.pic.write(WINDOW, WINDOW.base + reg::MASK, Width::Dword, !0x28)?;
+    events.extend(host.pic.set_level(3, false)?);
+    events.extend(host.pic.set_level(5, true)?);
+    host.pic.write(WINDOW, WINDOW.base + reg::CLEAR, Width::Dword, 0x28)?;
+    events.extend(host.pic.drain_events());
+    println!("The recorder gets what is returned at once, and the rest from a drain at the end:");
+    print_events(&events);
+    println!("By their numbers it puts them in the order in which they were made:");
+    Event::sort(&mut events);
+    print_events(&events);
+    host.line(3, false)?;
+    host.line(5, false)
+}
+
 fn play(path: &str) -> Result<ExitCode, Failure> {
     let mut host = Host::new(PchPic::new());
     start_up(&mut host)?;
@@ -152,6 +181,7 @@ fn play(path: &str) -> Result<ExitCode, Failure> {
     save_and_load(&mut host, path)?;
     after_sixteen(&mut host)?;
     unkind(&mut host)?;
+    recorded(&mut host)?;
     let left = host.wires.vectors_on().count();
     println!("Vectors left on: {left}.");
     Ok(if left == 0 { ExitCode::SUCCESS } else { ExitCode::FAILURE })
@@ -162,6 +192,7 @@ fn show(path: &str) -> Result<ExitCode, Failure> {
     let masked = host.guest_reads(reg::MASK, Width::Qword)?;
     println!("Latched {:#018x}, in service {:#018x}, masked {masked:#018x}.", host.pic.latched(), host.pic.in_service());
     println!("Waiting events: {}. Dropped: {}.", host.pic.waiting(), host.pic.drops());
+    println!("The next event gets number {}.", host.pic.next_number());
     Ok(ExitCode::SUCCESS)
 }
 
@@ -178,8 +209,9 @@ fn main() -> ExitCode {
         ["--show", path] => show(path),
         ["--form", "1", from, to] => convert(Form::One, from, to),
         ["--form", "2", from, to] => convert(Form::Two, from, to),
+        ["--form", "numbered", from, to] => convert(Form::Numbered, from, to),
         _ => {
-            eprintln!("usage: load_sample FILE | load_sample --show FILE | load_sample --form 1|2 FROM TO");
+            eprintln!("usage: load_sample FILE | load_sample --show FILE | load_sample --form 1|2|numbered FROM TO");
             return ExitCode::from(2);
         }
     };

@@ -11,6 +11,7 @@ pub const REGISTERS: u8 = 1;
 pub const ROUTES: u8 = 2;
 pub const VECTORS: u8 = 3;
 pub const EVENTS: u8 = 4;
+pub const NUMBERS: u8 = 5;
 
 /// Where IRR and ISR begin, counted back from the end of the registers.
 pub const IRR_BACK: usize = 40;
@@ -19,6 +20,9 @@ pub const ISR_BACK: usize = 32;
 /// Where the events' body has how many wait, and how many were dropped.
 pub const WAITING: usize = 0;
 pub const DROPS: usize = 1;
+
+/// Where the numbers' body has that of the next event.
+pub const NEXT: usize = 0;
 
 /// The body of that kind; empty where the image lists none.
 pub fn body(image: &[u8], kind: u8) -> &[u8] {
@@ -72,10 +76,12 @@ mod tests {
             ("KIND_ROUTES", usize::from(ROUTES)),
             ("KIND_VECTORS", usize::from(VECTORS)),
             ("KIND_EVENTS", usize::from(EVENTS)),
+            ("KIND_NUMBERS", usize::from(NUMBERS)),
             ("REGISTERS_IRR_BACK", IRR_BACK),
             ("REGISTERS_ISR_BACK", ISR_BACK),
             ("EVENTS_WAITING", WAITING),
             ("EVENTS_DROPS", DROPS),
+            ("NUMBERS_NEXT", NEXT),
         ] {
             let line = header.lines().find(|line| line.trim().starts_with(&format!("PCH_PIC_{name} = ")));
             let number = line.and_then(|line| line.split(['=', ',', '/']).nth(1)?.trim().parse().ok());

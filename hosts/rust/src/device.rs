@@ -1,14 +1,14 @@
 //! The device: an image of its own, and the calls on it.
 
 use crate::{
-    contents, ffi, reg, Error, Event, Events, Form, Image, Returned, Width, Window, EVENTS, EVENT_LEN, IMAGE2_LEN, INPUTS, VECTORS,
+    contents, ffi, reg, Error, Event, Events, Form, Image, Returned, Width, Window, EVENTS, EVENT_LEN, IMAGE2_NUMBERED_LEN, INPUTS, VECTORS,
 };
 use core::fmt;
 
 /// A LoongArch PCH-PIC.
 ///
-/// It owns its image, so a clone is a snapshot, and devices are equal just where every later call answers alike, whatever form they were loaded
-/// from. It is `Send` and `Sync`: reads of one device may run side by side, since they only load from its image; all else takes `&mut`.
+/// It owns its image, so a clone is a snapshot, and devices are equal just where their images are, numbers of events and drop count included. It is `Send`
+/// and `Sync`: reads of one device may run side by side, since they only load from its image; all else takes `&mut`.
 ///
 /// ```
 /// fn shared<T: Send + Sync>(_: &T) {}
@@ -16,8 +16,8 @@ use core::fmt;
 /// ```
 #[derive(Clone, PartialEq, Eq, Hash)]
 pub struct PchPic {
-    /// An accepted image of form 2: made by reset or tested by load, and every call keeps it so.
-    image: [u8; IMAGE2_LEN],
+    /// An accepted image of form 2 with numbers: made by reset or tested by load, and every call keeps it so.
+    image: [u8; IMAGE2_NUMBERED_LEN],
 }
 
 impl Default for PchPic {
@@ -42,17 +42,18 @@ impl fmt::Debug for PchPic {
             .field("vectors", &format_args!("{:02x?}", contents::body(&self.image, contents::VECTORS)))
             .field("waiting", &self.waiting())
             .field("drops", &self.drops())
+            .field("next_number", &self.next_number())
             .finish()
     }
 }
 
 impl PchPic {
-    /// The device after reset: every input masked, vector n for input n, nothing latched, nothing waiting.
+    /// The device after reset: every input masked, vector n for input n, nothing latched, nothing waiting, and number 0 for the next event.
     ///
     /// It is not `const`: the bytes come from the proved reset, which runs. A `static` takes a `LazyLock`.
     pub fn new() -> Self {
-        let mut image = [0; IMAGE2_LEN];
-        ffi::reset(&mut image).expect("a reset takes any 251 bytes");
+        let mut image = [0; IMAGE2_NUMBERED_LEN];
+        ffi::reset(&mut image).expect("a reset takes any 290 bytes");
         PchPic { image }
     }
 
@@ -89,7 +90,7 @@ impl PchPic {
     /// let (mut pic, window) = (PchPic::new(), Window::at(0));
     /// assert_eq!(pic.set_level(5, true)?, None); // masked: only latched
     /// pic.write(window, reg::MASK, Width::Dword, 0)?;
-    /// assert_eq!(pic.drain_events().collect::<Vec<_>>(), [Event { vector: 5, asserted: true }]);
+    /// assert_eq!(pic.drain_events().collect::<Vec<_>>(), [Event { vector: 5, asserted: true, number: 0 }]);
     /// # Ok::<(), pch_pic::Error>(())
     /// ```
     ///
@@ -169,7 +170,7 @@ impl PchPic {
     /// [`Error::Input`] where the input is 64 or more.
     pub fn set_level(&mut self, input: u64, level: bool) -> Result<Returned, Error> {
         let value = ffi::level(&mut self.image, input, level)?;
-        Ok(Returned(value.map(|vector| Event { vector: vector as u8, asserted: level })))
+        Ok(Returned(value.map(|value| returned(value, level))))
     }
 
     /// Asks for an input that was raised before: if it is latched, unmasked and not in service, it goes into service and is asserted.
@@ -190,7 +191,7 @@ impl PchPic {
     /// [`Error::Input`] where the input is 64 or more.
     pub fn poll(&mut self, input: u64) -> Result<Returned, Error> {
         let value = ffi::poll(&mut self.image, input)?;
-        Ok(Returned(value.map(|vector| Event { vector: vector as u8, asserted: true })))
+        Ok(Returned(value.map(|value| returned(value, true))))
     }
 
     /// Moves waiting events to the front of `events`, oldest first, as many as wait or as fit, and says how many. The rest wait on.
@@ -203,17 +204,17 @@ impl PchPic {
     /// ```
     #[must_use = "the events are out of the device, and the count says how many there are"]
     pub fn drain(&mut self, events: &mut [Event]) -> usize {
-        let mut pairs = [0; EVENTS * EVENT_LEN];
+        let mut drained = [0; EVENTS * EVENT_LEN];
         let room = events.len().min(EVENTS) * EVENT_LEN;
-        let count = self.drain_bytes(&mut pairs[..room], 0).expect("place 0 is in every buffer");
-        for (event, pair) in events.iter_mut().zip(pairs.chunks_exact(EVENT_LEN)).take(count) {
-            *event = Event { vector: pair[0], asserted: pair[1] == 1 };
+        let count = self.drain_bytes(&mut drained[..room], 0).expect("place 0 is in every buffer");
+        for (event, bytes) in events.iter_mut().zip(drained.chunks_exact(EVENT_LEN)).take(count) {
+            *event = Event { vector: bytes[0], asserted: bytes[1] == 1, number: u16::from_le_bytes([bytes[2], bytes[3]]) };
         }
         count
     }
 
-    /// Moves waiting events to `buffer` from byte `place` on, [`EVENT_LEN`] bytes each: the vector, then 1 for an assert or 0. It says how
-    /// many it moved; all other bytes stay.
+    /// Moves waiting events to `buffer` from byte `place` on, [`EVENT_LEN`] bytes each: the vector, then 1 for an assert or 0, then the number,
+    /// little end first. It says how many it moved; all other bytes stay. 64 bytes have room for all, and 32 for eight.
     ///
     /// # Errors
     ///
@@ -237,6 +238,23 @@ impl PchPic {
     pub fn drops(&self) -> u32 {
         let bytes = contents::body(&self.image, contents::EVENTS).get(contents::DROPS..contents::DROPS + 4);
         bytes.map_or(0, contents::number) as u32
+    }
+
+    /// The number that the next event gets.
+    ///
+    /// ```
+    /// use pch_pic::{reg, Form, PchPic, Width, Window};
+    ///
+    /// let mut pic = PchPic::new();
+    /// pic.write(Window::at(0), reg::MASK, Width::Dword, 0)?;
+    /// let _ = (pic.set_level(5, true)?, pic.set_level(5, false)?);
+    /// assert_eq!(pic.next_number(), 2);
+    /// assert_eq!(PchPic::from(pic.save(Form::Two)).next_number(), 0); // this form loses it
+    /// # Ok::<(), pch_pic::Error>(())
+    /// ```
+    pub fn next_number(&self) -> u16 {
+        let bytes = contents::body(&self.image, contents::NUMBERS).get(contents::NEXT..contents::NEXT + 2);
+        bytes.map_or(0, contents::number) as u16
     }
 
     /// The inputs that are latched: bit n for input n.
@@ -281,15 +299,16 @@ impl PchPic {
         Image::converted(&self.image, form).expect("a device's image is accepted")
     }
 
-    /// The device of an image that was saved in this form. It answers every later call as the saved one would. Where the form is not known, the
-    /// image's length says it: `PchPic::try_from` takes either form.
+    /// The device of an image that was saved in this form. It answers every later call as the saved one would, but for the numbers of events where the
+    /// form has none: then waiting events are numbered from 0, and the next number comes after them. Where the form is not known, the image's length says
+    /// it: `PchPic::try_from` takes any form.
     ///
     /// ```
     /// use pch_pic::{reg, Error, Form, PchPic, Width, Window};
     ///
     /// let mut pic = PchPic::new();
     /// pic.write(Window::at(0), reg::VECTORS + 7, Width::Byte, 0x77)?;
-    /// for form in [Form::One, Form::Two] {
+    /// for form in [Form::One, Form::Two, Form::Numbered] {
     ///     let mut image = pic.save(form).to_vec();
     ///     assert_eq!(PchPic::load(form, &image)?, pic);
     ///     assert_eq!(PchPic::try_from(&image[..])?, pic);
@@ -319,7 +338,7 @@ impl TryFrom<&[u8]> for PchPic {
     /// As [`PchPic::load`], in the form that the image's length says.
     fn try_from(image: &[u8]) -> Result<Self, Error> {
         // A conversion tests the image.
-        let mut pic = PchPic { image: [0; IMAGE2_LEN] };
+        let mut pic = PchPic { image: [0; IMAGE2_NUMBERED_LEN] };
         ffi::convert(image, &mut pic.image)?;
         Ok(pic)
     }
@@ -330,6 +349,11 @@ impl From<Image> for PchPic {
     fn from(image: Image) -> Self {
         PchPic::try_from(&image[..]).expect("an image is accepted")
     }
+}
+
+/// The event of a returned value: the vector is its low byte, the number its bits 16 to 31.
+fn returned(value: u64, asserted: bool) -> Event {
+    Event { vector: value as u8, asserted, number: (value >> 16) as u16 }
 }
 
 /// How many events a done write dropped; the library always tells it.

@@ -11,7 +11,7 @@ use core::fmt;
 ///
 /// assert_eq!(PchPic::load(Form::One, &[0; 100]), Err(Error::Length));
 /// assert_eq!(Error::Length.number(), 4);
-/// assert_eq!(Error::Length.to_string(), "an image is neither 259 nor 251 bytes long");
+/// assert_eq!(Error::Length.to_string(), "an image is not 290, 259 or 251 bytes long");
 /// ```
 #[derive(Clone, Copy, Debug, PartialEq, Eq, Hash)]
 #[non_exhaustive]
@@ -22,9 +22,9 @@ pub enum Error {
     Width,
     /// 3: the input is 64 or more.
     Input,
-    /// 4: an image is neither 259 nor 251 bytes long, or is not as long as the form that was named.
+    /// 4: an image is not 290, 259 or 251 bytes long, or is not as long as the form that was named.
     Length,
-    /// 5: the image's first 22 bytes are not those of the form that its length says.
+    /// 5: the image's first bytes, 27 of 290 or else 22, are not those of the form that its length says.
     Contents,
     /// 7: the place of a drain is past the end of its buffer.
     Room,
@@ -34,7 +34,7 @@ pub enum Error {
     Count(u64),
     /// 10: the flag of a waiting event is neither 0 nor 1; the place of the first such flag.
     Flag(u64),
-    /// 11: a byte behind the waiting events is not 0; the place of the first such byte.
+    /// 11: a byte behind the waiting events is not 0, or then one behind their numbers; the place of the first such byte.
     Unused(u64),
 }
 
@@ -87,13 +87,15 @@ impl fmt::Display for Error {
             Error::Outside(address) => write!(f, "the access at {address:#x} is not wholly inside the window"),
             Error::Width => f.write_str("the width is not 1, 2, 4 or 8"),
             Error::Input => f.write_str("the input is 64 or more"),
-            Error::Length => f.write_str("an image is neither 259 nor 251 bytes long"),
+            Error::Length => f.write_str("an image is not 290, 259 or 251 bytes long"),
             Error::Contents => f.write_str("the image does not begin as one of its length does"),
             Error::Room => f.write_str("a buffer is too short"),
             Error::Copy(place) => write!(f, "the image's copy of IRR differs from IRR, at byte {place}"),
             Error::Count(place) => write!(f, "the image says that more than 16 events wait, at byte {place}"),
             Error::Flag(place) => write!(f, "the flag of a waiting event in the image is neither 0 nor 1, at byte {place}"),
-            Error::Unused(place) => write!(f, "the image has a byte that is not 0 behind its waiting events, at byte {place}"),
+            Error::Unused(place) => {
+                write!(f, "the image has a byte that is not 0 behind its waiting events or their numbers, at byte {place}")
+            }
         }
     }
 }

@@ -1,9 +1,12 @@
 //! What comes out of the device.
 
-use crate::PchPic;
+use crate::{ffi, PchPic};
 use core::fmt;
 
 /// A vector to assert or to deassert at the interrupt controller above.
+///
+/// It is not `Ord`: numbers go round, so of 0, 30,000 and 60,000 each is ahead of the one before it, and 0 of 60,000 too. That is no order that could be
+/// sorted by. Events of one stretch have an order, and [`Event::since`] and [`Event::sort`] tell it.
 #[derive(Clone, Copy, Debug, Default, PartialEq, Eq, Hash)]
 #[must_use = "an event that is not passed on is lost"]
 pub struct Event {
@@ -11,13 +14,70 @@ pub struct Event {
     pub vector: u8,
     /// Whether it is to be asserted, or deasserted.
     pub asserted: bool,
+    /// Each event that is made gets the next number, whether it is returned, waits or is dropped: 0 after reset, and after 65,535 comes 0.
+    pub number: u16,
+}
+
+impl Event {
+    /// How many events after `earlier` this one was made; below 0 where it was made before. It is right where they are no further apart than 32,767.
+    ///
+    /// ```
+    /// use pch_pic::Event;
+    ///
+    /// let numbered = |number| Event { number, ..Event::default() };
+    /// assert_eq!(numbered(3).since(numbered(65_534)), 5);
+    /// assert_eq!(numbered(65_534).since(numbered(3)), -5);
+    /// ```
+    #[must_use]
+    pub fn since(self, earlier: Event) -> i16 {
+        difference(self.number, earlier.number)
+    }
+
+    /// Puts returned and drained events into the order in which the device made them. At most 32,768 may have been made from the oldest of them to the
+    /// newest, dropped ones counted.
+    ///
+    /// ```
+    /// use pch_pic::{reg, Event, PchPic, Width, Window};
+    ///
+    /// let (mut pic, mut kept) = (PchPic::new(), Vec::new());
+    /// kept.extend(pic.set_level(5, true)?); // masked: only latched
+    /// pic.write(Window::at(0), reg::MASK, Width::Dword, 0)?; // the assert waits
+    /// kept.extend(pic.set_level(5, false)?); // the deassert is returned at once
+    /// kept.extend(pic.drain_events());
+    /// assert_eq!(kept.iter().map(|event| event.number).collect::<Vec<_>>(), [1, 0]);
+    /// Event::sort(&mut kept);
+    /// assert_eq!(kept[0], Event { vector: 5, asserted: true, number: 0 });
+    /// # Ok::<(), pch_pic::Error>(())
+    /// ```
+    pub fn sort(events: &mut [Event]) {
+        // The distance from one of them is a number that does not go round.
+        if let Some(&one) = events.first() {
+            events.sort_unstable_by_key(|event| event.since(one));
+        }
+    }
+}
+
+/// How far `later` is ahead of `earlier`, both numbers of events: the only difference from -32,768 to 32,767 that is congruent to `later - earlier`
+/// modulo 65,536. So 32,768 ahead reads as -32,768. The library does it, as `pch_pic_difference`.
+///
+/// ```
+/// assert_eq!(pch_pic::difference(3, 65_534), 5);
+/// assert_eq!(pch_pic::difference(40_000, 7_232), -32_768);
+/// ```
+#[must_use]
+pub fn difference(later: u16, earlier: u16) -> i16 {
+    ffi::difference(later, earlier)
 }
 
 impl fmt::Display for Event {
     fn fmt(&self, f: &mut fmt::Formatter<'_>) -> fmt::Result {
-        let what = if self.asserted { "assert" } else { "deassert" };
-        write!(f, "{what} vector {:#04x}", self.vector)
+        write(f, self.vector, self.asserted)
     }
+}
+
+/// What is to be done to a vector, in words.
+pub(crate) fn write(f: &mut fmt::Formatter<'_>, vector: u8, asserted: bool) -> fmt::Result {
+    write!(f, "{} vector {vector:#04x}", if asserted { "assert" } else { "deassert" })
 }
 
 /// What [`PchPic::set_level`] and [`PchPic::poll`] return: one event, or none. It is an `Option` that is not overlooked.

@@ -67,6 +67,7 @@ extern "C" {
         answer_len: usize,
     ) -> u8;
     fn pch_pic_convert(image: *const u8, image_len: usize, target: *mut u8, target_len: usize, answer: *mut u8, answer_len: usize) -> u8;
+    fn pch_pic_difference(later: u16, earlier: u16) -> i16;
 }
 
 /// What a call gives: the value, if one is present, or why it was refused.
@@ -179,6 +180,11 @@ pub fn convert(image: &[u8], target: &mut [u8]) -> Outcome {
     outcome(number, &answer)
 }
 
+pub fn difference(later: u16, earlier: u16) -> i16 {
+    // SAFETY: it is lent nothing.
+    unsafe { pch_pic_difference(later, earlier) }
+}
+
 #[cfg(test)]
 mod tests {
     use super::*;
@@ -217,7 +223,7 @@ mod tests {
 
     #[test]
     fn a_refused_conversion_leaves_its_target() {
-        let mut image = [0; crate::IMAGE2_LEN];
+        let mut image = [0; crate::IMAGE2_NUMBERED_LEN];
         let mut target = [0xa5; crate::IMAGE_LEN + 1];
         assert_eq!(convert(&image, &mut target[..crate::IMAGE_LEN]), Err(Error::Contents));
         assert_eq!(reset(&mut image), Ok(None));

@@ -1,8 +1,8 @@
 //! A device in a file, which is replaced whole or not at all.
 //!
 //! A file has 8 bytes of magic, the image's length (4 bytes), the image, and a checksum of all before it (4 bytes); numbers have the
-//! little end first. The checksum is the usual CRC-32, as in gzip. `hosts/c/pic_file.c` writes and reads the same files. A file of either form is
-//! loaded, those of older hosts too; hosts of before version 0.6.0 load form 1 alone.
+//! little end first. The checksum is the usual CRC-32, as in gzip. `hosts/c/pic_file.c` writes and reads the same files. A file of any form is
+//! loaded, those of older hosts too; hosts of before version 0.8.0 do not load [`Form::Numbered`], and those of before 0.6.0 load form 1 alone.
 //!
 //! ```
 //! use pch_pic::{file, Form, PchPic, Wires};
@@ -10,10 +10,10 @@
 //! # let folder = std::env::temp_dir().join(format!("pch-pic-{}", std::process::id()));
 //! # std::fs::create_dir_all(&folder)?;
 //! # let path = folder.join("device");
-//! file::save(&PchPic::new(), Form::Two, &path)?;
+//! file::save(&PchPic::new(), Form::Numbered, &path)?;
 //! let mut pic = file::load(&path)?;
 //! let high = 0; // the lines as the host's other devices hold them now
-//! Wires::new().resume(&mut pic, high, |event| println!("{event}"));
+//! Wires::new().resume(&mut pic, high, |change| println!("{change}"));
 //! # std::fs::remove_dir_all(&folder)?;
 //! # Ok::<(), Box<dyn std::error::Error>>(())
 //! ```
@@ -151,7 +151,7 @@ pub fn save(pic: &PchPic, form: Form, path: impl AsRef<Path>) -> io::Result<()> 
     written.and_then(|()| sync_folder(path))
 }
 
-/// Loads a device from a file of either form. What comes next is [`Wires::resume`](crate::Wires::resume).
+/// Loads a device from a file of any form. What comes next is [`Wires::resume`](crate::Wires::resume).
 ///
 /// # Errors
 ///
@@ -181,7 +181,7 @@ mod tests {
 
     #[test]
     fn a_changed_byte_is_found() {
-        let saved = sealed(&PchPic::new().save(Form::Two));
+        let saved = sealed(&PchPic::new().save(Form::Numbered));
         for place in 0..saved.len() {
             let mut bytes = saved.clone();
             bytes[place] ^= 1 << (place % 8);

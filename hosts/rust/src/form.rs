@@ -1,20 +1,24 @@
 //! The forms of a saved image.
 
-use crate::{ffi, Error, IMAGE2_LEN, IMAGE_LEN};
+use crate::{ffi, Error, IMAGE2_LEN, IMAGE2_NUMBERED_LEN, IMAGE_LEN};
 use core::fmt;
 use core::ops::Deref;
 
 /// The form of a saved image. Its length says which it is.
 ///
-/// Both hold the same device, and moving an image from one form to the other and back gives the same bytes. Libraries before version 0.6.0 know
-/// form 1 alone. Later versions add cases.
-#[derive(Clone, Copy, Debug, PartialEq, Eq, Hash)]
+/// All hold the same device; [`Form::Numbered`] alone holds the numbers of its events too. Where it is not asked for, they are lost and nothing else: a
+/// device loaded from another form has its waiting events numbered from 0, and the next number after them. Between the other two an image moves there and
+/// back with the same bytes. Libraries before version 0.8.0 do not know `Numbered`, and those before 0.6.0 know form 1 alone. Later versions add cases.
+#[derive(Clone, Copy, Debug, Default, PartialEq, Eq, Hash)]
 #[non_exhaustive]
 pub enum Form {
     /// [`IMAGE_LEN`] bytes, with a copy of IRR.
     One,
     /// [`IMAGE2_LEN`] bytes.
     Two,
+    /// [`IMAGE2_NUMBERED_LEN`] bytes: form 2, with numbers. A [`PchPic`](crate::PchPic) keeps its own image so.
+    #[default]
+    Numbered,
 }
 
 impl Form {
@@ -23,6 +27,7 @@ impl Form {
         match self {
             Form::One => IMAGE_LEN,
             Form::Two => IMAGE2_LEN,
+            Form::Numbered => IMAGE2_NUMBERED_LEN,
         }
     }
 
@@ -38,6 +43,7 @@ impl Form {
         match image_len {
             IMAGE_LEN => Some(Form::One),
             IMAGE2_LEN => Some(Form::Two),
+            IMAGE2_NUMBERED_LEN => Some(Form::Numbered),
             _ => None,
         }
     }
@@ -45,12 +51,14 @@ impl Form {
 
 /// ```
 /// assert_eq!(pch_pic::Form::Two.to_string(), "form 2");
+/// assert_eq!(pch_pic::Form::Numbered.to_string(), "form 2 with numbers");
 /// ```
 impl fmt::Display for Form {
     fn fmt(&self, f: &mut fmt::Formatter<'_>) -> fmt::Result {
         f.pad(match self {
             Form::One => "form 1",
             Form::Two => "form 2",
+            Form::Numbered => "form 2 with numbers",
         })
     }
 }
@@ -60,11 +68,11 @@ impl fmt::Display for Form {
 pub struct Image {
     form: Form,
     /// As many of these as the form has.
-    bytes: [u8; IMAGE_LEN],
+    bytes: [u8; IMAGE2_NUMBERED_LEN],
 }
 
 impl Image {
-    /// The same device as that of `image`, which has either form, in this form.
+    /// The same device as that of `image`, which has any form, in this form.
     ///
     /// ```
     /// use pch_pic::{Error, Form, Image, PchPic};
@@ -80,7 +88,7 @@ impl Image {
     ///
     /// Those of [`PchPic::load`](crate::PchPic::load).
     pub fn converted(image: &[u8], form: Form) -> Result<Self, Error> {
-        let mut bytes = [0; IMAGE_LEN];
+        let mut bytes = [0; IMAGE2_NUMBERED_LEN];
         ffi::convert(image, &mut bytes[..form.image_len()])?;
         Ok(Image { form, bytes })
     }

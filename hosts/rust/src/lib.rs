@@ -14,8 +14,8 @@
 //! // The guest unmasks input 5.
 //! pic.write(window, window.base + reg::MASK, Width::Dword, 0xffff_ffdf)?;
 //! // Its line goes up and down: each time there is something to pass on.
-//! assert_eq!(pic.set_level(5, true)?, Some(Event { vector: 5, asserted: true }));
-//! assert_eq!(pic.set_level(5, false)?, Some(Event { vector: 5, asserted: false }));
+//! assert_eq!(pic.set_level(5, true)?, Some(Event { vector: 5, asserted: true, number: 0 }));
+//! assert_eq!(pic.set_level(5, false)?, Some(Event { vector: 5, asserted: false, number: 1 }));
 //! # Ok::<(), pch_pic::Error>(())
 //! ```
 //!
@@ -34,14 +34,19 @@
 //! let (mut pic, mut wires, window) = (PchPic::new(), Wires::new(), Window::at(0));
 //! let mut told = Vec::new();
 //! pic.write(window, reg::MASK, Width::Dword, 0)?;
-//! wires.settle(&mut pic, |event| told.push(event.to_string()));
-//! wires.line(&mut pic, 0, true, |event| told.push(event.to_string()))?;
+//! wires.settle(&mut pic, |change| told.push(change.to_string()));
+//! wires.line(&mut pic, 0, true, |change| told.push(change.to_string()))?;
 //! // The guest changes the vector while its input is in service.
 //! pic.write(window, reg::VECTORS, Width::Byte, 0x77)?;
-//! wires.settle(&mut pic, |event| told.push(event.to_string()));
+//! wires.settle(&mut pic, |change| told.push(change.to_string()));
 //! assert_eq!(told, ["assert vector 0x00", "deassert vector 0x00", "assert vector 0x77"]);
 //! # Ok::<(), pch_pic::Error>(())
 //! ```
+//!
+//! # The order of events
+//!
+//! A returned event is there at once, one that waits only when it is drained. Each has the [number](Event::number) that it got when it was made, and
+//! [`Event::sort`] puts them in that order again.
 
 #![cfg_attr(not(any(feature = "std", test)), no_std)]
 
@@ -63,15 +68,18 @@ mod wires;
 pub use access::{Width, Window};
 pub use device::PchPic;
 pub use error::Error;
-pub use event::{Event, Events, Returned};
+pub use event::{difference, Event, Events, Returned};
 pub use form::{Form, Image};
-pub use wires::Wires;
+pub use wires::{Change, Wires};
 
-/// The bytes of a saved image of [`Form::One`], the longest.
+/// The bytes of a saved image of [`Form::One`].
 pub const IMAGE_LEN: usize = 259;
 
 /// The bytes of a saved image of [`Form::Two`].
 pub const IMAGE2_LEN: usize = 251;
+
+/// The bytes of a saved image of [`Form::Numbered`], the longest.
+pub const IMAGE2_NUMBERED_LEN: usize = 290;
 
 /// The input lines, 0 to 63.
 pub const INPUTS: usize = 64;
@@ -83,4 +91,4 @@ pub const VECTORS: usize = 256;
 pub const EVENTS: usize = 16;
 
 /// The bytes of an event as [`PchPic::drain_bytes`] writes it.
-pub const EVENT_LEN: usize = 2;
+pub const EVENT_LEN: usize = 4;

@@ -1,7 +1,31 @@
 //! The wires of a device, and what a host does with them.
 
-use crate::{Error, Event, PchPic, EVENTS, INPUTS, VECTORS};
+use crate::{event, Error, Event, PchPic, EVENTS, INPUTS, VECTORS};
 use core::fmt;
+
+/// A vector goes on or off at the controller above.
+#[derive(Clone, Copy, Debug, PartialEq, Eq, Hash)]
+#[must_use = "a change that is not passed on leaves the controller above behind"]
+pub struct Change {
+    /// The vector.
+    pub vector: u8,
+    /// Whether it is to be asserted, or deasserted.
+    pub asserted: bool,
+    /// The number of the [`Event`] that told it; none where no event did, and it was counted afresh.
+    pub number: Option<u16>,
+}
+
+impl From<Event> for Change {
+    fn from(event: Event) -> Self {
+        Change { vector: event.vector, asserted: event.asserted, number: Some(event.number) }
+    }
+}
+
+impl fmt::Display for Change {
+    fn fmt(&self, f: &mut fmt::Formatter<'_>) -> fmt::Result {
+        event::write(f, self.vector, self.asserted)
+    }
+}
 
 /// The wires of a device: which of its lines are high, and which vectors are on at the controller above.
 ///
@@ -16,7 +40,7 @@ use core::fmt;
 ///
 /// let (mut pic, mut wires) = (PchPic::new(), Wires::new());
 /// pic.write(Window::at(0), reg::ISR, Width::Dword, 1)?; // no event tells it, and ISR reads 0: the input is masked
-/// wires.settle(&mut pic, |event| println!("{event}"));
+/// wires.settle(&mut pic, |change| println!("{change}"));
 /// assert!(wires.is_on(0));
 /// # Ok::<(), pch_pic::Error>(())
 /// ```
@@ -84,11 +108,11 @@ impl Wires {
     /// let (mut pic, mut wires) = (PchPic::new(), Wires::new());
     /// let _ = (pic.set_level(3, true)?, pic.set_level(9, true)?, pic.set_level(40, true)?); // masked: only latched
     /// pic.write(Window::at(0), reg::MASK, Width::Qword, 0)?; // announces 3, and 40 in the other half
-    /// wires.settle(&mut pic, |event| println!("{event}"));
+    /// wires.settle(&mut pic, |change| println!("{change}"));
     /// assert!(wires.vectors_on().eq([3, 9, 40]));
     /// # Ok::<(), pch_pic::Error>(())
     /// ```
-    pub fn settle(&mut self, pic: &mut PchPic, mut route: impl FnMut(Event)) {
+    pub fn settle(&mut self, pic: &mut PchPic, mut route: impl FnMut(Change)) {
         // Waiting events are older than those of the inputs. And a line that a CLEAR took goes off above before it goes on again.
         self.catch_up(pic, &mut route);
         self.sweep(pic, &mut route);
@@ -102,7 +126,7 @@ impl Wires {
     /// # Errors
     ///
     /// [`Error::Input`] where the input is 64 or more.
-    pub fn line(&mut self, pic: &mut PchPic, input: u64, high: bool, mut route: impl FnMut(Event)) -> Result<(), Error> {
+    pub fn line(&mut self, pic: &mut PchPic, input: u64, high: bool, mut route: impl FnMut(Change)) -> Result<(), Error> {
         if input >= INPUTS as u64 {
             return Err(Error::Input);
         }
@@ -115,7 +139,7 @@ impl Wires {
 
     /// After a load: the lines are as `high` says, bit n for input n, and the rest follows. Wires that are new say that the controller above
     /// has nothing on; see [`assume`](Wires::assume).
-    pub fn resume(&mut self, pic: &mut PchPic, high: u64, route: impl FnMut(Event)) {
+    pub fn resume(&mut self, pic: &mut PchPic, high: u64, route: impl FnMut(Change)) {
         // A line that was high when the device was saved may have gone low since: then its input is still latched.
         for input in inputs(pic.latched() & !high) {
             // What it returns is left to the count.
@@ -126,7 +150,7 @@ impl Wires {
     }
 
     /// Passes on what waits, and then what no event told: a drop, a vector changed in service, a write of ISR, a load.
-    fn catch_up(&mut self, pic: &mut PchPic, route: &mut impl FnMut(Event)) {
+    fn catch_up(&mut self, pic: &mut PchPic, route: &mut impl FnMut(Change)) {
         let mut events = [Event::default(); EVENTS];
         let count = pic.drain(&mut events);
         let held = pic.held();
@@ -135,14 +159,14 @@ impl Wires {
         }
         for (vector, held) in (0..=u8::MAX).zip(held) {
             if self.is_on(vector) != (held != 0) {
-                self.tell(Event { vector, asserted: held != 0 }, route);
+                self.tell(Change { vector, asserted: held != 0, number: None }, route);
             }
         }
     }
 
     /// One sweep: each input is polled. Whatever the guest did, every latched and unmasked input is in service then, and each was asserted at
     /// most once.
-    fn sweep(&mut self, pic: &mut PchPic, route: &mut impl FnMut(Event)) {
+    fn sweep(&mut self, pic: &mut PchPic, route: &mut impl FnMut(Change)) {
         for input in inputs(u64::MAX) {
             for event in pic.poll(input).into_iter().flatten() {
                 self.pass_on(&pic.held(), event, route);
@@ -150,7 +174,7 @@ impl Wires {
         }
     }
 
-    fn shift(&mut self, pic: &mut PchPic, input: u64, high: bool, route: &mut impl FnMut(Event)) {
+    fn shift(&mut self, pic: &mut PchPic, input: u64, high: bool, route: &mut impl FnMut(Change)) {
         for event in pic.set_level(input, high).into_iter().flatten() {
             self.pass_on(&pic.held(), event, route);
         }
@@ -158,16 +182,16 @@ impl Wires {
 
     /// An event is passed on where the device, as it stands now, agrees with it. A deassert is not where another input still carries the
     /// vector; an assert is not where the input has left service since.
-    fn pass_on(&mut self, held: &[u8; VECTORS], event: Event, route: &mut impl FnMut(Event)) {
+    fn pass_on(&mut self, held: &[u8; VECTORS], event: Event, route: &mut impl FnMut(Change)) {
         let on = held[usize::from(event.vector)] != 0;
         if event.asserted == on && (on || self.is_on(event.vector)) {
-            self.tell(event, route);
+            self.tell(event.into(), route);
         }
     }
 
-    fn tell(&mut self, event: Event, route: &mut impl FnMut(Event)) {
-        self.on[usize::from(event.vector)] = event.asserted;
-        route(event);
+    fn tell(&mut self, change: Change, route: &mut impl FnMut(Change)) {
+        self.on[usize::from(change.vector)] = change.asserted;
+        route(change);
     }
 }
 

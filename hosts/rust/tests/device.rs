@@ -1,19 +1,19 @@
 //! The device through its safe type: what it answers, what it refuses, and what it keeps.
 
-use pch_pic::{reg, Error, Event, Form, Image, PchPic, Returned, Width, Window, EVENTS, INPUTS};
+use pch_pic::{difference, reg, Error, Event, Form, Image, PchPic, Returned, Width, Window, EVENTS, INPUTS};
 use std::collections::HashSet;
 use std::sync::{Arc, Mutex};
 use std::thread;
 
 const WINDOW: Window = Window::at(0);
-const FORMS: [Form; 2] = [Form::One, Form::Two];
+const FORMS: [Form; 3] = [Form::One, Form::Two, Form::Numbered];
 
-fn assert_event(vector: u8) -> Event {
-    Event { vector, asserted: true }
+fn assert_event(vector: u8, number: u16) -> Event {
+    Event { vector, asserted: true, number }
 }
 
-fn deassert_event(vector: u8) -> Event {
-    Event { vector, asserted: false }
+fn deassert_event(vector: u8, number: u16) -> Event {
+    Event { vector, asserted: false, number }
 }
 
 /// What a level or poll call returned, or why it was refused.
@@ -28,11 +28,11 @@ fn unmasked() -> PchPic {
     pic
 }
 
-/// Seventeen inputs in service, and then masked with one write.
+/// Seventeen inputs in service, and then masked with one write: events 17 to 32 wait, and 33 is dropped.
 fn overflown() -> PchPic {
     let mut pic = unmasked();
     for input in 0..=16 {
-        assert_eq!(event(pic.set_level(input, true)), Ok(Some(assert_event(input as u8))));
+        assert_eq!(event(pic.set_level(input, true)), Ok(Some(assert_event(input as u8, input as u16))));
     }
     pic.write(WINDOW, reg::MASK, Width::Dword, 0xffff_ffff).unwrap();
     pic
@@ -45,7 +45,10 @@ fn reset_is_the_start() {
     pic.reset();
     assert_eq!(pic, PchPic::new());
     assert_eq!(pic, PchPic::default());
-    assert_eq!((pic.waiting(), pic.drops()), (0, 0));
+    assert_eq!((pic.waiting(), pic.drops(), pic.next_number()), (0, 0, 0));
+    let mut pic = overflown();
+    pic.reset();
+    assert_eq!(pic, PchPic::new());
 }
 
 #[test]
@@ -71,11 +74,11 @@ fn every_register_stands_at_its_offset() {
     for register in [reg::MASK, reg::HTMSI_EN, reg::EDGE, reg::AUTO0, reg::AUTO1, reg::POL] {
         assert_eq!(pic.read(WINDOW, register, Width::Qword), Ok(0x1111_0000_0000_0000 | register));
     }
-    assert_eq!(event(pic.set_level(40, true)), Ok(Some(assert_event(40))));
+    assert_eq!(event(pic.set_level(40, true)), Ok(Some(assert_event(40, 0))));
     assert_eq!(pic.read(WINDOW, reg::IRR, Width::Qword), Ok(1 << 40));
     pic.write(WINDOW, reg::CLEAR, Width::Qword, 1 << 40).unwrap();
     assert_eq!(pic.read(WINDOW, reg::IRR, Width::Qword), Ok(0));
-    assert_eq!(pic.drain_events().collect::<Vec<_>>(), [deassert_event(40)]);
+    assert_eq!(pic.drain_events().collect::<Vec<_>>(), [deassert_event(40, 1)]);
 }
 
 #[test]
@@ -134,10 +137,10 @@ fn a_write_tells_how_many_events_it_dropped() {
 #[test]
 fn the_seventeenth_event_is_dropped_and_counted() {
     let mut pic = overflown();
-    assert_eq!((pic.waiting(), pic.drops()), (EVENTS, 1));
+    assert_eq!((pic.waiting(), pic.drops(), pic.next_number()), (EVENTS, 1, 34));
     let mut events = [Event::default(); EVENTS + 4];
     assert_eq!(pic.drain(&mut events), EVENTS);
-    let kept: Vec<Event> = (0..16).map(deassert_event).collect();
+    let kept: Vec<Event> = (0..16).map(|input| deassert_event(input, 17 + u16::from(input))).collect();
     assert_eq!(events[..EVENTS], kept[..]);
     assert_eq!(events[EVENTS..], [Event::default(); 4]);
     assert_eq!((pic.waiting(), pic.drops()), (0, 1));
@@ -149,16 +152,70 @@ fn a_drain_moves_what_fits() {
     assert_eq!(pic.drain(&mut []), 0);
     let mut two = [Event::default(); 2];
     assert_eq!(pic.drain(&mut two), 2);
-    assert_eq!(two, [deassert_event(0), deassert_event(1)]);
-    let mut bytes = [0xa5; 6];
+    assert_eq!(two, [deassert_event(0, 17), deassert_event(1, 18)]);
+    let mut bytes = [0xa5; 10];
     assert_eq!(pic.drain_bytes(&mut bytes, 1), Ok(2));
-    assert_eq!(bytes, [0xa5, 2, 0, 3, 0, 0xa5]);
-    assert_eq!(pic.drain_bytes(&mut bytes, 6), Ok(0));
+    assert_eq!(bytes, [0xa5, 2, 0, 19, 0, 3, 0, 20, 0, 0xa5]);
+    assert_eq!(pic.drain_bytes(&mut bytes, 7), Ok(0));
     assert_eq!(pic.drain_events().len(), 12);
-    assert_eq!(pic.drain_events().next(), Some(deassert_event(4)));
+    assert_eq!(pic.drain_events().next(), Some(deassert_event(4, 21)));
     assert_eq!(pic.waiting(), 11);
-    assert_eq!(pic.drain_events().last(), Some(deassert_event(15)));
+    assert_eq!(pic.drain_events().last(), Some(deassert_event(15, 32)));
     assert_eq!(pic.drain_events().next(), None);
+}
+
+/// What was room for all is room for half: 32 bytes take eight events, 64 take sixteen.
+#[test]
+fn sixty_four_bytes_have_room_for_all() {
+    for (len, count) in [(32, 8), (63, 15), (64, 16), (80, 16)] {
+        let mut pic = overflown();
+        assert_eq!(pic.drain_bytes(&mut vec![0; len], 0), Ok(count));
+        assert_eq!(pic.waiting(), EVENTS - count);
+    }
+}
+
+/// Returned, kept and dropped events are numbered alike, in the order in which they are made.
+#[test]
+fn every_event_has_its_number() {
+    let mut pic = overflown();
+    assert_eq!(event(pic.set_level(40, true)), Ok(None));
+    assert_eq!(pic.write(WINDOW, reg::MASK + reg::HIGH, Width::Dword, 0), Ok(1)); // 34 is dropped
+    assert_eq!(event(pic.set_level(41, true)), Ok(Some(assert_event(41, 35))));
+    assert_eq!(pic.write(WINDOW, reg::CLEAR + reg::HIGH, Width::Dword, 1 << 9), Ok(1)); // 36 too
+    assert_eq!(event(pic.set_level(40, false)), Ok(Some(deassert_event(40, 37))));
+    let waiting: Vec<u16> = pic.drain_events().map(|event| event.number).collect();
+    assert_eq!(waiting, (17..33).collect::<Vec<_>>());
+    assert_eq!(pic.next_number(), 38);
+}
+
+#[test]
+fn numbers_go_round() {
+    let mut image = unmasked().save(Form::Numbered).to_vec();
+    let numbers = offset_of(&image, 5);
+    image[numbers..numbers + 2].copy_from_slice(&65_534_u16.to_le_bytes());
+    let mut pic = PchPic::try_from(&image[..]).unwrap();
+    let mut made: Vec<Event> = (0..3).filter_map(|input| pic.set_level(input, true).unwrap().event()).collect();
+    assert_eq!(made, [assert_event(0, 65_534), assert_event(1, 65_535), assert_event(2, 0)]);
+    assert_eq!(pic.write(WINDOW, reg::CLEAR, Width::Dword, 7), Ok(0));
+    made.extend(pic.drain_events());
+    assert_eq!(made.iter().map(|event| event.since(made[0])).collect::<Vec<_>>(), [0, 1, 2, 3, 4, 5]);
+    assert_eq!(made[0].since(made[5]), -5);
+    let in_order = made.clone();
+    made.reverse();
+    made.swap(1, 4);
+    Event::sort(&mut made);
+    assert_eq!(made, in_order);
+    Event::sort(&mut []);
+}
+
+#[test]
+fn differences() {
+    for (later, earlier, wanted) in
+        [(0, 0, 0), (0, 65_535, 1), (65_535, 0, -1), (32_767, 0, 32_767), (32_768, 0, -32_768), (0, 32_768, -32_768)]
+    {
+        assert_eq!(difference(later, earlier), wanted);
+        assert_eq!(assert_event(1, later).since(deassert_event(2, earlier)), wanted);
+    }
 }
 
 #[test]
@@ -167,28 +224,44 @@ fn a_loaded_device_goes_on_where_it_was() {
     pic.write(WINDOW, reg::VECTORS + 20, Width::Byte, 0xee).unwrap();
     pic.write(WINDOW, reg::MASK, Width::Dword, 0).unwrap();
     let mut loaded = FORMS.map(|form| PchPic::load(form, &pic.save(form)).unwrap());
-    assert_eq!(loaded, [pic.clone(), pic.clone()]);
-    for device in loaded.iter_mut().chain([&mut pic]) {
-        assert_eq!(event(device.set_level(20, true)), Ok(Some(assert_event(0xee))));
+    assert_eq!(loaded[2], pic);
+    // Without numbers those of waiting events begin with 0.
+    for (device, first) in loaded.iter_mut().chain([&mut pic]).zip([0, 0, 17, 17]) {
+        let next = if first == 0 { 16 } else { 35 };
+        assert_eq!(event(device.set_level(20, true)), Ok(Some(assert_event(0xee, next))));
         assert_eq!(device.drops(), 2);
-        assert_eq!(device.drain_events().count(), EVENTS);
+        let drained: Vec<Event> = device.drain_events().collect();
+        assert_eq!(drained, (0..16).map(|input| deassert_event(input, first + u16::from(input))).collect::<Vec<_>>());
     }
-    assert_eq!(loaded, [pic.clone(), pic]);
+    assert_eq!(loaded[2], pic);
+    for form in [Form::One, Form::Two] {
+        assert_eq!(loaded.clone().map(|device| device.save(form)), [pic.save(form), pic.save(form), pic.save(form)]);
+    }
 }
 
 #[test]
 fn one_form_becomes_the_other() {
     let mut pic = overflown();
     pic.write(WINDOW, reg::ISR, Width::Qword, 0x8000_0000_0000_0003).unwrap();
-    let [one, two] = FORMS.map(|form| pic.save(form));
+    let [one, two, numbered] = FORMS.map(|form| pic.save(form));
     assert_eq!((one.len(), one.form(), two.len(), two.form()), (259, Form::One, 251, Form::Two));
-    assert_eq!((one[0], two[0]), (1, 2));
-    // Form 2 is form 1 without the copy of IRR, which stands before IRR; the contents differ beside.
+    assert_eq!((numbered.len(), numbered.form()), (290, Form::default()));
+    assert_eq!((&one[..2], &two[..2], &numbered[..2]), (&[1, 4][..], &[2, 4][..], &[2, 5][..]));
+    // Form 2 is form 1 without the copy of IRR, which stands before IRR; the contents differ beside. With numbers, they stand at the end.
     assert_eq!(one[46..54], one[54..62]);
     assert_eq!([&one[22..46], &one[54..]].concat(), two[22..]);
-    for (from, to) in [(&one, &two), (&two, &one), (&one, &one), (&two, &two)] {
+    assert_eq!(numbered[27..256], two[22..]);
+    assert_eq!(numbered[256..262], [34, 0, 17, 0, 18, 0]);
+    for (from, to) in [(&one, &two), (&two, &one), (&one, &one), (&two, &two), (&numbered, &one), (&numbered, &two), (&numbered, &numbered)]
+    {
         assert_eq!(&Image::converted(from, to.form()).unwrap(), to);
-        assert_eq!(PchPic::from(from.clone()), pic);
+    }
+    assert_eq!(PchPic::from(numbered.clone()), pic);
+    // What loses its numbers has those with which it loads.
+    for from in [one.clone(), two.clone()] {
+        let again = Image::converted(&from, Form::Numbered).unwrap();
+        assert_eq!((&again[..256], &again[256..262]), (&numbered[..256], &[16, 0, 0, 0, 1, 0][..]));
+        assert_eq!(PchPic::from(from).save(Form::Numbered), again);
     }
     assert_ne!(one, two);
     assert!(format!("{two:?}").starts_with("Image { form: Two, bytes: [02, 04, 01, "));
@@ -213,13 +286,14 @@ fn what_is_no_image_is_refused() {
     }
     for form in FORMS {
         let image = PchPic::new().save(form).to_vec();
-        for place in 0..22 {
+        for place in 0..offset_of(&image, 1) {
             let mut other = image.clone();
             other[place] ^= 0x80;
             assert_eq!(PchPic::load(form, &other), Err(Error::Contents));
         }
         // The copy of IRR, the count, a waiting event's flag, an unused pair: places in the bodies of the registers and of the events.
-        let (registers, events, last) = (offset_of(&image, 1), offset_of(&image, 4), image.len() - 1);
+        let (registers, events) = (offset_of(&image, 1), offset_of(&image, 4));
+        let last = events + 36;
         let broken = |breach: &[(usize, u8)], why: fn(u64) -> Error, place: usize| {
             let mut broken = image.clone();
             for (place, byte) in breach {
@@ -235,6 +309,13 @@ fn what_is_no_image_is_refused() {
         broken(&[(events, 2), (events + 6, 1), (events + 8, 2)], Error::Flag, events + 8);
         broken(&[(events, 1), (events + 6, 2), (last, 1)], Error::Flag, events + 6);
         broken(&[(last, 1)], Error::Unused, last);
+        // An unused number comes after an unused pair; that of a waiting event may be any.
+        if form == Form::Numbered {
+            let numbers = offset_of(&image, 5);
+            broken(&[(numbers + 33, 1)], Error::Unused, numbers + 33);
+            broken(&[(numbers + 2, 1), (last, 1)], Error::Unused, last);
+            broken(&[(events, 1), (numbers + 3, 1), (numbers + 4, 1)], Error::Unused, numbers + 4);
+        }
     }
 }
 
@@ -267,7 +348,7 @@ fn what_the_device_holds() {
     assert_eq!((held[0], held[1], held[63]), (1, 2, 0));
     assert_eq!(held.iter().map(|count| usize::from(*count)).sum::<usize>(), 3);
     let text = format!("{pic:?}");
-    for part in ["in_service: 0x8000000000000003", "latched: 0x000000000001ffff", "waiting: 16", "drops: 1"] {
+    for part in ["in_service: 0x8000000000000003", "latched: 0x000000000001ffff", "waiting: 16", "drops: 1", "next_number: 34"] {
         assert!(text.contains(part), "{text}");
     }
 }
@@ -299,8 +380,8 @@ fn it_is_sent_and_shared() {
 
 #[test]
 fn events_and_errors_in_words() {
-    assert_eq!(assert_event(5).to_string(), "assert vector 0x05");
-    assert_eq!(deassert_event(0xff).to_string(), "deassert vector 0xff");
+    assert_eq!(assert_event(5, 0).to_string(), "assert vector 0x05");
+    assert_eq!(deassert_event(0xff, 9).to_string(), "deassert vector 0xff");
     assert_eq!(format!("{:>6}|{}", Width::Word, Width::Qword), "  Word|Qword");
     assert_eq!(usize::from(Width::Qword), 8);
     assert_eq!(Error::Outside(0x400).to_string(), "the access at 0x400 is not wholly inside the window");

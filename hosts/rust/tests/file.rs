@@ -34,10 +34,16 @@ fn there_and_back() {
     let mut pic = PchPic::new();
     file::save(&pic, Form::Two, &path).unwrap();
     pic.write(Window::at(0), reg::VECTORS, Width::Byte, 0x77).unwrap();
-    for (form, len) in [(Form::One, 275), (Form::Two, 267)] {
+    for (form, len) in [(Form::One, 275), (Form::Two, 267), (Form::Numbered, 306)] {
         file::save(&pic, form, &path).unwrap();
         assert_eq!(fs::metadata(&path).unwrap().len(), len);
         assert_eq!(file::load(&path).unwrap(), pic);
+    }
+    pic.write(Window::at(0), reg::MASK, Width::Qword, 0).unwrap();
+    assert_eq!(pic.set_level(0, true).unwrap().event().map(|event| event.number), Some(0));
+    for (form, next) in [(Form::One, 0), (Form::Two, 0), (Form::Numbered, 1)] {
+        file::save(&pic, form, &path).unwrap();
+        assert_eq!(file::load(&path).unwrap().next_number(), next);
     }
     assert_eq!(folder.names(), ["device"]);
 }
@@ -51,6 +57,7 @@ fn a_file_of_an_older_host_is_loaded() {
     fs::write(&path, older).unwrap();
     let pic = file::load(&path).unwrap();
     assert_eq!((pic.latched(), pic.in_service(), pic.waiting(), pic.vector(21)), (1 << 21, 1 << 21, 1, Some(0x55)));
+    assert_eq!(pic.next_number(), 1);
     file::save(&pic, Form::One, &path).unwrap();
     assert_eq!(fs::read(&path).unwrap(), older);
 }
@@ -59,7 +66,7 @@ fn a_file_of_an_older_host_is_loaded() {
 fn what_is_damaged_is_not_loaded() {
     let folder = Folder::new("damaged");
     let path = folder.0.join("device");
-    file::save(&PchPic::new(), Form::Two, &path).unwrap();
+    file::save(&PchPic::new(), Form::Numbered, &path).unwrap();
     let saved = fs::read(&path).unwrap();
     let with = |bytes: &[u8]| {
         fs::write(&path, bytes).unwrap();

@@ -1,6 +1,6 @@
 //! The C header and this crate name the same numbers.
 
-use pch_pic::{reg, Error, EVENTS, EVENT_LEN, IMAGE2_LEN, IMAGE_LEN, INPUTS};
+use pch_pic::{reg, Error, EVENTS, EVENT_LEN, IMAGE2_LEN, IMAGE2_NUMBERED_LEN, IMAGE_LEN, INPUTS};
 use std::collections::HashMap;
 
 const HEADER: &str = include_str!("../../../include/pch_pic.h");
@@ -23,9 +23,14 @@ fn header() -> HashMap<String, u64> {
 #[test]
 fn sizes() {
     let header = header();
-    for (name, value) in
-        [("IMAGE_LEN", IMAGE_LEN), ("IMAGE2_LEN", IMAGE2_LEN), ("INPUTS", INPUTS), ("EVENTS", EVENTS), ("EVENT_LEN", EVENT_LEN)]
-    {
+    for (name, value) in [
+        ("IMAGE_LEN", IMAGE_LEN),
+        ("IMAGE2_LEN", IMAGE2_LEN),
+        ("IMAGE2_NUMBERED_LEN", IMAGE2_NUMBERED_LEN),
+        ("INPUTS", INPUTS),
+        ("EVENTS", EVENTS),
+        ("EVENT_LEN", EVENT_LEN),
+    ] {
         assert_eq!(header[name], value as u64, "{name}");
     }
 }

@@ -1,26 +1,28 @@
 //! Guests that no driver would write, and what a host makes of them: after each step the vectors that are on above are those of the inputs
 //! in service.
 
-use pch_pic::{reg, Error, Event, Form, PchPic, Width, Window, Wires, EVENTS, INPUTS, VECTORS};
+use pch_pic::{reg, Change, Error, Form, PchPic, Width, Window, Wires, EVENTS, INPUTS, VECTORS};
 
 const WINDOW: Window = Window::at(0);
 const WIDTHS: [Width; 4] = [Width::Byte, Width::Word, Width::Dword, Width::Qword];
 
-/// The controller above: which vectors are on, how often it was told something, and how often what it knew.
+/// The controller above: which vectors are on, how often it was told something, and how often what it knew; and the numbers of the events that told it.
 #[derive(Default)]
 struct Above {
     on: Vec<u8>,
     told: usize,
     again: usize,
+    numbers: Vec<Option<u16>>,
 }
 
 impl Above {
-    fn route(&mut self, event: Event) {
+    fn route(&mut self, change: Change) {
         self.told += 1;
-        self.again += usize::from(self.on.contains(&event.vector) == event.asserted);
-        self.on.retain(|vector| *vector != event.vector);
-        if event.asserted {
-            self.on.push(event.vector);
+        self.numbers.push(change.number);
+        self.again += usize::from(self.on.contains(&change.vector) == change.asserted);
+        self.on.retain(|vector| *vector != change.vector);
+        if change.asserted {
+            self.on.push(change.vector);
             self.on.sort_unstable();
         }
     }
@@ -50,17 +52,17 @@ impl Host {
     }
 
     fn settle(&mut self) {
-        self.wires.settle(&mut self.pic, |event| self.above.route(event));
+        self.wires.settle(&mut self.pic, |change| self.above.route(change));
         self.in_line();
     }
 
     fn line(&mut self, input: u64, high: bool) {
-        self.wires.line(&mut self.pic, input, high, |event| self.above.route(event)).unwrap();
+        self.wires.line(&mut self.pic, input, high, |change| self.above.route(change)).unwrap();
         self.in_line();
     }
 
     fn resume(&mut self, high: u64) {
-        self.wires.resume(&mut self.pic, high, |event| self.above.route(event));
+        self.wires.resume(&mut self.pic, high, |change| self.above.route(change));
         self.in_line();
     }
 
@@ -93,6 +95,8 @@ fn a_vector_changed_in_service() {
     host.expect(&[0x77], 3, 0);
     host.line(0, false);
     host.expect(&[], 4, 0);
+    // What the change of the vector made of it no event told.
+    assert_eq!(host.above.numbers, [Some(0), None, None, Some(1)]);
 }
 
 #[test]
@@ -184,10 +188,15 @@ fn saved() -> PchPic {
 
 #[test]
 fn a_restore_into_a_fresh_host() {
-    let mut host = Host::new(PchPic::load(Form::One, &saved().save(Form::One)).unwrap());
-    host.resume(1 << 3 | 1 << 7);
-    host.expect(&[3, 7, 40], 3, 0);
-    assert_eq!((host.pic.latched(), host.wires.high()), (1 << 3 | 1 << 7, 1 << 3 | 1 << 7));
+    for form in [Form::One, Form::Two, Form::Numbered] {
+        let mut host = Host::new(PchPic::load(form, &saved().save(form)).unwrap());
+        host.resume(1 << 3 | 1 << 7);
+        host.expect(&[3, 7, 40], 3, 0);
+        assert_eq!((host.pic.latched(), host.wires.high()), (1 << 3 | 1 << 7, 1 << 3 | 1 << 7));
+        // The waiting assert of 7 kept its number where the form has numbers, else it is the first.
+        let number = if form == Form::Numbered { 2 } else { 0 };
+        assert_eq!(host.above.numbers, [Some(number), None, None]);
+    }
 }
 
 #[test]
@@ -233,7 +242,8 @@ fn any_guest() {
             }
             _ => {
                 let high = host.wires.high();
-                host = Host::new(PchPic::load(Form::Two, &host.pic.save(Form::Two)).unwrap());
+                let form = [Form::One, Form::Two, Form::Numbered][(chance() % 3) as usize];
+                host = Host::new(PchPic::load(form, &host.pic.save(form)).unwrap());
                 host.resume(high);
             }
         }

@@ -34,4 +34,4 @@ read-four-spec =
     (λ c. search needs)
     (λ c. search needs)
     (λ c. search needs)
-    (λ c d h. omega (arith, c .before .before .before .read-entry .ensures d h, c .before .before .read-entry2 .ensures d h, c .before .read-entry3 .ensures d h, c .read-entry4 .ensures d h)))
+    (λ c d ns h. omega (arith, c .before .before .before .read-entry .ensures d ns h, c .before .before .read-entry2 .ensures d ns h, c .before .read-entry3 .ensures d ns h, c .read-entry4 .ensures d ns h)))

@@ -25,9 +25,9 @@ write-dword-spec =
     (λ c. search needs)
     (λ c. let w = c .before .before .write-half .ensures in
     let a = c .before .before .before .before .before .before .before .before .before .args in
-    (w .0, writes-same _ (λ k. dwordActs (a .offset) (a .val)) (w .1) (λ d h. dword-acts-of (a .offset) (a .val) (sym (ap cellView (c .before .before .before .before .before .register .given .1)) ∙ c .before .before .before .before .before .before .before .decode-low .ensures))))
+    (w .0, writes-same _ (λ k. dwordActs (a .offset) (a .val)) (w .1) (λ d ns h. dword-acts-of (a .offset) (a .val) (sym (ap cellView (c .before .before .before .before .before .register .given .1)) ∙ c .before .before .before .before .before .before .before .decode-low .ensures))))
     (λ c. search needs)
     (λ c. let a = c .before .before .before .before .before .before .before .before .args in
-    (omega arith, writes-same (λ k. cellActs (a .offset) (a .val) bytes) (λ k. dwordActs (a .offset) (a .val)) (c .before .before .write-four .ensures) (λ d h. dword-acts-of (a .offset) (a .val) (sym (ap cellView (c .before .before .before .before .enum-told .given .1)) ∙ c .before .before .before .before .before .before .decode-low .ensures))))
+    (omega arith, writes-same (λ k. cellActs (a .offset) (a .val) bytes) (λ k. dwordActs (a .offset) (a .val)) (c .before .before .write-four .ensures) (λ d ns h. dword-acts-of (a .offset) (a .val) (sym (ap cellView (c .before .before .before .before .enum-told .given .1)) ∙ c .before .before .before .before .before .before .decode-low .ensures))))
     (λ c. let a = c .before .before .before .before .args in
-    (omega arith, writes-same (λ k. []) (λ k. dwordActs (a .offset) (a .val)) (writes-none (a .image .now)) (λ d h. dword-acts-of (a .offset) (a .val) (sym (ap cellView (c .enum-told2 .given .1)) ∙ c .before .before .decode-low .ensures)))))
+    (omega arith, writes-same (λ k. []) (λ k. dwordActs (a .offset) (a .val)) (writes-none (a .image .now)) (λ d ns h. dword-acts-of (a .offset) (a .val) (sym (ap cellView (c .enum-told2 .given .1)) ∙ c .before .before .decode-low .ensures)))))

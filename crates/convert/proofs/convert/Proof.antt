@@ -1,14 +1,17 @@
--- `convert`: each refusal leaves where the order of the tests puts it; done, the target is the image of the device that was loaded.
+-- `convert`: each refusal leaves where the order of the tests puts it; done, the target is the image of the device that was loaded, with its numbers.
 use mathlib.Core.Path.{_≡_, refl, sym, ap, _∙_}
+use mathlib.Core.List.{List}
+use Prim.Native.Nat.{ℕ}
 use lib.ListN.{length}
-use Rattle.rules.specs.Form.{forms, known, formOf}
-use Rattle.rules.specs.Image.{encodeAs, imageTest}
+use Rattle.rules.specs.Form.{forms, known, formOf, formLength}
+use Rattle.rules.specs.Device.{Device}
+use Rattle.rules.specs.Image.{encodeAs, imageTest, numbersIn, numberBody}
 use Rattle.rules.proofs.laws.Tests.{form-known}
-use Rattle.rules.proofs.laws.Images.{decode-as}
+use Rattle.rules.proofs.laws.Images.{decode-as, numbers-as}
 use Rattle.rules.proofs.laws.Conversions.{no-image, no-target, not-accepted, convert-done}
 use Rattle.image.specs.Shown.{formView, formKnown}
-use Rattle.checked.specs.Good.{verdictView}
-use Rattle.refusals.proofs.Ends.{Passed, goes-on, long, few, tells, failed}
+use Rattle.checked.proofs.Orders.{head-refuses}
+use Rattle.refusals.proofs.Ends.{Passed, fitting, goes-on, long, few, tells, head-told, broken-refused, bodies-told}
 use borrow.Author.Needs.{needs}
 use Rattle.convert.proofs.convert.Statement.{statement}
 use Rattle.convert.proofs.convert.Tie as tie
@@ -22,9 +25,24 @@ module _ (t : tie.After-known-told) where
   other : formOf (length (t .before .before .before .before .before .before .before .before .before .args .target .now)) ≡ known (formView (t .before .form .given .0 .0))
   other = let e = t .before in let f = e .before .before in sym (f .form-of2 .ensures) ∙ ap formKnown (e .form .given .1)
 
--- the image was accepted, and is one of the form
-on : (t : tie.After-known-told2) → Passed (formView (t .before .checked .given .0 .0)) (t .before .before .before .before .before .before .before .before .before .before .before .before .before .args .image .now)
-on t = let e = t .before in let k = e .before .before in goes-on (λ n. k .before .before .before .before .before .before .before .before .before .shared-slice-known .given n .fits) (k .check .result) (e .checked .given .0 .0) (e .checked .given .1) (k .check .ensures)
+-- the contents were good: the image is one of the form, and has its length
+abbrev imageOf : tie.After-known-told2 → List ℕ
+imageOf k = k .before .before .before .before .before .before .before .before .before .before .before .before .before .args .image .now
+
+fit : (k : tie.After-known-told2) → length (imageOf k) ≡ formLength (formView (k .before .told .given .0 .0))
+fit k = let e = k .before in let h = e .before .before in fitting (imageOf k) (h .test-head .result) (e .told .given .0 .0) (e .told .given .1) (h .test-head .ensures)
+
+-- and the bodies were: it is accepted
+abbrev knownAt : tie.After-enum-told4 → tie.After-known-told2
+knownAt t = t .before .before .before
+
+on : (t : tie.After-enum-told4) → Passed (formView (knownAt t .before .told .given .0 .0)) (imageOf (knownAt t))
+on t =
+    let b = t .before .before in
+    let e = knownAt t .before in
+    let h = e .before .before in
+    goes-on (imageOf (knownAt t)) (λ n. h .before .before .before .before .before .before .before .before .before .shared-slice-known .given n .fits)
+    (h .test-head .result) (e .told .given .0 .0) (e .told .given .1) (h .test-head .ensures) (b .test-bodies .result) (t .enum-told4 .given .1) (b .test-bodies .ensures)
 
 returns : tie.Need-returns
 returns c =
@@ -43,24 +61,42 @@ returns-2 c =
 
 returns-3 : tie.Need-returns-3
 returns-3 c =
-    let u = c .before in
-    let k = u .before .before in
-    let t = k .before in
+    let m = c .before in
+    let h = m .before in
+    let t = h .before in
     let a = t .before .before .before .before .before .before .before .before .before .args in
-    tells (c .of-image .result) (c .of-image .ensures)
-    (sym (not-accepted (a .image .now) (a .target .now) (own (t .before .before .before .before)) (other t) (imageTest (a .image .now)) refl (failed (a .image .now) (sym (ap verdictView (u .enum-told4 .given .1)) ∙ k .check .ensures))))
+    let i = a .image .now in
+    tells (c .of-head .result) (head-told i (h .test-head .result) (m .match3 .keys2) (h .test-head .ensures) (c .of-head .result) (c .of-head .ensures))
+    (sym (not-accepted i (a .target .now) (own (t .before .before .before .before)) (other t) (imageTest i) refl (head-refuses i (h .test-head .result) (m .match3 .keys2) (h .test-head .ensures))))
 
 returns-4 : tie.Need-returns-4
 returns-4 c =
+    let u = c .before in
+    let b = u .before .before in
+    let e = b .before .before in
+    let h = e .before .before in
+    let t = h .before in
+    let a = t .before .before .before .before .before .before .before .before .before .args in
+    let i = a .image .now in
+    tells (c .of-bodies .result)
+    (bodies-told i (h .test-head .result) (e .told .given .0 .0) (e .told .given .1) (h .test-head .ensures) (b .test-bodies .result) (b .test-bodies .ensures) (c .of-bodies .result) (c .of-bodies .ensures))
+    (sym (not-accepted i (a .target .now) (own (t .before .before .before .before)) (other t) (imageTest i) refl
+    (broken-refused i (h .test-head .result) (e .told .given .0 .0) (e .told .given .1) (h .test-head .ensures) (b .test-bodies .result) (b .test-bodies .ensures) (u .enum-told5 .given .1))))
+
+returns-5 : tie.Need-returns-5
+returns-5 c =
     let s = c .before .before .before in
-    let l = s .before in
-    let p = l .before .before in
-    let t = p .before .before .before .before in
-    let i = t .before .before .before .before .before .before .before .before .before .args .image .now in
-    let f = formView (p .before .checked .given .0 .0) in
+    let l = s .before .before in
+    let n = l .before .before in
+    let p = n .before in
+    let t = p .before .before .before .before .before .before .before in
+    let a = t .before .before .before .before .before .before .before .before .before .args in
+    let f = formView (knownAt p .before .told .given .0 .0) in
+    let i = a .image .now in
     tells (c .done .result) (c .done .ensures)
-    (convert-done i (t .before .before .before .before .before .before .before .before .before .args .target .now) (own (t .before .before .before .before)) (other t) (on p .good)
-    (s .save .ensures ∙ ap (encodeAs _) (l .load .ensures .shows ∙ sym (decode-as f i (long (on p))))))
+    (convert-done i (a .target .now) (own (t .before .before .before .before)) (other t) (on p .good)
+    (s .save .ensures (numbersIn i) (ap numberBody (numbers-as f i (long (on p))) ∙ sym (n .load-numbers .ensures (on p .good)))
+    ∙ ap (λ (d : Device). encodeAs (formView (t .before .form .given .0 .0)) d (numbersIn i)) (l .load .ensures .shows ∙ sym (decode-as f i (long (on p))))))
 
 pub convert-spec : {M : Type 1} → statement M
 unfolding on
@@ -71,10 +107,14 @@ convert-spec =
     returns
     (λ c κs. search needs) (λ c. search needs) (λ c. search needs) (λ c κs. search needs)
     returns-2
-    (λ c κs. search needs) (λ c. search needs) (λ c. search needs) (λ c κs. search needs)
+    (λ c κs. search needs) (λ c. search needs) (λ c κs. search needs)
     returns-3
-    (λ c κs. let p = on (c .before) in (long p, few p))
-    (λ c κs. (form-known forms _ _ (other (c .before .before .before .before .before .before)), c .load .ensures .well))
+    (λ c κs. fit c) (λ c. search needs) (λ c. search needs)
+    (λ c κs. fit (c .before .before .before))
+    returns-4
+    (λ c κs. let p = on c in (long p, few p))
+    (λ c κs. let p = on (c .before .before) in (long p, few p))
+    (λ c κs. (form-known forms _ _ (other (c .before .before .before .before .before .before .before .before .before .before .before)), c .before .load .ensures .well))
     (λ c κs. search needs)
     (λ c. search needs)
-    returns-4)
+    returns-5)

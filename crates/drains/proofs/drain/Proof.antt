@@ -1,35 +1,41 @@
 -- `drain`: the places are those of the form.
-use mathlib.Core.Path.{refl, sym, ap, subst, _∙_}
-use Prim.Native.Nat.{ℕ, _+_, _≤_}
+use mathlib.Core.Path.{refl, sym, subst}
+use Prim.Native.Nat.{ℕ, _-_, _*_, _≤_}
 use native.Mathlib.Omega.{arith}
-use lib.ListN.{getD}
-use Rattle.rules.specs.Ring.{capacity}
-use Rattle.rules.specs.Form.{count, pairs}
-use Rattle.image.specs.Shown.{formView}
-use Rattle.image.proofs.Forms.{placed}
-use Rattle.inplace.proofs.Bodies.{ring-fits, pairs-place}
+use lib.ListN.{getD, length-take}
 use borrow.Author.Needs.{needs}
+use Rattle.rules.specs.Ring.{capacity}
+use Rattle.rules.specs.Form.{count}
+use Rattle.image.specs.Shown.{formView}
+use Rattle.image.proofs.Forms.{placed, always-within}
+use Rattle.drains.proofs.Drawing.{drains}
 use Rattle.drains.proofs.drain.Statement.{statement}
 use Rattle.drains.proofs.drain.Tie as tie
+
+-- no more wait than the ring holds
+few : (c : tie.After-places-of) → getD (c .before .before .before .args .image .now) (c .places-of .result .count) 0 ≤ capacity
+few c =
+    let s = c .before .before .before in
+    subst (λ (k : ℕ). getD (s .args .image .now) k 0 ≤ capacity) (sym (placed (c .places-of .ensures) count refl)) (s .pre .1)
 
 pub drain-spec : {M : Type 1} → statement M
 drain-spec =
     tie.close
     (tie.spec
     (λ c κs. search needs)
-    (λ c κs. let o = c .before .before in
-    let s = o .before .before .before in
-    let f = formView (s .args .form) in
-    let e = placed (o .places-of .ensures) count refl in (
-      record {
-        form = f;
-        sized = s .pre .0;
-        here = e;
-        pairs = placed (o .places-of .ensures) pairs refl ∙ pairs-place f ∙ ap (λ a. a + 5) (sym e);
-        fits = omega (arith, e, ring-fits f, s .pre .0);
-      },
-      subst (λ (k : ℕ). getD (s .args .image .now) k 0 ≤ capacity) (sym e) (s .pre .1),
-    ))
+    (λ c. let p = c .before in let s = p .before .before .before in
+    omega (arith, always-within (formView (s .args .form)) (s .args .image .now) (s .pre .0) (p .places-of .result) (p .places-of .ensures) count refl))
+    (λ c. record { fits = omega (arith, few (c .before)) })
+    (λ c κs. search needs)
     (λ c. search needs)
     (λ c. search needs)
-    (λ c. search needs))
+    (λ c. search needs)
+    (λ c. search needs)
+    (λ c κs. let g = c .before .before in let p = g .before .before in let s = p .before .before .before in
+    (s .pre .0, omega (arith, g .fitting .ensures, few p), omega (arith, g .fitting .ensures, length-take (4 * g .fitting .result - 0) (s .args .out .now))))
+    (λ c κs. let g = c .before .before .before .before .before .before in let p = g .before .before in let s = p .before .before .before in
+    (s .pre .0, omega (arith, g .fitting .ensures), few p))
+    (λ c. search needs)
+    (λ c. search needs)
+    (λ c. let h = c .before .before in let o = h .before .before .before .before in let g = o .before .before .before in let p = g .before .before in let s = p .before .before .before in
+    drains (formView (s .args .form)) (s .args .image .now) (s .pre .0) (placed (p .places-of .ensures) count refl) refl (s .args .out .now) (g .fitting .ensures) (o .copy-out .ensures) (h .shift .ensures)))

@@ -1,11 +1,21 @@
 -- `first_fault`: the rules, looked at in their order; the first that is broken is told with its place.
-use mathlib.Core.Path.{refl}
+use mathlib.Core.Path.{_≡_, refl, ap}
+use mathlib.Core.List.{[], _∷_}
+use mathlib.Core.Logic.{⊎-elim}
+use Prim.Native.Nat.{ℕ}
 use native.Mathlib.Omega.{arith}
 use borrow.Author.Needs.{needs}
+use types.Run.{OneOf}
+use denote.Enum.Declared.{tagOf}
 use Rattle.rules.specs.Form.{word, irr, count, pairs}
+use Rattle.rules.specs.Image.{accepted}
 use Rattle.image.specs.Shown.{formView}
 use Rattle.image.proofs.Forms.{always-within, copy-within}
-use Rattle.faults.proofs.InOrder.{copy-told, count-told, by-pairs}
+use Rattle.faults.specs.Found.{checkedView}
+use Rattle.faults.specs.declared.Checked.{Checked}
+use Rattle.faults.specs.declared.Checked.the-variants.{Accepted, WrongLength, WrongContents, Broken}
+use Rattle.faults.proofs.InOrder.{copy-told, count-told, by-pairs, by-numbers}
+use Rattle.faults.proofs.Checked.{the-type}
 use Rattle.faults.proofs.first_fault.Statement.{statement}
 use Rattle.faults.proofs.first_fault.Tie as tie
 
@@ -54,15 +64,35 @@ pair-fault-requires c κs =
     let h = always-within (formView (s .args .form)) (s .args .image .now) (s .pre) (p .places-of .result) (p .places-of .ensures) pairs refl in
     (h, c .if2 .left)
 
+-- what stands in the other arm is not `Accepted`
+other : (x : Checked) → OneOf (1 ∷ 2 ∷ 3 ∷ []) (tagOf the-type x) → checkedView x ≡ accepted → ⊥
+other Accepted h e = ⊎-elim (λ z. omega (arith, z)) (⊎-elim (λ z. omega (arith, z)) (λ z. omega (arith, z))) h
+other WrongLength h e = let z : _≡_ {A = ℕ} 0 1 = cc in omega arith
+other WrongContents h e = let z : _≡_ {A = ℕ} 0 1 = cc in omega arith
+other (Broken k a) h e = let z : _≡_ {A = ℕ} 0 1 = cc in omega arith
+
 returns-3 : tie.Need-returns-3
 returns-3 c =
-    let less = c .before in
+    let u = c .before in
+    let less = u .before in
     let few = less .before .before in
     let two = few .before in
     let p = two .before .before in
     let s = p .before .before in
     by-pairs (formView (s .args .form)) (s .args .image .now) (s .pre) (p .places-of .result) (p .places-of .ensures) (two .before .word-at .ensures) (two .word-at2 .ensures)
-    (few .if1 .left) (less .if2 .left) _ (c .pair-fault .ensures)
+    (few .if1 .left) (less .if2 .left) (checkedView (u .pair-fault .result)) (u .pair-fault .ensures) (other (u .pair-fault .result) (c .match .keys2))
+
+returns-4 : tie.Need-returns-4
+returns-4 c =
+    let told = c .before in
+    let u = told .before .before in
+    let less = u .before in
+    let few = less .before .before in
+    let two = few .before in
+    let p = two .before .before in
+    let s = p .before .before in
+    by-numbers (formView (s .args .form)) (s .args .image .now) (s .pre) (p .places-of .result) (p .places-of .ensures) (two .before .word-at .ensures) (two .word-at2 .ensures)
+    (few .if1 .left) (less .if2 .left) (checkedView (u .pair-fault .result)) (u .pair-fault .ensures) (ap checkedView (told .enum-told .given .1)) _ (c .number-fault .ensures)
 
 pub first-fault-spec : {M : Type 1} → statement M
 first-fault-spec =
@@ -76,4 +106,7 @@ first-fault-spec =
     cast-count
     returns-2
     pair-fault-requires
-    returns-3)
+    (λ c. search needs)
+    returns-3
+    (λ c κs. search needs)
+    returns-4)

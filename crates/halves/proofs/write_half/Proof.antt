@@ -29,7 +29,7 @@ write-half-spec =
     (λ c. (c .before .before .write-mask .ensures .0, rw (c .before .before .before .before .enum-told2 .given .1) (c .before .before .write-mask .ensures .1)))
     (λ c. search needs)
     (λ c. let w = c .before .before in
-    (w .write-clear .ensures .0, rw (w .before .before .before .enum-told3 .given .1) (writes-same (λ k. move (clear (w .before .in-half .result)) ∷ []) _ (w .write-clear .ensures .1) (λ d h. ap (λ (x : ℕ). move (clear x) ∷ []) (w .before .in-half .ensures)))))
+    (w .write-clear .ensures .0, rw (w .before .before .before .enum-told3 .given .1) (writes-same (λ k. move (clear (w .before .in-half .result)) ∷ []) _ (w .write-clear .ensures .1) (λ d ns h. ap (λ (x : ℕ). move (clear x) ∷ []) (w .before .in-half .ensures)))))
     (λ c. (omega arith, rw (c .enum-told4 .given .1) (writes-none (c .before .before .before .args .image .now))))
     (λ c. search needs)
     (λ c. (omega arith, rw (c .before .before .before .before .enum-told5 .given .1) (c .before .before .write-isr .ensures)))

@@ -7,8 +7,10 @@ use native.Mathlib.Omega.{arith}
 use lib.Dec.{eqb}
 use Rattle.rules.specs.Inputs.{on}
 use Rattle.rules.specs.Ring.{Event, dropped}
-use Rattle.rules.specs.Device.{Call, none, step, value}
+use Rattle.rules.specs.Device.{Call, none, step}
 use Rattle.rules.specs.Device as device
+use Rattle.rules.specs.Numbering.{valueWith}
+use Rattle.rules.specs.Image.{numbersIn}
 use Rattle.rules.specs.Calls.{poll, askedBy, answered, Outcome}
 use Rattle.rules.specs.History.{history}
 use Rattle.histories.specs.Premises.{Along}
@@ -55,7 +57,7 @@ module _ (h : Underway) (f : Faithful h) (i : ℕ) (b : i < 64) (x : Exported) (
       let is = input-is i (device.poll i) (r .call) (asked-is (sym (ap askedBy a) ∙ r .passes)) .1 in
       let off = ap (λ d. on (d .core .lines .irr) i) (sym (image-holds-device u still)) ∙ cleared-stays-unlatched in
       ap (λ (o : Outcome). o .answer) (r .left)
-      ∙ ap (λ v. answered 0 v (y .answer)) (ap (value (current u)) is ∙ poll-finds-none i b (current u) off)
+      ∙ ap (λ v. answered 0 v (y .answer)) (ap (valueWith (current u) (numbersIn (y .given))) is ∙ poll-finds-none i b (current u) (numbersIn (y .given)) off)
 
   -- Where no other input carries the vector v from x on, each assert of v that a host reads from then, that waits at last or that was lost is one that
   -- waited at first.

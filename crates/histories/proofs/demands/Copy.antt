@@ -10,6 +10,7 @@ use Rattle.rules.specs.Numbers.{Bytes}
 use Rattle.rules.specs.Map.{Register, inRoutes, inVectors}
 use Rattle.rules.specs.Access.{registerActs, entryActs}
 use Rattle.rules.specs.Device.{Device, Call, actsOf, reset}
+use Rattle.rules.specs.Numbering.{fromZero}
 use Rattle.rules.specs.Form.{copy, irr, word, one, place, formLength, read}
 use Rattle.rules.specs.Image.{wordIn, encodeAs, decode, imageTest, accepted}
 use Rattle.rules.specs.History.{history}
@@ -18,13 +19,12 @@ use Rattle.rules.proofs.laws.Bits.{test}
 use Rattle.rules.proofs.laws.Bytes.{part-number, part-known}
 use Rattle.rules.proofs.laws.Tests.{accepted-has, known-length}
 use Rattle.rules.proofs.laws.Saved.{bytes-encode, length-encode}
-use Rattle.rules.proofs.laws.Images.{decode-as, accepted-encode, reset-well-formed}
+use Rattle.rules.proofs.laws.Images.{decode-as, accepted-encode, reset-well-formed, reset-numbered}
 use Rattle.rules.proofs.demands.Copy.{copy-is-irr, route-index-below, vector-index-below}
 use Rattle.histories.specs.Demands.{Each, done, also}
 use Rattle.histories.specs.Exported.{Exported, Underway, carriedThrough, NoLoads, doneCalls, GivenBytes, current, inImage, Faithful, afterReset, atLoad}
-use Rattle.histories.proofs.laws.WellFormed.{history-well}
 use Rattle.histories.proofs.laws.Reach.{Passes, register-has, any-met, call-has}
-use Rattle.histories.proofs.laws.Chains.{faithful-after-reset, faithful-at-load}
+use Rattle.histories.proofs.laws.Chains.{current-well, faithful-after-reset, faithful-at-load}
 use Rattle.histories.proofs.demands.FromCalls.{image-holds-device, faithful-through, length-through, image-holds-history, history-since-load}
 
 -- ---- one image
@@ -39,7 +39,7 @@ copy-in l n e = accepted-has one l (sym (known-length one l n) ∙ e) .ruled .co
 
 -- so in the image left last
 copy-left : (h : Underway) → Faithful h → length (h .left) ≡ formLength one → wordIn one (h .left) copy ≡ wordIn one (h .left) irr
-copy-left h f n = copy-in (h .left) n (rw (f .left) (accepted-encode (current h) (history-well (h .began) (h .calls) (f .began)) (f .form)))
+copy-left h f n = copy-in (h .left) n (rw (f .left) (accepted-encode (current h) (current-well h f) (f .numbers) (f .numbered) (f .form)))
 
 -- and so do their eight bytes
 same-bytes : (l : List ℕ) → Bytes l → length l ≡ formLength one → wordIn one l copy ≡ wordIn one l irr → read one l (word copy) ≡ read one l (word irr)
@@ -70,8 +70,7 @@ module _ (h : Underway) (f : Faithful h) (l : length (h .left) ≡ formLength on
   copy-of-calls-same-bytes =
       let u = carriedThrough h xs in
       let g = faithful-through h f xs n in
-      let w = history-well (u .began) (u .calls) (g .began) in
-      same-bytes (u .left) (rw (g .left) (bytes-encode (current u) w (g .form))) long copy-of-calls-is-irr
+      same-bytes (u .left) (rw (g .left) (bytes-encode (current u) (current-well u g) (g .numbers) (g .numbered) (g .form))) long copy-of-calls-is-irr
 
 -- From a reset on, where the copy is 0.
 pub copy-of-calls-from-reset : (xs : List Exported) → NoLoads (afterReset one) xs
@@ -80,8 +79,8 @@ pub copy-of-calls-from-reset : (xs : List Exported) → NoLoads (afterReset one)
 unfolding history
 copy-of-calls-from-reset xs n =
     let f = faithful-after-reset one in
-    let sized = length-encode reset reset-well-formed one in
-    let here = copy-left (afterReset one) f sized ∙ irr-in (encodeAs one reset) sized in
+    let sized = length-encode reset reset-well-formed (fromZero 0) reset-numbered one in
+    let here = copy-left (afterReset one) f sized ∙ irr-in (encodeAs one reset (fromZero 0)) sized in
     let zero-first = here ∙ ap (λ (d : Device). d .core .lines .irr) (image-holds-device (afterReset one) f) in (
       copy-of-calls (afterReset one) f sized xs n ∙ (λ j. copyThrough (image-holds-device (afterReset one) f j) (zero-first j) (doneCalls xs)),
       copy-of-calls-is-irr (afterReset one) f sized xs n,

@@ -86,7 +86,7 @@ account-from-load v h x l s b xs n p lost is =
     subst (λ u. Balances v d (x ∷ xs) lost (inImage (carriedThrough u xs))) (sym (r .2)) whole
 
 module _ (v : ℕ) (form : Form) (xs : List Exported) (n : NoLoads (afterReset form) xs) (p : Along Admitted reset (doneCalls xs)) where
-  -- From a reset on, in either form, for each vector: the asserts read in answer areas, those read in event buffers, those that wait in the image left last and those
+  -- From a reset on, in any form, for each vector: the asserts read in answer areas, those read in event buffers, those that wait in the image left last and those
   -- dropped come to as many deasserts, and the inputs that in that image are in service and carry it.
   pub account-of-calls : (lost : List Event) → lost ≡ dropped (reset .ring) (ringActs reset (doneCalls xs))
       → let left = inImage (carriedThrough (afterReset form) xs) in

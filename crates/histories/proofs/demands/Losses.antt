@@ -7,9 +7,10 @@ use Prim.Native.Nat.{ℕ, _+_, _-_, _<_, _≤_, min}
 use native.Mathlib.Omega.{arith}
 use lib.Dec.{lit≤}
 use Rattle.rules.specs.Numbers.{Bytes}
-use Rattle.rules.specs.Device.{Device, Call, value, reset}
+use Rattle.rules.specs.Device.{Device, Call, reset}
+use Rattle.rules.specs.Numbering.{valueWith}
 use Rattle.rules.specs.Form.{Form, one}
-use Rattle.rules.specs.Image.{decode}
+use Rattle.rules.specs.Image.{decode, numbersIn}
 use Rattle.rules.specs.Calls.{askedBy, answered, presentIn, valueIn, Outcome}
 use Rattle.rules.specs.Calls as request
 use Rattle.rules.specs.History.{history}
@@ -46,8 +47,8 @@ unfolding lossesIn
 write-tells x base size address width v q t =
     let d = decode (x .given) in
     let r = done-call (afterReset one) x t (ap (λ k. isReset (askedBy k)) q) in
-    let answer : leftBy x .answer ≡ answered 0 (value d (r .call)) (x .answer) = ap (λ (o : Outcome). o .answer) (r .left) in
-    let says = tells d base size address width v (r .call) (x .answer) (sym (ap askedBy q) ∙ r .passes) in
+    let answer : leftBy x .answer ≡ answered 0 (valueWith d (numbersIn (x .given)) (r .call)) (x .answer) = ap (λ (o : Outcome). o .answer) (r .left) in
+    let says = tells d (numbersIn (x .given)) base size address width v (r .call) (x .answer) (sym (ap askedBy q) ∙ r .passes) in
     (rw answer (says .present), rw (answer, t, r .passes) (omega (arith, says .amount)))
 
 -- ---- exported calls
@@ -75,7 +76,7 @@ module _ (h : Underway) (f : Faithful h) (xs : List Exported) (n : NoLoads h xs)
       → inImage h .ring .drops + (4294967295 - inImage h .ring .drops) ≡ inImage (carriedThrough h xs) .ring .drops
   losses-up-to-the-stop full = omega (arith, losses-of-calls, first-not-past)
 
--- From a reset on, in either form, where the count is 0.
+-- From a reset on, in any form, where the count is 0.
 pub losses-from-reset : (form : Form) (xs : List Exported) → NoLoads (afterReset form) xs → inImage (carriedThrough (afterReset form) xs) .ring .drops ≡ min (lossesRead xs) 4294967295
 unfolding history
 losses-from-reset form xs n =

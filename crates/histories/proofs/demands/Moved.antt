@@ -10,7 +10,7 @@ use lib.ListN.{length, drop}
 use borrow.Author.Tests.{le-leb}
 use Rattle.rules.specs.Numbers.{Bytes}
 use Rattle.rules.specs.Device.{none}
-use Rattle.rules.specs.Form.{Form, formLength}
+use Rattle.rules.specs.Form.{Form, numbered, formLength}
 use Rattle.rules.specs.Image.{accepted, copyDiffers, manyWait, badFlag, unusedSet, imageTest}
 use Rattle.rules.specs.Calls.{Refusal, refusalNumber, Tested, pass, refuse, answerLength, answered, Outcome, leaves, settled}
 use Rattle.rules.specs.Calls as calls
@@ -85,12 +85,13 @@ module _ (i t a : List ℕ) where
 -- ---- there and back, by two calls
 
 module _ (i t a : List ℕ) (b : Bytes i) where
-  -- Moved by a done call, and from what that left by another into any bytes of the length that the image had: the call is done, and leaves the image as it was.
-  pub moved-and-back : conversion i t a .number ≡ 0 → (u c : List ℕ) → length u ≡ length i → answerLength ≤ length c
-      → conversion (conversion i t a .image) u c ≡ leaves 0 i (answered 0 none c) []
-  moved-and-back z u c s r =
-      ends-as (conversion i t a .image) u c (le-leb answerLength (length c) r) (there-and-back i t (conversion i t a .image) b (done-is-converted i t a z) u s)
+  -- Moved by a done call, and from what that left by another into any bytes of the length that the image had: the call is done, and leaves the image as it was. Where the
+  -- image has numbers of events the target has to have room for them, or they are lost (02, C-19).
+  pub moved-and-back : conversion i t a .number ≡ 0 → (u c : List ℕ) → length u ≡ length i → (length i ≡ formLength numbered → length t ≡ formLength numbered)
+      → answerLength ≤ length c → conversion (conversion i t a .image) u c ≡ leaves 0 i (answered 0 none c) []
+  moved-and-back z u c s keeps r =
+      ends-as (conversion i t a .image) u c (le-leb answerLength (length c) r) (there-and-back i t (conversion i t a .image) b (done-is-converted i t a z) u s keeps)
 
-  -- And an accepted image can be moved to either length: the call is done.
+  -- And an accepted image can be moved to the length of any form: the call is done.
   pub moves : imageTest i ≡ accepted → (g : Form) → length t ≡ formLength g → answerLength ≤ length a → conversion i t a .number ≡ 0
   moves e g s r = ap (λ (o : Outcome). o .number) (ends-as i t a (le-leb answerLength (length a) r) (can-be-converted i t e g s))

@@ -1,6 +1,6 @@
 -- Exported calls and the history that they carry on: what a done call was asked and what it leaves, and that the history's device is always the one
 -- that the image last left holds. A refused call changes nothing; a load begins anew from what it was given.
-use mathlib.Core.Path.{_≡_, refl, sym, ap, _∙_}
+use mathlib.Core.Path.{_≡_, refl, sym, ap, subst, _∙_}
 use mathlib.Core.Bool.{Bool, true, false, cond, not, true≢false, and-false, and-eq-true-iff, Bool·not-not}
 use mathlib.Core.List.{List, [], _∷_, _++_, append-nil, append-assoc}
 use Prim.Native.Nat.{ℕ, _≤_}
@@ -9,20 +9,22 @@ use lib.Dec.{eqb, leb}
 use lib.ListN.{length}
 use borrow.Author.Tests.{leb-true}
 use Rattle.rules.specs.Numbers.{Bytes}
-use Rattle.rules.specs.Device.{Device, Call, value, step, reset}
-use Rattle.rules.specs.Form.{Form, forms, Known, unknown, known, formOf, formLength}
-use Rattle.rules.specs.Image.{copyDiffers, manyWait, badFlag, unusedSet, ImageTest, imageTest, same, encodeAs, encodeLike, decode}
+use Rattle.rules.specs.Device.{Device, WellFormed, Call, step, reset}
+use Rattle.rules.specs.Numbering.{Numbers, fromZero, WellNumbered, numbersAfter, drainedWith, valueWith}
+use Rattle.rules.specs.Form.{Form, numbers, forms, has, Known, unknown, known, formOf, formLength}
+use Rattle.rules.specs.Image.{copyDiffers, manyWait, badFlag, unusedSet, ImageTest, imageTest, same, encodeAs, encodeLike, decode, numbersIn}
 use Rattle.rules.specs.Image as image
 use Rattle.rules.specs.Calls.{Refusal, outside, noWidth, noInput, wrongLength, wrongContents, noRoom, broken, refusalNumber}
 use Rattle.rules.specs.Calls.{Tested, pass, refuse, Request, Asked, afresh, calls, askedBy, Done, doneOn, performed}
 use Rattle.rules.specs.Calls.{answered, bufferOf, placeOf, written, Outcome, leaves, ended, settled, answerLength, hasRoom, outcome}
 use Rattle.rules.specs.History.{history}
-use Rattle.histories.specs.Exported.{Exported, leftBy, isDone, isReset, isLoad, callOf, Underway, carriedOn, doneCall, doneCalls, afterReset, atLoad, current, Faithful}
+use Rattle.histories.specs.Exported.{Exported, leftBy, isDone, isReset, isLoad, callOf, Underway, carriedOn, doneCall, doneCalls, afterReset, atLoad, current, Faithful, numbersThrough}
 use Rattle.rules.proofs.laws.Bits.{test}
 use Rattle.rules.proofs.laws.Lists.{same-self, same-equal}
 use Rattle.rules.proofs.laws.Tests.{form-known}
-use Rattle.rules.proofs.laws.Saved.{length-encode}
-use Rattle.rules.proofs.laws.Images.{accepted-has, encode-as, decode-encode, encode-decode, decode-well-formed, reset-well-formed}
+use Rattle.rules.proofs.laws.Numbered.{numbers-step}
+use Rattle.rules.proofs.laws.Saved.{bytes-encode, length-encode, encode-without}
+use Rattle.rules.proofs.laws.Images.{accepted-has, encode-as, accepted-encode, decode-encode, numbers-encode, encode-decode, decode-well-formed, numbers-well, reset-well-formed, reset-numbered}
 use Rattle.histories.proofs.laws.Folds.{history-append}
 use Rattle.histories.proofs.laws.WellFormed.{history-well}
 
@@ -48,7 +50,7 @@ pub record DidPass (x : Exported) : Type 0 where
   pub passed : performed (askedBy (x .asked)) (x .given) ≡ pass gives
   pub left : leftBy x ≡ settled (x .answer) (ended (x .asked) (x .given) (pass gives))
 
-place-fits : (q : Request) (a : List ℕ) → hasRoom q a ≡ true → placeOf q ≤ length (bufferOf q)
+pub place-fits : (q : Request) (a : List ℕ) → hasRoom q a ≡ true → placeOf q ≤ length (bufferOf q)
 place-fits q a t =
     leb-true (placeOf q) (length (bufferOf q)) (and-eq-true-iff (leb answerLength (length a)) (leb (placeOf q) (length (bufferOf q))) .0 t .1)
 
@@ -76,7 +78,7 @@ record DidCall (t : Tested Call) (i : List ℕ) (y : Done) : Type 0 where
   call : Call
   passes : t ≡ pass call
   accepted : imageTest i ≡ image.accepted
-  gives : y ≡ doneOn (decode i) call
+  gives : y ≡ doneOn (decode i) (numbersIn i) call
 
 -- the tests' answers: a refusal is no pass, and a pass gives one thing
 pub never : {A B : Type 0} (r : Refusal) (y : A) → refuse r ≡ pass y → B
@@ -96,11 +98,12 @@ did-call t i y e = go (imageTest i) refl t refl
     go image.wrongContents f u g = never wrongContents y (rw f at e)
     go (image.broken k a) f u g = never (broken k a) y (rw f at e)
 
--- a done reset: its image has the length of a form, and it gives the reset device
+-- a done reset: its image has the length of a form, and it gives the reset device, with numbers from 0
 record DidReset (i : List ℕ) (y : Done) : Type 0 where
   form : Form
   sized : length i ≡ formLength form
   device : y .device ≡ reset
+  numbers : y .numbers ≡ fromZero 0
 
 did-reset : (i : List ℕ) (y : Done) → performed afresh i ≡ pass y → DidReset i y
 unfolding performed
@@ -108,15 +111,18 @@ did-reset i y e = go (formOf (length i)) refl
   where
     go : (k : Known) → formOf (length i) ≡ k → DidReset i y
     go unknown h = never wrongLength y (rw h at e)
-    go (known f) h = record { form = f; sized = form-known forms (length i) f h; device = ap (λ (z : Done). z .device) (sym (passed (rw h at e))) }
+    go (known f) h =
+        let is = sym (passed (rw h at e)) in
+        record { form = f; sized = form-known forms (length i) f h; device = ap (λ (z : Done). z .device) is; numbers = ap (λ (z : Done). z .numbers) is }
 
 -- it leaves the image of the reset device, in that form
 pub reset-leaves : (x : Exported) → isDone x ≡ true → askedBy (x .asked) ≡ afresh
-    → (f : Form) × (length (x .given) ≡ formLength f) × (leftBy x .image ≡ encodeAs f reset)
+    → (f : Form) × (length (x .given) ≡ formLength f) × (leftBy x .image ≡ encodeAs f reset (fromZero 0))
 reset-leaves x t e =
     let p = did-pass x t in
     let r = did-reset (x .given) (p .gives) (rw e at (p .passed)) in
-    (r .form, r .sized, ap (λ (o : Outcome). o .image) (p .left) ∙ ap (encodeLike (x .given)) (r .device) ∙ encode-as (r .form) (x .given) (r .sized) reset)
+    let image-is = ap (λ (o : Outcome). o .image) (p .left) ∙ (λ i. encodeLike (x .given) (r .device i) (r .numbers i)) in
+    (r .form, r .sized, image-is ∙ encode-as (r .form) (x .given) (r .sized) reset (fromZero 0))
 
 -- ---- loads
 
@@ -138,17 +144,57 @@ continued d n r cs h x =
 
 unfoldable pub faithful-after-reset : (f : Form) → Faithful (afterReset f)
 unfolding history
-faithful-after-reset f = record { form = f; began = reset-well-formed; left = refl }
+faithful-after-reset f = record { form = f; began = reset-well-formed; numbers = fromZero 0; numbered = reset-numbered; left = refl }
 
 pub faithful-at-load : (i : List ℕ) → Bytes i → imageTest i ≡ image.accepted → Faithful (atLoad i)
 unfolding history
 faithful-at-load i b e =
     let h = accepted-has i e in
-    record { form = h .form; began = decode-well-formed i b e; left = sym (encode-decode i b e) ∙ encode-as (h .form) i (h .has .sized) (decode i) }
+    record {
+      form = h .form;
+      began = decode-well-formed i b e;
+      numbers = numbersIn i;
+      numbered = numbers-well i b e;
+      left = sym (encode-decode i b e) ∙ encode-as (h .form) i (h .has .sized) (decode i) (numbersIn i);
+    }
 
--- the image left last has the length of its form
-pub left-length : (h : Underway) (f : Faithful h) → length (h .left) ≡ formLength (f .form)
-left-length h f = ap length (f .left) ∙ length-encode (current h) (history-well (h .began) (h .calls) (f .began)) (f .form)
+module _ (h : Underway) (f : Faithful h) where
+  pub current-well : WellFormed (current h)
+  current-well = history-well (h .began) (h .calls) (f .began)
+
+  -- the image left last has the length of its form
+  pub left-length : length (h .left) ≡ formLength (f .form)
+  left-length = ap length (f .left) ∙ length-encode (current h) current-well (f .numbers) (f .numbered) (f .form)
+
+  -- and holds the device to which the history has come
+  pub left-holds : decode (h .left) ≡ current h
+  left-holds = ap decode (f .left) ∙ decode-encode (current h) current-well (f .numbers) (f .numbered) (f .form)
+
+  -- the numbers that it loads with fit the device
+  pub left-numbered : WellNumbered (current h) (numbersIn (h .left))
+  left-numbered =
+      let i = encodeAs (f .form) (current h) (f .numbers) in
+      let well = numbers-well i (bytes-encode (current h) current-well (f .numbers) (f .numbered) (f .form)) (accepted-encode (current h) current-well (f .numbers) (f .numbered) (f .form)) in
+      subst (λ l. WellNumbered (current h) (numbersIn l)) (sym (f .left))
+      (subst (λ d. WellNumbered d (numbersIn i)) (decode-encode (current h) current-well (f .numbers) (f .numbered) (f .form)) well)
+
+  -- where its form has numbers they are the history's, and else it has none: so the image after a call is the same with either
+  pub numbers-kept : (d : Device) (c : Call) → encodeAs (f .form) d (numbersAfter (current h) (numbersIn (h .left)) c) ≡ encodeAs (f .form) d (numbersAfter (current h) (f .numbers) c)
+  numbers-kept d c =
+      test (has (f .form) numbers)
+      (λ t. ap (λ s. encodeAs (f .form) d (numbersAfter (current h) s c)) (ap numbersIn (f .left) ∙ numbers-encode (current h) current-well (f .numbers) (f .numbered) (f .form) t))
+      (λ t. encode-without (f .form) t d (numbersAfter (current h) (numbersIn (h .left)) c) (numbersAfter (current h) (f .numbers) c))
+
+-- numbers through calls: they fit the device to which the calls come, and calls after calls
+pub through-numbered : (d : Device) (s : Numbers) (cs : List Call) → WellNumbered d s → WellNumbered (history d cs .after) (numbersThrough d s cs)
+unfolding history numbersThrough
+through-numbered d s [] v = v
+through-numbered d s (c ∷ cs) v = through-numbered (step d c .after) (numbersAfter d s c) cs (numbers-step d s c v)
+
+pub through-append : (d : Device) (s : Numbers) (cs ds : List Call) → numbersThrough d s (cs ++ ds) ≡ numbersThrough (history d cs .after) (numbersThrough d s cs) ds
+unfolding history numbersThrough
+through-append d s [] ds = refl
+through-append d s (c ∷ cs) ds = through-append (step d c .after) (numbersAfter d s c) cs ds
 
 history-snoc : (d : Device) (cs : List Call) (c : Call) → history d (cs ++ (c ∷ [])) .after ≡ step (history d cs .after) c .after
 unfolding history
@@ -178,7 +224,7 @@ module _ (h : Underway) (x : Exported) where
     pub call : Call
     pub passes : askedBy (x .asked) ≡ calls (pass call)
     pub accepted : imageTest (x .given) ≡ image.accepted
-    pub left : leftBy x ≡ settled (x .answer) (ended (x .asked) (x .given) (pass (doneOn (decode (x .given)) call)))
+    pub left : leftBy x ≡ settled (x .answer) (ended (x .asked) (x .given) (pass (doneOn (decode (x .given)) (numbersIn (x .given)) call)))
 
   did : isDone x ≡ true → (u : Tested Call) → askedBy (x .asked) ≡ calls u → Did
   did t u e =
@@ -205,27 +251,34 @@ module _ (h : Underway) (x : Exported) where
 
   -- given the image that the history left, it meets the history's device
   meets : Faithful h → h .left ≡ x .given → decode (x .given) ≡ current h
-  meets f e = ap decode (sym e ∙ f .left) ∙ decode-encode (current h) (history-well (h .began) (h .calls) (f .began)) (f .form)
+  meets f e = ap decode (sym e) ∙ left-holds h f
 
   -- a load of bytes begins a history of the image's form
   faithful-load : isLoad (h .left) x ≡ true → Bytes (x .given) → isDone x ≡ true → Did → Faithful (carriedOn h x)
   unfolding history
   faithful-load n b t r =
       let its = accepted-has (x .given) (r .accepted) in
-      let image-is : leftBy x .image ≡ encodeLike (x .given) (step (decode (x .given)) (r .call) .after) = ap (λ (o : Outcome). o .image) (r .left) in
+      let d = decode (x .given) in
+      let s = numbersIn (x .given) in
+      let after = step d (r .call) .after in
+      let image-is : leftBy x .image ≡ encodeLike (x .given) after (numbersAfter d s (r .call)) = ap (λ (o : Outcome). o .image) (r .left) in
       rw (carried-done t n (r .passes)) (record {
         form = its .form;
         began = decode-well-formed (x .given) b (r .accepted);
-        left = image-is ∙ encode-as (its .form) (x .given) (its .has .sized) (step (decode (x .given)) (r .call) .after);
+        numbers = numbersAfter d s (r .call);
+        numbered = numbers-step d s (r .call) (numbers-well (x .given) b (r .accepted));
+        left = image-is ∙ encode-as (its .form) (x .given) (its .has .sized) after (numbersAfter d s (r .call));
       })
 
-  -- a done call that is no load: it is given the history's image, is one call more of it, and hands back what that call's step gives
+  -- a done call that is no load: it is given the history's image, is one call more of it, and hands back what that call's step gives, with the image's numbers
   pub record Handed : Type 0 where
     pub call : Call
     pub passes : askedBy (x .asked) ≡ calls (pass call)
     pub given : x .given ≡ h .left
-    pub left : leftBy x ≡ leaves 0 (encodeLike (x .given) (step (current h) call .after)) (answered 0 (value (current h) call) (x .answer))
-        (written (bufferOf (x .asked)) (placeOf (x .asked)) (step (current h) call .drained))
+    pub numbered : WellNumbered (current h) (numbersIn (x .given))
+    pub left : leftBy x ≡ leaves 0 (encodeLike (x .given) (step (current h) call .after) (numbersAfter (current h) (numbersIn (x .given)) call))
+        (answered 0 (valueWith (current h) (numbersIn (x .given)) call) (x .answer))
+        (written (bufferOf (x .asked)) (placeOf (x .asked)) (drainedWith (current h) (numbersIn (x .given)) call))
     pub fits : placeOf (x .asked) ≤ length (bufferOf (x .asked))
     pub carried : carriedOn h x ≡ record { began = h .began; calls = h .calls ++ (call ∷ []); left = leftBy x .image }
 
@@ -241,7 +294,8 @@ module _ (h : Underway) (x : Exported) where
             call = r .call;
             passes = r .passes;
             given = sym is;
-            left = r .left ∙ ap (λ d. settled (x .answer) (ended (x .asked) (x .given) (pass (doneOn d (r .call))))) (meets f is);
+            numbered = subst (λ l. WellNumbered (current h) (numbersIn l)) is (left-numbered h f);
+            left = r .left ∙ ap (λ d. settled (x .answer) (ended (x .asked) (x .given) (pass (doneOn d (numbersIn (x .given)) (r .call))))) (meets f is);
             fits = place-fits (x .asked) (x .answer) (did-pass x t .room);
             carried = carried-done t n (r .passes);
           }
@@ -272,20 +326,36 @@ module _ (h : Underway) (x : Exported) where
         current = rw none (ap current (carried-refused t));
       })
 
-  -- and its image keeps the form
-  pub kept : (f : Faithful h) → isLoad (h .left) x ≡ false → carriedOn h x .left ≡ encodeAs (f .form) (current (carriedOn h x))
+  -- and its image keeps the form, with the numbers that the history's become
+  pub kept : (f : Faithful h) → isLoad (h .left) x ≡ false
+      → carriedOn h x .left ≡ encodeAs (f .form) (current (carriedOn h x)) (numbersThrough (current h) (f .numbers) (doneCall x))
+  unfolding numbersThrough
   kept f n =
       test (isDone x)
       (λ t.
       let r = handed f t n in
       let after = step (current h) (r .call) .after in
+      let one : doneCall x ≡ r .call ∷ [] = (λ i. cond (t i) (callOf (r .passes i)) []) in
+      rw one (
       ap (λ (u : Underway). u .left) (r .carried) ∙ ap (λ (o : Outcome). o .image) (r .left)
-      ∙ encode-as (f .form) (x .given) (ap length (r .given) ∙ left-length h f) after
-      ∙ ap (encodeAs (f .form)) (sym (ap current (r .carried) ∙ history-snoc (h .began) (h .calls) (r .call))))
-      (λ t. rw (carried-refused t) (f .left))
+      ∙ encode-as (f .form) (x .given) (ap length (r .given) ∙ left-length h f) after (numbersAfter (current h) (numbersIn (x .given)) (r .call))
+      ∙ ap (λ l. encodeAs (f .form) after (numbersAfter (current h) (numbersIn l) (r .call))) (r .given) ∙ numbers-kept h f after (r .call)
+      ∙ ap (λ d. encodeAs (f .form) d (numbersAfter (current h) (f .numbers) (r .call))) (sym (ap current (r .carried) ∙ history-snoc (h .began) (h .calls) (r .call)))
+      ))
+      (λ t.
+      let none : doneCall x ≡ [] = (λ i. cond (t i) (callOf (askedBy (x .asked))) []) in
+      rw (none, carried-refused t) (f .left))
 
   abbrev pub faithful-kept : Faithful h → isLoad (h .left) x ≡ false → Faithful (carriedOn h x)
-  faithful-kept f n = record { form = f .form; began = rw (carried-on f n .began) (f .began); left = kept f n }
+  faithful-kept f n = record {
+    form = f .form;
+    began = rw (carried-on f n .began) (f .began);
+    numbers = numbersThrough (current h) (f .numbers) (doneCall x);
+    numbered =
+        subst (λ d. WellNumbered d (numbersThrough (current h) (f .numbers) (doneCall x))) (sym (carried-on f n .current))
+        (through-numbered (current h) (f .numbers) (doneCall x) (f .numbered));
+    left = kept f n;
+  }
 
   -- any exported call, refused, a load or neither; only a load has to be given bytes
   pub faithful-on : Faithful h → (isLoad (h .left) x ≡ true → Bytes (x .given)) → Faithful (carriedOn h x)

@@ -19,6 +19,8 @@ use Rattle.rules.specs.Map as map
 use Rattle.rules.specs.Access.{Width, byte, word, dword, qword, registerActs, entryActs, cellActs, dwordActs, byteActs, writeActs, readDword}
 use Rattle.rules.specs.Device.{Device, Call, value, lost, actsOf, acted, offers, draws, step}
 use Rattle.rules.specs.Device as device
+use Rattle.rules.specs.Numbering.{Numbers, valueWith}
+use Rattle.rules.specs.Image.{numbersIn}
 use Rattle.rules.specs.Calls.{widthTest, addressTest, pass, Request, calls, askedBy, answered, presentIn, valueIn, Outcome}
 use Rattle.rules.specs.Calls as request
 use Rattle.rules.specs.History.{history}
@@ -197,28 +199,28 @@ pub record Tells (d : Device) (c : Call) (area : List ℕ) : Type 0 where
   pub present : presentIn area ≡ true
   pub amount : valueIn area ≡ lossOf d c
 
-write-tells : (d : Device) (w : Width) (o v : ℕ) (a : List ℕ) → Tells d (device.write w o v) (answered 0 (value d (device.write w o v)) a)
-unfolding value
-write-tells d w o v a =
+write-tells : (d : Device) (s : Numbers) (w : Width) (o v : ℕ) (a : List ℕ) → Tells d (device.write w o v) (answered 0 (valueWith d s (device.write w o v)) a)
+unfolding value valueWith
+write-tells d s w o v a =
     let n = lost (d .ring) (step d (device.write w o v) .made) in
     record { present = some-read 0 a n; amount = value-read 0 a n (omega (arith, write-loses d w o v)) }
 
-pub tells : (d : Device) (base size address width v : ℕ) (c : Call) (a : List ℕ) → askedBy (request.write base size address width v) ≡ calls (pass c)
-    → Tells d c (answered 0 (value d c) a)
-tells d base size address width v c a e =
+pub tells : (d : Device) (s : Numbers) (base size address width v : ℕ) (c : Call) (a : List ℕ) → askedBy (request.write base size address width v) ≡ calls (pass c)
+    → Tells d c (answered 0 (valueWith d s c) a)
+tells d s base size address width v c a e =
     let r = access-is (widthTest width) (addressTest base size address width) (λ w o. device.write w o v) c (asked-is e) in
-    rw (r .2) (write-tells d (r .0) (r .1) v a)
+    rw (r .2) (write-tells d s (r .0) (r .1) v a)
 
-reads-lost : (d : Device) (q : Request) (c : Call) (a : List ℕ) → askedBy q ≡ calls (pass c) → lostTo q (answered 0 (value d c) a) ≡ lossOf d c
-reads-lost d request.reset c a e = absurd (let z : _≡_ {A = ℕ} 0 1 = cc in omega arith)
-reads-lost d (request.read base size address width) c a e =
+reads-lost : (d : Device) (s : Numbers) (q : Request) (c : Call) (a : List ℕ) → askedBy q ≡ calls (pass c) → lostTo q (answered 0 (valueWith d s c) a) ≡ lossOf d c
+reads-lost d s request.reset c a e = absurd (let z : _≡_ {A = ℕ} 0 1 = cc in omega arith)
+reads-lost d s (request.read base size address width) c a e =
     rw (access-is (widthTest width) (addressTest base size address width) device.read c (asked-is e) .2)
-reads-lost d (request.write base size address width v) c a e =
-    let t = tells d base size address width v c a e in
+reads-lost d s (request.write base size address width v) c a e =
+    let t = tells d s base size address width v c a e in
     rw (t .present) (t .amount)
-reads-lost d (request.level n v) c a e = rw (input-is n (device.level n (not (eqb v 0))) c (asked-is e) .1)
-reads-lost d (request.poll n) c a e = rw (input-is n (device.poll n) c (asked-is e) .1)
-reads-lost d (request.drain buffer place) c a e = rw (sym (passed (asked-is e)))
+reads-lost d s (request.level n v) c a e = rw (input-is n (device.level n (not (eqb v 0))) c (asked-is e) .1)
+reads-lost d s (request.poll n) c a e = rw (input-is n (device.poll n) c (asked-is e) .1)
+reads-lost d s (request.drain buffer place) c a e = rw (sym (passed (asked-is e)))
 
 one-lost : (h : Underway) → Faithful h → (x : Exported) → isLoad (h .left) x ≡ false
     → cond (isDone x) (lostTo (x .asked) (leftBy x .answer)) 0 ≡ lossesIn (current h) (doneCall x)
@@ -227,8 +229,9 @@ one-lost h f x n =
     test (isDone x)
     (λ t.
     let r = handed h x f t n in
-    let answer : leftBy x .answer ≡ answered 0 (value (current h) (r .call)) (x .answer) = ap (λ (o : Outcome). o .answer) (r .left) in
-    rw (t, r .passes, answer) (omega (arith, reads-lost (current h) (x .asked) (r .call) (x .answer) (r .passes))))
+    let ns = numbersIn (x .given) in
+    let answer : leftBy x .answer ≡ answered 0 (valueWith (current h) ns (r .call)) (x .answer) = ap (λ (o : Outcome). o .answer) (r .left) in
+    rw (t, r .passes, answer) (omega (arith, reads-lost (current h) ns (x .asked) (r .call) (x .answer) (r .passes))))
     (λ t. rw t)
 
 -- what a host adds up is what the writes of the history say

@@ -2,7 +2,7 @@
 use mathlib.Core.Path.{_≡_, refl, sym, ap, _∙_}
 use mathlib.Core.Logic.{⊎-elim}
 use mathlib.Core.Bool.{Bool, true, false, _&&_, true≢false, and-false}
-use mathlib.Core.List.{List, [], _∷_, _++_}
+use mathlib.Core.List.{List, [], _∷_, _++_, append-nil}
 use Prim.Native.Nat.{ℕ, _<_}
 use native.Mathlib.Omega.{arith}
 use borrow.Author.Tests.{eqb-true}
@@ -10,7 +10,8 @@ use Rattle.rules.specs.Inputs.{on, inputs, only, put, without, withHalf}
 use Rattle.rules.specs.Lines.{Lines, Made, event, withIrr, withMask, pendingIn, servedIn, serve, enter, leave, newlyUnmasked, newlyMasked}
 use Rattle.rules.specs.Lines.{polled, raised, lowered, cleared, masked}
 use Rattle.rules.specs.Core.{Core, Move, poll, raise, lower, clear, setMask, Act, move, setIsr, store, setVector, moved, lineTurn, turn, turns}
-use Rattle.rules.specs.Device.{Device, Call, none, actsOf, acted, step, value}
+use Rattle.rules.specs.Device.{Device, Call, none, actsOf, acted, step}
+use Rattle.rules.specs.Numbering.{Numbers, valueWith}
 use Rattle.rules.specs.Device as call
 use Rattle.rules.specs.History.{history}
 use Rattle.histories.specs.Premises.{Along}
@@ -18,7 +19,6 @@ use Rattle.rules.specs.Account.{tally}
 use Rattle.histories.specs.Demands.{Each, done, also, clears, someAct, Clears, Unraised, assertsOf}
 use Rattle.rules.proofs.laws.Bits.{test, on-put, on-without}
 use Rattle.rules.proofs.laws.Inputs.{first-has, only-waiting}
-use Rattle.rules.proofs.laws.Steps.{poll-value}
 use Rattle.rules.proofs.laws.Counts.{tally-append, tally-nil, tally-none}
 use Rattle.histories.proofs.laws.Reach.{each-both, each-so, NotMask, NotClear, mask-or-clear, ReturnsNone, write-returns-none}
 use Rattle.histories.proofs.laws.Folds.{fold-acts, fold-calls}
@@ -147,10 +147,10 @@ module _ (n : ℕ) (b : n < 64) where
       fold-calls (λ d ms e. Onward (d .core .lines) ms (e .core .lines)) (λ d h. record { silent = tally-nil _; unlatched = h })
       (λ d e f. onward-next (d .core .lines) (e .core .lines) (f .core .lines)) (Unraised n) call-quiet
 
-  -- and a poll of it returns nothing
-  pub poll-finds-none : (d : Device) → on (d .core .lines .irr) n ≡ false → value d (call.poll n) ≡ none
-  unfolding polled
-  poll-finds-none d h = poll-value d n ∙ rw (only-waiting n (d .core .lines) b, h)
+  -- and a poll of it returns nothing, whatever the next number is
+  pub poll-finds-none : (d : Device) (s : Numbers) → on (d .core .lines .irr) n ≡ false → valueWith d s (call.poll n) ≡ none
+  unfolding valueWith step actsOf turns lineTurn moved polled
+  poll-finds-none d s h = rw (append-nil, only-waiting n (d .core .lines) b, h)
 
   -- ---- CLEAR
 

@@ -1,33 +1,62 @@
--- `level`: each refusal leaves where 01's order puts it; done, only the lines moved, and the vector returned is told.
-use mathlib.Core.Path.{refl}
+-- `level`: each refusal leaves where 01's order puts it; done, only the lines moved, and the vector returned is told with its number.
+use mathlib.Core.Path.{_≡_, refl, _∙_}
+use lib.ListN.{length}
 use mathlib.Core.Bool.{not}
 use lib.Dec.{eqb}
+use mathlib.Core.List.{List}
+use Prim.Native.Nat.{ℕ}
+use Rattle.rules.specs.Form.{formLength}
 use Rattle.rules.specs.Device as device
 use Rattle.rules.specs.Calls as asked
 use Rattle.image.specs.Shown.{formView}
-use Rattle.refusals.proofs.Ends.{Passed, goes-on, long, tells, by-image}
+use Rattle.refusals.proofs.Ends.{Passed, fitting, goes-on, long, tells, by-head, by-bodies}
 use Rattle.inputs.proofs.Lines.{no-input, level-done}
 use borrow.Author.Needs.{needs}
 use Rattle.inputs.proofs.level.Statement.{statement}
 use Rattle.inputs.proofs.level.Tie as tie
 
--- the image was accepted, and is one of the form
-on : (t : tie.After-known-told) → Passed (formView (t .before .checked .given .0 .0)) (t .before .before .before .before .before .before .args .image .now)
-on t = let e = t .before in let k = e .before .before in goes-on (λ n. k .before .before .slice-known .given n .fits) (k .check .result) (e .checked .given .0 .0) (e .checked .given .1) (k .check .ensures)
+-- the contents were good: the image is one of the form, and has its length
+abbrev imageOf : tie.After-known-told → List ℕ
+imageOf k = k .before .before .before .before .before .before .args .image .now
+
+fit : (k : tie.After-known-told) → length (imageOf k) ≡ formLength (formView (k .before .told .given .0 .0))
+fit k = let e = k .before in let h = e .before .before in fitting (imageOf k) (h .test-head .result) (e .told .given .0 .0) (e .told .given .1) (h .test-head .ensures)
+
+-- and the bodies were: it is accepted
+abbrev knownAt : tie.After-enum-told → tie.After-known-told
+knownAt t = t .before .before .before .before
+
+on : (t : tie.After-enum-told) → Passed (formView (knownAt t .before .told .given .0 .0)) (imageOf (knownAt t))
+on t =
+    let b = t .before .before in
+    let e = knownAt t .before in
+    let h = e .before .before in
+    goes-on (imageOf (knownAt t)) (λ n. h .before .before .slice-known .given n .fits) (h .test-head .result) (e .told .given .0 .0) (e .told .given .1) (h .test-head .ensures)
+    (b .test-bodies .result) (t .enum-told .given .1) (b .test-bodies .ensures)
 
 pub level-spec : {M : Type 1} → statement M
 unfolding on
 level-spec =
     tie.close
     (tie.spec
-    (λ c κs. search needs) (λ c. search needs) (λ c. search needs) (λ c κs. search needs) (λ c. search needs)
-    (λ c. let u = c .before .before in let k = u .before .before in let a = k .before .before .before .args in
-    by-image (asked.level (a .input) (a .level)) refl (k .check .result) (u .enum-told .given .1) (k .check .ensures) (c .of-image .result) (c .of-image .ensures))
+    (λ c κs. search needs) (λ c. search needs) (λ c κs. search needs) (λ c. search needs)
+    (λ c. let m = c .before in let h = m .before in let a = h .before .before .before .args in
+    by-head (asked.level (a .input) (a .level)) (a .image .now) refl (h .test-head .result) (m .match .keys2) (h .test-head .ensures) (c .of-head .result) (c .of-head .ensures))
+    (λ c κs. fit (c .before))
+    (λ c. search needs) (λ c. search needs)
+    (λ c κs. fit (c .before .before .before .before .before))
+    (λ c. search needs)
+    (λ c. let u = c .before .before in let b = u .before .before in let k = b .before .before in let e = k .before in let h = e .before .before in let a = h .before .before .before .args in
+    by-bodies (a .image .now) (h .test-head .result) (e .told .given .0 .0) (e .told .given .1) (h .test-head .ensures) (b .test-bodies .result) (b .test-bodies .ensures)
+    (asked.level (a .input) (a .level)) refl (u .enum-told2 .given .1) (c .of-bodies .result) (c .of-bodies .ensures))
     (λ c κs. search needs) (λ c. search needs)
-    (λ c. let h = c .before in let t = h .before in let m = t .before .before in let a = m .before .before .before .before .args in
+    (λ c. let h = c .before in let t = h .before in let a = knownAt t .before .before .before .before .before .before .args in
     tells (c .no-input .result) (c .no-input .ensures) (no-input (on t) (a .input) (asked.level (a .input) (a .level)) (device.level (a .input) (not (eqb (a .level) 0))) refl (h .if1 .taken)))
     (λ c κs. (long (on (c .before .before)), search needs))
-    (λ c κs. search needs) (λ c κs. search needs) (λ c. search needs)
-    (λ c. let v = c .before in let r = v .before .before .before in let h = r .before .before in let t = h .before in let m = t .before .before in
-    let a = m .before .before .before .before .args in
-    tells (c .done .result) (c .done .ensures) (level-done (on t) (a .input) (h .if1 .left) (search needs) (v .vector-value .ensures) (a .level) (r .set-level .ensures))))
+    (λ c κs. let r = c .before .before .before in let t = r .before .before .before in let a = knownAt t .before .before .before .before .before .before .args in
+    let same : length (r .set-level .last .0) ≡ length (a .image .now) = search needs in
+    same ∙ long (on t))
+    (λ c κs. search needs) (λ c. search needs)
+    (λ c. let n = c .before .before .before in let r = n .before .before .before .before in let h = r .before .before in let t = h .before in let a = knownAt t .before .before .before .before .before .before .args in
+    let same : length (r .set-level .last .0) ≡ length (a .image .now) = search needs in
+    tells (c .done .result) (c .done .ensures) (level-done (on t) (a .input) (h .if1 .left) same (search needs) (n .numbered .ensures) (a .level) (r .set-level .ensures))))

@@ -13,9 +13,9 @@ read-byte-spec =
     (tie.spec
     (λ c κs. search needs)
     (λ c κs. search needs)
-    (λ c d h. c .read-entry .ensures d h ∙ sym (byte-inside (d .core) (c .before .before .before .before .args .offset) (sym (c .before .before .in-byte-area .ensures) ∙ c .before .if1 .taken)))
+    (λ c d ns h. c .read-entry .ensures d ns h ∙ sym (byte-inside (d .core) (c .before .before .before .before .args .offset) (sym (c .before .before .in-byte-area .ensures) ∙ c .before .if1 .taken)))
     (λ c κs. search needs)
     (λ c κs. mask-lt (c .before .before .before .before .args .offset) 2)
-    (λ c d h. let s = c .before .before .before .before .before in
-    c .byte-of .ensures ∙ ap (λ (x : ℕ). byteOf x (bitAnd (s .args .offset) 0x3)) (c .before .read-dword .ensures d h)
+    (λ c d ns h. let s = c .before .before .before .before .before in
+    c .byte-of .ensures ∙ ap (λ (x : ℕ). byteOf x (bitAnd (s .args .offset) 0x3)) (c .before .read-dword .ensures d ns h)
     ∙ sym (byte-outside (d .core) (s .args .offset) (search needs) (sym (c .before .before .before .in-byte-area .ensures) ∙ c .before .before .if1 .left))))

@@ -19,7 +19,7 @@ write-byte-spec =
     (λ c κs. search needs)
     (λ c. search needs)
     (λ c. let a = c .before .before .before .before .before .before .before .args in
-    (omega arith, writes-same (λ k. entryActs (a .offset) (a .val)) (λ k. byteActs k (a .offset) (a .val)) (c .before .before .write-entry .ensures) (λ d h. sym (byte-acts-inside (a .offset) (a .val) (d .core) (sym (c .before .before .before .before .before .in-byte-area .ensures) ∙ c .before .before .before .before .if1 .taken)))))
+    (omega arith, writes-same (λ k. entryActs (a .offset) (a .val)) (λ k. byteActs k (a .offset) (a .val)) (c .before .before .write-entry .ensures) (λ d ns h. sym (byte-acts-inside (a .offset) (a .val) (d .core) (sym (c .before .before .before .before .before .in-byte-area .ensures) ∙ c .before .before .before .before .if1 .taken)))))
     (λ c. omega (arith, mask-lt (c .before .before .before .args .offset) 2))
     (λ c. omega (arith, mask-lt (c .before .before .before .args .offset) 2))
     (λ c. omega (arith, mask-lt (c .before .before .before .args .offset) 2))

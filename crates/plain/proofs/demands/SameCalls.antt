@@ -1,4 +1,5 @@
--- 02, C-13, of exported calls: every done call leaves the bytes that the plain engine tells, on any image, with refused calls, loads and resets anywhere.
+-- 02, C-13, of exported calls: every done call leaves the bytes that the plain engine tells, on any image, with refused calls, loads and resets anywhere. They are
+-- compared without the numbers of events (02, C-19).
 use mathlib.Core.Path.{_≡_, refl, sym, ap, ap₂, subst, _∙_}
 use mathlib.Core.Bool.{Bool, true, false, cond, true≢false}
 use mathlib.Core.List.{List, [], _∷_, _++_, map, map-append, append-nil}
@@ -6,20 +7,23 @@ use Prim.Native.Nat.{ℕ}
 use lib.ListN.{length}
 use Rattle.rules.specs.Numbers.{Bytes}
 use Rattle.rules.specs.Lines.{Made}
+use Rattle.rules.specs.Ring.{Event}
 use Rattle.rules.specs.Device.{Device, WellFormed, Call, Step, none, step, value}
 use Rattle.rules.specs.Device as device
+use Rattle.rules.specs.Numbering.{fromZero}
 use Rattle.rules.specs.Form.{Form, Known, unknown, known, formOf}
-use Rattle.rules.specs.Image.{imageTest, accepted, encodeAs, encodeLike, decode}
+use Rattle.rules.specs.Image.{imageTest, accepted, encodeAs, encodeLike, decode, numbersIn}
 use Rattle.rules.specs.Calls.{pass, Asked, afresh, calls, askedBy, Done, performed, wrongLength, answered, bufferOf, placeOf, written, Outcome, settled, ended}
 use Rattle.rules.specs.History.{history}
-use Rattle.histories.specs.Exported.{Exported, isDone, isReset, isLoad, callOf, doneCall, Underway, carriedOn, carriedThrough}
+use Rattle.histories.specs.Exported.{Exported, leftBy, isDone, unnumbered, isReset, isLoad, callOf, doneCall, Underway, carriedOn, carriedThrough}
 use Rattle.histories.specs.Exported.{GivenBytes, current, inImage, Faithful, afterReset, atLoad}
 use Rattle.rules.proofs.laws.Bits.{test}
-use Rattle.rules.proofs.laws.Images.{decode-well-formed, reset-well-formed}
+use Rattle.rules.proofs.laws.Images.{decode-well-formed, reset-well-formed, reset-numbered}
 use Rattle.histories.proofs.laws.Folds.{history-append}
-use Rattle.histories.proofs.laws.WellFormed.{step-well, history-well}
-use Rattle.histories.proofs.laws.Chains.{never, passed, did-pass, handed, faithful-on, carried-on, reset-begins, done-call, own-image, load-begins}
+use Rattle.histories.proofs.laws.WellFormed.{step-well}
+use Rattle.histories.proofs.laws.Chains.{never, passed, did-pass, current-well, handed, faithful-on, carried-on, reset-leaves, reset-begins, done-call, own-image, load-begins}
 use Rattle.histories.proofs.laws.Chains.{faithful-after-reset, faithful-at-load}
+use Rattle.histories.proofs.laws.Without.{own-numbers, handed-image, handed-answer, handed-events, reset-answer, reset-events}
 use Rattle.histories.proofs.demands.FromCalls.{image-holds-device, history-since-load}
 use Rattle.plain.specs.Plain.{Engine, counted, Gave, idle, gives}
 use Rattle.plain.specs.Sequence.{loadOf, shown, notesOf, asMade}
@@ -41,10 +45,6 @@ record Beside (g : Gave) (u : Underway) (x : Exported) : Type 0 where
   same : Same (g .after) run
   is : Of run u
   agrees : isDone x ≡ true → Agrees g x
-
--- the device of a faithful history under way is one that an image can hold
-current-well : (h : Underway) → Faithful h → WellFormed (current h)
-current-well h f = history-well (h .began) (h .calls) (f .began)
 
 history-made : (d : Device) (cs : List Call) (c : Call) → history d (cs ++ (c ∷ [])) .made ≡ history d cs .made ++ step (history d cs .after) c .made
 unfolding history
@@ -86,11 +86,13 @@ module _ (e : Engine) (h : Underway) (x : Exported) where
               ∙ sym (history-made (h .began) (h .calls) c) ∙ (λ z. history (sym (on .began) z) (sym (on .calls ∙ ap (λ cs. h .calls ++ cs) one) z) .made);
         };
         agrees = λ _. record {
-          image = ap (λ (o : Outcome). o .image) (p .left) ∙ ap (λ (d : Device). encodeLike (x .given) (step d c .after)) (sym i) ∙ ap (encodeLike (x .given)) (sym shows);
-          answer = ap (λ (o : Outcome). o .answer) (p .left) ∙ ap (λ v. answered 0 v (x .answer)) (ap (λ (d : Device). value d c) (sym i) ∙ sym (a .value));
+          image =
+              handed-image h x f t n
+              ∙ ap (λ (d : Device). encodeLike (x .given) d (numbersIn (leftBy x .image))) (ap (λ (d : Device). step d c .after) (sym i) ∙ sym shows);
+          answer = handed-answer h x f t n ∙ ap (λ v. answered 0 v (x .answer)) (ap (λ (d : Device). value d c) (sym i) ∙ sym (a .value));
           events =
-              ap (λ (o : Outcome). o .events) (p .left)
-              ∙ ap (written (bufferOf (x .asked)) (placeOf (x .asked))) (ap (λ (d : Device). step d c .drained) (sym i) ∙ sym (a .drained));
+              handed-events h x f t n
+              ∙ ap (λ (es : List Event). written (bufferOf (x .asked)) (placeOf (x .asked)) (unnumbered es)) (ap (λ (d : Device). step d c .drained) (sym i) ∙ sym (a .drained));
         };
       })
 
@@ -114,11 +116,11 @@ module _ (e : Engine) (h : Underway) (x : Exported) where
       })
 
 -- a done reset gives nothing but the reset device
-reset-gives : (i : List ℕ) (y : Done) → performed afresh i ≡ pass y → y ≡ record { device = device.reset; value = none; drained = [] }
+reset-gives : (i : List ℕ) (y : Done) → performed afresh i ≡ pass y → y ≡ record { device = device.reset; numbers = fromZero 0; value = none; drained = [] }
 unfolding performed
 reset-gives i y e = go (formOf (length i)) refl
   where
-    go : (k : Known) → formOf (length i) ≡ k → y ≡ record { device = device.reset; value = none; drained = [] }
+    go : (k : Known) → formOf (length i) ≡ k → y ≡ record { device = device.reset; numbers = fromZero 0; value = none; drained = [] }
     go unknown h = never wrongLength y (rw h at e)
     go (known f) h = sym (passed (rw h at e))
 
@@ -129,6 +131,8 @@ module _ (e : Engine) (h : Underway) (x : Exported) (t : isDone x ≡ true) wher
       let load : isLoad (h .left) x ≡ true = rw (t, k) in
       let p = did-pass x t in
       let left = p .left ∙ ap (λ (y : Done). settled (x .answer) (ended (x .asked) (x .given) (pass y))) (reset-gives (x .given) (p .gives) (rw k at (p .passed))) in
+      let image-is = ap (λ (o : Outcome). o .image) left in
+      let at = reset-leaves x t k in
       let same = same-load e device.reset reset-well-formed in
       let is : meets e h x ≡ idle (loadOf e device.reset) = meets-is e h x t load k in
       subst (λ (g : Gave). Beside g (carriedOn h x) x) (sym is) (record {
@@ -139,9 +143,13 @@ module _ (e : Engine) (h : Underway) (x : Exported) (t : isDone x ≡ true) wher
           made = sym (ap (λ (u : Underway). history (u .began) (u .calls) .made) (reset-begins h x t k));
         };
         agrees = λ _. record {
-          image = ap (λ (o : Outcome). o .image) left ∙ ap (encodeLike (x .given)) (sym (shown-is (loadOf e device.reset) (loadedRun device.reset) same (sized reset-well-formed)));
-          answer = ap (λ (o : Outcome). o .answer) left;
-          events = ap (λ (o : Outcome). o .events) left;
+          image =
+              image-is ∙ own-numbers (at .0) (x .given) (at .1) device.reset reset-well-formed (fromZero 0) reset-numbered
+              ∙ ap (λ l. encodeLike (x .given) device.reset (numbersIn l)) (sym image-is)
+              ∙ ap (λ (d : Device). encodeLike (x .given) d (numbersIn (leftBy x .image)))
+              (sym (shown-is (loadOf e device.reset) (loadedRun device.reset) same (sized reset-well-formed)));
+          answer = reset-answer x k t ∙ ap (λ (o : Outcome). o .answer) left;
+          events = reset-events x k t ∙ ap (λ (o : Outcome). o .events) left;
         };
       })
 
@@ -214,9 +222,9 @@ module _ (old : Engine) (d : Device) (i : List ℕ) (f : Faithful (record { bega
   pub events-as-plain : map asMade (afterCalls (loadOf old d) h xs .history) ≡ history (carriedThrough h xs .began) (carriedThrough h xs .calls) .made
   events-as-plain = both .made
 
--- So from reset, in either form, and from an image that is accepted.
+-- So from reset, in any form, and from an image that is accepted.
 pub calls-as-plain-from-reset : (old : Engine) (form : Form) (xs : List Exported) → GivenBytes xs → AllAgree (loadOf old device.reset) (afterReset form) xs
-calls-as-plain-from-reset old form xs b = calls-as-plain old device.reset (encodeAs form device.reset) (faithful-after-reset form) xs b
+calls-as-plain-from-reset old form xs b = calls-as-plain old device.reset (encodeAs form device.reset (fromZero 0)) (faithful-after-reset form) xs b
 
 pub calls-as-plain-from-load : (old : Engine) (i : List ℕ) → Bytes i → imageTest i ≡ accepted → (xs : List Exported) → GivenBytes xs
     → AllAgree (loadOf old (decode i)) (atLoad i) xs

@@ -1,6 +1,7 @@
--- `offer`: the ring's body is lent from its place on.
-use mathlib.Core.Path.{refl}
+-- `offer`: the number is taken, and then the ring's body is lent from its place on.
+use mathlib.Core.Path.{_≡_, refl}
 use native.Mathlib.Omega.{arith}
+use lib.ListN.{length}
 use Rattle.rules.specs.Form.{count}
 use Rattle.image.specs.Shown.{formView}
 use Rattle.image.proofs.Forms.{placed}
@@ -15,13 +16,18 @@ offer-spec =
     tie.close
     (tie.spec
     (λ c κs. search needs)
-    (λ c. (let p = c in omega (arith, placed (p .places-of .ensures) count refl, ring-fits (formView (p .before .before .args .form)))))
+    (λ c κs. search needs)
+    (λ c. let s = c .before .before .before .before .before .before in
+    record { fits = omega (arith, placed (c .places-of .ensures) count refl, ring-fits (formView (s .args .form)), s .pre) })
     (λ c. search needs)
     (λ c. search needs)
-    (λ c. (let p = c in omega (arith, placed (p .places-of .ensures) count refl, ring-fits (formView (p .before .before .args .form)))))
+    (λ c. let t = c .before .before .before in let s = t .before .before .before in
+    let same : length (t .take-offered .last .0) ≡ length (s .args .image .now) = search needs in
+    omega (arith, same, placed (c .places-of .ensures) count refl, ring-fits (formView (s .args .form)), s .pre))
     (λ c κs. search needs)
     (λ c. search needs)
-    (λ c. let q = c .before .before in
-    let p = q .before .before in
-    let s = p .before .before in
-    (q .offer-to .ensures .0, ring-offered (formView (s .args .form)) (s .args .image .now) (s .pre) _ _ _ (s .args .vector) (s .args .asserted) (placed (p .places-of .ensures) count refl) (search needs) (q .offer-to .ensures .1))))
+    (λ c. let q = c .before .before in let p = q .before .before in let t = p .before .before .before in let s = t .before .before .before in (
+      q .offer-to .ensures .0,
+      ring-offered (formView (s .args .form)) (s .args .image .now) (s .pre) (t .take-offered .ensures) _ _ _ (s .args .vector) (s .args .asserted) (placed (p .places-of .ensures) count refl) (search needs)
+          (q .offer-to .ensures .1),
+    )))

@@ -3,7 +3,7 @@
 use mathlib.Core.Path.{_≡_, refl, sym, ap, _∙_}
 use mathlib.Core.Bool.{Bool, true, false, cond, not, _&&_, false≢true, and-eq-true-iff}
 use mathlib.Core.List.{List, [], _∷_}
-use mathlib.Core.Logic.{⊎-elim}
+use mathlib.Core.Logic.{_⊎_, inl, inr, ⊎-elim}
 use Prim.Native.Nat.{ℕ, zero, suc, _+_, _-_, _*_, _/_, _%_, _<_, _≤_}
 use native.Mathlib.Omega.{arith}
 use lib.Dec.{eqb, leb, ltb, lit≤}
@@ -11,14 +11,14 @@ use lib.ListN.{length, getD}
 use borrow.Author.Tests.{eq-eqb, eqb-true, eqb-false, le-leb, leb-true, lt-ltb, le-ltb, ltb-true, ltb-false}
 use Rattle.rules.specs.Numbers.{part}
 use Rattle.rules.specs.Ring.{capacity}
-use Rattle.rules.specs.Form.{Form, one, two, word, copy, irr, count, pairs, has, size, place, formLength, contentsLength, contentsOf, read, Known, unknown, known, formOf}
+use Rattle.rules.specs.Form.{Form, one, two, numbered, Field, word, copy, irr, count, pairs, numbers, has, size, place, formLength, contentsLength, contentsOf, read, Known, unknown, known, formOf}
 use Rattle.rules.specs.Image.{wordIn, countIn, Fault, copyDiffers, manyWait, badFlag, unusedSet, Finding, clear, found, Rule, copyRule, countRule, rules, search, finding, firstFault, same}
 use Rattle.rules.specs.Image.{accepted, wrongLength, wrongContents, broken, bodyTest, testAs, imageTest, everyByte, pairByte, acceptedBefore}
 use Rattle.rules.proofs.laws.Bits.{test}
 use Rattle.rules.proofs.laws.Layout.{has-all, field-fits}
 use Rattle.rules.proofs.laws.Lists.{equal-same, same-equal}
 use Rattle.rules.proofs.laws.Tests.{each-byte, Flags, accepted-has, accepted-if-has, known-length, test-known, byte-read, length-read, Told, search-told, decided}
-use Rattle.rules.proofs.laws.Tests.{Holds, flags-hold, copy-holds, count-holds, count-read}
+use Rattle.rules.proofs.laws.Tests.{Holds, Unused, flags-hold, unused-hold, copy-holds, count-holds, count-read}
 
 -- ---- the set of accepted images
 
@@ -86,17 +86,18 @@ module _ (l : List ℕ) where
           counted = leb-true n capacity (d .0);
           flagged = each-byte (λ i x. i < 2 * n → i % 2 ≡ 1 → x ≤ 1) ps (λ i h o. lit≤ tt) (λ i k. pair-flag n i (getD ps i 0) (good i k));
           unused = each-byte (λ i x. 2 * n ≤ i → x ≡ 0) ps (λ i h. refl) (λ i k. pair-unused n i (getD ps i 0) (good i k));
+          spare = λ h. absurd (false≢true h);
         };
       })
 
 -- ---- what is told
 
--- the flag of pair m, and the first byte behind the waiting pairs
+-- the flag of pair m, and the first byte behind the two bytes that a field has for each waiting event
 abbrev pub flagAt : Form → ℕ → ℕ
 flagAt f m = place f pairs + (2 * m + 1)
 
-abbrev pub behindAt : Form → List ℕ → ℕ
-behindAt f l = place f pairs + 2 * countIn f l
+abbrev pub behindAt : Form → List ℕ → Field → ℕ
+behindAt f l p = place f p + 2 * countIn f l
 
 -- 8: `last_intirr` differs from IRR
 pub record CopyDiffers (f : Form) (l : List ℕ) (a : ℕ) : Type 0 where
@@ -120,28 +121,29 @@ pub record BadFlag (f : Form) (l : List ℕ) (a : ℕ) : Type 0 where
   pub over : 1 < getD l a 0
   pub first : (m : ℕ) → m < pair → getD l (flagAt f m) 0 ≤ 1
 
--- 11: copy, count and flags are right, and behind the waiting pairs a byte is not zero, the first such
+-- behind the waiting events' part of a field a byte is not zero, the first such; or none is
+pub record SetBehind (f : Form) (l : List ℕ) (p : Field) (a : ℕ) : Type 0 where
+  pub has : has f p ≡ true
+  pub behind : behindAt f l p ≤ a
+  pub inside : a < place f p + size p
+  pub set : 0 < getD l a 0
+  pub first : (b : ℕ) → behindAt f l p ≤ b → b < a → getD l b 0 ≡ 0
+
+abbrev pub NoneBehind : Form → List ℕ → Field → Type 0
+NoneBehind f l p = (b : ℕ) → behindAt f l p ≤ b → b < place f p + size p → getD l b 0 ≡ 0
+
+-- 11: copy, count and flags are right, and an unused pair is not zero; or all of them are, and an unused number is not (02, C-19)
 pub record UnusedSet (f : Form) (l : List ℕ) (a : ℕ) : Type 0 where
   pub copied : has f (word copy) ≡ true → wordIn f l copy ≡ wordIn f l irr
   pub counted : countIn f l ≤ capacity
   pub flagged : (m : ℕ) → m < countIn f l → getD l (flagAt f m) 0 ≤ 1
-  pub behind : behindAt f l ≤ a
-  pub inside : a < formLength f
-  pub set : 0 < getD l a 0
-  pub first : (b : ℕ) → behindAt f l ≤ b → b < a → getD l b 0 ≡ 0
+  pub found : SetBehind f l pairs a ⊎ (NoneBehind f l pairs × SetBehind f l numbers a)
 
 abbrev pub Why : Form → Fault → List ℕ → ℕ → Type 0
 Why f copyDiffers l a = CopyDiffers f l a
 Why f manyWait l a = ManyWait f l a
 Why f badFlag l a = BadFlag f l a
 Why f unusedSet l a = UnusedSet f l a
-
--- the places in form 1, and in form 2, which has no copy (02, C-17)
-pub places : (place one (word copy) ≡ 46) × (place one count ≡ 222) × (place one pairs ≡ 227)
-places = (refl, refl, refl)
-
-pub places-two : (has two (word copy) ≡ false) × (place two count ≡ 214) × (place two pairs ≡ 219)
-places-two = (refl, refl, refl)
 
 -- its length and its contents are right too: those of its form
 pub record Broken (l : List ℕ) (k : Fault) (a : ℕ) : Type 0 where
@@ -170,9 +172,6 @@ module _ (f : Form) (l : List ℕ) (s : length l ≡ formLength f) (k : Fault) (
 
   paired : (i : ℕ) → i < size pairs → getD (read f l pairs) i 0 ≡ getD l (place f pairs + i) 0
   paired = byte-read f l pairs
-
-  few-pairs : length (read f l pairs) ≡ size pairs
-  few-pairs = length-read f l s pairs has-pairs
 
   -- the flags of all waiting pairs, with their places in the image
   flags-at : (n : ℕ) → n ≤ capacity → Flags n (read f l pairs) → (m : ℕ) → m < n → getD l (flagAt f m) 0 ≤ 1
@@ -217,29 +216,37 @@ module _ (f : Form) (l : List ℕ) (s : length l ≡ formLength f) (k : Fault) (
                 rw byte-j at (ltb-false 1 (getD (read f l pairs) j 0) (rw (eq-eqb (j % 2) 1 j-odd, lt-ltb j (2 * n) (omega (arith, waits, before))) at (t .first j before)));
           })
 
-      why-unused : Flags (countIn f l) (read f l pairs) → Told unusedSet k (λ i b. leb (2 * countIn f l) i && ltb 0 b) (read f l pairs) (place f pairs) a → Why f k l a
-      why-unused g t =
-          let i = t .index in
-          let n = countIn f l in
-          let b = getD (read f l pairs) i 0 in
-          let both = and-eq-true-iff (leb (2 * n) i) (ltb 0 b) .0 (t .isBad) in
-          let late = leb-true (2 * n) i (both .0) in
-          let room : i < size pairs = omega (arith, t .inside, few-pairs) in
-          let byte : b ≡ getD l a 0 = paired i room ∙ ap (λ j. getD l j 0) (sym (t .place)) in
-          rw (t .fault) (record {
-            copied = copied;
-            counted = counted;
-            flagged = flags-at n counted g;
-            behind = omega (arith, t .place, late);
-            inside = omega (arith, t .place, room, field-fits f pairs has-pairs);
-            set = rw byte at (ltb-true 0 b (both .1));
-            first = λ c from before.
-                let j = c - place f pairs in
-                let at : place f pairs + j ≡ c = omega (arith, from) in
-                let early : j < i = omega (arith, from, before, t .place) in
-                let zero-there : getD (read f l pairs) j 0 ≤ 0 = ltb-false 0 (getD (read f l pairs) j 0) (rw (le-leb (2 * n) j (omega (arith, from))) at (t .first j early)) in
-                omega (arith, zero-there, paired j (omega (arith, early, room)) ∙ ap (λ m. getD l m 0) at);
-          })
+      why-unused : Flags (countIn f l) (read f l pairs) → unusedSet ≡ k → SetBehind f l pairs a ⊎ (NoneBehind f l pairs × SetBehind f l numbers a) → Why f k l a
+      why-unused g e t = rw (sym e) (record { copied = copied; counted = counted; flagged = flags-at (countIn f l) counted g; found = t })
+
+  -- a byte of a field of 32 bytes, judged by the rule of unused ones
+  set-behind : (p : Field) → has f p ≡ true → Told unusedSet k (λ i b. leb (2 * countIn f l) i && ltb 0 b) (read f l p) (place f p) a → SetBehind f l p a
+  set-behind p h t =
+      let i = t .index in
+      let n = countIn f l in
+      let b = getD (read f l p) i 0 in
+      let both = and-eq-true-iff (leb (2 * n) i) (ltb 0 b) .0 (t .isBad) in
+      let late = leb-true (2 * n) i (both .0) in
+      let room : i < size p = omega (arith, t .inside, length-read f l s p h) in
+      let byte : b ≡ getD l a 0 = byte-read f l p i room ∙ ap (λ j. getD l j 0) (sym (t .place)) in
+      record {
+        has = h;
+        behind = omega (arith, t .place, late);
+        inside = omega (arith, t .place, room);
+        set = rw byte at (ltb-true 0 b (both .1));
+        first = λ c from before.
+            let j = c - place f p in
+            let at : place f p + j ≡ c = omega (arith, from) in
+            let early : j < i = omega (arith, from, before, t .place) in
+            let zero-there : getD (read f l p) j 0 ≤ 0 = ltb-false 0 (getD (read f l p) j 0) (rw (le-leb (2 * n) j (omega (arith, from))) at (t .first j early)) in
+            omega (arith, zero-there, byte-read f l p j (omega (arith, early, room)) ∙ ap (λ m. getD l m 0) at);
+      }
+
+  none-behind : Unused (countIn f l) (read f l pairs) → NoneBehind f l pairs
+  none-behind u c from inside =
+      let j = c - place f pairs in
+      let at : place f pairs + j ≡ c = omega (arith, from) in
+      ap (λ m. getD l m 0) (sym at) ∙ sym (byte-read f l pairs j (omega (arith, inside, from))) ∙ u j (omega (arith, from))
 
   few : Holds f l countRule → countIn f l ≤ capacity
   few h = rw (count-read f l) at (count-holds (read f l count) (omega (arith, length-read f l s count has-count)) (h has-count))
@@ -253,9 +260,14 @@ module _ (f : Form) (l : List ℕ) (s : length l ≡ formLength f) (k : Fault) (
       ⊎-elim (λ t. let u = searched _ t in why-copy (search-told copyDiffers k _ (place f (word copy)) a (read f l (word copy)) (u .1)) (u .0)) (λ x.
       ⊎-elim (λ t. why-count (copied (x .0)) (search-told manyWait k _ (place f count) a (read f l count) (searched _ t .1))) (λ y.
       ⊎-elim (λ t. why-flag (copied (x .0)) (few (y .0)) (search-told badFlag k _ (place f pairs) a (read f l pairs) (searched _ t .1))) (λ z.
-      ⊎-elim (λ t. why-unused (copied (x .0)) (few (y .0)) (flags-hold n (read f l pairs) (z .0 has-pairs)) (search-told unusedSet k _ (place f pairs) a (read f l pairs) (searched _ t .1)))
-      (λ w. absurd (w .1))
-      (z .1)) (y .1)) (x .1)) (decided f l k a (rules f l) e)
+      let flagged = flags-hold n (read f l pairs) (z .0 has-pairs) in
+      ⊎-elim (λ t. let u = search-told unusedSet k _ (place f pairs) a (read f l pairs) (searched _ t .1) in
+      why-unused (copied (x .0)) (few (y .0)) flagged (sym (u .fault)) (inl (set-behind pairs has-pairs u))) (λ w.
+      ⊎-elim (λ t. let g = searched _ t in
+      let u = search-told unusedSet k _ (place f numbers) a (read f l numbers) (g .1) in
+      why-unused (copied (x .0)) (few (y .0)) flagged (sym (u .fault)) (inr (none-behind (unused-hold n (read f l pairs) pairs (w .0 has-pairs)), set-behind numbers (g .0) u)))
+      (λ v. absurd (v .1))
+      (w .1)) (z .1)) (y .1)) (x .1)) (decided f l k a (rules f l) e)
 
 -- 8 to 11, and the place: what is told of an image is so
 pub told-is-so : (l : List ℕ) (k : Fault) (a : ℕ) → imageTest l ≡ broken k a → Broken l k a

@@ -6,7 +6,7 @@ use lib.ListN.{length}
 use borrow.Author.Tests.{le-leb, lt-leb}
 use Rattle.rules.specs.Device.{Device, Value, none}
 use Rattle.rules.specs.Form.{Form, Known, unknown, known, formOf}
-use Rattle.rules.specs.Image.{ImageTest, imageTest, encodeAs, decode}
+use Rattle.rules.specs.Image.{ImageTest, imageTest, encodeAs, decode, numbersIn}
 use Rattle.rules.specs.Image as image
 use Rattle.rules.specs.Calls.{wrongLength, noRoom, refusalNumber, Tested, pass, refuse, onPass, imageAnswer, imageNumber, imageValue, answerLength, answered, leaves, Ending}
 use Rattle.rules.specs.Convert.{lengthTest, converted, convertEnded, convertEnding, conversion}
@@ -14,9 +14,9 @@ use Rattle.rules.specs.Convert.{lengthTest, converted, convertEnded, con
 module _ (i t : List ℕ) where
   -- by what the three tests say
   by-tests : {k l : Known} {u : ImageTest} → formOf (length i) ≡ k → formOf (length t) ≡ l → imageTest i ≡ u
-      → converted i t ≡ onPass (lengthTest k) (λ f. onPass (lengthTest l) (λ g. onPass (imageAnswer u (decode i)) (λ d. pass (encodeAs g d))))
+      → converted i t ≡ onPass (lengthTest k) (λ f. onPass (lengthTest l) (λ g. onPass (imageAnswer u (decode i)) (λ d. pass (encodeAs g d (numbersIn i)))))
   unfolding converted
-  by-tests a b c j = onPass (lengthTest (a j)) (λ f. onPass (lengthTest (b j)) (λ g. onPass (imageAnswer (c j) (decode i)) (λ d. pass (encodeAs g d))))
+  by-tests a b c j = onPass (lengthTest (a j)) (λ f. onPass (lengthTest (b j)) (λ g. onPass (imageAnswer (c j) (decode i)) (λ d. pass (encodeAs g d (numbersIn i)))))
 
   -- 4, of the image and of the target
   pub no-image : formOf (length i) ≡ unknown → convertEnding i t ≡ convertEnded t (refuse wrongLength)
@@ -35,10 +35,10 @@ module _ (i t : List ℕ) where
       not-accepted (image.broken k p) c n = ap (convertEnded t) (by-tests a b c)
 
       -- done
-      pub is-converted : imageTest i ≡ image.accepted → converted i t ≡ pass (encodeAs g (decode i))
+      pub is-converted : imageTest i ≡ image.accepted → converted i t ≡ pass (encodeAs g (decode i) (numbersIn i))
       is-converted c = by-tests a b c
 
-      pub convert-done : imageTest i ≡ image.accepted → {j : List ℕ} → j ≡ encodeAs g (decode i) → record { number = 0; value = none; image = j; events = [] } ≡ convertEnding i t
+      pub convert-done : imageTest i ≡ image.accepted → {j : List ℕ} → j ≡ encodeAs g (decode i) (numbersIn i) → record { number = 0; value = none; image = j; events = [] } ≡ convertEnding i t
       convert-done c e = ap (λ l. convertEnded t (pass l)) e ∙ sym (ap (convertEnded t) (is-converted c))
 
 -- ---- 7, or how it ends

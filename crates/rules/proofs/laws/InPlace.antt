@@ -6,15 +6,17 @@ use mathlib.Core.List.{List, [], _∷_, _++_, append-nil}
 use Prim.Native.Nat.{ℕ, _+_, _≤_}
 use native.Mathlib.Nat.{add-zero}
 use native.Mathlib.Omega.{arith}
-use lib.ListN.{length, take, drop-of-length-le}
+use lib.ListN.{length, take, drop, drop-of-length-le}
+use lib.Seq.{length-take-le, take-at, drop-at, drop-drop}
 use borrow.Rule.Slice.PartMut.{putMid}
 use Rattle.rules.specs.Numbers.{bytesOf, part}
 use Rattle.rules.specs.Lines.{Lines, withMask, withIrr, withIsr}
 use Rattle.rules.specs.Ring.{Ring}
 use Rattle.rules.specs.Core.{Plain, htmsiEn, edge, pol, auto0, auto1, Stored, Core, plain, withPlain, withRoutes}
 use Rattle.rules.specs.Device.{Device, withRing}
-use Rattle.rules.specs.Form.{Word, mask, irr, isr, copy, stored, Field, word, routes, vectors, count, ringFields}
-use Rattle.rules.specs.Form.{Form, one, two, size, is, listed, total, from, fields, has, place, laid, image}
+use Rattle.rules.specs.Numbering.{Numbers}
+use Rattle.rules.specs.Form.{Word, mask, irr, isr, copy, stored, Field, word, routes, vectors, count, next, numbers, ringFields}
+use Rattle.rules.specs.Form.{Form, one, two, numbered, size, is, listed, total, from, fields, has, place, laid, image}
 use Rattle.rules.specs.Image.{wordOf, fieldOf}
 use Rattle.rules.proofs.laws.Layout.{Sized, never, by-word, by-plain, by-field, length-laid, from-starts, image-written}
 
@@ -127,32 +129,67 @@ tables-stay c x = by-word _ (refl, refl) (refl, refl) (refl, refl) (refl, refl)
     (λ p. (refl, elim p [ htmsiEn ↦ refl | edge ↦ refl | pol ↦ refl | auto0 ↦ refl | auto1 ↦ refl ]))
 
 -- one word but IRR
-pub word-apart : (f : Form) (d : Device) (w : Word) (x : ℕ) → (w ≡ irr → ⊥) → Others f (fieldOf d) (fieldOf (withCore (coreWord w x (d .core)) d)) (word w)
-word-apart f d w x n =
+pub word-apart : (f : Form) (d : Device) (s : Numbers) (w : Word) (x : ℕ) → (w ≡ irr → ⊥) → Others f (fieldOf d s) (fieldOf (withCore (coreWord w x (d .core)) d) s) (word w)
+word-apart f d s w x n =
     let c = d .core in
     let stay = tables-stay c x w in
-    by-field _ (λ v h t. ap (bytesOf 8) (word-stays c x w n v t)) (λ h t. stay .1) (λ h t. stay .0) (λ h t. refl, λ h t. refl, λ h t. refl)
+    by-field _ (λ v h t. ap (bytesOf 8) (word-stays c x w n v t)) (λ h t. stay .1) (λ h t. stay .0) (λ h t. refl, λ h t. refl, λ h t. refl) (λ h t. refl, λ h t. refl)
 
 -- the ring's body, the same fields in each form
 pub ring-touched : (f : Form) → touched f ringPart ≡ ringFields
 ring-touched one = refl
 ring-touched two = refl
+ring-touched numbered = refl
 
-pub ring-apart : (f : Form) (d : Device) (r : Ring) → Apart f (fieldOf d) (fieldOf (withRing d r)) ringPart
-ring-apart f d r q h t = by-field (λ q. listed q ringFields ≡ false → fieldOf d q ≡ fieldOf (withRing d r) q)
-    (λ w t. refl) (λ t. refl) (λ t. refl) (never, never, never) q (rw (ring-touched f) at t)
+pub ring-apart : (f : Form) (d : Device) (s : Numbers) (r : Ring) → Apart f (fieldOf d s) (fieldOf (withRing d r) s) ringPart
+ring-apart f d s r q h t = by-field (λ q. listed q ringFields ≡ false → fieldOf d s q ≡ fieldOf (withRing d r) s q)
+    (λ w t. refl) (λ t. refl) (λ t. refl) (never, never, never) (λ t. refl, λ t. refl) q (rw (ring-touched f) at t)
 
 -- entries of a table: the words stay
 same-words : (c d : Core) → c .lines ≡ d .lines → ((p : Plain) → plain (c .stored) p ≡ plain (d .stored) p) → (w : Word) → wordOf c w ≡ wordOf d w
 same-words c d e h = by-word _ (ap (λ l. l .mask) e) (ap (λ l. l .irr) e) (ap (λ l. l .isr) e) (ap (λ l. l .irr) e) h
 
-module _ (f : Form) (d : Device) (xs : List ℕ) (i k : ℕ) where
-  pub vectors-apart : xs ≡ putMid i k (d .core .vectors) (part i k xs) → Apart f (fieldOf d) (fieldOf (withCore (coreVectors xs (d .core)) d)) (within vectors i k)
+module _ (f : Form) (d : Device) (s : Numbers) (xs : List ℕ) (i k : ℕ) where
+  pub vectors-apart : xs ≡ putMid i k (d .core .vectors) (part i k xs) → Apart f (fieldOf d s) (fieldOf (withCore (coreVectors xs (d .core)) d) s) (within vectors i k)
   vectors-apart e =
       let same = same-words (d .core) (coreVectors xs (d .core)) refl (λ p. refl) in
-      (by-field _ (λ w h t. ap (bytesOf 8) (same w)) (λ h t. refl) (λ h. never) (λ h t. refl, λ h t. refl, λ h t. refl), e)
+      (by-field _ (λ w h t. ap (bytesOf 8) (same w)) (λ h t. refl) (λ h. never) (λ h t. refl, λ h t. refl, λ h t. refl) (λ h t. refl, λ h t. refl), e)
 
-  pub routes-apart : xs ≡ putMid i k (d .core .stored .routes) (part i k xs) → Apart f (fieldOf d) (fieldOf (withCore (coreRoutes xs (d .core)) d)) (within routes i k)
+  pub routes-apart : xs ≡ putMid i k (d .core .stored .routes) (part i k xs) → Apart f (fieldOf d s) (fieldOf (withCore (coreRoutes xs (d .core)) d) s) (within routes i k)
   routes-apart e =
       let same = same-words (d .core) (coreRoutes xs (d .core)) refl (by-plain _ (refl, refl, refl, refl, refl)) in
-      (by-field _ (λ w h t. ap (bytesOf 8) (same w)) (λ h. never) (λ h t. refl) (λ h t. refl, λ h t. refl, λ h t. refl), e)
+      (by-field _ (λ w h t. ap (bytesOf 8) (same w)) (λ h. never) (λ h t. refl) (λ h t. refl, λ h t. refl, λ h t. refl) (λ h t. refl, λ h t. refl), e)
+
+-- ---- the numbers
+
+abbrev pub withNext : Numbers → ℕ → Numbers
+withNext s n = record { next = n; waiting = s .waiting }
+
+abbrev pub withWaiting : Numbers → List ℕ → Numbers
+withWaiting s ns = record { next = s .next; waiting = ns }
+
+module _ (f : Form) (d : Device) (s : Numbers) where
+  pub next-apart : (n : ℕ) → Others f (fieldOf d s) (fieldOf d (withNext s n)) next
+  next-apart n = by-field _ (λ w h t. refl) (λ h t. refl) (λ h t. refl) (λ h t. refl, λ h t. refl, λ h t. refl) (λ h. never, λ h t. refl)
+
+  pub numbers-apart : (ns : List ℕ) → Others f (fieldOf d s) (fieldOf d (withWaiting s ns)) numbers
+  numbers-apart ns = by-field _ (λ w h t. refl) (λ h t. refl) (λ h t. refl) (λ h t. refl, λ h t. refl, λ h t. refl) (λ h t. refl, λ h. never)
+
+-- ---- some bytes of a field replaced, wherever they stand in it
+
+module _ (f : Form) (b c : Field → List ℕ) (s : Sized b) (p : Field) (h : has f p ≡ true) (at n : ℕ) (ys : List ℕ) (long : length ys ≡ n) (room : at + n ≤ size p) where
+  -- put over those that stand there, and standing there after
+  over : (a : ℕ) (l : List ℕ) → take a l ++ (ys ++ drop (a + n) l) ≡ putMid a n l ys
+  over a l t = take a l ++ (ys ++ sym (drop-drop n a l) t)
+
+  there : part at n (take at (b p) ++ (ys ++ drop (at + n) (b p))) ≡ ys
+  there =
+      ap (take n) (drop-at (take at (b p)) (ys ++ drop (at + n) (b p)) at (length-take-le at (b p) (omega (arith, s p))))
+      ∙ take-at ys (drop (at + n) (b p)) n long
+
+  pub bytes-written : c p ≡ take at (b p) ++ (ys ++ drop (at + n) (b p)) → Others f b c p
+      → take (place f p + at) (image f b) ++ (ys ++ drop (place f p + at + n) (image f b)) ≡ image f c
+  bytes-written e o =
+      let new : part at n (c p) ≡ ys = ap (part at n) e ∙ there in
+      over (place f p + at) (image f b) ∙ ap (putMid (place f p + at) n (image f b)) (sym new)
+      ∙ part-written f b c s (within p at n) (h, room) (o, e ∙ over at (b p) ∙ ap (putMid at n (b p)) (sym new))

@@ -12,9 +12,9 @@ use borrow.Author.Tests.{not-true}
 use borrow.Rule.Slice.PartMut.{putMid}
 use Rattle.rules.specs.Numbers.{part}
 use Rattle.rules.specs.Core.{Plain, Plain-discrete, htmsiEn, edge, pol, auto0, auto1}
-use Rattle.rules.specs.Form.{Word, mask, irr, isr, copy, stored, Word-discrete, Field, word, routes, vectors, count, drops, pairs, Field-discrete}
+use Rattle.rules.specs.Form.{Word, mask, irr, isr, copy, stored, Word-discrete, Field, word, routes, vectors, count, drops, pairs, next, numbers, Field-discrete}
 use Rattle.rules.specs.Form.{size, decided, is, listed, total, before, from, laid}
-use Rattle.rules.specs.Form.{Form, one, two, fields, has, contentsLength, formLength, place, contentsOf, read, image}
+use Rattle.rules.specs.Form.{Form, one, two, numbered, fields, has, contentsLength, formLength, place, contentsOf, read, image}
 use Rattle.rules.proofs.laws.Bits.{test}
 use Rattle.rules.proofs.laws.Lists.{part-then}
 use Rattle.rules.proofs.laws.Parts.{put-there, put-before, put-behind, length-put}
@@ -147,10 +147,12 @@ run-written b c s ps rs ts d same u a i k ys ue h e =
 distinct-fields : (f : Form) → distinct (fields f) ≡ true
 distinct-fields one = refl
 distinct-fields two = refl
+distinct-fields numbered = refl
 
 pub length-contents : (f : Form) → length (contentsOf f) ≡ contentsLength f
 length-contents one = refl
 length-contents two = refl
+length-contents numbered = refl
 
 -- a fact of every word, and of every field, from one for each
 pub by-word : (P : Word → Type 0) → P mask → P irr → P isr → P copy → ((p : Plain) → P (stored p)) → (w : Word) → P w
@@ -167,26 +169,30 @@ by-plain P ps pol = ps .2
 by-plain P ps auto0 = ps .3
 by-plain P ps auto1 = ps .4
 
-pub by-field : (P : Field → Type 0) → ((w : Word) → P (word w)) → P routes → P vectors → P count × P drops × P pairs → (q : Field) → P q
-by-field P ws rs vs ring (word w) = ws w
-by-field P ws rs vs ring routes = rs
-by-field P ws rs vs ring vectors = vs
-by-field P ws rs vs ring count = ring .0
-by-field P ws rs vs ring drops = ring .1
-by-field P ws rs vs ring pairs = ring .2
+pub by-field : (P : Field → Type 0) → ((w : Word) → P (word w)) → P routes → P vectors → P count × P drops × P pairs → P next × P numbers → (q : Field) → P q
+by-field P ws rs vs ring ns (word w) = ws w
+by-field P ws rs vs ring ns routes = rs
+by-field P ws rs vs ring ns vectors = vs
+by-field P ws rs vs ring ns count = ring .0
+by-field P ws rs vs ring ns drops = ring .1
+by-field P ws rs vs ring ns pairs = ring .2
+by-field P ws rs vs ring ns next = ns .0
+by-field P ws rs vs ring ns numbers = ns .1
 
 pub never : {A : Type 0} → true ≡ false → A
 never e = absurd (false≢true (sym e))
 
--- a field that every form has: all but the copy of IRR
+-- a field that every form has: all but the copy of IRR and the numbers
 abbrev pub always : Field → Bool
-always p = not (is p (word copy))
+always p = not (is p (word copy)) && (not (is p next) && not (is p numbers))
 
 pub has-all : (f : Form) (p : Field) → always p ≡ true → has f p ≡ true
 has-all one = by-field _ (by-word _ (λ h. refl) (λ h. refl) (λ h. refl) (λ h. never (sym h)) (by-plain _ (λ h. refl, λ h. refl, λ h. refl, λ h. refl, λ h. refl)))
-    (λ h. refl) (λ h. refl) (λ h. refl, λ h. refl, λ h. refl)
+    (λ h. refl) (λ h. refl) (λ h. refl, λ h. refl, λ h. refl) (λ h. never (sym h), λ h. never (sym h))
 has-all two = by-field _ (by-word _ (λ h. refl) (λ h. refl) (λ h. refl) (λ h. never (sym h)) (by-plain _ (λ h. refl, λ h. refl, λ h. refl, λ h. refl, λ h. refl)))
-    (λ h. refl) (λ h. refl) (λ h. refl, λ h. refl, λ h. refl)
+    (λ h. refl) (λ h. refl) (λ h. refl, λ h. refl, λ h. refl) (λ h. never (sym h), λ h. never (sym h))
+has-all numbered = by-field _ (by-word _ (λ h. refl) (λ h. refl) (λ h. refl) (λ h. never (sym h)) (by-plain _ (λ h. refl, λ h. refl, λ h. refl, λ h. refl, λ h. refl)))
+    (λ h. refl) (λ h. refl) (λ h. refl, λ h. refl, λ h. refl) (λ h. never (sym h), λ h. never (sym h))
 
 pub headed-image : (f : Form) (b : Field → List ℕ) → part 0 (contentsLength f) (image f b) ≡ contentsOf f
 unfolding image

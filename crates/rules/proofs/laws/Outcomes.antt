@@ -8,12 +8,13 @@ use lib.ListN.{length, take, drop, length-drop, take-append-drop}
 use lib.Seq.{drop-drop}
 use lib.Dec.{leb, ltb}
 use borrow.Author.Tests.{ltb-true, lt-ltb, le-ltb, le-leb, lt-leb}
-use Rattle.rules.specs.Ring.{Event, pairsOf, RingAct, ringRun}
+use Rattle.rules.specs.Ring.{Drawn, RingAct, ringRun}
 use Rattle.rules.specs.Access.{Width}
-use Rattle.rules.specs.Device.{Device, Call, Value, none, actsOf, draws, acted, step, value, reset}
+use Rattle.rules.specs.Device.{Device, Call, Value, none, actsOf, draws, acted, step, reset}
 use Rattle.rules.specs.Device as device
+use Rattle.rules.specs.Numbering.{Numbers, fromZero, Numbered, withNumbers, drainedLength, quadsOf, roomOf, numbersAfter, drainedWith, valueWith}
 use Rattle.rules.specs.Form.{Form, unknown, known, formOf}
-use Rattle.rules.specs.Image.{ImageTest, imageTest, encodeLike, decode}
+use Rattle.rules.specs.Image.{ImageTest, imageTest, encodeLike, decode, numbersIn}
 use Rattle.rules.specs.Image as image
 use Rattle.rules.specs.Calls.{Refusal, outside, refusalNumber, refusalValue, wrongLength, wrongContents, noInput, noRoom, Tested, pass, refuse, onPass, imageAnswer, imageNumber, imageValue, inputCall, widthTest, addressTest, accessCall, Request, drain, Asked, calls, askedBy, Done, doneOn, resetAs, performed, answerLength, answered, bufferOf, placeOf, written, Outcome, leaves, Ending, ended, ending, outcome}
 use Rattle.rules.specs.Calls as asked
@@ -43,11 +44,11 @@ module _ (q : Request) (i a : List ℕ) where
 -- ---- a call of the device: 4, 5, 8 to 11
 
 module _ (q : Request) (i : List ℕ) (x : Tested Call) (asks : askedBy q ≡ calls x) where
-  tested : (t : ImageTest) → imageTest i ≡ t → ending q i ≡ ended q i (onPass (imageAnswer t (decode i)) (λ d. onPass x (λ c. pass (doneOn d c))))
+  tested : (t : ImageTest) → imageTest i ≡ t → ending q i ≡ ended q i (onPass (imageAnswer t (decode i)) (λ d. onPass x (λ c. pass (doneOn d (numbersIn i) c))))
   unfolding performed
   tested t e =
       ap (λ (y : Asked). ended q i (performed y i)) asks
-      ∙ ap (λ (u : ImageTest). ended q i (onPass (imageAnswer u (decode i)) (λ d. onPass x (λ c. pass (doneOn d c))))) e
+      ∙ ap (λ (u : ImageTest). ended q i (onPass (imageAnswer u (decode i)) (λ d. onPass x (λ c. pass (doneOn d (numbersIn i) c))))) e
 
   pub image-refused : (t : ImageTest) → imageTest i ≡ t → (t ≡ image.accepted → ⊥) → ending q i ≡ record { number = imageNumber t; value = imageValue t; image = i; events = bufferOf q }
   image-refused image.accepted e n = absurd (n refl)
@@ -59,19 +60,20 @@ module _ (q : Request) (i : List ℕ) (x : Tested Call) (asks : askedBy q ≡ ca
 
   module _ (e : imageTest i ≡ image.accepted) where
     pub call-refused : (r : Refusal) → x ≡ refuse r → ending q i ≡ ended q i (refuse r)
-    call-refused r f = tested image.accepted e ∙ ap (λ (y : Tested Call). ended q i (onPass y (λ c. pass (doneOn (decode i) c)))) f
+    call-refused r f = tested image.accepted e ∙ ap (λ (y : Tested Call). ended q i (onPass y (λ c. pass (doneOn (decode i) (numbersIn i) c)))) f
 
-    -- from an image that holds the device after the call, the call's value, and the events that it drained
-    pub call-done : (c : Call) → x ≡ pass c → (d : Device) (v : Value) (j o : List ℕ) → j ≡ encodeLike i d → d ≡ step (decode i) c .after → v ≡ value (decode i) c
-        → o ≡ written (bufferOf q) (placeOf q) (step (decode i) c .drained) → record { number = 0; value = v; image = j; events = o } ≡ ending q i
-    call-done c f d v j o g h k l =
-        (λ t. record { number = 0; value = k t; image = (g ∙ ap (encodeLike i) h) t; events = l t })
-        ∙ sym (tested image.accepted e ∙ ap (λ (y : Tested Call). ended q i (onPass y (λ c. pass (doneOn (decode i) c)))) f)
+    -- from an image that holds the device and the numbers after the call, the call's value, and the events that it drained
+    pub call-done : (c : Call) → x ≡ pass c → (d : Device) (s : Numbers) (v : Value) (j o : List ℕ) → j ≡ encodeLike i d s → d ≡ step (decode i) c .after
+        → s ≡ numbersAfter (decode i) (numbersIn i) c → v ≡ valueWith (decode i) (numbersIn i) c
+        → o ≡ written (bufferOf q) (placeOf q) (drainedWith (decode i) (numbersIn i) c) → record { number = 0; value = v; image = j; events = o } ≡ ending q i
+    call-done c f d s v j o g h n k l =
+        (λ t. record { number = 0; value = k t; image = (g ∙ (λ u. encodeLike i (h u) (n u))) t; events = l t })
+        ∙ sym (tested image.accepted e ∙ ap (λ (y : Tested Call). ended q i (onPass y (λ c. pass (doneOn (decode i) (numbersIn i) c)))) f)
 
 -- a call that draws nothing leaves an event buffer that is none
-pub no-events : (d : Device) (c : Call) → draws c ≡ [] → [] ≡ written [] 0 (step d c .drained)
-unfolding written step ringRun
-no-events d c e = ap (λ (xs : List RingAct). written [] 0 (ringRun (acted d (actsOf (d .core) c) .ring) xs .drained)) (sym e)
+pub no-events : (d : Device) (s : Numbers) (c : Call) → draws c ≡ [] → [] ≡ written [] 0 (drainedWith d s c)
+unfolding written step ringRun drainedWith
+no-events d s c e = ap (λ (xs : List RingAct). written [] 0 (withNumbers (ringRun (acted d (actsOf (d .core) c) .ring) xs .drained) (take (roomOf c) (s .waiting)))) (sym e)
 
 -- ---- reset
 
@@ -80,7 +82,7 @@ module _ (i : List ℕ) where
   unfolding performed
   reset-refused e = ap (λ k. ended asked.reset i (resetAs k)) e
 
-  pub reset-done : (f : Form) → formOf (length i) ≡ known f → ending asked.reset i ≡ record { number = 0; value = none; image = encodeLike i reset; events = [] }
+  pub reset-done : (f : Form) → formOf (length i) ≡ known f → ending asked.reset i ≡ record { number = 0; value = none; image = encodeLike i reset (fromZero 0); events = [] }
   unfolding performed written
   reset-done f e = ap (λ k. ended asked.reset i (resetAs k)) e
 
@@ -91,11 +93,11 @@ abbrev pub behind : List ℕ → Ending → Ending
 behind l x = record { number = x .number; value = x .value; image = x .image; events = l ++ x .events }
 
 module _ (events : List ℕ) (place : ℕ) where
-  written-behind : (es : List Event) → written events place es ≡ take place events ++ written (drop place events) 0 es
+  written-behind : (es : List Numbered) → written events place es ≡ take place events ++ written (drop place events) 0 es
   unfolding written
   written-behind es =
-      let n : 2 * length es ≡ 0 + 2 * length es = omega arith in
-      ap (λ (l : List ℕ). take place events ++ (pairsOf es ++ l)) (sym (drop-drop (2 * length es) place events) ∙ ap (λ (k : ℕ). drop k (drop place events)) n)
+      let n : drainedLength * length es ≡ 0 + drainedLength * length es = omega arith in
+      ap (λ (l : List ℕ). take place events ++ (quadsOf es ++ l)) (sym (drop-drop (drainedLength * length es) place events) ∙ ap (λ (k : ℕ). drop k (drop place events)) n)
 
   room-behind : length events - place ≡ length (drop place events) - 0
   room-behind = simp length-drop (omega arith)
@@ -103,10 +105,10 @@ module _ (events : List ℕ) (place : ℕ) where
   pub drain-behind : (i : List ℕ) → ending (drain events place) i ≡ behind (take place events) (ending (drain (drop place events) 0) i)
   drain-behind i =
       go (performed (askedBy (drain events place)) i)
-      ∙ ap (λ (k : ℕ). behind (take place events) (ended (drain (drop place events) 0) i (performed (calls (pass (device.drain (k / 2)))) i))) room-behind
+      ∙ ap (λ (k : ℕ). behind (take place events) (ended (drain (drop place events) 0) i (performed (calls (pass (device.drain (k / drainedLength)))) i))) room-behind
     where
       go : (t : Tested Done) → ended (drain events place) i t ≡ behind (take place events) (ended (drain (drop place events) 0) i t)
-      go (pass x) = ap (λ (l : List ℕ). record { number = 0; value = x .value; image = encodeLike i (x .device); events = l }) (written-behind (x .drained))
+      go (pass x) = ap (λ (l : List ℕ). record { number = 0; value = x .value; image = encodeLike i (x .device) (x .numbers); events = l }) (written-behind (x .drained))
       go (refuse r) = ap (λ (l : List ℕ). record { number = refusalNumber r; value = refusalValue r; image = i; events = l }) (sym (take-append-drop place events))
 
 -- ---- what a call asks

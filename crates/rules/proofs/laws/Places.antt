@@ -1,8 +1,8 @@
--- The places, lengths and contents of an image as the numbers of 01 and of 02, C-17, each by computing.
+-- The places, lengths and contents of an image as the numbers of 01 and of 02, C-17 and C-19, each by computing.
 use mathlib.Core.Path.{_≡_, refl}
 use mathlib.Core.List.{[], _∷_, map}
 use Rattle.rules.specs.Core.{htmsiEn, edge, pol, auto0, auto1}
-use Rattle.rules.specs.Form.{one, two, word, mask, irr, isr, copy, stored, routes, vectors, count, drops, pairs, place, contentsLength, contentsOf, formLength}
+use Rattle.rules.specs.Form.{one, two, numbered, word, mask, irr, isr, copy, stored, routes, vectors, count, drops, pairs, next, numbers, place, contentsLength, contentsOf, formLength}
 
 pub lengths-one : contentsLength one ∷ formLength one ∷ [] ≡ 22 ∷ 259 ∷ []
 lengths-one = refl
@@ -34,3 +34,19 @@ plains-two = refl
 
 pub contents-two : contentsOf two ≡ 2 ∷ 4 ∷ 1 ∷ 22 ∷ 0 ∷ 64 ∷ 0 ∷ 2 ∷ 86 ∷ 0 ∷ 64 ∷ 0 ∷ 3 ∷ 150 ∷ 0 ∷ 64 ∷ 0 ∷ 4 ∷ 214 ∷ 0 ∷ 37 ∷ 0 ∷ []
 contents-two = refl
+
+-- form 2 with numbers: contents of 27 bytes, offsets moved by 5, and 34 bytes at the end (02, C-19)
+pub lengths-numbered : contentsLength numbered ∷ formLength numbered ∷ [] ≡ 27 ∷ 290 ∷ []
+lengths-numbered = refl
+
+pub places-numbered : map (place numbered) (word mask ∷ routes ∷ vectors ∷ count ∷ drops ∷ pairs ∷ next ∷ numbers ∷ []) ≡ 27 ∷ 91 ∷ 155 ∷ 219 ∷ 220 ∷ 224 ∷ 256 ∷ 258 ∷ []
+places-numbered = refl
+
+pub lines-numbered : map (λ w. place numbered (word w)) (irr ∷ isr ∷ []) ≡ 51 ∷ 59 ∷ []
+lines-numbered = refl
+
+pub plains-numbered : map (λ p. place numbered (word (stored p))) (htmsiEn ∷ edge ∷ pol ∷ auto0 ∷ auto1 ∷ []) ≡ 35 ∷ 43 ∷ 67 ∷ 75 ∷ 83 ∷ []
+plains-numbered = refl
+
+pub contents-numbered : contentsOf numbered ≡ 2 ∷ 5 ∷ 1 ∷ 27 ∷ 0 ∷ 64 ∷ 0 ∷ 2 ∷ 91 ∷ 0 ∷ 64 ∷ 0 ∷ 3 ∷ 155 ∷ 0 ∷ 64 ∷ 0 ∷ 4 ∷ 219 ∷ 0 ∷ 37 ∷ 0 ∷ 5 ∷ 0 ∷ 1 ∷ 34 ∷ 0 ∷ []
+contents-numbered = refl

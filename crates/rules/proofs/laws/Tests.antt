@@ -12,7 +12,7 @@ use lib.Seq.{getD-drop, getD-take}
 use borrow.Author.Tests.{eq-eqb, ne-eqb, eqb-true, ltb-false, lt-ltb, le-ltb, le-leb, leb-true, ltb-true, not-false}
 use Rattle.rules.specs.Numbers.{part}
 use Rattle.rules.specs.Ring.{capacity}
-use Rattle.rules.specs.Form.{Form, one, two, Field, word, copy, irr, count, pairs, has, size, place, formLength, contentsLength, contentsOf, read, Known, known, formAmong, formOf}
+use Rattle.rules.specs.Form.{Form, one, two, numbered, Field, word, copy, irr, count, pairs, numbers, has, size, place, formLength, contentsLength, contentsOf, read, Known, known, formAmong, formOf}
 use Rattle.rules.specs.Image.{wordIn, countIn, Fault, Finding, clear, found, Rule, copyRule, countRule, flagRule, unusedRule, rules}
 use Rattle.rules.specs.Image.{search, finding, orElse, firstFault, same, accepted, wrongLength, wrongContents, bodyTest, testAs, testKnown, imageTest}
 use Rattle.rules.proofs.laws.Bits.{test}
@@ -173,6 +173,7 @@ pub record Ruled (f : Form) (l : List ℕ) : Type 0 where
   pub counted : countIn f l ≤ capacity
   pub flagged : Flags (countIn f l) (read f l pairs)
   pub unused : Unused (countIn f l) (read f l pairs)
+  pub spare : has f numbers ≡ true → Unused (countIn f l) (read f l numbers)
 
 pub record Accepted (f : Form) (l : List ℕ) : Type 0 where
   pub sized : length l ≡ formLength f
@@ -190,6 +191,7 @@ module _ (f : Form) (l : List ℕ) (e : length l ≡ formLength f) where
         counted = rw (count-read f l) at (count-holds (read f l count) (omega (arith, length-read f l e count n)) (all .1 .0 n));
         flagged = flags-hold (countIn f l) (read f l pairs) (all .1 .1 .0 p);
         unused = unused-hold (countIn f l) (read f l pairs) pairs (all .1 .1 .1 .0 p);
+        spare = λ k. unused-hold (countIn f l) (read f l numbers) numbers (all .1 .1 .1 .1 .0 k);
       }
 
   pub ruled-clear : Ruled f l → firstFault f l (rules f l) ≡ clear
@@ -197,7 +199,10 @@ module _ (f : Form) (l : List ℕ) (e : length l ≡ formLength f) where
     λ k. hold-copy (wordIn f l copy) (wordIn f l irr) (read f l (word copy)) (r .copied k),
     (
       λ k. hold-count (read f l count) (length-read f l e count k) (rw (count-read f l) (r .counted)),
-      (λ k. hold-flags (countIn f l) (read f l pairs) (r .flagged), (λ k. hold-unused (countIn f l) (read f l pairs) pairs (r .unused), tt)),
+      (
+        λ k. hold-flags (countIn f l) (read f l pairs) (r .flagged),
+        (λ k. hold-unused (countIn f l) (read f l pairs) pairs (r .unused), (λ k. hold-unused (countIn f l) (read f l numbers) numbers (r .spare k), tt)),
+      ),
     ),
   )
 
@@ -245,6 +250,7 @@ test-known l e = ap (λ k. testKnown k l) e
 pub form-found : (f : Form) → formOf (formLength f) ≡ known f
 form-found one = refl
 form-found two = refl
+form-found numbered = refl
 
 pub known-length : (f : Form) (l : List ℕ) → length l ≡ formLength f → imageTest l ≡ testAs f l
 known-length f l e = test-known l (ap formOf e ∙ form-found f)

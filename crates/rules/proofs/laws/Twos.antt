@@ -2,13 +2,14 @@
 use mathlib.Core.Path.{_≡_, refl, sym, ap, _∙_}
 use mathlib.Core.Bool.{Bool, true, false}
 use mathlib.Core.List.{List, [], _∷_, _++_, map}
-use Prim.Native.Nat.{ℕ, zero, suc, _+_, _-_, _*_, _%_, _<_, _≤_}
+use Prim.Native.Nat.{ℕ, zero, suc, _+_, _-_, _*_, _%_, _^_, _<_, _≤_}
 use native.Mathlib.Omega.{arith}
 use lib.Dec.{eqb, lit<, lit≤}
 use lib.ListN.{length, take, drop, getD, replicate, length-append, length-replicate, length-drop, take-append-drop}
-use lib.Seq.{getD-drop, getD-append-add}
+use lib.Seq.{getD-drop, getD-append-add, take-at, drop-at, drop-drop}
 use Rattle.rules.specs.Numbers.{Bytes, Twos, written, spelled}
 use Rattle.rules.specs.Ring.{Event, capacity, flag, eventTwos}
+use Rattle.rules.specs.Numbering.{numberTwos}
 use Rattle.rules.specs.Image.{sixteen}
 use Rattle.rules.proofs.laws.Lists.{Each}
 use Rattle.rules.proofs.laws.Bytes.{bytes-append, bytes-replicate}
@@ -63,7 +64,7 @@ flag-at-most : (a : Bool) → flag a ≤ 1
 flag-at-most true = lit≤ tt
 flag-at-most false = lit≤ tt
 
-flag-of : (a : Bool) → eqb (flag a) 1 ≡ a
+pub flag-of : (a : Bool) → eqb (flag a) 1 ≡ a
 flag-of true = refl
 flag-of false = refl
 
@@ -101,6 +102,27 @@ bytes-vectors (suc n) (v ∷ []) b i = lit< tt
 bytes-vectors (suc n) (v ∷ f ∷ l) b zero = b 0
 bytes-vectors (suc n) (v ∷ f ∷ l) b (suc i) = bytes-vectors n l (λ k. b (suc (suc k))) i
 
+-- ---- numbers
+
+pub number-comes : (a b : ℕ) → a < 256 → b < 256 → Comes numberTwos a b
+number-comes a b h k = (omega arith, omega arith)
+
+pub numbers-fit : (ns : List ℕ) → ((i : ℕ) → getD ns i 0 < 2 ^ 16) → Each (Fit numberTwos) ns
+numbers-fit [] h = tt
+numbers-fit (n ∷ ns) h = (record { back = omega (arith, h 0); low = omega arith; high = omega arith }, numbers-fit ns (λ i. h (suc i)))
+
+pub numbers-back : (ns : List ℕ) → ((i : ℕ) → getD ns i 0 < 2 ^ 16) → Each (λ n. numberTwos .made (numberTwos .low n) (numberTwos .high n) ≡ n) ns
+numbers-back [] h = tt
+numbers-back (n ∷ ns) h = (omega (arith, h 0), numbers-back ns (λ i. h (suc i)))
+
+-- numbers that are spelled from bytes have 16 bits
+pub numbers-small : (n : ℕ) (l : List ℕ) → Bytes l → (i : ℕ) → getD (spelled numberTwos n l) i 0 < 2 ^ 16
+numbers-small zero l b i = lit< tt
+numbers-small (suc n) [] b i = lit< tt
+numbers-small (suc n) (v ∷ []) b i = lit< tt
+numbers-small (suc n) (v ∷ f ∷ l) b zero = omega (arith, b 0, b 1)
+numbers-small (suc n) (v ∷ f ∷ l) b (suc i) = numbers-small n l (λ k. b (suc (suc k))) i
+
 -- ---- sixteen places
 
 replicate-zero : (n i : ℕ) → _≡_ {A = ℕ} (getD (replicate n 0) i 0) 0
@@ -137,3 +159,21 @@ module _ {A : Type 0} (t : Twos A) where
       let left : 2 * capacity - 2 * length (spelled t n l) ≡ length (drop (2 * n) l) = simp length-drop (omega (arith, many)) in
       (λ j. written-spelled t n l (omega arith) c j ++ replicate (left j) 0)
       ∙ ap (λ m. take (2 * n) l ++ m) (zeros (drop (2 * n) l) (λ i. getD-drop (2 * n) l i 0 ∙ z (2 * n + i) (omega arith))) ∙ take-append-drop (2 * n) l
+
+  -- one thing more, over two of the bytes behind them
+  pub written-snoc : (xs : List A) (x : A) (rest : List ℕ) → written t (xs ++ (x ∷ [])) ++ rest ≡ written t xs ++ (t .low x ∷ t .high x ∷ rest)
+  written-snoc [] x rest = refl
+  written-snoc (y ∷ xs) x rest = ap (λ l. t .low y ∷ t .high y ∷ l) (written-snoc xs x rest)
+
+  pub sixteen-snoc : (xs : List A) (x : A) → length xs < capacity
+      → sixteen t (xs ++ (x ∷ [])) ≡ take (2 * length xs) (sixteen t xs) ++ ((t .low x ∷ t .high x ∷ []) ++ drop (2 * length xs + 2) (sixteen t xs))
+  sixteen-snoc xs x h =
+      let zeros : ℕ → List ℕ = λ n. replicate n 0 in
+      let m = 2 * capacity - 2 * length (xs ++ (x ∷ [])) in
+      let n = 2 * capacity - 2 * length xs in
+      let fewer : n ≡ suc (suc m) = simp length-append (omega arith) in
+      let long = length-written t xs in
+      let behind : drop (2 * length xs + 2) (sixteen t xs) ≡ zeros m =
+      sym (drop-drop 2 (2 * length xs) (sixteen t xs)) ∙ ap (drop 2) (drop-at (written t xs) (zeros n) (2 * length xs) long) ∙ ap (λ k. drop 2 (zeros k)) fewer
+      in
+      written-snoc xs x (zeros m) ∙ (λ j. sym (take-at (written t xs) (zeros n) (2 * length xs) long) j ++ (t .low x ∷ t .high x ∷ sym behind j))

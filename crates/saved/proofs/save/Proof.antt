@@ -1,4 +1,4 @@
--- `save`: the contents and every field are put, one part after another.
+-- `save`: the contents and every field are put, one part after another, of whatever numbers have that body.
 use mathlib.Core.Path.{refl}
 use borrow.Author.Needs.{needs}
 use Rattle.image.specs.Shown.{formView}
@@ -9,8 +9,9 @@ use Rattle.saved.proofs.save.Statement.{statement}
 use Rattle.saved.proofs.save.Tie as tie
 
 returns : tie.Need-returns
-returns c =
-    let ring = c .before .before in
+returns c ns e =
+    let numbers = c .before .before in
+    let ring = numbers .before .before .before .before in
     let tables = ring .before .before .before .before in
     let stored = tables .before .before .before .before in
     let lines = stored .before .before .before .before in
@@ -19,14 +20,18 @@ returns c =
     let d = view (s .args .state) in
     let f = formView (s .args .form) in
     let h = headed f (s .args .image .now) (s .pre .0) (contents .put-contents .ensures) in
-    puts-all f d (h .0) (h .1)
-    (by-field _ (by-word _ (λ h. refl) (λ h. refl) (λ h. refl) (λ h. refl) (by-plain _ (λ h. refl, λ h. refl, λ h. refl, λ h. refl, λ h. refl))) (λ h. refl) (λ h. refl) (λ h. refl, λ h. refl, λ h. refl))
-    (puts-then f d (puts-then f d (puts-then f d (lines .save-lines .ensures d refl) (stored .save-stored .ensures d refl)) (tables .save-tables .ensures d refl refl)) (ring .save-ring .ensures d refl))
+    puts-all f d ns (h .0) (h .1)
+    (by-field _ (by-word _ (λ h. refl) (λ h. refl) (λ h. refl) (λ h. refl) (by-plain _ (λ h. refl, λ h. refl, λ h. refl, λ h. refl, λ h. refl))) (λ h. refl) (λ h. refl) (λ h. refl, λ h. refl, λ h. refl) (λ h. refl, λ h. refl))
+    (puts-then f d ns
+    (puts-then f d ns
+    (puts-then f d ns (puts-then f d ns (lines .save-lines .ensures d ns refl) (stored .save-stored .ensures d ns refl)) (tables .save-tables .ensures d ns refl refl))
+    (ring .save-ring .ensures d ns refl))
+    (numbers .save-numbers .ensures d ns e))
 
 pub save-spec : {M : Type 1} → statement M
 save-spec =
     tie.close
     (tie.spec
-    (λ c κs. search needs) (λ c κs. search needs) (λ c κs. search needs) (λ c κs. search needs) (λ c κs. search needs)
+    (λ c κs. search needs) (λ c κs. search needs) (λ c κs. search needs) (λ c κs. search needs) (λ c κs. search needs) (λ c κs. search needs)
     (λ c. search needs)
     returns)

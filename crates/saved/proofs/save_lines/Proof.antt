@@ -18,7 +18,7 @@ within : (c : tie.After-places-of) (q : Field) → always q ≡ true → placeIn
 within c = let s = c .before .before in always-within (formView (s .args .form)) (s .args .image .now) (s .pre) (c .places-of .result) (c .places-of .ensures)
 
 returns : tie.Need-returns
-returns c d e =
+returns c d ns e =
     let four = c .before .before in
     let three = four .before .before .before .before in
     let two = three .before .before .before .before in
@@ -28,10 +28,10 @@ returns c d e =
     let n = s .args .lines in
     let f = formView (s .args .form) in
     let line = sym (ap (λ l. l .irr) e) in
-    let first = puts-number f d (k .places-of .result) (k .places-of .ensures) (word mask) refl (n .«int_mask») (s .pre) (ap (bytesOf 8) (sym (ap (λ l. l .mask) e))) (one .put-word .ensures) in
-    let latched = puts-latched f d (k .places-of .result) (k .places-of .ensures) (n .intirr) (first .size ∙ s .pre) line (two .put-word2 .ensures) (three .put-word3 .ensures) in
-    let both = puts-then f d first latched in
-    puts-then f d both (puts-number f d (k .places-of .result) (k .places-of .ensures) (word isr) refl (n .intisr) (both .size ∙ s .pre) (ap (bytesOf 8) (sym (ap (λ l. l .isr) e))) (four .put-word4 .ensures))
+    let first = puts-number f d ns (k .places-of .result) (k .places-of .ensures) (word mask) refl (n .«int_mask») (s .pre) (ap (bytesOf 8) (sym (ap (λ l. l .mask) e))) (one .put-word .ensures) in
+    let latched = puts-latched f d ns (k .places-of .result) (k .places-of .ensures) (n .intirr) (first .size ∙ s .pre) line (two .put-word2 .ensures) (three .put-word3 .ensures) in
+    let both = puts-then f d ns first latched in
+    puts-then f d ns both (puts-number f d ns (k .places-of .result) (k .places-of .ensures) (word isr) refl (n .intisr) (both .size ∙ s .pre) (ap (bytesOf 8) (sym (ap (λ l. l .isr) e))) (four .put-word4 .ensures))
 
 pub save-lines-spec : {M : Type 1} → statement M
 save-lines-spec =

@@ -24,17 +24,8 @@ use Rattle.saved.proofs.save_ring.Tie as tie
 within : (c : tie.After-places-of) (q : Field) → always q ≡ true → placeIn (c .places-of .result) q + size q ≤ length (c .before .before .args .image .now)
 within c = let s = c .before .before in always-within (formView (s .args .form)) (s .args .image .now) (s .pre .0) (c .places-of .result) (c .places-of .ensures)
 
-put-bytes-requires-2 : tie.Need-put-bytes-requires-2
-put-bytes-requires-2 c κs = let h = within (c .before .before .before .before .before .before) drops refl in search needs
-
-add-end : tie.Need-add-end
-add-end c = record { fits = omega (arith, within (c .before .before .before .before .before .before .before .before .before) pairs refl) }
-
-part-put-pairs-end : tie.Need-part-put-pairs-end
-part-put-pairs-end c = let h = within (c .before .before .before .before .before .before .before .before .before) pairs refl in search needs
-
 returns : tie.Need-returns
-returns c d e =
+returns c d ns e =
     let three = c .before .before in
     let two = three .before .before .before .before in
     let one = two .before .before .before .before .before in
@@ -48,9 +39,18 @@ returns c d e =
     let few : length (d .ring .waiting) ≤ capacity = omega (arith, s .pre .1 .len) in
     let small : r .«output_len» % 256 ≡ length (d .ring .waiting) = mod-eq-of-lt (omega (arith, s .pre .1 .len)) ∙ sym many in
     let spelled = three .put-pairs .ensures ∙ ap (λ x. sixteen eventTwos (x .waiting)) (sym e) in
-    let first = puts-number f d p o count refl (r .«output_len») (s .pre .0) (ap (λ n. n ∷ []) small) (one .put-bytes .ensures) in
-    let both = puts-then f d first (puts-number f d p o drops refl (r .«output_drops») (first .size ∙ s .pre .0) (ap (λ x. bytesOf 4 (x .drops)) (sym e)) (two .put-bytes2 .ensures)) in
-    puts-then f d both (puts-part f d p o pairs refl (both .size ∙ s .pre .0) spelled (ap length spelled ∙ length-sixteen eventTwos (d .ring .waiting) few) refl)
+    let first = puts-number f d ns p o count refl (r .«output_len») (s .pre .0) (ap (λ n. n ∷ []) small) (one .put-bytes .ensures) in
+    let both = puts-then f d ns first (puts-number f d ns p o drops refl (r .«output_drops») (first .size ∙ s .pre .0) (ap (λ x. bytesOf 4 (x .drops)) (sym e)) (two .put-bytes2 .ensures)) in
+    puts-then f d ns both (puts-part f d ns p o pairs refl (both .size ∙ s .pre .0) spelled (ap length spelled ∙ length-sixteen eventTwos (d .ring .waiting) few) refl)
+
+put-bytes-requires-2 : tie.Need-put-bytes-requires-2
+put-bytes-requires-2 c κs = let h = within (c .before .before .before .before .before .before) drops refl in search needs
+
+add-end : tie.Need-add-end
+add-end c = record { fits = omega (arith, within (c .before .before .before .before .before .before .before .before .before) pairs refl) }
+
+part-put-pairs-end : tie.Need-part-put-pairs-end
+part-put-pairs-end c = let h = within (c .before .before .before .before .before .before .before .before .before) pairs refl in search needs
 
 pub save-ring-spec : {M : Type 1} → statement M
 save-ring-spec =

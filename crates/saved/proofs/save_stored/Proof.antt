@@ -19,7 +19,7 @@ within : (c : tie.After-places-of) (q : Field) → always q ≡ true → placeIn
 within c = let s = c .before .before in always-within (formView (s .args .form)) (s .args .image .now) (s .pre) (c .places-of .result) (c .places-of .ensures)
 
 returns : tie.Need-returns
-returns c d e =
+returns c d ns e =
     let five = c .before .before in
     let four = five .before .before .before .before in
     let three = four .before .before .before .before in
@@ -29,11 +29,11 @@ returns c d e =
     let s = k .before .before in
     let n = s .args .stored in
     let f = formView (s .args .form) in
-    let a1 = puts-number f d (k .places-of .result) (k .places-of .ensures) (word (stored htmsiEn)) refl (n .«htmsi_en») (s .pre) (ap (bytesOf 8) (sym (ap (λ t. t .htmsiEn) e))) (one .put-word .ensures) in
-    let a2 = puts-then f d a1 (puts-number f d (k .places-of .result) (k .places-of .ensures) (word (stored edge)) refl (n .intedge) (a1 .size ∙ s .pre) (ap (bytesOf 8) (sym (ap (λ t. t .edge) e))) (two .put-word2 .ensures)) in
-    let a3 = puts-then f d a2 (puts-number f d (k .places-of .result) (k .places-of .ensures) (word (stored pol)) refl (n .«int_polarity») (a2 .size ∙ s .pre) (ap (bytesOf 8) (sym (ap (λ t. t .pol) e))) (three .put-word3 .ensures)) in
-    let a4 = puts-then f d a3 (puts-number f d (k .places-of .result) (k .places-of .ensures) (word (stored auto0)) refl (n .«auto_ctrl0») (a3 .size ∙ s .pre) (ap (bytesOf 8) (sym (ap (λ t. t .auto0) e))) (four .put-word4 .ensures)) in
-    puts-then f d a4 (puts-number f d (k .places-of .result) (k .places-of .ensures) (word (stored auto1)) refl (n .«auto_ctrl1») (a4 .size ∙ s .pre) (ap (bytesOf 8) (sym (ap (λ t. t .auto1) e))) (five .put-word5 .ensures))
+    let a1 = puts-number f d ns (k .places-of .result) (k .places-of .ensures) (word (stored htmsiEn)) refl (n .«htmsi_en») (s .pre) (ap (bytesOf 8) (sym (ap (λ t. t .htmsiEn) e))) (one .put-word .ensures) in
+    let a2 = puts-then f d ns a1 (puts-number f d ns (k .places-of .result) (k .places-of .ensures) (word (stored edge)) refl (n .intedge) (a1 .size ∙ s .pre) (ap (bytesOf 8) (sym (ap (λ t. t .edge) e))) (two .put-word2 .ensures)) in
+    let a3 = puts-then f d ns a2 (puts-number f d ns (k .places-of .result) (k .places-of .ensures) (word (stored pol)) refl (n .«int_polarity») (a2 .size ∙ s .pre) (ap (bytesOf 8) (sym (ap (λ t. t .pol) e))) (three .put-word3 .ensures)) in
+    let a4 = puts-then f d ns a3 (puts-number f d ns (k .places-of .result) (k .places-of .ensures) (word (stored auto0)) refl (n .«auto_ctrl0») (a3 .size ∙ s .pre) (ap (bytesOf 8) (sym (ap (λ t. t .auto0) e))) (four .put-word4 .ensures)) in
+    puts-then f d ns a4 (puts-number f d ns (k .places-of .result) (k .places-of .ensures) (word (stored auto1)) refl (n .«auto_ctrl1») (a4 .size ∙ s .pre) (ap (bytesOf 8) (sym (ap (λ t. t .auto1) e))) (five .put-word5 .ensures))
 
 pub save-stored-spec : {M : Type 1} → statement M
 save-stored-spec =

@@ -17,6 +17,16 @@ use Rattle.saved.proofs.save_tables.Tie as tie
 within : (c : tie.After-places-of) (q : Field) → always q ≡ true → placeIn (c .places-of .result) q + size q ≤ length (c .before .before .args .image .now)
 within c = let s = c .before .before in always-within (formView (s .args .form)) (s .args .image .now) (s .pre) (c .places-of .result) (c .places-of .ensures)
 
+returns : tie.Need-returns
+returns c d ns r v =
+    let two = c .before .before in
+    let one = two .before .before .before .before .before .before .before in
+    let k = one .before .before .before .before .before in
+    let s = k .before .before in
+    let f = formView (s .args .form) in
+    let first = puts-part f d ns (k .places-of .result) (k .places-of .ensures) routes refl (s .pre) (one .copy .ensures ∙ sym r) (ap length (one .copy .ensures) ∙ search needs) refl in
+    puts-then f d ns first (puts-part f d ns (k .places-of .result) (k .places-of .ensures) vectors refl (first .size ∙ s .pre) (two .copy2 .ensures ∙ sym v) (ap length (two .copy2 .ensures) ∙ search needs) refl)
+
 add-routes-end : tie.Need-add-routes-end
 add-routes-end c = record { fits = omega (arith, within c routes refl) }
 
@@ -28,16 +38,6 @@ add-vectors-end c = record { fits = omega (arith, within (c .before .before .bef
 
 part-copy-end-2 : tie.Need-part-copy-end-2
 part-copy-end-2 c = let h = within (c .before .before .before .before .before .before .before) vectors refl in search needs
-
-returns : tie.Need-returns
-returns c d r v =
-    let two = c .before .before in
-    let one = two .before .before .before .before .before .before .before in
-    let k = one .before .before .before .before .before in
-    let s = k .before .before in
-    let f = formView (s .args .form) in
-    let first = puts-part f d (k .places-of .result) (k .places-of .ensures) routes refl (s .pre) (one .copy .ensures ∙ sym r) (ap length (one .copy .ensures) ∙ search needs) refl in
-    puts-then f d first (puts-part f d (k .places-of .result) (k .places-of .ensures) vectors refl (first .size ∙ s .pre) (two .copy2 .ensures ∙ sym v) (ap length (two .copy2 .ensures) ∙ search needs) refl)
 
 pub save-tables-spec : {M : Type 1} → statement M
 save-tables-spec =

@@ -1,28 +1,29 @@
 -- 02, C-24, of exported calls, each given the image that the one before it left. A refused call counts as none.
 use mathlib.Core.Path.{_≡_, refl, sym, ap, subst, _∙_}
 use mathlib.Core.Bool.{true, false, true≢false, and-eq-true-iff}
-use mathlib.Core.List.{List, [], _∷_}
-use Prim.Native.Nat.{ℕ, _≤_}
+use mathlib.Core.List.{List}
+use Prim.Native.Nat.{ℕ, _+_, _*_, _%_, _^_, _<_, _≤_}
 use native.Mathlib.Omega.{arith}
 use lib.Dec.{lit≤}
 use lib.ListN.{length, getD}
 use Rattle.rules.specs.Numbers.{Bytes}
-use Rattle.rules.specs.Device.{Call, value}
+use Rattle.rules.specs.Device.{Call}
 use Rattle.rules.specs.Device as call
-use Rattle.rules.specs.Image.{decode, imageTest, accepted}
+use Rattle.rules.specs.Numbering.{valueWith}
+use Rattle.rules.specs.Image.{decode, numbersIn, imageTest, accepted}
 use Rattle.rules.specs.Calls.{Request, askedBy, answered, presentIn, valueIn, Outcome}
 use Rattle.rules.specs.Calls as request
 use Rattle.rules.specs.History.{history}
 use Rattle.histories.specs.Demands.{pollsOrRaises}
-use Rattle.histories.specs.Exported.{Exported, leftBy, isDone, isReset, Underway, carriedOn, carriedThrough, NoLoads, HandedOn, doneCalls}
+use Rattle.histories.specs.Exported.{Exported, leftBy, isDone, isReset, Underway, carriedThrough, NoLoads, HandedOn, doneCalls}
 use Rattle.histories.specs.Exported.{leftAfter, current, inImage, Faithful, atLoad}
 use Rattle.sweep.specs.Sweeps.{sweeping, Sweep}
 use Rattle.sweep.specs.Handed.{asksFor, readsAssert, WakesAllRead, pollsAll}
 use Rattle.rules.proofs.laws.Answers.{value-read}
-use Rattle.rules.proofs.laws.Images.{decode-well-formed}
-use Rattle.histories.proofs.laws.Chains.{faithful-at-load, left-last, done-call}
+use Rattle.rules.proofs.laws.Images.{decode-well-formed, numbers-well}
+use Rattle.histories.proofs.laws.Chains.{faithful-at-load, done-call}
 use Rattle.histories.proofs.laws.Readings.{read-as}
-use Rattle.histories.proofs.demands.FromCalls.{image-holds-device, image-holds-history, handed-on-is-no-load}
+use Rattle.histories.proofs.demands.FromCalls.{image-holds-device, image-holds-history, handed-on-is-no-load, left-through}
 use Rattle.sweep.proofs.laws.Announcing.{call-announces, vector-answered}
 use Rattle.sweep.proofs.laws.Reading.{returned-silent, asserts-read, asks-is}
 use Rattle.sweep.proofs.laws.Polls.{all-polled, polls-done}
@@ -44,13 +45,6 @@ sweep-of-calls h f xs n s =
       noneDropped = ring .1;
       asserted = λ i b. asserts-read h f xs n (s .admitted) i ∙ w .asserted i b;
     })
-
-left-through : (h : Underway) (xs : List Exported) → HandedOn (h .left) xs → carriedThrough h xs .left ≡ leftAfter (h .left) xs
-unfolding carriedThrough HandedOn leftAfter
-left-through h [] c = refl
-left-through h (x ∷ xs) c =
-    let e = left-last h x (c .0) in
-    left-through (carriedOn h x) xs (rw e (c .2)) ∙ ap (λ i. leftAfter i xs) e
 
 -- From any accepted image i, loaded or left by whatever calls: exported calls of which the first is given i and each other the image that the one before it
 -- left, none a reset, and of which the done ones are a sweep. Then all of it holds from the device in i to the one in the image left last.
@@ -85,16 +79,36 @@ asks-no-reset n (request.level m v) e = refl
 asks-no-reset n (request.poll m) e = refl
 asks-no-reset n (request.drain buffer place) e = refl
 
--- Where a host reads an assert of n in an answer area, in a sweep or elsewhere, the value there is the vector byte that n has in the image that the call was
--- given.
-pub vector-in-the-answer : (n : ℕ) (x : Exported) → Bytes (x .given) → readsAssert n x ≡ true → valueIn (leftBy x .answer) ≡ getD (decode (x .given) .core .vectors) n 0
-vector-in-the-answer n x b e =
-    let d = decode (x .given) in
-    let both = and-eq-true-iff (isDone x) _ .0 e in
-    let asked = and-eq-true-iff (asksFor n (x .asked)) (presentIn (leftBy x .answer)) .0 (both .1) in
-    let r = done-call (atLoad (x .given)) x (both .0) (asks-no-reset n (x .asked) (asked .0)) in
-    let asks = sym (asks-is n (x .asked) (r .call) (r .passes)) ∙ asked .0 in
-    let answer : leftBy x .answer ≡ answered 0 (value d (r .call)) (x .answer) = ap (λ (o : Outcome). o .answer) (r .left) in
-    let says = vector-answered d (r .call) (call-announces d (r .call) (asks-sweeps n (r .call) asks)) n (x .answer) asks (rw answer at (asked .1)) in
-    let small = decode-well-formed (x .given) b (r .accepted) .vectorBytes n in
-    ap valueIn (answer ∙ ap (λ v. answered 0 v (x .answer)) says) ∙ value-read 0 (x .answer) (getD (d .core .vectors) n 0) (omega (arith, small))
+module _ (n : ℕ) (x : Exported) (b : Bytes (x .given)) (e : readsAssert n x ≡ true) where
+  abbrev vector : ℕ
+  vector = getD (decode (x .given) .core .vectors) n 0
+
+  abbrev number : ℕ
+  number = numbersIn (x .given) .next
+
+  -- the value, and that both are small
+  told : (valueIn (leftBy x .answer) ≡ vector + 2 ^ 16 * number) × (vector < 256)
+  told =
+      let d = decode (x .given) in
+      let s = numbersIn (x .given) in
+      let both = and-eq-true-iff (isDone x) _ .0 e in
+      let asked = and-eq-true-iff (asksFor n (x .asked)) (presentIn (leftBy x .answer)) .0 (both .1) in
+      let r = done-call (atLoad (x .given)) x (both .0) (asks-no-reset n (x .asked) (asked .0)) in
+      let asks = sym (asks-is n (x .asked) (r .call) (r .passes)) ∙ asked .0 in
+      let answer : leftBy x .answer ≡ answered 0 (valueWith d s (r .call)) (x .answer) = ap (λ (o : Outcome). o .answer) (r .left) in
+      let says = vector-answered d s (r .call) (call-announces d (r .call) (asks-sweeps n (r .call) asks)) n (x .answer) asks (rw answer at (asked .1)) in
+      let small = decode-well-formed (x .given) b (r .accepted) .vectorBytes n in
+      let few = numbers-well (x .given) b (r .accepted) .next in
+      (ap valueIn (answer ∙ ap (λ v. answered 0 v (x .answer)) says) ∙ value-read 0 (x .answer) (vector + 2 ^ 16 * number) (omega (arith, small, few)), small)
+
+  -- Where a host reads an assert of n in an answer area, in a sweep or elsewhere, the vector there, which is the value's low byte, is the vector byte that n has in the
+  -- image that the call was given;
+  pub vector-in-the-answer : valueIn (leftBy x .answer) % 256 ≡ getD (decode (x .given) .core .vectors) n 0
+  vector-in-the-answer = ap (λ v. v % 256) (told .0) ∙ low vector number (told .1)
+    where
+      low : (v k : ℕ) → v < 256 → (v + 2 ^ 16 * k) % 256 ≡ v
+      low v k h = omega arith
+
+  -- and the whole value has behind it the number that this image loads with as the next (02, C-19).
+  pub value-in-the-answer : valueIn (leftBy x .answer) ≡ getD (decode (x .given) .core .vectors) n 0 + 2 ^ 16 * numbersIn (x .given) .next
+  value-in-the-answer = told .0

@@ -3,7 +3,7 @@
 use mathlib.Core.Path.{_≡_, refl, sym, ap, _∙_}
 use mathlib.Core.Bool.{true, false, cond, _&&_, true≢false, and-eq-true-iff, and-true}
 use mathlib.Core.List.{List, [], _∷_, _++_, append-nil, append-assoc}
-use Prim.Native.Nat.{ℕ, _+_, _<_}
+use Prim.Native.Nat.{ℕ, _+_, _*_, _^_, _<_}
 use native.Mathlib.Omega.{arith}
 use lib.ListN.{getD}
 use borrow.Author.Tests.{eq-eqb, eqb-true}
@@ -11,8 +11,9 @@ use Rattle.rules.specs.Inputs.{inputs, only, put}
 use Rattle.rules.specs.Lines.{Lines, Made, withIrr, pendingIn, serve, enter, polled, raised}
 use Rattle.rules.specs.Ring.{Event, Ring, draw, kept, ringStep, ringRun, drawn}
 use Rattle.rules.specs.Core.{moved, lineTurn, turns}
-use Rattle.rules.specs.Device.{Device, Call, some, actsOf, acted, offers, draws, step, returned, value}
+use Rattle.rules.specs.Device.{Device, Call, some, actsOf, acted, offers, draws, step}
 use Rattle.rules.specs.Device as call
+use Rattle.rules.specs.Numbering.{Numbers, returnedWith, valueWith}
 use Rattle.rules.specs.History.{history}
 use Rattle.rules.specs.Calls.{answered, presentIn}
 use Rattle.rules.specs.Account.{tally}
@@ -138,27 +139,28 @@ asks-one (call.read w o) k i e = absurd (true≢false (sym e))
 asks-one (call.write w o v) k i e = absurd (true≢false (sym e))
 asks-one (call.drain j) k i e = absurd (true≢false (sym e))
 
--- it answers the vector that it returned
-answers-returned : (d : Device) (c : Call) (k : ℕ) → pollsOrRaises k c ≡ true → value d c ≡ returned (step d c .made)
-unfolding value
-answers-returned d (call.level m b) k e = refl
-answers-returned d (call.poll m) k e = refl
-answers-returned d (call.read w o) k e = absurd (true≢false (sym e))
-answers-returned d (call.write w o v) k e = absurd (true≢false (sym e))
-answers-returned d (call.drain j) k e = absurd (true≢false (sym e))
+-- it answers the vector that it returned, with its number
+answers-returned : (d : Device) (s : Numbers) (c : Call) (k : ℕ) → pollsOrRaises k c ≡ true → valueWith d s c ≡ returnedWith s (step d c .made)
+unfolding valueWith
+answers-returned d s (call.level m b) k e = refl
+answers-returned d s (call.poll m) k e = refl
+answers-returned d s (call.read w o) k e = absurd (true≢false (sym e))
+answers-returned d s (call.write w o v) k e = absurd (true≢false (sym e))
+answers-returned d s (call.drain j) k e = absurd (true≢false (sym e))
 
-pub read-is-asserted : (d : Device) (c : Call) → Announced d c → (i : ℕ) (a : List ℕ)
-    → cond (pollsOrRaises i c && presentIn (answered 0 (value d c) a)) 1 0 ≡ assertsOf i (step d c .made)
+pub read-is-asserted : (d : Device) (s : Numbers) (c : Call) → Announced d c → (i : ℕ) (a : List ℕ)
+    → cond (pollsOrRaises i c && presentIn (answered 0 (valueWith d s c) a)) 1 0 ≡ assertsOf i (step d c .made)
 unfolding tally
-read-is-asserted d c (nothing e) i a =
-    test (pollsOrRaises i c) (λ t. rw (t, answers-returned d c i t, e, none-read 0 a)) (λ t. rw (t, e))
-read-is-asserted d c (one k p e) i a = rw (asks-one c k i p, answers-returned d c k p, e, some-read 0 a (getD (d .core .vectors) k 0), and-true) (omega arith)
+read-is-asserted d s c (nothing e) i a =
+    test (pollsOrRaises i c) (λ t. rw (t, answers-returned d s c i t, e, none-read 0 a)) (λ t. rw (t, e))
+read-is-asserted d s c (one k p e) i a =
+    rw (asks-one c k i p, answers-returned d s c k p, e, some-read 0 a (getD (d .core .vectors) k 0 + 2 ^ 16 * s .next), and-true) (omega arith)
 
--- where there is a vector, it is the byte that the input has in d
-pub vector-answered : (d : Device) (c : Call) → Announced d c → (i : ℕ) (a : List ℕ) → pollsOrRaises i c ≡ true → presentIn (answered 0 (value d c) a) ≡ true
-    → value d c ≡ some (getD (d .core .vectors) i 0)
-vector-answered d c (nothing e) i a p t =
-    absurd (true≢false (sym t ∙ ap (λ v. presentIn (answered 0 v a)) (answers-returned d c i p ∙ ap returned e) ∙ none-read 0 a))
-vector-answered d c (one k q e) i a p t =
+-- where there is a vector, it is the byte that the input has in d, and the number behind it is the next
+pub vector-answered : (d : Device) (s : Numbers) (c : Call) → Announced d c → (i : ℕ) (a : List ℕ) → pollsOrRaises i c ≡ true
+    → presentIn (answered 0 (valueWith d s c) a) ≡ true → valueWith d s c ≡ some (getD (d .core .vectors) i 0 + 2 ^ 16 * s .next)
+vector-answered d s c (nothing e) i a p t =
+    absurd (true≢false (sym t ∙ ap (λ v. presentIn (answered 0 v a)) (answers-returned d s c i p ∙ ap (returnedWith s) e) ∙ none-read 0 a))
+vector-answered d s c (one k q e) i a p t =
     let is = eqb-true k i (sym (asks-one c k i q) ∙ p) in
-    answers-returned d c i p ∙ ap returned e ∙ ap (λ m. some (getD (d .core .vectors) m 0)) is
+    answers-returned d s c i p ∙ ap (returnedWith s) e ∙ ap (λ m. some (getD (d .core .vectors) m 0 + 2 ^ 16 * s .next)) is

@@ -10,15 +10,17 @@ use native.Mathlib.Omega.{arith}
 use lib.ListN.{length}
 use borrow.Author.Tests.{eq-eqb, le-leb, lt-ltb}
 use Rattle.rules.specs.Numbers.{Bytes}
-use Rattle.rules.specs.Device.{Call, poll, upFrom, Value, step, value}
-use Rattle.rules.specs.Image.{decode, imageTest, accepted}
+use Rattle.rules.specs.Device.{Call, poll, upFrom, Value, step}
+use Rattle.rules.specs.Numbering.{numbersAfter, valueWith}
+use Rattle.rules.specs.Image.{decode, numbersIn, imageTest, accepted}
 use Rattle.rules.specs.Calls.{performed, answerLength, answered, outcome}
 use Rattle.rules.specs.Calls as request
 use Rattle.histories.specs.Exported.{Exported, leftBy, isDone, HandedOn, doneCall, doneCalls}
 use Rattle.sweep.specs.Sweeps.{sweeping, isPoll, everyCall, someCall, Sweep}
 use Rattle.sweep.specs.Handed.{pollsFrom}
+use Rattle.rules.proofs.laws.Numbered.{numbers-step}
 use Rattle.rules.proofs.laws.Saved.{bytes-encode}
-use Rattle.rules.proofs.laws.Images.{accepted-has, encode-as, encode-decode, decode-well-formed, accepted-encode}
+use Rattle.rules.proofs.laws.Images.{accepted-has, encode-as, encode-decode, decode-well-formed, numbers-well, accepted-encode}
 use Rattle.histories.proofs.laws.WellFormed.{step-well}
 use Rattle.histories.proofs.demands.FromCalls.{a-call-is-a-step}
 
@@ -67,16 +69,21 @@ module _ (n : ℕ) (b : n < 64) (i a : List ℕ) (f : Fit i a) where
   poll-fit : Fit (leftBy polling .image) (leftBy polling .answer)
   poll-fit =
       let d = decode i in
+      let s = numbersIn i in
       let w = decode-well-formed i (f .bytes) (f .isAccepted) in
+      let v = numbers-well i (f .bytes) (f .isAccepted) in
       let its = accepted-has i (f .isAccepted) in
       let saved = encode-as (its .form) i (its .has .sized) in
-      let r = a-call-is-a-step d w (its .form) polling (sym (encode-decode i (f .bytes) (f .isAccepted)) ∙ saved d) refl poll-done in
+      let r = a-call-is-a-step d w s v (its .form) polling (sym (encode-decode i (f .bytes) (f .isAccepted)) ∙ saved d s) refl poll-done in
+      let e = step d (r .call) .after in
+      let t = numbersAfter d s (r .call) in
       let after = step-well d (r .call) w in
-      let is = r .image ∙ saved (step d (r .call) .after) in
+      let numbered = numbers-step d s (r .call) v in
+      let is = r .image ∙ saved e t in
       record {
-        bytes = rw is (bytes-encode (step d (r .call) .after) after (its .form));
-        isAccepted = rw is (accepted-encode (step d (r .call) .after) after (its .form));
-        room = rw (r .answer) (length-answered 0 (value d (r .call)) a);
+        bytes = rw is (bytes-encode e after t numbered (its .form));
+        isAccepted = rw is (accepted-encode e after t numbered (its .form));
+        room = rw (r .answer) (length-answered 0 (valueWith d s (r .call)) a);
       }
 
 record Polled (n k : ℕ) (i a : List ℕ) : Type 0 where

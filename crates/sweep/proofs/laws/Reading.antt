@@ -9,8 +9,10 @@ use lib.Dec.{eqb}
 use Rattle.rules.specs.Inputs.{only}
 use Rattle.rules.specs.Lines.{Made}
 use Rattle.rules.specs.Ring.{Event}
-use Rattle.rules.specs.Device.{Call, Step, value, step}
+use Rattle.rules.specs.Device.{Call, Step, step}
 use Rattle.rules.specs.Device as device
+use Rattle.rules.specs.Numbering.{valueWith}
+use Rattle.rules.specs.Image.{numbersIn}
 use Rattle.rules.specs.Calls.{Request, pass, calls, askedBy, widthTest, addressTest, answered, presentIn, Outcome}
 use Rattle.rules.specs.Calls as request
 use Rattle.rules.specs.History.{history}
@@ -68,9 +70,10 @@ module _ (h : Underway) (f : Faithful h) (x : Exported) (n : isLoad (h .left) x 
       let r = handed h x f t n in
       let d = current h in
       let one : doneCall x ≡ r .call ∷ [] = (λ j. cond (t j) (callOf (r .passes j)) []) in
-      let answer : leftBy x .answer ≡ answered 0 (value d (r .call)) (x .answer) = ap (λ (o : Outcome). o .answer) (r .left) in
+      let ns = numbersIn (x .given) in
+      let answer : leftBy x .answer ≡ answered 0 (valueWith d ns (r .call)) (x .answer) = ap (λ (o : Outcome). o .answer) (r .left) in
       let admits = and-eq-true-iff (sweeping (r .call)) true .0 (rw one at e) .0 in
-      let reads = read-is-asserted d (r .call) (call-announces d (r .call) admits) i (x .answer) in
+      let reads = read-is-asserted d ns (r .call) (call-announces d (r .call) admits) i (x .answer) in
       let whole = tally-append (λ (m : Made). m .asserted && only i (m .input)) (step d (r .call) .made) [] in
       rw (one, t, answer, asks-is i (x .asked) (r .call) (r .passes)) (omega (arith, reads, whole, tally-nil (λ (m : Made). m .asserted && only i (m .input)))))
       (λ t.

@@ -16,4 +16,4 @@ read-word-spec =
     (λ c. search needs)
     (λ c. search needs)
     (λ c. search needs)
-    (λ c d h. omega (arith, c .before .read-byte .ensures d h, c .read-byte2 .ensures d h)))
+    (λ c d ns h. omega (arith, c .before .read-byte .ensures d ns h, c .read-byte2 .ensures d ns h)))

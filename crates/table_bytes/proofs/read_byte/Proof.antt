@@ -31,4 +31,4 @@ read-byte-spec =
     (λ c. let g = c .before .before in let l = g .before .before in let a = l .before .before .args in
     byte-reads (a .image .now) (a .offset) (vector _) (sym (ap placeView (g .input2 .given .1)) ∙ l .look .ensures) (c .vector .ensures))
     (λ c. let l = c .before .before in let a = l .before .before .args in
-    byte-reads (a .image .now) (a .offset) nothing (sym (ap placeView (c .enum-told .given .1)) ∙ l .look .ensures) (λ d h. refl)))
+    byte-reads (a .image .now) (a .offset) nothing (sym (ap placeView (c .enum-told .given .1)) ∙ l .look .ensures) (λ d ns h. refl)))

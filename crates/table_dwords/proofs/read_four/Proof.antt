@@ -27,5 +27,5 @@ read-four-spec =
     (λ c. search needs)
     (λ c. search needs)
     (λ c. search needs)
-    (λ c d h. let s = c .before .before .before .before .before in
-    omega (arith, c .before .before .before .read-byte .ensures d h, c .before .before .read-byte2 .ensures d h, c .before .read-byte3 .ensures d h, c .read-byte4 .ensures d h, dword-four (d .core) (s .args .offset) (s .pre .2))))
+    (λ c d ns h. let s = c .before .before .before .before .before in
+    omega (arith, c .before .before .before .read-byte .ensures d ns h, c .before .before .read-byte2 .ensures d ns h, c .before .read-byte3 .ensures d ns h, c .read-byte4 .ensures d ns h, dword-four (d .core) (s .args .offset) (s .pre .2))))

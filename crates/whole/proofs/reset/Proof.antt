@@ -1,10 +1,11 @@
--- `reset`: refused for its length alone; done, the image is that of the device after reset.
-use mathlib.Core.Path.{_≡_, sym, ap, _∙_}
+-- `reset`: refused for its length alone; done, the image is that of the device after reset, with numbers from 0.
+use mathlib.Core.Path.{_≡_, refl, sym, ap, _∙_}
 use mathlib.Core.List.{[]}
-use lib.ListN.{length}
-use Rattle.rules.specs.Device.{none, reset}
+use lib.ListN.{length, replicate}
+use Rattle.rules.specs.Device.{Device, none, reset, upFrom}
+use Rattle.rules.specs.Numbering.{fromZero}
 use Rattle.rules.specs.Form.{forms, known, formOf, formLength}
-use Rattle.rules.specs.Image.{encodeAs}
+use Rattle.rules.specs.Image.{encodeAs, numberBody}
 use Rattle.rules.proofs.laws.Tests.{form-known}
 use Rattle.rules.proofs.laws.Images.{encode-as}
 use Rattle.rules.proofs.laws.Outcomes.{reset-refused, reset-done}
@@ -21,6 +22,11 @@ told t = let e = t .before in let f = e .before .before in sym (f .form-of .ensu
 sized : (t : tie.After-known-told) → length (t .before .before .before .before .before .args .image .now) ≡ formLength (formView (t .before .form .given .0 .0))
 sized t = form-known forms _ _ (told t)
 
+-- numbers begin at 0
+no-numbers : numberBody (fromZero 0) ≡ replicate 34 0
+unfolding numberBody upFrom
+no-numbers = refl
+
 pub reset-spec : {M : Type 1} → statement M
 unfolding told
 reset-spec =
@@ -30,8 +36,15 @@ reset-spec =
     (λ c. let u = c .before in let f = u .before .before in let i = f .before .before .args .image .now in
     tells (c .wrong-length .result) (c .wrong-length .ensures) (sym (reset-refused i (sym (f .form-of .ensures) ∙ ap formKnown (u .enum-told .given .1)))))
     (λ c κs. search needs)
-    (λ c κs. (sized (c .before .before), search needs))
+    (λ c κs. (sized (c .before .before .before), search needs))
     (λ c κs. search needs) (λ c. search needs)
-    (λ c. let s = c .before .before .before in let t = s .before .before .before in let i = t .before .before .before .before .before .args .image .now in tells (c .done .result) (c .done .ensures)
-    ((λ k. record { number = 0; value = none; image = (s .save .ensures ∙ ap (encodeAs _) (s .before .reset .ensures .shows) ∙ sym (encode-as _ i (sized t) reset)) k; events = [] })
-    ∙ sym (reset-done i _ (told t)))))
+    (λ c. let s = c .before .before .before in let r = s .before .before in let t = r .before .before in let i = t .before .before .before .before .before .args .image .now in
+    let f = formView (t .before .form .given .0 .0) in
+    tells (c .done .result) (c .done .ensures)
+    ((λ k. record {
+      number = 0;
+      value = none;
+      image = (s .save .ensures (fromZero 0) no-numbers ∙ ap (λ (d : Device). encodeAs f d (fromZero 0)) (r .reset .ensures .shows) ∙ sym (encode-as f i (sized t) reset (fromZero 0))) k;
+      events = [];
+    })
+    ∙ sym (reset-done i f (told t)))))

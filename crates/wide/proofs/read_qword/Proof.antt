@@ -20,4 +20,4 @@ read-qword-spec =
     (λ c. search needs)
     (λ c κs. search needs)
     (λ c. search needs)
-    (λ c d h. qword-both (d .core) _ _ _ (c .before .read-dword .ok) (c .read-dword2 .ok) (c .before .read-dword .ensures d h) (c .read-dword2 .ensures d h)))
+    (λ c d ns h. qword-both (d .core) _ _ _ (c .before .read-dword .ok) (c .read-dword2 .ok) (c .before .read-dword .ensures d ns h) (c .read-dword2 .ensures d ns h)))

@@ -9,4 +9,5 @@ form-of-spec =
     (tie.spec
     (λ c. rw (c .match .keys1))
     (λ c. rw (c .match .keys2))
-    (λ c. rw (ne-eqb (c .before .args .length) 259 (c .match .rest .0 .1), ne-eqb (c .before .args .length) 251 (c .match .rest .1))))
+    (λ c. rw (c .match .keys3))
+    (λ c. rw (ne-eqb (c .before .args .length) 259 (c .match .rest .0 .0 .1), ne-eqb (c .before .args .length) 251 (c .match .rest .0 .1), ne-eqb (c .before .args .length) 290 (c .match .rest .1))))

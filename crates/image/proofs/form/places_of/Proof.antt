@@ -1,53 +1,86 @@
--- `places_of`: in each form, by computing, with the copy's length for what is added.
-use mathlib.Core.Path.{_≡_, refl, sym, subst}
-use mathlib.Core.Bool.{true}
+-- `places_of`: in each form, by computing, with the contents' length in front and the copy's for what is added.
+use mathlib.Core.Path.{_≡_, refl, sym, ap, _∙_, subst}
+use mathlib.Core.Bool.{Bool, true, false, _&&_, false≢true, and-eq-true-iff}
+use mathlib.Core.List.{List, [], _∷_}
 use Prim.Native.Nat.{ℕ, _+_}
-use Rattle.rules.specs.Form.{Form, one, two}
-use Rattle.rules.proofs.laws.Layout.{never, by-word, by-plain, by-field}
-use Rattle.image.specs.Shown.{formView, copyLength, PlacesOf}
+use lib.Dec.{eqb}
+use Rattle.rules.specs.Form.{Field, word, copy, Form, one, two, numbered, is, listed, fields, has, place, contentsLength}
+use Rattle.rules.proofs.laws.Bits.{test}
+use Rattle.rules.proofs.laws.Layout.{never, is-sound}
+use Rattle.image.specs.Shown.{formView, placeIn, copyLength, PlacesOf}
 use Rattle.image.specs.declared.form.Places.{Places}
+use borrow.Author.Tests.{eqb-true}
 use borrow.Author.Needs.{needs}
 use Rattle.image.proofs.form.places_of.Statement.{statement}
 use Rattle.image.proofs.form.places_of.Tie as tie
 
--- the places behind c bytes of a copy
-abbrev behind : ℕ → Places
-behind c = record {
-  «int_mask» = 22;
-  «htmsi_en» = 30;
-  intedge = 38;
-  «last_intirr» = 46;
-  intirr = 46 + c;
-  intisr = 54 + c;
-  «int_polarity» = 62 + c;
-  «auto_ctrl0» = 70 + c;
-  «auto_ctrl1» = 78 + c;
-  routes = 86 + c;
-  vectors = 150 + c;
-  count = 214 + c;
-  drops = 215 + c;
-  pairs = 219 + c;
+-- the places behind a head of h bytes, and behind c bytes of a copy
+abbrev behind : ℕ → ℕ → Places
+behind h c = record {
+  «int_mask» = h;
+  «htmsi_en» = h + 8;
+  intedge = h + 16;
+  «last_intirr» = h + 24;
+  intirr = h + c + 24;
+  intisr = h + c + 32;
+  «int_polarity» = h + c + 40;
+  «auto_ctrl0» = h + c + 48;
+  «auto_ctrl1» = h + c + 56;
+  routes = h + c + 64;
+  vectors = h + c + 128;
+  count = h + c + 192;
+  drops = h + c + 193;
+  pairs = h + c + 197;
+  next = h + c + 229;
+  numbers = h + c + 231;
 }
 
-in-each : (f : Form) → PlacesOf f (behind (copyLength f))
-in-each one = record {
-  fields =
-      by-field _ (by-word _ (λ h. refl) (λ h. refl) (λ h. refl) (λ h. refl) (by-plain _ (λ h. refl, λ h. refl, λ h. refl, λ h. refl, λ h. refl)))
-      (λ h. refl) (λ h. refl) (λ h. refl, λ h. refl, λ h. refl);
-  copy = never;
-}
-in-each two = record {
-  fields =
-      by-field _ (by-word _ (λ h. refl) (λ h. refl) (λ h. refl) (λ h. never (sym h)) (by-plain _ (λ h. refl, λ h. refl, λ h. refl, λ h. refl, λ h. refl)))
-      (λ h. refl) (λ h. refl) (λ h. refl, λ h. refl, λ h. refl);
-  copy = λ h. refl;
-}
+-- every field of a list passes a test
+abbrev every : (Field → Bool) → List Field → Bool
+every t [] = true
+every t (p ∷ ps) = t p && every t ps
+
+listed-so : (t : Field → Bool) (ps : List Field) → every t ps ≡ true → (q : Field) → listed q ps ≡ true → t q ≡ true
+listed-so t [] e q h = absurd (false≢true h)
+listed-so t (p ∷ ps) e q h =
+    let both = and-eq-true-iff (t p) (every t ps) .0 e in
+    test (is q p) (λ s. ap t (is-sound q p s) ∙ both .0) (λ s. listed-so t ps (both .1) q (rw s at h))
+
+abbrev its : Form → Places
+its f = behind (contentsLength f) (copyLength f)
+
+abbrev stands : Form → Field → Bool
+stands f q = eqb (placeIn (its f) q) (place f q)
+
+all-stand : (f : Form) → every (stands f) (fields f) ≡ true
+all-stand one = refl
+all-stand two = refl
+all-stand numbered = refl
+
+no-copy : (f : Form) → has f (word copy) ≡ false → its f .«last_intirr» ≡ its f .intirr
+no-copy one = never
+no-copy two = λ h. refl
+no-copy numbered = λ h. refl
+
+-- as the code has them
+in-code : (f : Form) (h c : ℕ) → h ≡ contentsLength f → c ≡ copyLength f → PlacesOf f (behind h c)
+in-code f h c e g =
+    subst (PlacesOf f) (λ t. behind (sym e t) (sym g t)) (record {
+      fields = λ q s. eqb-true (placeIn (its f) q) (place f q) (listed-so (stands f) (fields f) (all-stand f) q s);
+      copy = no-copy f;
+    })
+
+returns : tie.Need-returns
+returns c =
+    let h = c .before in
+    in-code (formView (h .before .args .form)) (h .contents-length .result) (c .copy-length .result) (h .contents-length .ensures .0) (c .copy-length .ensures .0)
 
 pub places-of-spec : {M : Type 1} → statement M
 places-of-spec =
     tie.close
     (tie.spec
-    (λ c κs. search needs)
-    (λ c. search needs) (λ c. search needs) (λ c. search needs) (λ c. search needs) (λ c. search needs)
-    (λ c. search needs) (λ c. search needs) (λ c. search needs) (λ c. search needs) (λ c. search needs)
-    (λ c. subst (λ n. PlacesOf (formView (c .before .args .form)) (behind n)) (sym (c .copy-length .ensures .0)) (in-each (formView (c .before .args .form)))))
+    (λ c κs. search needs) (λ c κs. search needs)
+    (λ c. search needs) (λ c. search needs) (λ c. search needs) (λ c. search needs) (λ c. search needs) (λ c. search needs)
+    (λ c. search needs) (λ c. search needs) (λ c. search needs) (λ c. search needs) (λ c. search needs) (λ c. search needs)
+    (λ c. search needs) (λ c. search needs) (λ c. search needs) (λ c. search needs)
+    returns)

@@ -15,8 +15,8 @@ returns c =
     let p = z .before .before .before .before in
     let s = p .before .before .before .before .before in
     let b = s .args .bytes .now in
-    let f = put-this (start (s .args .image .now)) 259 (take 259 b) (p .copy .last .0) (length-take-le 259 b (omega (arith, s .pre .0))) (p .copy .ensures) in
-    let g = put-this f 41 (replicate 41 0) (z .put-zeros .last .0) refl (z .put-zeros .ensures ∙ ap (λ (n : ℕ). replicate n 0) (length-next f 41 (omega (arith, s .pre .1)))) in
+    let f = put-this (start (s .args .image .now)) 290 (take 290 b) (p .copy .last .0) (length-take-le 290 b (omega (arith, s .pre .0))) (p .copy .ensures) in
+    let g = put-this f 10 (replicate 10 0) (z .put-zeros .last .0) refl (z .put-zeros .ensures ∙ ap (λ (n : ℕ). replicate n 0) (length-next f 10 (omega (arith, s .pre .1)))) in
     filled g (s .pre .1)
 
 pub set-image-spec : {M : Type 1} → statement M

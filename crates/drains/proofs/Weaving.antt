@@ -1,0 +1,130 @@
+-- Events as they come out: pairs and numbers woven, and which pairs and numbers an image has for them.
+use mathlib.Core.Path.{_≡_, refl, sym, ap, _∙_}
+use mathlib.Core.Bool.{true, false}
+use mathlib.Core.List.{List, [], _∷_, _++_, append-nil, append-assoc}
+use Prim.Native.Nat.{ℕ, zero, suc, _+_, _-_, _*_, _<_, _≤_}
+use native.Mathlib.Omega.{arith}
+use lib.ListN.{length, take, drop, getD, set, replicate, length-append, drop-of-length-le}
+use lib.Seq.{drop-cons, sets, sets-eq, length-sets, length-take-le, take-all, take-at, take-take, take-append-le}
+use Rattle.rules.specs.Numbers.{part, Twos, written}
+use Rattle.rules.specs.Ring.{Event, capacity, eventTwos}
+use Rattle.rules.specs.Device.{Device, upFrom}
+use Rattle.rules.specs.Numbering.{Numbers, withNumbers, quadsOf, numberTwos}
+use Rattle.rules.specs.Form.{Form, Field, pairs, numbers, has, size, place, formLength}
+use Rattle.rules.specs.Image.{sixteen, fieldOf, encodeAs, numbersIn}
+use Rattle.rules.proofs.laws.Twos.{length-written}
+use Rattle.rules.proofs.laws.Layout.{has-all, read-image}
+use Rattle.rules.proofs.laws.Saved.{fields-sized}
+use Rattle.rules.proofs.laws.Images.{numbers-encode, numbers-lost}
+use Rattle.inplace.specs.Held.{Holds}
+use Rattle.inplace.proofs.Doing.{holds-as}
+use Rattle.drains.specs.Drained.{woven, CopiesOut}
+
+-- ---- woven by a loop
+
+-- the first 4 * k bytes have been written
+pub record Weaving (ps ns out : List ℕ) (n k : ℕ) : Type 0 where
+  pub size : length out ≡ 4 * n
+  pub front : take (4 * k) out ++ woven (drop (2 * k) ps) (drop (2 * k) ns) ≡ woven ps ns
+
+-- the next two bytes of a list that is read in step
+next-two : (l : List ℕ) (k : ℕ) → 2 * k + 2 ≤ length l → drop (2 * k) l ≡ getD l (2 * k) 0 ∷ getD l (2 * k + 1) 0 ∷ drop (2 * (k + 1)) l
+next-two l k h =
+    let one : suc (2 * k) ≡ 2 * k + 1 = omega arith in
+    let two : suc (suc (2 * k)) ≡ 2 * (k + 1) = omega arith in
+    drop-cons l (2 * k) 0 (omega arith) ∙ ap (λ m. getD l (2 * k) 0 ∷ m) (drop-cons l (suc (2 * k)) 0 (omega arith)) ∙ (λ t. getD l (2 * k) 0 ∷ getD l (one t) 0 ∷ drop (two t) l)
+
+module _ {ps ns out : List ℕ} {n k : ℕ} (w : Weaving ps ns out n k) (lp : length ps ≡ 2 * n) (ln : length ns ≡ 2 * n) where
+  abbrev four : List ℕ
+  four = getD ps (2 * k) 0 ∷ getD ps (2 * k + 1) 0 ∷ getD ns (2 * k) 0 ∷ getD ns (2 * k + 1) 0 ∷ []
+
+  abbrev stored : List ℕ
+  stored = set (set (set (set out (4 * k) (getD ps (2 * k) 0)) (4 * k + 1) (getD ps (2 * k + 1) 0)) (4 * k + 2) (getD ns (2 * k) 0)) (4 * k + 3) (getD ns (2 * k + 1) 0)
+
+  run : stored ≡ sets out (4 * k) four
+  run =
+      let one : 4 * k + 1 ≡ suc (4 * k) = omega arith in
+      let two : 4 * k + 2 ≡ suc (suc (4 * k)) = omega arith in
+      let three : 4 * k + 3 ≡ suc (suc (suc (4 * k))) = omega arith in
+      λ t. set (set (set (set out (4 * k) (getD ps (2 * k) 0)) (one t) (getD ps (2 * k + 1) 0)) (two t) (getD ns (2 * k) 0)) (three t) (getD ns (2 * k + 1) 0)
+
+  pub weaving-next : k < n → Weaving ps ns stored n (k + 1)
+  weaving-next h =
+      let fits : 4 * k + length four ≤ length out = omega (arith, w .size) in
+      let ahead : length (take (4 * k) out ++ four) ≡ 4 * (k + 1) = length-append (take (4 * k) out) four ∙ omega (arith, w .size, length-take-le (4 * k) out (omega (arith, w .size))) in
+      let rest = woven (drop (2 * (k + 1)) ps) (drop (2 * (k + 1)) ns) in
+      record {
+        size = ap length run ∙ length-sets out (4 * k) four ∙ w .size;
+        front =
+            ap (λ l. take (4 * (k + 1)) l ++ rest) (run ∙ sets-eq four out (4 * k) fits) ∙ ap (λ l. l ++ rest) (take-at (take (4 * k) out ++ four) (drop (4 * k + length four) out) (4 * (k + 1)) ahead)
+            ∙ append-assoc (take (4 * k) out) four rest ∙ (λ t. take (4 * k) out ++ woven (sym (next-two ps k (omega arith)) t) (sym (next-two ns k (omega arith)) t)) ∙ w .front;
+      }
+
+  pub weaving-done : n ≤ k → out ≡ woven ps ns
+  weaving-done h =
+      let all : length out ≤ 4 * k = omega (arith, w .size) in
+      let none : length ps ≤ 2 * k = omega arith in
+      let none-too : length ns ≤ 2 * k = omega arith in
+      sym (append-nil out) ∙ (λ t. sym (take-all (4 * k) out all) t ++ woven (sym (drop-of-length-le ps none) t) (sym (drop-of-length-le ns none-too) t)) ∙ w .front
+
+-- ---- things of two bytes, of which the first n are taken
+
+module _ {A : Type 0} (t : Twos A) where
+  take-written : (n : ℕ) (xs : List A) → take (2 * n) (written t xs) ≡ written t (take n xs)
+  take-written zero xs = refl
+  take-written (suc n) [] = let s : 2 * suc n ≡ suc (suc (2 * n)) = omega arith in ap (λ k. take k (written t [])) s
+  take-written (suc n) (x ∷ xs) = let s : 2 * suc n ≡ suc (suc (2 * n)) = omega arith in ap (λ k. take k (written t (x ∷ xs))) s ∙ ap (λ l. t .low x ∷ t .high x ∷ l) (take-written n xs)
+
+  take-sixteen : (n : ℕ) (xs : List A) → n ≤ length xs → take (2 * n) (sixteen t xs) ≡ written t (take n xs)
+  take-sixteen n xs h = take-append-le (2 * n) (written t xs) (replicate (2 * capacity - 2 * length xs) 0) (omega (arith, length-written t xs)) ∙ take-written n xs
+
+take-up : (a n m : ℕ) → n ≤ m → take n (upFrom a m) ≡ upFrom a n
+unfolding upFrom
+take-up a zero m h = refl
+take-up a (suc n) zero h = absurd (omega arith)
+take-up a (suc n) (suc m) h = ap (λ l. a ∷ l) (take-up (suc a) n m (omega arith))
+
+-- pairs and numbers woven are events with their numbers
+woven-written : (es : List Event) (ns : List ℕ) → woven (written eventTwos es) (written numberTwos ns) ≡ quadsOf (withNumbers es ns)
+woven-written [] ns = refl
+woven-written (e ∷ es) [] = refl
+woven-written (e ∷ es) (n ∷ ns) = ap (λ l. eventTwos .low e ∷ eventTwos .high e ∷ numberTwos .low n ∷ numberTwos .high n ∷ l) (woven-written es ns)
+
+-- ---- copied out of an image
+
+module _ (f : Form) (i : List ℕ) (long : length i ≡ formLength f) (n : ℕ) where
+  module _ (d : Device) (s : Numbers) (h : Holds i d s) (few : n ≤ length (d .ring .waiting)) where
+    -- the front of a field where it stands
+    front-of : {at : ℕ} (p : Field) → has f p ≡ true → at ≡ place f p → 2 * n ≤ size p → part at (at + 2 * n - at) i ≡ take (2 * n) (fieldOf d s p)
+    front-of {at} p k e small =
+        let width : at + 2 * n - at ≡ 2 * n = omega arith in
+        (λ t. part (e t) (width t) (holds-as f i long h t)) ∙ sym (take-take (2 * n) (size p) (drop (place f p) (encodeAs f d s)) small)
+        ∙ ap (take (2 * n)) (read-image f (fieldOf d s) (fields-sized d (h .well) s (h .numbered)) p k)
+
+    small : 2 * n ≤ 32
+    small = omega (arith, h .well .waiting)
+
+    pairs-front : {at : ℕ} → at ≡ place f pairs → part at (at + 2 * n - at) i ≡ written eventTwos (take n (d .ring .waiting))
+    pairs-front e = front-of pairs (has-all f pairs refl) e small ∙ take-sixteen eventTwos n (d .ring .waiting) few
+
+    numbers-front : {at : ℕ} → has f numbers ≡ true → at ≡ place f numbers → part at (at + 2 * n - at) i ≡ written numberTwos (take n (numbersIn i .waiting))
+    numbers-front k e =
+        front-of numbers k e small ∙ take-sixteen numberTwos n (s .waiting) (omega (arith, h .numbered .waiting))
+        ∙ ap (λ (u : Numbers). written numberTwos (take n (u .waiting))) (sym (ap numbersIn (holds-as f i long h) ∙ numbers-encode d (h .well) s (h .numbered) f k))
+
+    zero-front : has f numbers ≡ false → part 0 (2 * n - 0) (written numberTwos (upFrom 0 16)) ≡ written numberTwos (take n (numbersIn i .waiting))
+    zero-front k =
+        let m = length (d .ring .waiting) in
+        let width : 2 * n - 0 ≡ 2 * n = omega arith in
+        ap (λ j. take j (written numberTwos (upFrom 0 16))) width ∙ take-written numberTwos n (upFrom 0 16) ∙ ap (written numberTwos) (take-up 0 n 16 (omega (arith, small)) ∙ sym (take-up 0 n m few))
+        ∙ ap (λ (u : Numbers). written numberTwos (take n (u .waiting))) (sym (ap numbersIn (holds-as f i long h) ∙ numbers-lost d (h .well) s (h .numbered) f k))
+
+  -- with the numbers of the image, or with those from 0 on
+  module _ {at : ℕ} (e : at ≡ place f pairs) {out : List ℕ} where
+    pub with-numbers : has f numbers ≡ true → {to : ℕ} → to ≡ place f numbers → out ≡ woven (part at (at + 2 * n - at) i) (part to (to + 2 * n - to) i) → CopiesOut i out n
+    with-numbers k g w d s h few = w ∙ (λ t. woven (pairs-front d s h few e t) (numbers-front d s h few k g t)) ∙ woven-written (take n (d .ring .waiting)) (take n (numbersIn i .waiting))
+
+    pub from-zero : has f numbers ≡ false → {first : List ℕ} → first ≡ written numberTwos (upFrom 0 16) → out ≡ woven (part at (at + 2 * n - at) i) (part 0 (2 * n - 0) first) → CopiesOut i out n
+    from-zero k g w d s h few =
+        w ∙ (λ t. woven (pairs-front d s h few e t) (part 0 (2 * n - 0) (g t))) ∙ ap (woven (written eventTwos (take n (d .ring .waiting)))) (zero-front d s h few k)
+        ∙ woven-written (take n (d .ring .waiting)) (take n (numbersIn i .waiting))

@@ -1,0 +1,92 @@
+-- The definitions on closed numbers, so that it is seen what they say: positions, fates and numbers of a few events, and what a host reads in a few bytes.
+use mathlib.Core.Path.{_≡_, refl}
+use mathlib.Core.Bool.{Bool, true, false}
+use mathlib.Core.List.{List, [], _∷_, map}
+use Prim.Native.Nat.{ℕ}
+use lib.ListN.{set, replicate}
+use Rattle.rules.specs.Lines.{Made}
+use Rattle.rules.specs.Ring.{Ring}
+use Rattle.rules.specs.Access.{dword}
+use Rattle.rules.specs.Device.{Call, level, write, drain, some, reset}
+use Rattle.rules.specs.Numbering.{fromZero}
+use Rattle.rules.specs.Form.{numbered}
+use Rattle.rules.specs.Image.{encodeAs}
+use Rattle.rules.specs.Calls as request
+use Rattle.histories.specs.Exported.{Exported, leftBy}
+use Rattle.order.specs.Fates.{isReturned, isKept, isDropped, placed, placedFrom, eventsMade}
+use Rattle.order.specs.Numbered.{allFrom, inValue, returnedThrough, drainedThrough}
+use Rattle.order.specs.Read.{inAnswer, quadsTo, returnedRead}
+use Rattle.rules.proofs.laws.Computing.{computing}
+
+-- ---- events
+
+-- fifteen events wait; one is returned, two are offered, and one is returned
+abbrev fifteen : Ring
+fifteen = record { waiting = replicate 15 (record { vector = 9; asserted = true }); drops = 0 }
+
+abbrev madeBy : ℕ → Bool → Made
+madeBy n offered = record { input = n; vector = n; asserted = true; offered = offered }
+
+abbrev four : List Made
+four = madeBy 0 false ∷ madeBy 1 true ∷ madeBy 2 true ∷ madeBy 3 false ∷ []
+
+-- the first offered one finds fifteen waiting, the second sixteen
+fates-told : map (λ x. x .fate) (placed 0 fifteen four) ≡ isReturned ∷ isKept ∷ isDropped ∷ isReturned ∷ []
+unfolding computing placed
+fates-told = refl
+
+-- each has a position, whatever becomes of it
+positions-told : map (λ x. x .position) (placed 0 fifteen four) ≡ 0 ∷ 1 ∷ 2 ∷ 3 ∷ []
+unfolding computing placed
+positions-told = refl
+
+-- begun with 65,534, their numbers pass 65,535
+numbers-told : map (λ x. x .number) (allFrom 65534 (placed 0 fifteen four)) ≡ 65534 ∷ 65535 ∷ 0 ∷ 1 ∷ []
+unfolding computing placed
+numbers-told = refl
+
+-- ---- calls
+
+-- unmask all; raise 5 and lower it, each of which returns an event; mask 6 once it is raised, and drain its deassert
+abbrev calls : List Call
+calls = write dword 0x020 0 ∷ level 5 true ∷ level 5 false ∷ level 6 true ∷ write dword 0x020 0x40 ∷ drain 4 ∷ []
+
+-- positions run through all calls
+history-told : map (λ x. x .position) (eventsMade reset calls) ≡ 0 ∷ 1 ∷ 2 ∷ 3 ∷ []
+unfolding computing placed placedFrom
+history-told = refl
+
+-- and so do the numbers that come back
+returned-told : map (λ x. x .number) (returnedThrough reset (fromZero 0) calls) ≡ 0 ∷ 1 ∷ 2 ∷ []
+unfolding computing returnedThrough
+returned-told = refl
+
+drained-told : map (λ x. x .number) (drainedThrough reset (fromZero 0) calls) ≡ 3 ∷ []
+unfolding computing drainedThrough
+drained-told = refl
+
+-- ---- bytes
+
+-- the vector 5 with the number 65,534: in a value, and in an answer area
+value-told : inValue true (some 0xfffe0005) ≡ record { event = record { vector = 5; asserted = true }; number = 65534 } ∷ []
+value-told = refl
+
+answer-told : inAnswer false (0 ∷ 1 ∷ 0 ∷ 0 ∷ 0 ∷ 0 ∷ 0 ∷ 0 ∷ 5 ∷ 0 ∷ 0xfe ∷ 0xff ∷ 0 ∷ 0 ∷ 0 ∷ 0 ∷ []) ≡ record { event = record { vector = 5; asserted = false }; number = 65534 } ∷ []
+answer-told = refl
+
+-- an event buffer with one event from place 1 on
+buffer-told : quadsTo (request.drain [] 1) (0 ∷ 1 ∷ 0 ∷ 0 ∷ 0 ∷ 0 ∷ 0 ∷ 0 ∷ 1 ∷ 0 ∷ 0 ∷ 0 ∷ 0 ∷ 0 ∷ 0 ∷ 0 ∷ []) (0xee ∷ 5 ∷ 1 ∷ 0xfe ∷ 0xff ∷ 0xee ∷ [])
+    ≡ record { event = record { vector = 5; asserted = true }; number = 65534 } ∷ []
+buffer-told = refl
+
+-- an image that says that 17 wait: a poll is refused, with the place of the count as its value, and returns no event
+abbrev refusedPoll : Exported
+refusedPoll = record { given = set (encodeAs numbered reset (fromZero 0)) 219 17; asked = request.poll 5; answer = replicate 16 0 }
+
+refused-told : request.valueIn (leftBy refusedPoll .answer) ≡ 219
+unfolding computing
+refused-told = refl
+
+refused-returns-none : returnedRead (refusedPoll ∷ []) ≡ []
+unfolding computing returnedRead
+refused-returns-none = refl

@@ -1,0 +1,150 @@
+-- What a host reads of exported calls on images with the fifth body: the events that their calls of the device return and drain, each with its number.
+use mathlib.Core.Path.{_≡_, refl, sym, ap, ap₂, _∙_}
+use mathlib.Core.Bool.{Bool, true, false, cond, not}
+use mathlib.Core.List.{List, [], _∷_, _++_, append-nil, append-assoc}
+use Prim.Native.Nat.{ℕ, zero, suc, _-_, _/_, _%_, _^_, _<_, _≤_}
+use native.Mathlib.Omega.{arith}
+use lib.Dec.{eqb}
+use lib.ListN.{length, take, drop, getD}
+use Rattle.rules.specs.Ring.{Event, ringRun}
+use Rattle.rules.specs.Device.{Device, WellFormed, Call, Value, none, some, step}
+use Rattle.rules.specs.Device as device
+use Rattle.rules.specs.Numbering.{Numbers, WellNumbered, Numbered, withNumbers, drainedLength, quadsIn, numbersAfter, drainedWith, valueWith}
+use Rattle.rules.specs.Form.{numbers, has}
+use Rattle.rules.specs.Image.{numbersIn}
+use Rattle.rules.specs.Calls.{pass, widthTest, addressTest, Request, calls, askedBy, amount, answered, bufferOf, placeOf, written, Outcome}
+use Rattle.rules.specs.Calls as request
+use Rattle.rules.specs.History.{history}
+use Rattle.histories.specs.Exported.{Exported, leftBy, isDone, isLoad, Underway, carriedOn, NoLoads, doneCall, doneCalls, current, Faithful, numbersThrough}
+use Rattle.order.specs.Numbered.{inValue, returnedOf, returnedThrough, drainedThrough}
+use Rattle.order.specs.Read.{inAnswer, numberedTo, quadsTo, returnedRead, drainedRead}
+use Rattle.rules.proofs.laws.Bits.{test}
+use Rattle.rules.proofs.laws.Lists.{Each}
+use Rattle.rules.proofs.laws.Answers.{none-read, some-read, value-read, quads-read}
+use Rattle.histories.proofs.laws.WellFormed.{step-events}
+use Rattle.histories.proofs.laws.Chains.{passed, current-well, handed, carried-on, faithful-kept}
+use Rattle.histories.proofs.laws.Readings.{level-single, poll-single, returned-below, access-is, input-is, asked-is, drained-told}
+use Rattle.histories.proofs.demands.FromCalls.{image-holds-numbers}
+use Rattle.order.proofs.laws.Computed as computed
+
+-- ---- one call
+
+-- an answer area holds the event of a value
+in-answer : (b : Bool) (x : Value) (a : List ℕ) → amount x < 2 ^ 64 → inAnswer b (answered 0 x a) ≡ inValue b x
+in-answer b none a h = rw (none-read 0 a)
+in-answer b (some v) a h =
+    rw (some-read 0 a v)
+    (λ i. record { event = record { vector = value-read 0 a v h i % 256; asserted = b }; number = value-read 0 a v h i / 2 ^ 16 } ∷ [])
+
+-- the numbers of those drained have 16 bits
+each-with : (es : List Event) (ns : List ℕ) (k : ℕ) → ((i : ℕ) → getD ns i 0 < 2 ^ 16) → Each (λ (x : Numbered). x .number < 2 ^ 16) (withNumbers es (take k ns))
+each-with [] ns k h = tt
+each-with (e ∷ es) ns zero h = tt
+each-with (e ∷ es) [] (suc k) h = tt
+each-with (e ∷ es) (n ∷ ns) (suc k) h = (h 0, each-with es ns k (λ i. h (suc i)))
+
+module _ (d : Device) (w : WellFormed d) (s : Numbers) (v : WellNumbered d s) where
+  reads-returned : (q : Request) (c : Call) (a : List ℕ) → askedBy q ≡ calls (pass c) → numberedTo q (answered 0 (valueWith d s c) a) ≡ returnedOf d s c
+  unfolding valueWith
+  reads-returned request.reset c a e = absurd (let z : _≡_ {A = ℕ} 0 1 = cc in omega arith)
+  reads-returned (request.read base size address width) c a e =
+      rw (access-is (widthTest width) (addressTest base size address width) device.read c (asked-is e) .2)
+  reads-returned (request.write base size address width x) c a e =
+      rw (access-is (widthTest width) (addressTest base size address width) (λ y o. device.write y o x) c (asked-is e) .2)
+  reads-returned (request.level n x) c a e =
+      let b = not (eqb x 0) in
+      let made = step d (device.level n b) .made in
+      rw (input-is n (device.level n b) c (asked-is e) .1)
+      (in-answer b (valueWith d s (device.level n b)) a (returned-below s (v .next) b made (level-single d n b) (step-events d (device.level n b) w)))
+  reads-returned (request.poll n) c a e =
+      let made = step d (device.poll n) .made in
+      rw (input-is n (device.poll n) c (asked-is e) .1)
+      (in-answer true (valueWith d s (device.poll n)) a (returned-below s (v .next) true made (poll-single d n) (step-events d (device.poll n) w)))
+  reads-returned (request.drain buffer place) c a e = rw (sym (passed (asked-is e)))
+
+  reads-drained : (q : Request) (c : Call) (a : List ℕ) → askedBy q ≡ calls (pass c) → placeOf q ≤ length (bufferOf q)
+      → quadsTo q (answered 0 (valueWith d s c) a) (written (bufferOf q) (placeOf q) (drainedWith d s c)) ≡ drainedWith d s c
+  unfolding step ringRun drainedWith
+  reads-drained request.reset c a e h = absurd (let z : _≡_ {A = ℕ} 0 1 = cc in omega arith)
+  reads-drained (request.read base size address width) c a e h =
+      rw (access-is (widthTest width) (addressTest base size address width) device.read c (asked-is e) .2)
+  reads-drained (request.write base size address width x) c a e h =
+      rw (access-is (widthTest width) (addressTest base size address width) (λ y o. device.write y o x) c (asked-is e) .2)
+  reads-drained (request.level n x) c a e h = rw (input-is n (device.level n (not (eqb x 0))) c (asked-is e) .1)
+  reads-drained (request.poll n) c a e h = rw (input-is n (device.poll n) c (asked-is e) .1)
+  reads-drained (request.drain buffer place) c a e h =
+      let k = (length buffer - place) / drainedLength in
+      let xs = drainedWith d s (device.drain k) in
+      rw (sym (passed (asked-is e)))
+      (ap (λ n. quadsIn n (drop place (written buffer place xs))) (drained-told d w s v k a)
+      ∙ quads-read xs buffer place h (each-with (step d (device.drain k) .drained) (s .waiting) k (v .each)))
+
+-- ---- along exported calls
+
+returned-append : (d : Device) (s : Numbers) (cs ds : List Call)
+    → returnedThrough d s (cs ++ ds) ≡ returnedThrough d s cs ++ returnedThrough (history d cs .after) (numbersThrough d s cs) ds
+unfolding history numbersThrough returnedThrough
+returned-append d s [] ds = refl
+returned-append d s (c ∷ cs) ds =
+    let e = step d c .after in
+    let t = numbersAfter d s c in
+    ap (λ l. returnedOf d s c ++ l) (returned-append e t cs ds)
+    ∙ sym (append-assoc (returnedOf d s c) (returnedThrough e t cs) (returnedThrough (history e cs .after) (numbersThrough e t cs) ds))
+
+drained-append : (d : Device) (s : Numbers) (cs ds : List Call)
+    → drainedThrough d s (cs ++ ds) ≡ drainedThrough d s cs ++ drainedThrough (history d cs .after) (numbersThrough d s cs) ds
+unfolding history numbersThrough drainedThrough
+drained-append d s [] ds = refl
+drained-append d s (c ∷ cs) ds =
+    let e = step d c .after in
+    let t = numbersAfter d s c in
+    ap (λ l. drainedWith d s c ++ l) (drained-append e t cs ds)
+    ∙ sym (append-assoc (drainedWith d s c) (drainedThrough e t cs) (drainedThrough (history e cs .after) (numbersThrough e t cs) ds))
+
+module _ (h : Underway) (f : Faithful h) (t : has (f .form) numbers ≡ true) (x : Exported) (n : isLoad (h .left) x ≡ false) where
+  one-returned : cond (isDone x) (numberedTo (x .asked) (leftBy x .answer)) [] ≡ returnedThrough (current h) (f .numbers) (doneCall x)
+  unfolding returnedThrough
+  one-returned =
+      test (isDone x)
+      (λ done.
+      let r = handed h x f done n in
+      let numbers-are = ap numbersIn (r .given) ∙ image-holds-numbers h f t in
+      let answer : leftBy x .answer ≡ answered 0 (valueWith (current h) (f .numbers) (r .call)) (x .answer) = ap (λ (o : Outcome). o .answer) (r .left) ∙ ap (λ s. answered 0 (valueWith (current h) s (r .call)) (x .answer)) numbers-are in
+      rw (done, r .passes, answer, append-nil) (reads-returned (current h) (current-well h f) (f .numbers) (f .numbered) (x .asked) (r .call) (x .answer) (r .passes)))
+      (λ done. rw done)
+
+  one-drained : cond (isDone x) (quadsTo (x .asked) (leftBy x .answer) (leftBy x .events)) [] ≡ drainedThrough (current h) (f .numbers) (doneCall x)
+  unfolding drainedThrough
+  one-drained =
+      test (isDone x)
+      (λ done.
+      let r = handed h x f done n in
+      let numbers-are = ap numbersIn (r .given) ∙ image-holds-numbers h f t in
+      let es : List Numbered → List ℕ = written (bufferOf (x .asked)) (placeOf (x .asked)) in
+      let answer : leftBy x .answer ≡ answered 0 (valueWith (current h) (f .numbers) (r .call)) (x .answer) = ap (λ (o : Outcome). o .answer) (r .left) ∙ ap (λ s. answered 0 (valueWith (current h) s (r .call)) (x .answer)) numbers-are in
+      let events : leftBy x .events ≡ es (drainedWith (current h) (f .numbers) (r .call)) = ap (λ (o : Outcome). o .events) (r .left) ∙ ap (λ s. es (drainedWith (current h) s (r .call))) numbers-are in
+      rw (done, r .passes, answer, events, append-nil) (reads-drained (current h) (current-well h f) (f .numbers) (f .numbered) (x .asked) (r .call) (x .answer) (r .passes) (r .fits)))
+      (λ done. rw done)
+
+-- what a host has read, beside what calls return and drain
+pub record ReadAs (xs : List Exported) (d : Device) (s : Numbers) : Type 0 where
+  pub returned : returnedRead xs ≡ returnedThrough d s (doneCalls xs)
+  pub drained : drainedRead xs ≡ drainedThrough d s (doneCalls xs)
+
+pub read-as : (h : Underway) (f : Faithful h) → has (f .form) numbers ≡ true → (xs : List Exported) → NoLoads h xs → ReadAs xs (current h) (f .numbers)
+unfolding doneCalls NoLoads returnedRead drainedRead returnedThrough drainedThrough
+read-as h f t [] n = record { returned = refl; drained = refl }
+read-as h f t (x ∷ xs) n =
+    let e = carried-on h x f (n .0) .current in
+    let d = current h in
+    let s = f .numbers in
+    let after = numbersThrough d s (doneCall x) in
+    let rest = read-as (carriedOn h x) (faithful-kept h x f (n .0)) t xs (n .1) in
+    record {
+      returned =
+          ap₂ _++_ (one-returned h f t x (n .0)) (rest .returned ∙ ap (λ u. returnedThrough u after (doneCalls xs)) e)
+          ∙ sym (returned-append d s (doneCall x) (doneCalls xs));
+      drained =
+          ap₂ _++_ (one-drained h f t x (n .0)) (rest .drained ∙ ap (λ u. drainedThrough u after (doneCalls xs)) e)
+          ∙ sym (drained-append d s (doneCall x) (doneCalls xs));
+    }

@@ -1,0 +1,24 @@
+-- A play one record at a time, from number k on.
+use mathlib.Core.Path.{_≡_, refl}
+use mathlib.Core.List.{List, [], _++_}
+use Prim.Native.Nat.{ℕ, suc}
+use Rattle.traces.specs.Trace.{nth}
+use Rattle.traces.specs.Played.{playedOn, drainedIn, recordsFrom, outcomes, Played, gathered}
+
+-- what n records from number k on leave, played on an image
+abbrev pub playedFrom : List ℕ → ℕ → ℕ → List ℕ → Played
+playedFrom l n k i = gathered i (outcomes i (recordsFrom l n k))
+
+module _ (l : List ℕ) (k : ℕ) (i : List ℕ) where
+  pub played-none : playedFrom l 0 k i ≡ record { image = i; answers = []; events = [] }
+  unfolding recordsFrom outcomes gathered
+  played-none = refl
+
+  -- the first of them, and then the others on the image that it left
+  pub played-next : (n : ℕ) → playedFrom l (suc n) k i ≡ record {
+    image = playedFrom l n (suc k) (playedOn i (nth l k) .image) .image;
+    answers = playedOn i (nth l k) .answer ++ playedFrom l n (suc k) (playedOn i (nth l k) .image) .answers;
+    events = drainedIn (playedOn i (nth l k)) ++ playedFrom l n (suc k) (playedOn i (nth l k) .image) .events;
+  }
+  unfolding recordsFrom outcomes gathered
+  played-next n = refl

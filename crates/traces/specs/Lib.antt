@@ -1,0 +1,4 @@
+-- A trace of a bench day, and what playing it gives (02, C-11), as definitions over the rules.
+pub mod Trace
+pub mod Blocks
+pub mod Played
