@@ -1,9 +1,9 @@
 // A trace tested: its contents, and then its records, of which the first bad one is told.
 use contents::Contents;
 use contents::contents_of;
+use held::record_at;
 use view::LENGTH;
 use view::Record;
-use view::record_at;
 ghost use mathlib.Core.Path.{_≡_};
 ghost use Prim.Native.Nat.{_+_, _*_, _≤_};
 ghost use lib.ListN.{length};
