@@ -443,6 +443,7 @@ impl State {
     }
 
     /// The call that a record is, with base 0 and size 65,536. What it drains goes behind the events that are used, and is used then.
+    #[inline(always)]
     fn play(&mut self, record: &[u8; 16], events: &mut [u8], used: &mut usize) -> Outcome {
         let (kind, byte, offset, _, value) = fields(record);
         match kind {
