@@ -324,9 +324,13 @@ impl State {
             event[..2].copy_from_slice(pair);
             event[2..].copy_from_slice(number);
         }
-        for bytes in [&mut self.pairs, &mut self.numbers] {
-            bytes.copy_within(2 * moved.., 0);
-            bytes[32 - 2 * moved..].fill(0);
+        if moved == self.waiting {
+            (self.pairs, self.numbers) = ([0; 32], [0; 32]);
+        } else {
+            for bytes in [&mut self.pairs, &mut self.numbers] {
+                bytes.copy_within(2 * moved.., 0);
+                bytes[32 - 2 * moved..].fill(0);
+            }
         }
         self.waiting -= moved;
         moved as u64

@@ -145,3 +145,32 @@ module _ (l : List ℕ) (first n : ℕ) {f : Form} (i bs es : List ℕ) (y : Rea
           room = omega (arith, w .room, s .room, more);
           passed = kept;
         }
+
+-- the same by bytes: `at` is where the next answer goes, and how far the next record stands behind the first
+pub record Turn (l : List ℕ) (n : ℕ) (f : Form) (i bs es : List ℕ) (at used : ℕ) (j cs fs : List ℕ) : Type 0 where
+  pub k : ℕ
+  pub place : at ≡ answerLength * k
+  pub round : Round l n f i bs es k used j cs fs
+
+module _ (l : List ℕ) (first n : ℕ) {f : Form} (i bs es : List ℕ) (y : Ready l first n f i bs es) where
+  pub first-turn : Turn l n f i bs es 0 0 i bs es
+  first-turn = record { k = 0; place = refl; round = first-round l first n i bs es y }
+
+  module _ {at used : ℕ} {j cs fs : List ℕ} (w : Turn l n f i bs es at used j cs fs) (h : at < answerLength * n) (r : Record) (e : r ≡ recordAt (first + at) l) where
+    left : w .k < n
+    left = omega (arith, w .place)
+
+    there : r ≡ recordAt (first + recordLength * w .k) l
+    there = e ∙ ap (λ (a : ℕ). recordAt (first + a) l) (w .place)
+
+    pub turn-playable : {n₁ n₂ : ℕ} → n₁ ≡ answerLength → n₂ ≡ length fs - used → Playable f r j (part at n₁ cs) (part used n₂ fs)
+    turn-playable {n₁} {n₂} e₁ e₂ =
+        subst (λ (a : ℕ). Playable f r j (part a n₁ cs) (part used n₂ fs)) (sym (w .place)) (playable l first n i bs es y (w .round) left r there e₁ e₂)
+
+    pub next-turn : {n₁ n₂ m : ℕ} {j₂ b gs : List ℕ} → n₁ ≡ answerLength → n₂ ≡ length fs - used → Steps r j j₂ b (part used n₂ fs) gs m
+        → Turn l n f i bs es (at + answerLength) (used + m) j₂ (putMid at n₁ cs b) (putMid used n₂ fs gs)
+    next-turn {n₁} {n₂} {m} {j₂} {b} {gs} e₁ e₂ s = record {
+      k = w .k + 1;
+      place = omega (arith, w .place);
+      round = subst (λ (a : ℕ). Round l n f i bs es (w .k + 1) (used + m) j₂ (putMid a n₁ cs b) (putMid used n₂ fs gs)) (sym (w .place)) (next-round l first n i bs es y (w .round) left r there e₁ e₂ s);
+    }

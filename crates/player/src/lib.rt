@@ -42,7 +42,8 @@ fn count_drains(trace: &[u8], first: usize, records: usize) -> usize
     drains
 }
 
-// The records of a good trace, on an image that is reset. A record's answer has its own sixteen bytes, and events follow those before them.
+// The records of a good trace, on an image that is reset. A record's answer has its own sixteen bytes, and events follow those before them. It is counted in
+// bytes: counted in records, a round has a shift and a copy more.
 fn play_all(
     trace: &[u8],
     first: usize,
@@ -56,15 +57,15 @@ fn play_all(
     ensures { λ _. ⌜ PlayedTo (now (trace .entry)) records (now (image .entry)) (now (answers .entry)) (now (events .entry))
         (now (image .exit)) (now (answers .exit)) (now (events .exit)) ⌝ }
 {
+    let last = ANSWER * records;
     let mut used = 0;
-    let mut k = 0;
-    while k < records {
-        let place = first + LENGTH * k;
+    let mut at = 0;
+    while at < last {
+        let place = first + at;
         let r = record_at(trace, place);
-        let at = ANSWER * k;
         let end = at + ANSWER;
         used += step(image, form, r, &mut answers[at..end], &mut events[used..]);
-        k += 1;
+        at = end;
     }
 }
 

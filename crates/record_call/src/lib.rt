@@ -22,20 +22,19 @@ pub const ROOM: usize = 64;
 
 const SIZE: u64 = 0x1_0000;
 
-// Any record but a drain.
+// Any record but a drain. The offset is widened where it is used: before the match it is kept on the stack for every kind, and a record takes three instructions more.
 fn call(image: &mut [u8], form: Form, r: Record) -> Told
     requires { ⌜ Callable (formView form) (recordView r) (now image) ⌝ }
     ensures { λ t. ⌜ ends t (now (image .exit)) [] ≡ ending (requestOf (recordView r)) (now (image .entry)) ⌝ }
 {
     let kind = r.kind;
     let byte = r.byte as u64;
-    let offset = r.offset as u64;
     match kind {
         1 => accepted_input::level(image, form, byte, 1),
         2 => accepted_input::level(image, form, byte, 0),
         3 => accepted_input::poll(image, form, byte),
-        4 => accepted_access::read(image, form, 0, SIZE, offset, byte),
-        _ => accepted_access::write(image, form, 0, SIZE, offset, byte, r.value),
+        4 => accepted_access::read(image, form, 0, SIZE, r.offset as u64, byte),
+        _ => accepted_access::write(image, form, 0, SIZE, r.offset as u64, byte, r.value),
     }
 }
 
