@@ -228,7 +228,8 @@ fn run(mut asked: Asked, chosen: Chosen) -> Result<(), String> {
     };
     let rows: Vec<Row> = titles.enumerate().map(row).collect();
     table::print(&rows, &asked.sides, asked.times, asked.instructions, asked.markdown);
-    tell(&asked, &rows, cpu, chosen.day.as_deref());
+    // In a play there is one loop and one call for all its records.
+    tell(&asked, &rows[..rows.len() - chosen.plays.len()], cpu, chosen.day.as_deref());
     Ok(())
 }
 

@@ -1,5 +1,5 @@
-//! Traces that are played in one call (02, C-11), and the same calls made one by one. They are of the mixed day: of 4,000 records its beginning; of 100 what comes
-//! behind the vector and route bytes of its start-up; of one a raise.
+//! Traces that are played in one call (02, C-11), and the same calls made one by one. They are of the mixed day: of 4,000 records its beginning; of 100
+//! what comes behind the vector and route bytes of its start-up; of one a raise.
 
 use crate::call::Call;
 use crate::chance::Chance;
