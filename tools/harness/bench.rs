@@ -39,6 +39,14 @@ pub struct Met {
     pub wrapping: u64,
     /// Differences of two numbers.
     pub differences: u64,
+    /// Plays by the number that 02 expects, and those that were done by the image's form.
+    pub plays: [u64; 14],
+    pub played_forms: [u64; 3],
+    /// Records played, refused ones among them, the most in one trace, and those that were held against calls made one by one.
+    pub records: u64,
+    pub refused_records: u64,
+    pub longest: u64,
+    pub one_by_one: u64,
 }
 
 pub struct Bench {
