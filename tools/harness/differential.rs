@@ -5,6 +5,7 @@ mod boundary;
 mod call;
 mod caught;
 mod chance;
+mod days;
 mod differences;
 mod fixed;
 mod generate;
@@ -135,16 +136,17 @@ fn tell(bench: &Bench) {
          masked bits in ISR {}, accesses over the window's end {}, numbers that went round {}",
         met.vectors_returned, met.events_drained, met.full_ring, met.dropping, met.at_stop, met.masked_isr, met.straddling, met.wrapping
     );
-    let plays: Vec<String> = met.plays.iter().enumerate().filter(|(_, count)| **count > 0).map(|(n, count)| format!("{n}: {count}")).collect();
-    let [one, two, numbered] = met.played_forms;
+    let met = &met.traces;
+    let plays = met.plays.iter().enumerate().filter(|(_, count)| **count > 0).map(|(number, count)| format!("{number}: {count}"));
+    let [one, two, numbered] = met.forms;
     eprintln!(
-        "differential: plays by the number handed back {}; done on form 1 {one}, on form 2 {two}, with numbers {numbered}; records played {}, \
-         {} of them refused, at most {} in a trace, held against calls made one by one {}",
-        plays.join(", "),
-        met.records,
-        met.refused_records,
-        met.longest,
-        met.one_by_one
+        "differential: plays by the number handed back {}; done on form 1 {one}, on form 2 {two}, with numbers {numbered}",
+        plays.collect::<Vec<_>>().join(", ")
+    );
+    eprintln!(
+        "differential: records played {}, of these refused {}, at most in a trace {}, held against calls made one by one {}, events returned {}, \
+         drained {}, dropped {}, traces whose numbers went round {}",
+        met.records, met.refused, met.longest, met.one_by_one, met.returned, met.drained, met.dropped, met.round
     );
 }
 

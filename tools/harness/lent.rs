@@ -3,6 +3,11 @@
 /// Bytes on both sides of a lent area that no call may touch.
 const EDGE: usize = 32;
 
+/// The edges hold no byte that the device writes often (0, 1, 0xff), and no two neighbours alike.
+fn edge() -> [u8; EDGE] {
+    std::array::from_fn(|i| 0xa7 ^ (i as u8).wrapping_mul(37))
+}
+
 /// A lent area of up to N bytes with an edge before and behind it. What stands past its present length belongs to the edge behind.
 #[derive(Clone)]
 pub struct Area<const N: usize> {
@@ -16,9 +21,7 @@ pub struct Area<const N: usize> {
 
 impl<const N: usize> Area<N> {
     pub fn new() -> Self {
-        // The edges hold no byte that the device writes often (0, 1, 0xff), and no two neighbours alike.
-        let edge: [u8; EDGE] = std::array::from_fn(|i| 0xa7 ^ (i as u8).wrapping_mul(37));
-        Area { before: edge, bytes: [0; N], behind: edge, len: 0, null: false }
+        Area { before: edge(), bytes: [0; N], behind: edge(), len: 0, null: false }
     }
 
     pub fn slice(&mut self) -> &mut [u8] {
@@ -79,8 +82,13 @@ pub struct Block {
 impl Block {
     /// It holds these bytes. An empty one is lent as a null pointer where `null` says so.
     pub fn of(bytes: &[u8], null: bool) -> Self {
-        let edge: [u8; EDGE] = std::array::from_fn(|i| 0xa7 ^ (i as u8).wrapping_mul(37));
+        let edge = edge();
         Block { all: [&edge, bytes, &edge].concat(), null }
+    }
+
+    #[allow(dead_code)]
+    pub fn edges_stand(&self) -> bool {
+        self.all.starts_with(&edge()) && self.all.ends_with(&edge())
     }
 
     /// It holds so many bytes of a pattern.

@@ -5,70 +5,12 @@ use crate::bench::Bench;
 use crate::boundary::Boundary;
 use crate::call::Call;
 use crate::caught::caught;
-use crate::image::Form;
-use crate::lent::{Areas, Block, Five};
+use crate::days::{Day, Play};
+use crate::image::FORMS;
+use crate::lent::{Areas, Five};
 use crate::played;
-use crate::trace::{self, DRAIN, ROOM, Record};
+use crate::trace::{self, DRAIN, LOWER, POLL, RAISE, ROOM, WRITE};
 use crate::under_test;
-
-/// A play: the trace, the image's bytes before it, how long the other areas are, whether empty ones are null, and what they hold before.
-#[derive(Clone)]
-pub struct Play {
-    pub trace: Vec<u8>,
-    pub image: Vec<u8>,
-    pub answers: usize,
-    pub events: usize,
-    pub answer: usize,
-    pub null: bool,
-    pub fill: u64,
-}
-
-impl Play {
-    fn lent(&self) -> Five {
-        let Play { ref trace, ref image, answers, events, answer, null, fill } = *self;
-        Five {
-            trace: Block::of(trace, null),
-            image: Block::of(image, null),
-            answers: Block::filled(answers, fill.rotate_left(41), null),
-            events: Block::filled(events, fill.rotate_left(29), null),
-            answer: Block::filled(answer, fill, null),
-        }
-    }
-}
-
-/// Records, cut into blocks of so many, to be played on bytes of some length.
-#[derive(Clone)]
-pub struct Day {
-    pub records: Vec<Record>,
-    pub blocks: Vec<usize>,
-    pub image: Vec<u8>,
-}
-
-impl Day {
-    /// Its first records as a trace, with the room that they need and so many bytes more.
-    pub fn play(&self, records: usize, more: usize, fill: u64) -> Play {
-        let mut blocks = Vec::new();
-        let mut rest = records;
-        for &block in &self.blocks {
-            blocks.push(block.min(rest));
-            rest -= block.min(rest);
-            if rest == 0 {
-                break;
-            }
-        }
-        let first = &self.records[..records];
-        let drains = first.iter().filter(|record| record[0] == DRAIN).count();
-        Play {
-            trace: trace::bytes(first, &blocks),
-            image: self.image.clone(),
-            answers: 16 * records + more,
-            events: ROOM * drains + more,
-            answer: 16 + more,
-            null: more == 0,
-            fill,
-        }
-    }
-}
 
 /// What the library's own calls leave, made one by one: each record's answer, the drained events, and after each record how many bytes of them there are and the image.
 struct OneByOne {
@@ -165,7 +107,7 @@ impl Stage {
                 bench.passed -= 1;
                 return tell_failed(bench, &play, "made one by one, the library's own calls leave other bytes".into());
             }
-            bench.met.one_by_one += records as u64;
+            bench.met.traces.one_by_one += records as u64;
         }
     }
 
@@ -191,20 +133,29 @@ impl Stage {
 
     fn meet(&self, bench: &mut Bench, number: u8) {
         let Some(want) = &self.want else { return };
-        let met = &mut bench.met;
+        let met = &mut bench.met.traces;
         met.plays[usize::from(number)] += 1;
         if number != 0 {
             return;
         }
-        let answer = want.answer.bytes();
-        let records = usize::from(u16::from_le_bytes([answer[8], answer[9]]));
-        met.records += records as u64;
-        met.longest = met.longest.max(records as u64);
-        let played = want.answers.bytes()[..16 * records].chunks(16);
-        met.refused_records += played.filter(|answer| answer[0] != 0).count() as u64;
-        for (met, form) in met.played_forms.iter_mut().zip(crate::image::FORMS) {
-            *met += u64::from(Form::of(want.image.bytes().len()) == Some(form));
+        for (met, form) in met.forms.iter_mut().zip(FORMS) {
+            *met += u64::from(want.image.bytes().len() == form.length);
         }
+        let records = trace::test(want.trace.bytes()).expect("what was played is good");
+        met.records += records.len() as u64;
+        met.longest = met.longest.max(records.len() as u64);
+        let mut made = 0;
+        for (record, answer) in records.iter().zip(want.answers.bytes().chunks(16)) {
+            let value = u64::from_le_bytes(answer[8..].try_into().expect("a value has 8 bytes"));
+            match record[0] {
+                _ if answer[0] != 0 => met.refused += 1,
+                RAISE | LOWER | POLL => (met.returned, made) = (met.returned + u64::from(answer[1]), made + u64::from(answer[1])),
+                WRITE => (met.dropped, made) = (met.dropped + value, made + value),
+                DRAIN => (met.drained, made) = (met.drained + value, made + value),
+                _ => {}
+            }
+        }
+        met.round += u64::from(made > 65_536);
     }
 }
 

@@ -1,8 +1,8 @@
 //! One call as a line of words: a failure is printed so, and `tools/differential --one` takes it back.
 
 use crate::call::Call;
+use crate::days::Play;
 use crate::lent::Areas;
-use crate::plays::Play;
 use std::collections::HashMap;
 
 /// A call as it reads, with all that it is lent, so that it can be made again alone.
