@@ -18,9 +18,14 @@ pub const SIZE: u64 = 65_536;
 /// Bytes that have room for all events that can wait: 16, of four bytes each by C-19.
 pub const ROOM: usize = 64;
 
-/// A trace that has these records in blocks of so many: contents first, then the blocks back to back. Numbers that are too large for their two bytes are cut.
+/// A trace that has these records in blocks of so many: contents first, then the blocks back to back.
 pub fn bytes(records: &[Record], blocks: &[usize]) -> Vec<u8> {
     assert_eq!(blocks.iter().sum::<usize>(), records.len(), "each record is in a block");
+    [contents(blocks), records.concat()].concat()
+}
+
+/// The contents for blocks of so many records: how many blocks, and for each its offset and how many records. Numbers that are too large for two bytes are cut.
+pub fn contents(blocks: &[usize]) -> Vec<u8> {
     let mut bytes = (blocks.len() as u16).to_le_bytes().to_vec();
     let mut offset = 2 + 4 * blocks.len();
     for count in blocks {
@@ -28,7 +33,6 @@ pub fn bytes(records: &[Record], blocks: &[usize]) -> Vec<u8> {
         bytes.extend((*count as u16).to_le_bytes());
         offset += 16 * count;
     }
-    bytes.extend(records.concat());
     bytes
 }
 

@@ -31,7 +31,7 @@ pub fn sweep(bench: &mut Bench, chance: &mut Chance) {
 
 type Part = fn(&mut Bench, &mut Chance, &mut Stage);
 
-/// The fixed histories as traces, after each record, in each form. They are made for a window of 1,024 bytes, and no access of theirs is outside.
+/// The fixed histories as traces, after each record, in each form; all drains are drains of all.
 fn papers(bench: &mut Bench, chance: &mut Chance, stage: &mut Stage) {
     for form in FORMS {
         for history in fixed::histories(form) {
@@ -130,7 +130,8 @@ fn lengths(bench: &mut Bench, _: &mut Chance, stage: &mut Stage) {
     stage.play(bench, &Play { null: true, ..roomy(Vec::new(), NUMBERED.length) });
 }
 
-/// Every number of blocks from 1 to 70; and 4,000 records and more, up to where the offsets of two bytes go round.
+/// Every number of blocks from 1 to 70; 4,000 records and more, up to where the offsets of two bytes go round; and numbers that are right for a few records only
+/// where sums of them are cut to two bytes.
 fn sizes(bench: &mut Bench, chance: &mut Chance, stage: &mut Stage) {
     for blocks in 1..=70 {
         for each in [1, 3] {
@@ -147,6 +148,13 @@ fn sizes(bench: &mut Bench, chance: &mut Chance, stage: &mut Stage) {
             for blocks in [even, uneven, cut_in(chance, count, parts)] {
                 stage.play(bench, &roomy(trace::bytes(&records, &blocks), FORMS[count % 3].length));
             }
+        }
+    }
+    for blocks in [vec![4097], vec![4096 + 6], vec![65_535, 2], vec![65_535, 4], vec![1, 4096], vec![4096, 3], vec![3, 8192, 1]] {
+        let all: usize = blocks.iter().sum();
+        for count in [0, 1, 2, 3, 6, all % 4096, all % 65_536] {
+            let blocks = [trace::contents(&blocks), some(count.min(4000)).concat()];
+            stage.play(bench, &roomy(blocks.concat(), NUMBERED.length));
         }
     }
 }
