@@ -1,7 +1,7 @@
 //! One play made on both sides, and everything compared: the number handed back, and every byte of trace, image, answers, events, answer area and of the
 //! edges around them. A good trace is also held, record by record, against the library's own calls made one by one.
 
-use crate::bench::Bench;
+use crate::bench::{Bench, FILL};
 use crate::boundary::Boundary;
 use crate::call::Call;
 use crate::caught::caught;
@@ -26,6 +26,7 @@ fn one_by_one(day: &Day) -> OneByOne {
     assert_eq!(under_test::call(&Call::Reset, &mut areas), 0, "bytes of a form's length can be reset");
     let mut left = OneByOne { answers: Vec::new(), events: Vec::new(), after: Vec::new() };
     for record in &day.records {
+        areas.answer.fill(FILL);
         let number = under_test::call(&trace::call(record, 0), &mut areas);
         left.answers.extend_from_slice(areas.answer.bytes());
         if record[0] == DRAIN && number == 0 {
@@ -93,19 +94,15 @@ impl Stage {
         };
         for &records in lengths {
             let play = day.play(records, more, fill);
-            match self.play(bench, &play) {
-                None => return,
-                Some(0) => {}
-                Some(number) => return tell_failed(bench, &play, format!("a good trace is refused with {number}")),
-            }
-            let Some(got) = &self.got else { return };
+            let (Some(number), Some(got)) = (self.play(bench, &play), &self.got) else { return };
             let (used, image) = &left.after[records - 1];
-            let same = got.image.bytes() == image
+            let same = number == 0
+                && got.image.bytes() == image
                 && got.answers.bytes()[..16 * records] == left.answers[..16 * records]
                 && got.events.bytes()[..*used] == left.events[..*used];
             if !same {
                 bench.passed -= 1;
-                return tell_failed(bench, &play, "made one by one, the library's own calls leave other bytes".into());
+                return tell_failed(bench, &play, format!("number {number}; made one by one, the library's own calls leave other bytes"));
             }
             bench.met.traces.one_by_one += records as u64;
         }
