@@ -29,7 +29,8 @@ use Rattle.trace.specs.declared.Tested.{Tested}
 use Rattle.trace.specs.declared.Tested.the-variants.{Good, WrongContents, BadRecord}
 use Rattle.trace.proofs.Tested.{the-type}
 use Rattle.trace.specs.Found.{testedView}
-use Rattle.player.specs.Plays.{Reaches, Ready, PlayedTo, ends}
+use Rattle.rounds.specs.Played.{Reaches, Ready, PlayedTo}
+use Rattle.player.specs.Plays.{ends}
 
 -- an ending with the number and the value that are told
 pub tells : (t : Told) {n : ℕ} {v : Value} → Tells t n v → {j cs fs : List ℕ} {x : PlayEnding} → record { number = n; value = v; image = j; answers = cs; events = fs } ≡ x → ends t j cs fs ≡ x

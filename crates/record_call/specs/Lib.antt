@@ -1,2 +1,2 @@
--- What playing one record promises, in the terms of traces.
-pub mod Step
+-- What the call that a record is promises, in the terms of traces.
+pub mod Callable

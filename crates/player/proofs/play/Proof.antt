@@ -10,7 +10,7 @@ use Rattle.traces.specs.Played.{drainRoom, recordsFrom, afresh}
 use Rattle.plays.specs.Playing.{drainsIn}
 use Rattle.image.specs.Shown.{formView, formKnown}
 use Rattle.trace.specs.Found.{testedView}
-use Rattle.player.proofs.Counting.{few-counted}
+use Rattle.rounds.proofs.Counting.{few-counted}
 use Rattle.player.proofs.Endings.{tells, reaches, is-afresh, no-form, no-trace, no-answers, no-events, ready, has-played}
 use Rattle.player.proofs.play.Statement.{statement}
 use Rattle.player.proofs.play.Tie as tie

@@ -11,12 +11,7 @@ use Rattle.traces.specs.Trace.{Record, isGood}
 use Rattle.traces.specs.Played.{drainRoom, playedOn, drainedIn}
 use Rattle.plays.specs.Playing.{drains, inFront}
 
--- a good record and an accepted image; a drain, or any other
-pub record Callable (f : Form) (r : Record) (i : List ℕ) : Type 0 where
-  pub passed : Passed f i
-  pub some : 1 ≤ r .kind
-  pub other : r .kind ≤ 5
-
+-- a record that drains, an accepted image, and just the room of a drain of all
 pub record Drainable (f : Form) (r : Record) (i a es : List ℕ) : Type 0 where
   pub passed : Passed f i
   pub drain : r .kind ≡ 6

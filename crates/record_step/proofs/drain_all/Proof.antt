@@ -8,9 +8,9 @@ use Rattle.calls.specs.Calls as request
 use Rattle.inplace.proofs.Passing.{long, few}
 use Rattle.whole.proofs.Whole.{drain-done}
 use Rattle.view.specs.Shown.{recordView}
-use Rattle.record_call.proofs.Stepping.{four-each, drain-steps}
-use Rattle.record_call.proofs.drain_all.Statement.{statement}
-use Rattle.record_call.proofs.drain_all.Tie as tie
+use Rattle.record_step.proofs.Stepping.{four-each, drain-steps}
+use Rattle.record_step.proofs.drain_all.Statement.{statement}
+use Rattle.record_step.proofs.drain_all.Tie as tie
 
 -- it has drained
 module _ (d : tie.After-drain) where

@@ -7,9 +7,9 @@ use borrow.Author.Needs.{needs}
 use Rattle.traces.specs.Played.{recordsFrom}
 use Rattle.plays.specs.Playing.{drainsIn}
 use Rattle.view.specs.Shown.{recordView}
-use Rattle.player.proofs.Counting.{none-counted, one-counted, other-counted, few-counted}
-use Rattle.player.proofs.count_drains.Statement.{statement}
-use Rattle.player.proofs.count_drains.Tie as tie
+use Rattle.rounds.proofs.Counting.{none-counted, one-counted, other-counted, few-counted}
+use Rattle.rounds.proofs.count_drains.Statement.{statement}
+use Rattle.rounds.proofs.count_drains.Tie as tie
 
 abbrev Inv-loop : tie.InvT-loop
 Inv-loop trace first records drains₀ k₀ drains k = (k ≤ records) × (drains ≡ drainsIn (recordsFrom trace k 0))

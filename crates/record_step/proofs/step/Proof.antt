@@ -6,9 +6,9 @@ use Prim.Native.Nat.{_≤_}
 use lib.ListN.{length}
 use Rattle.traces.specs.Played.{drainRoom}
 use Rattle.view.specs.Shown.{recordView}
-use Rattle.record_call.proofs.Stepping.{widened, call-steps, good-kind}
-use Rattle.record_call.proofs.step.Statement.{statement}
-use Rattle.record_call.proofs.step.Tie as tie
+use Rattle.record_step.proofs.Stepping.{widened, call-steps, good-kind}
+use Rattle.record_step.proofs.step.Statement.{statement}
+use Rattle.record_step.proofs.step.Tie as tie
 
 -- a drain has room for all
 roomy : (c : tie.Then1) → drainRoom ≤ length (c .before .before .before .before .args .events .now)

@@ -23,8 +23,8 @@ use Rattle.plays.specs.Playing.{drains, inFront}
 use Rattle.plays.proofs.laws.Drained.{asked-ends, answer-whole, drained-fit, Drew, drew}
 use Rattle.plays.proofs.laws.Keeps.{in-front}
 use Rattle.plays.proofs.laws.InFront.{front-part}
-use Rattle.record_call.specs.Step.{Steps}
+use Rattle.record_step.specs.Step.{Steps}
 use Rattle.record_call.proofs.Requests.{drains-all}
 
 module _ {f : Form} {i : List ℕ} (p : Passed f i) (r : Record) (kind : r .kind ≡ 6) (entry : List ℕ) (room : length entry ≡ drainRoom) {n : ℕ} {j exit : List ℕ}
     (d : record { number = 0; value = some n; image = j; events = exit } ≡ ending (request.drain entry 0) i) where

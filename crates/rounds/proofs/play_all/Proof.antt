@@ -6,11 +6,11 @@ use borrow.Author.Needs.{needs}
 use lib.ListN.{length}
 use Rattle.image.specs.Shown.{formView}
 use Rattle.view.specs.Shown.{recordView}
-use Rattle.player.proofs.Counting.{few-counted}
-use Rattle.player.proofs.Rounds.{Turn, first-turn, answers-long, events-long, image-long, within, turn-playable, next-turn}
-use Rattle.player.specs.Plays.{PlayedTo}
-use Rattle.player.proofs.play_all.Statement.{statement}
-use Rattle.player.proofs.play_all.Tie as tie
+use Rattle.rounds.proofs.Counting.{few-counted}
+use Rattle.rounds.proofs.Rounds.{Turn, first-turn, answers-long, events-long, image-long, within, turn-playable, next-turn}
+use Rattle.rounds.specs.Played.{PlayedTo}
+use Rattle.rounds.proofs.play_all.Statement.{statement}
+use Rattle.rounds.proofs.play_all.Tie as tie
 
 abbrev Inv-loop : tie.InvT-loop
 Inv-loop trace first records image₀ form answers₀ events₀ last used₀ at₀ image answers events used at = Turn trace records (formView form) image₀ answers₀ events₀ at used image answers events

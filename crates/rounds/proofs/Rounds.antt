@@ -23,8 +23,8 @@ use Rattle.plays.proofs.laws.Prefixes.{behind, played-last}
 use Rattle.plays.proofs.laws.Rooms.{drains-last, drains-more}
 use Rattle.plays.proofs.laws.InFront.{front-length, front-next, front-rest}
 use Rattle.plays.proofs.laws.Keeps.{keeps-accepted}
-use Rattle.record_call.specs.Step.{Playable, Steps}
-use Rattle.player.specs.Plays.{Reaches, Ready, PlayedTo}
+use Rattle.record_step.specs.Step.{Playable, Steps}
+use Rattle.rounds.specs.Played.{Reaches, Ready, PlayedTo}
 
 -- k records are played, and `used` bytes of events are written
 pub record Round (l : List ℕ) (n : ℕ) (f : Form) (i bs es : List ℕ) (k used : ℕ) (j cs fs : List ℕ) : Type 0 where
