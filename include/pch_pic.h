@@ -39,9 +39,9 @@
  *     bytes 2..7    0
  *     bytes 8..15   the value, little end first; 0 if absent
  *
- * REFUSALS. A refused call changes no byte of the image, of the event buffer and of a conversion's target. Every refusal but 7 writes the answer
- * area; refusal 7 writes nothing at all, so after a 7 the answer area is not this call's. Every call ends with a number, whatever the bytes, numbers
- * and lengths are.
+ * REFUSALS. A refused call changes no byte of the image, of the event buffer, of a conversion's target and of a play's answers. Every refusal but 7
+ * writes the answer area; refusal 7 writes nothing at all, so after a 7 the answer area is not this call's. Every call ends with a number, whatever the
+ * bytes, numbers and lengths are.
  *
  * EVENTS. An event is a vector to assert or to deassert at the interrupt controller above this one. Where the host moves a line (pch_pic_level,
  * pch_pic_poll) the event is returned at once, as the value. Where the guest writes MASK or CLEAR there can be many: they wait in the image, 16
@@ -61,6 +61,24 @@
  * to the newest, dropped ones counted; numbers go round, so of more it cannot tell. A number that is missing was a dropped event's, or that event waits
  * still. Numbers run on from call to call in an image of 290 bytes alone. In one of 259 or 251 each call begins with those of the waiting events, which
  * are 0, 1 and so on, and the next comes after them: there they put the events of one call in order, and no more.
+ *
+ * TRACES. A trace is a day of calls as bytes, from a reset on: what was asked, and not what was answered, which pch_pic_play works out again. It has at
+ * most 4000 records in 1 to 64 blocks, and so at most 64258 bytes, which fit into 64 KiB. All numbers have their little end first. First come its contents:
+ *
+ *     bytes 0..1    the number of blocks, 1 to 64
+ *     then          for each block four bytes: where in the trace it begins (two bytes), and how many records it has (two bytes), none 0
+ *
+ * Then come the blocks, back to back in that order: the first right behind the contents, and the trace ends with the last. A record has 16 bytes:
+ *
+ *     byte 0        the kind: 1 raise, 2 lower, 3 poll, 4 read, 5 write, 6 drain of all
+ *     byte 1        the input of a raise, lower or poll; the width of a read or write; 0 of a drain
+ *     bytes 2..3    the offset of a read or write; 0 of all others
+ *     bytes 4..7    0
+ *     bytes 8..15   the value of a write; 0 of all others
+ *
+ * A record is bad where its kind is another or a byte is not 0 that has to be. An input of 64 or a width of 3 is not bad: that call is refused, and its
+ * answer says so. So 16 zeros are a bad record, and a recorder that lost power can be seen in its file: hosts/c/recorder.c and module trace of hosts/rust
+ * record, keep a planned day in a file, load and play.
  *
  * WHAT A HOST MUST DO. hosts/c/pic.c and crate pch-pic in hosts/rust do all of this (pic_settle, pic_line, pic_resume):
  *     - After each write of the guest, drain, and pass the events on in their order. Then poll all 64 inputs, in any order, and pass on what they
@@ -83,7 +101,7 @@
  *
  * THE HOST'S DUTIES. No call can test these:
  *     - each pointer is good for as many bytes as the length beside it says; a null pointer with length 0 is an empty buffer;
- *     - the image, the answer area and the event buffer or the target of one call do not overlap;
+ *     - the image, the answer area and the event buffer or the target of one call do not overlap, nor do the five areas of a play;
  *     - while a call other than a read or a conversion runs on an image, no other call runs on it. Reads and conversions of one image may run side by
  *       side, each with its own answer area and target: they only load from the image. Calls on different images may always run side by side.
  */
@@ -101,9 +119,9 @@
 
 /* The version of the header and of what it says about the library. */
 #define PCH_PIC_VERSION_MAJOR 0
-#define PCH_PIC_VERSION_MINOR 8
+#define PCH_PIC_VERSION_MINOR 9
 #define PCH_PIC_VERSION_PATCH 0
-#define PCH_PIC_VERSION "0.8.0"
+#define PCH_PIC_VERSION "0.9.0"
 
 #ifdef __cplusplus
 extern "C" {
@@ -117,8 +135,16 @@ enum {
     PCH_PIC_ANSWER_LEN = 16,           /* bytes of an answer */
     PCH_PIC_INPUTS = 64,               /* input lines, 0 to 63 */
     PCH_PIC_EVENTS = 16,               /* events that wait at most */
-    PCH_PIC_EVENT_LEN = 4              /* bytes of a drained event; of all 16 they are 64 */
+    PCH_PIC_EVENT_LEN = 4,             /* bytes of a drained event; of all 16 they are 64 */
+    PCH_PIC_DRAIN_ROOM = 64,           /* bytes that have room for all events that can wait */
+    PCH_PIC_TRACE_MAX = 65536,         /* bytes that have room for every trace */
+    PCH_PIC_RECORD_LEN = 16,           /* bytes of a record */
+    PCH_PIC_RECORDS_MAX = 4000,        /* records of a trace at most */
+    PCH_PIC_BLOCKS_MAX = 64            /* blocks of a trace at most */
 };
+
+/* The window of the calls that a trace is played by: base 0, and so many bytes. */
+enum { PCH_PIC_PLAY_SIZE = 0x10000 };
 
 /* Places in a drained event. */
 enum {
@@ -158,8 +184,31 @@ enum {
     PCH_PIC_NUMBERS_NEXT = 0          /* in the body of the numbers: that of the next event, 2 bytes */
 };
 
+/* The contents that a trace begins with, and places in a record. */
+enum {
+    PCH_PIC_TRACE_BLOCKS = 0,  /* the number of blocks, 2 bytes */
+    PCH_PIC_TRACE_ENTRIES = 2, /* the first block's entry; the others follow */
+    PCH_PIC_BLOCK_LEN = 4,     /* bytes of an entry */
+    PCH_PIC_BLOCK_OFFSET = 0,  /* in an entry: where the block begins, 2 bytes */
+    PCH_PIC_BLOCK_RECORDS = 2, /* in an entry: how many records it has, 2 bytes */
+    PCH_PIC_RECORD_KIND = 0,   /* in a record: the kind */
+    PCH_PIC_RECORD_BYTE = 1,   /* in a record: the input or the width */
+    PCH_PIC_RECORD_OFFSET = 2, /* in a record: the offset, 2 bytes */
+    PCH_PIC_RECORD_VALUE = 8   /* in a record: the value, 8 bytes */
+};
+
+/* The kinds of records. */
+enum {
+    PCH_PIC_RAISE = 1, /* pch_pic_level with level 1 */
+    PCH_PIC_LOWER = 2, /* pch_pic_level with level 0 */
+    PCH_PIC_POLL = 3,  /* pch_pic_poll */
+    PCH_PIC_READ = 4,  /* pch_pic_read */
+    PCH_PIC_WRITE = 5, /* pch_pic_write */
+    PCH_PIC_DRAIN = 6  /* pch_pic_drain with room for all */
+};
+
 /* The numbers handed back. A call tests for them in the order 7, 4, 5, 8, 9, 10, 11, then 3, or 2 before 1, and hands back the first
- * that holds. There is no 6 any more. */
+ * that holds; pch_pic_play in the order 7, 4, 12, 13, 7. There is no 6 any more. */
 enum pch_pic_number {
     PCH_PIC_DONE = 0,     /* the call was done */
     PCH_PIC_OUTSIDE = 1,  /* not all bytes of the access are inside the window; the value is the address */
@@ -167,12 +216,15 @@ enum pch_pic_number {
     PCH_PIC_INPUT = 3,    /* the input is 64 or more */
     PCH_PIC_LENGTH = 4,   /* an image, or a conversion's target, is not 290, 259 or 251 bytes long */
     PCH_PIC_CONTENTS = 5, /* the image's first bytes, 27 of 290 or else 22, are not those of the form that its length says */
-    PCH_PIC_ROOM = 7,     /* the answer area is under 16 bytes, or the place of a drain is past the end of its buffer */
+    PCH_PIC_ROOM = 7,     /* the answer area is under 16 bytes, a drain's place is past its buffer's end, or a play's answers or events are short */
     /* A rule of the form is broken; the value is the place in the image of the byte that breaks it, the first where there are several. */
     PCH_PIC_COPY = 8,     /* of form 1 alone: the copy of IRR differs from IRR; the place of its first byte */
     PCH_PIC_COUNT = 9,    /* more than 16 events wait */
     PCH_PIC_FLAG = 10,    /* the flag of a waiting event is neither 0 nor 1 */
-    PCH_PIC_UNUSED = 11   /* a byte behind the waiting events is not 0, or then one behind their numbers */
+    PCH_PIC_UNUSED = 11,  /* a byte behind the waiting events is not 0, or then one behind their numbers */
+    /* Of a trace. */
+    PCH_PIC_TRACE = 12,   /* its contents are wrong, it has another length than they say, or more than 4000 records */
+    PCH_PIC_RECORD = 13   /* a record is bad; the value is the number of the first, counted from 0 over the trace */
 };
 
 /* A number in words. */
@@ -190,6 +242,8 @@ static inline const char *pch_pic_why(int number)
     case PCH_PIC_COUNT: return "the image says that more than 16 events wait";
     case PCH_PIC_FLAG: return "the flag of a waiting event in the image is neither 0 nor 1";
     case PCH_PIC_UNUSED: return "the image has a byte that is not 0 behind its waiting events or their numbers";
+    case PCH_PIC_TRACE: return "the trace's contents or length are wrong, or it has more than 4000 records";
+    case PCH_PIC_RECORD: return "the trace has a bad record";
     default: return "unknown number";
     }
 }
@@ -256,6 +310,19 @@ uint8_t pch_pic_table_read(const uint8_t *image, size_t image_len, uint64_t base
                            uint8_t *answer, size_t answer_len);
 uint8_t pch_pic_table_write(uint8_t *image, size_t image_len, uint64_t base, uint64_t size, uint64_t address, uint64_t width, uint64_t value,
                             uint8_t *answer, size_t answer_len);
+
+/* Plays a trace from a reset: makes image the device after reset in the form that its length says, whatever its bytes were, and then makes the call of
+ * each record on it, one after another, with base 0 and size 65536. Every byte is what those calls leave, made one by one:
+ *     - image is that of the device after the last;
+ *     - answers gets the 16 answer bytes of each record, back to back: those of record n from byte 16 * n on. A refused call, as the raise of input 64, is
+ *       answered by its number, changes nothing, and the play goes on. The address that goes with a refusal 1 is the offset;
+ *     - events gets the drained events of all drains, back to back, four bytes each; the value of each drain's answer says how many are its own.
+ * Bytes past them stay. The numbers of events run through the whole trace in an image of 290 bytes; in one of 259 or 251 they hold within one record.
+ * The value is the number of records. A refusal comes before anything is played, and leaves image, answers and events. Refusals: 7 (the answer area), 4,
+ * 12, 13 with the number of the first bad record, and then 7 where answers has under 16 bytes for each record, or events under 64 for each drain:
+ * 64000 and 256000 have room for every trace. So to test a trace and play nothing, lend no answers: a 7 says that it is good. */
+uint8_t pch_pic_play(const uint8_t *trace, size_t trace_len, uint8_t *image, size_t image_len, uint8_t *answers, size_t answers_len,
+                     uint8_t *events, size_t events_len, uint8_t *answer, size_t answer_len);
 
 /* How far one event's number is ahead of another's: later minus earlier, below 0 where it is the older. Numbers go round, so it is the one from -32768 to
  * 32767 that differs from later - earlier by a multiple of 65536: 3 is 5 ahead of 65534, and 32768 ahead reads as -32768. It refuses nothing. */

@@ -506,10 +506,10 @@ static void by_the_table(void)
 
 static void what_is_no_device(void)
 {
-    struct pic pic;
+    struct pic pic = {0};
     struct pic_wires wires = {0};
     struct pic_event event;
-    memset(&pic, 0xff, sizeof pic);
+    memset(pic.image, 0xff, sizeof pic.image);
     expect("of no image, all is 0", pic_latched(&pic) == 0 && pic_service(&pic) == 0 && pic_vector(&pic, 63) == 0);
     expect("the events' counts and numbers too", pic_waiting(&pic) == 0 && pic_drops(&pic) == 0 && pic_next(&pic) == 0);
     expect("and all is refused", pic_settle(&pic, &wires) == PCH_PIC_CONTENTS && pic_line(&pic, &wires, 0, true) == PCH_PIC_CONTENTS &&

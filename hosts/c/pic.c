@@ -31,22 +31,35 @@ static struct pic_event event_of(int number, const uint8_t answer[PCH_PIC_ANSWER
     return event;
 }
 
+/* Before the call: what is then in a file says what a host was at when it ended. */
+static void announce(const struct pic *pic, int kind, uint64_t of, uint64_t address, uint64_t value)
+{
+    if (pic->watch != NULL) {
+        struct pic_call call = {kind, of, address, value};
+        pic->watch(pic->watcher, pic, &call);
+    }
+}
+
 int pic_init(struct pic *pic, uint64_t base)
 {
     pic->base = base;
     pic->size = PCH_PIC_WINDOW_LEN;
+    pic->watch = NULL;
+    pic->watcher = NULL;
     return pic_reset(pic);
 }
 
 int pic_reset(struct pic *pic)
 {
     uint8_t answer[PCH_PIC_ANSWER_LEN];
+    announce(pic, PIC_CALL_RESET, 0, 0, 0);
     return pch_pic_reset(pic->image, sizeof pic->image, answer, sizeof answer);
 }
 
 int pic_read(const struct pic *pic, uint64_t address, uint64_t width, uint64_t *value)
 {
     uint8_t answer[PCH_PIC_ANSWER_LEN];
+    announce(pic, PCH_PIC_READ, width, address, 0);
     int number = pch_pic_read(pic->image, sizeof pic->image, pic->base, pic->size, address, width, answer, sizeof answer);
     *value = number == PCH_PIC_DONE ? value_of(answer) : 0;
     return number;
@@ -55,6 +68,7 @@ int pic_read(const struct pic *pic, uint64_t address, uint64_t width, uint64_t *
 int pic_write(struct pic *pic, uint64_t address, uint64_t width, uint64_t value, uint64_t *dropped)
 {
     uint8_t answer[PCH_PIC_ANSWER_LEN];
+    announce(pic, PCH_PIC_WRITE, width, address, value);
     int number = pch_pic_write(pic->image, sizeof pic->image, pic->base, pic->size, address, width, value, answer, sizeof answer);
     if (dropped != NULL)
         *dropped = number == PCH_PIC_DONE ? value_of(answer) : 0;
@@ -64,6 +78,7 @@ int pic_write(struct pic *pic, uint64_t address, uint64_t width, uint64_t value,
 int pic_table_read(const struct pic *pic, uint64_t address, uint64_t width, uint64_t *value)
 {
     uint8_t answer[PCH_PIC_ANSWER_LEN];
+    announce(pic, PCH_PIC_READ, width, address, 0);
     int number = pch_pic_table_read(pic->image, sizeof pic->image, pic->base, pic->size, address, width, answer, sizeof answer);
     *value = number == PCH_PIC_DONE ? value_of(answer) : 0;
     return number;
@@ -72,6 +87,7 @@ int pic_table_read(const struct pic *pic, uint64_t address, uint64_t width, uint
 int pic_table_write(struct pic *pic, uint64_t address, uint64_t width, uint64_t value, uint64_t *dropped)
 {
     uint8_t answer[PCH_PIC_ANSWER_LEN];
+    announce(pic, PCH_PIC_WRITE, width, address, value);
     int number = pch_pic_table_write(pic->image, sizeof pic->image, pic->base, pic->size, address, width, value, answer, sizeof answer);
     if (dropped != NULL)
         *dropped = number == PCH_PIC_DONE ? value_of(answer) : 0;
@@ -81,6 +97,7 @@ int pic_table_write(struct pic *pic, uint64_t address, uint64_t width, uint64_t 
 int pic_level(struct pic *pic, uint64_t input, bool high, struct pic_event *event)
 {
     uint8_t answer[PCH_PIC_ANSWER_LEN];
+    announce(pic, high ? PCH_PIC_RAISE : PCH_PIC_LOWER, input, 0, 0);
     int number = pch_pic_level(pic->image, sizeof pic->image, input, high, answer, sizeof answer);
     *event = event_of(number, answer, high ? PIC_ASSERT : PIC_DEASSERT);
     return number;
@@ -89,6 +106,7 @@ int pic_level(struct pic *pic, uint64_t input, bool high, struct pic_event *even
 int pic_poll(struct pic *pic, uint64_t input, struct pic_event *event)
 {
     uint8_t answer[PCH_PIC_ANSWER_LEN];
+    announce(pic, PCH_PIC_POLL, input, 0, 0);
     int number = pch_pic_poll(pic->image, sizeof pic->image, input, answer, sizeof answer);
     *event = event_of(number, answer, PIC_ASSERT);
     return number;
@@ -97,6 +115,7 @@ int pic_poll(struct pic *pic, uint64_t input, struct pic_event *event)
 int pic_drain(struct pic *pic, struct pic_event events[PCH_PIC_EVENTS], size_t *count)
 {
     uint8_t answer[PCH_PIC_ANSWER_LEN], drained[PCH_PIC_EVENTS * PCH_PIC_EVENT_LEN];
+    announce(pic, PCH_PIC_DRAIN, 0, 0, 0);
     int number = pch_pic_drain(pic->image, sizeof pic->image, drained, sizeof drained, 0, answer, sizeof answer);
     *count = number == PCH_PIC_DONE ? (size_t)value_of(answer) : 0;
     for (size_t i = 0; i < *count; i++) {
@@ -145,6 +164,9 @@ int pic_take(struct pic *pic, const uint8_t *image, size_t image_len, uint64_t *
 {
     uint8_t answer[PCH_PIC_ANSWER_LEN];
     int number = pch_pic_convert(image, image_len, pic->image, sizeof pic->image, answer, sizeof answer);
+    if (number == PCH_PIC_DONE) {
+        announce(pic, PIC_CALL_LOAD, 0, 0, 0);
+    }
     if (place != NULL && number >= PCH_PIC_COPY && number <= PCH_PIC_UNUSED) {
         *place = value_of(answer);
     }

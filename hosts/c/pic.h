@@ -26,10 +26,25 @@ enum { PIC_VECTORS = 256 };
  * before 0.6.0 load form 1 alone. The others lose the numbers and nothing else. */
 enum pic_form { PIC_FORM_1 = 1, PIC_FORM_2 = 2, PIC_FORM_NUMBERED = 3 };
 
-/* The image is kept with numbers; forms matter where a device comes and goes (pic_image, pic_take, pic_save, pic_load). */
+/* A call that is about to be made on a device: a kind of record of pch_pic.h, or one that no record can say. A drain is always one of all. */
+enum { PIC_CALL_RESET = 100, PIC_CALL_LOAD = 101 };
+
+struct pic_call {
+    int kind;
+    uint64_t of;      /* the input of a raise, lower or poll; the width of a read or write */
+    uint64_t address; /* of a read or write */
+    uint64_t value;   /* of a write */
+};
+
+/* The image is kept with numbers; forms matter where a device comes and goes (pic_image, pic_take, pic_save, pic_load).
+ * watch, where it is not NULL, is told of each call before it is made, of those of pic_settle, pic_line and pic_resume too; of a load, once it is done.
+ * recorder.h records a day by it. So a struct pic is all zeros or made by pic_init before anything is called on it. A copy of one is watched as well,
+ * until its watch is set to NULL; and watched reads do not run side by side. */
 struct pic {
     uint8_t image[PCH_PIC_IMAGE2_NUMBERED_LEN];
     uint64_t base, size;
+    void (*watch)(void *watcher, const struct pic *pic, const struct pic_call *call);
+    void *watcher;
 };
 
 /* What is to be passed on to the interrupt controller above. */
@@ -56,7 +71,7 @@ struct pic_wires {
 };
 
 /* The calls of pch_pic.h.
- * pic_init sets the window too: the registers stand at base. A line that is high already may be raised again: it is latched and asked for, and
+ * pic_init sets the window too: the registers stand at base; nobody watches. A line that is high already may be raised again: it is latched and asked for, and
  * asserted at most once. pic_write says how many events the write dropped, where dropped is not NULL. pic_drain takes all waiting events, oldest
  * first, and says how many. pic_table_read and pic_table_write are pic_read and pic_write decoded by the table, and answer the same. */
 int pic_init(struct pic *pic, uint64_t base);
@@ -106,6 +121,10 @@ int pic_take(struct pic *pic, const uint8_t *image, size_t image_len, uint64_t *
  * is loaded, as pic_take takes its image. */
 int pic_save(const struct pic *pic, enum pic_form form, const char *path);
 int pic_load(struct pic *pic, const char *path, uint64_t *place);
+
+/* Makes a file of these bytes, or replaces one, whole or not at all: they go to a file beside it, path.new, which takes its name only when it is on the
+ * disk. What is there and no plain file is not replaced. 0 or PIC_FILE. */
+int pic_replace(const char *path, const uint8_t *bytes, size_t len);
 
 const char *pic_why(int number);
 

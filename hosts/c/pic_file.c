@@ -83,13 +83,12 @@ static bool sync_folder(const char *path)
 }
 
 /* The bytes go to a file beside the old one, which takes its name only when it is whole and on the disk. */
-int pic_save(const struct pic *pic, enum pic_form form, const char *path)
+int pic_replace(const char *path, const uint8_t *bytes, size_t len)
 {
-    uint8_t bytes[MOST_LEN];
     char beside[PATH_LEN];
     struct stat old;
-    int len = snprintf(beside, sizeof beside, "%s.new", path);
-    if (len < 0 || (size_t)len >= sizeof beside) {
+    int named = snprintf(beside, sizeof beside, "%s.new", path);
+    if (named < 0 || (size_t)named >= sizeof beside) {
         errno = ENAMETOOLONG;
         return PIC_FILE;
     }
@@ -98,6 +97,18 @@ int pic_save(const struct pic *pic, enum pic_form form, const char *path)
         errno = S_ISDIR(old.st_mode) ? EISDIR : EINVAL;
         return PIC_FILE;
     }
+    if (!write_and_sync(beside, bytes, len) || rename(beside, path) != 0) {
+        int why = errno;
+        remove(beside);
+        errno = why;
+        return PIC_FILE;
+    }
+    return sync_folder(path) ? PCH_PIC_DONE : PIC_FILE;
+}
+
+int pic_save(const struct pic *pic, enum pic_form form, const char *path)
+{
+    uint8_t bytes[MOST_LEN];
     size_t image_len = pic_image(pic, form, bytes + HEAD_LEN), summed = HEAD_LEN + image_len;
     if (image_len == 0) {
         errno = EINVAL;
@@ -106,13 +117,7 @@ int pic_save(const struct pic *pic, enum pic_form form, const char *path)
     memcpy(bytes, magic, MAGIC_LEN);
     put(bytes + MAGIC_LEN, (uint32_t)image_len);
     put(bytes + summed, checksum(bytes, summed));
-    if (!write_and_sync(beside, bytes, summed + SUM_LEN) || rename(beside, path) != 0) {
-        int why = errno;
-        remove(beside);
-        errno = why;
-        return PIC_FILE;
-    }
-    return sync_folder(path) ? PCH_PIC_DONE : PIC_FILE;
+    return pic_replace(path, bytes, summed + SUM_LEN);
 }
 
 /* Whether len bytes are a saved device of any length: 0, or what is wrong. */

@@ -292,6 +292,228 @@ static void numbered(void)
     expect("at most 32767", pch_pic_difference(32767, 0) == 32767 && pch_pic_difference(32768, 0) == -32768 && pch_pic_difference(0, 32768) == -32768);
 }
 
+/* A trace and what it is played to, with a guard behind each. Of the answers and of the events these are lent. */
+enum { TRACE = 2 + 4 * PCH_PIC_BLOCKS_MAX + PCH_PIC_RECORDS_MAX * PCH_PIC_RECORD_LEN };
+static uint8_t trace[TRACE + PCH_PIC_RECORD_LEN], told[PCH_PIC_RECORDS_MAX * ANSWER + GUARD], drained[PCH_PIC_RECORDS_MAX * EVENTS + GUARD];
+static size_t trace_len, told_len, drained_len;
+
+/* The image is set to bytes that are none, since it is reset. */
+static uint8_t play(size_t answer_len)
+{
+    memset(image, 0x77, image_len);
+    guard();
+    memset(told, 0x3c, sizeof told);
+    memset(drained, 0x96, sizeof drained);
+    return pch_pic_play(trace, trace_len, image, image_len, told, told_len, drained, drained_len, answer, answer_len);
+}
+
+/* Whether so many bytes of the answers and the events were written at most, and those behind them stayed. */
+static int written(size_t answers_written, size_t events_written)
+{
+    for (size_t i = answers_written; i < sizeof told; i++) {
+        if (told[i] != 0x3c) {
+            return 0;
+        }
+    }
+    for (size_t i = events_written; i < sizeof drained; i++) {
+        if (drained[i] != 0x96) {
+            return 0;
+        }
+    }
+    return guarded();
+}
+
+/* Whether nothing but the answer area was written. */
+static int nothing_played(void)
+{
+    for (size_t i = 0; i < image_len; i++) {
+        if (image[i] != 0x77) {
+            return 0;
+        }
+    }
+    return written(0, 0);
+}
+
+/* The contents of so many blocks of so many records each, and room for the records. */
+static void contents(unsigned blocks, unsigned records)
+{
+    memset(trace, 0, sizeof trace);
+    trace[0] = (uint8_t)blocks;
+    for (unsigned block = 0; block < blocks; block++) {
+        unsigned at = 2 + 4 * blocks + 16 * records * block;
+        trace[2 + 4 * block] = (uint8_t)at;
+        trace[3 + 4 * block] = (uint8_t)(at >> 8);
+        trace[4 + 4 * block] = (uint8_t)records;
+        trace[5 + 4 * block] = (uint8_t)(records >> 8);
+    }
+    trace_len = 2 + 4 * blocks + 16 * records * blocks;
+}
+
+static void record(size_t number, uint8_t kind, uint8_t byte, unsigned offset, uint64_t value)
+{
+    uint8_t *at = trace + 2 + 4 * trace[0] + 16 * number;
+    memset(at, 0, 16);
+    at[0] = kind;
+    at[1] = byte;
+    at[2] = (uint8_t)offset;
+    at[3] = (uint8_t)(offset >> 8);
+    for (int i = 0; i < 8; i++) {
+        at[8 + i] = (uint8_t)(value >> (8 * i));
+    }
+}
+
+/* Whether the answer of a played record says so. */
+static int told_at(size_t number, uint8_t is, uint8_t present, uint64_t value)
+{
+    memcpy(answer, told + ANSWER * number, ANSWER);
+    return answers(is, present, value);
+}
+
+/* Ten calls in two blocks: an input raised, unmasked, read in ISR, lowered and drained, refused calls, a drain of nothing, and the input raised again. */
+static void small_day(void)
+{
+    contents(2, 5);
+    record(0, PCH_PIC_RAISE, 5, 0, 0);
+    record(1, PCH_PIC_WRITE, 4, 0x20, 0xffffffdf);
+    record(2, PCH_PIC_READ, 8, 0x3a0, 0);
+    record(3, PCH_PIC_LOWER, 5, 0, 0);
+    record(4, PCH_PIC_DRAIN, 0, 0, 0);
+    record(5, PCH_PIC_POLL, 64, 0, 0);
+    record(6, PCH_PIC_READ, 3, 0, 0);
+    record(7, PCH_PIC_WRITE, 2, 0xffff, 7);
+    record(8, PCH_PIC_DRAIN, 0, 0, 0);
+    record(9, PCH_PIC_RAISE, 5, 0, 0);
+    told_len = 10 * ANSWER;
+    drained_len = 2 * EVENTS;
+}
+
+/* In each form; the last event's number runs on only where there is room for it. */
+static void played(size_t len, uint64_t last)
+{
+    uint8_t want[NUMBERED], other[ANSWER];
+    image_len = len;
+    small_day();
+    expect("a day is played", play(ANSWER) == 0 && answers(0, 1, 10) && written(10 * ANSWER, 4));
+    expect("drained is the assert, number 0", drained[0] == 5 && drained[1] == 1 && drained[2] == 0 && drained[3] == 0);
+    expect("the first answers", told_at(0, 0, 0, 0) && told_at(1, 0, 1, 0) && told_at(2, 0, 1, 0x20) && told_at(3, 0, 1, 0x10005) && told_at(4, 0, 1, 1));
+    expect("refused ones too", told_at(5, 3, 0, 0) && told_at(6, 2, 0, 0) && told_at(7, 1, 1, 0xffff));
+    expect("and the play goes on", told_at(8, 0, 1, 0) && told_at(9, 0, 1, last));
+    pch_pic_reset(want, len, other, ANSWER);
+    pch_pic_level(want, len, 5, 1, other, ANSWER);
+    pch_pic_write(want, len, 0, 0x10000, 0x20, 4, 0xffffffdf, other, ANSWER);
+    pch_pic_level(want, len, 5, 0, other, ANSWER);
+    pch_pic_drain(want, len, events, EVENTS, 0, other, ANSWER);
+    pch_pic_level(want, len, 5, 1, other, ANSWER);
+    expect("the image is what the calls leave", memcmp(want, image, len) == 0);
+}
+
+/* Refusals in their order: each stands before those behind it, which hold too. */
+static void play_refusals(void)
+{
+    image_len = NUMBERED - 1;
+    small_day();
+    told_len = 10 * ANSWER - 1;
+    trace[10 + 16 * 4] = 7;
+    trace[0] = 3;
+    expect("7: a short answer area, before all others", play(ANSWER - 1) == 7 && untouched() && nothing_played());
+    expect("4: 289 bytes, before 12", play(ANSWER) == 4 && answers(4, 0, 0) && nothing_played());
+    image_len = NUMBERED;
+    expect("12: contents, before 13", play(ANSWER) == 12 && answers(12, 0, 0) && nothing_played());
+    trace[0] = 2;
+    expect("13: the fifth record, before 7", play(ANSWER) == 13 && answers(13, 1, 4) && nothing_played());
+    trace[10 + 16 * 2 + 15] = 1;
+    expect("13: the first bad one", play(ANSWER) == 13 && answers(13, 1, 2) && nothing_played());
+    small_day();
+    told_len = 10 * ANSWER - 1;
+    expect("7: a byte less for the answers, and nothing is written", play(ANSWER) == 7 && untouched() && nothing_played());
+    told_len = 10 * ANSWER;
+    drained_len = 2 * EVENTS - 1;
+    expect("7: a byte less for the events, and nothing is written", play(ANSWER) == 7 && untouched() && nothing_played());
+    expect("7: no room at all", pch_pic_play(trace, trace_len, image, image_len, NULL, 0, NULL, 0, answer, ANSWER) == 7 && untouched());
+    expect("12: no trace at all", pch_pic_play(NULL, 0, image, image_len, NULL, 0, NULL, 0, answer, ANSWER) == 12 && nothing_played());
+}
+
+/* What makes contents wrong: each byte of them, a length, no block, an empty one, 65 blocks, 4,001 records. */
+static void wrong_contents(void)
+{
+    int refused = 1;
+    small_day();
+    for (int place = 0; place < 10; place++) {
+        trace[place] ^= 1;
+        refused = refused && play(ANSWER) == 12 && answers(12, 0, 0) && nothing_played();
+        trace[place] ^= 1;
+    }
+    expect("12: any byte of the contents", refused);
+    trace_len--;
+    expect("12: a byte less", play(ANSWER) == 12 && nothing_played());
+    trace_len += 2;
+    expect("12: a byte more", play(ANSWER) == 12 && nothing_played());
+    contents(0, 0);
+    expect("12: no block", play(ANSWER) == 12 && nothing_played());
+    contents(1, 0);
+    expect("12: an empty block", play(ANSWER) == 12 && nothing_played());
+    contents(65, 1);
+    expect("12: 65 blocks", play(ANSWER) == 12 && nothing_played());
+    contents(1, PCH_PIC_RECORDS_MAX + 1);
+    expect("12: 4,001 records, before a bad one", play(ANSWER) == 12 && nothing_played());
+    contents(1, PCH_PIC_RECORDS_MAX);
+    expect("13: 4,000 are not too many", play(ANSWER) == 13 && answers(13, 1, 0) && nothing_played());
+}
+
+/* A record with every field set, and those that a kind does not use. */
+static void bad_records(void)
+{
+    static const uint8_t unused[7][6] = {{1, 1, 1, 1, 1, 1}, {0, 1, 1, 1, 1, 1}, {0, 1, 1, 1, 1, 1}, {0, 1, 1, 1, 1, 1},
+                                         {0, 0, 0, 1, 1, 1}, {0, 0, 0, 1, 0, 0}, {1, 1, 1, 1, 1, 1}};
+    static const int places[6] = {1, 2, 3, 7, 8, 15};
+    int right = 1;
+    contents(1, 1);
+    told_len = ANSWER;
+    drained_len = EVENTS;
+    for (uint8_t kind = 1; kind <= 6; kind++) {
+        for (int i = 0; i < 6; i++) {
+            record(0, kind, 0, 0, 0);
+            trace[6 + places[i]] = 1;
+            right = right && play(ANSWER) == (unused[kind][i] ? 13 : 0) && (unused[kind][i] == 0 || (answers(13, 1, 0) && nothing_played()));
+        }
+    }
+    expect("13: just where a byte is not 0 that has to be", right);
+    right = 1;
+    for (unsigned kind = 0; kind < 256; kind++) {
+        record(0, (uint8_t)kind, 0, 0, 0);
+        right = right && play(ANSWER) == (kind >= 1 && kind <= 6 ? 0 : 13);
+    }
+    expect("13: just where the kind is not 1 to 6", right);
+}
+
+/* 4,000 drains in 64 blocks, the longest trace but for the last block: 63 of 62 and one of 94. */
+static void longest(void)
+{
+    contents(64, 62);
+    trace[2 + 4 * 63 + 2] = 94;
+    trace_len = TRACE;
+    for (size_t i = 0; i < PCH_PIC_RECORDS_MAX; i++) {
+        record(i, PCH_PIC_DRAIN, 0, 0, 0);
+    }
+    told_len = sizeof told - GUARD;
+    drained_len = sizeof drained - GUARD;
+    expect("the longest trace is played", play(ANSWER) == 0 && answers(0, 1, 4000) && written(told_len, 0) && told_at(3999, 0, 1, 0));
+    trace[TRACE - 16 + 4] = 1;
+    expect("13: its last record", play(ANSWER) == 13 && answers(13, 1, 3999) && nothing_played());
+}
+
+static void traces(void)
+{
+    played(NUMBERED, 0x20005);
+    played(IMAGE, 5);
+    played(IMAGE2, 5);
+    play_refusals();
+    wrong_contents();
+    bad_records();
+    longest();
+    expect("12 and 13 have their texts", strcmp(pch_pic_why(12), pch_pic_why(99)) != 0 && strcmp(pch_pic_why(13), pch_pic_why(99)) != 0);
+}
+
 int main(void)
 {
     uint8_t before[IMAGE];
@@ -417,6 +639,7 @@ int main(void)
 
     form_2();
     numbered();
+    traces();
 
     printf("%d passed, %d failed\n", passed, failed);
     return failed != 0;

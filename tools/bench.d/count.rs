@@ -1,12 +1,10 @@
 //! Instructions per call, counted on this same program: by valgrind's callgrind or, on a machine that runs it on QEMU, by a plugin (count.c). Only the
-//! timed loops are counted, of each kind over one slot and over a whole batch, so that in the difference nothing but the calls is left. The
-//! figures come out the same each time.
+//! timed loops are counted, of each kind over one slot and over a whole batch, of a play once and twice, so that in the difference nothing but the calls is
+//! left. The figures come out the same each time.
 
-use crate::Asked;
-use crate::call::Call;
-use crate::day::DAYS;
-use crate::kinds::Kind;
-use crate::measure::{BATCH, Bench};
+use crate::measure::{self, BATCH, Bench};
+use crate::plays::Lent;
+use crate::{Asked, Chosen};
 use std::hint::black_box;
 use std::path::Path;
 use std::process::{Command, Stdio};
@@ -32,41 +30,49 @@ pub const BEGIN: u64 = 1;
 pub const END: u64 = 2;
 
 /// What is run under the counter: the runs of one side after another, a mark after each.
-pub fn counted(asked: &Asked, kinds: &[Kind], day: Option<&[Call]>) {
+pub fn counted(asked: &Asked, chosen: &Chosen) {
     let mut bench = Bench::new();
     for &side in &asked.sides {
-        for kind in kinds {
+        for kind in &chosen.kinds {
             for slots in [1, BATCH] {
                 bench.once(side, kind, slots);
                 bench_mark();
             }
         }
-        for (length, calls) in DAYS.into_iter().flat_map(|length| day.map(|calls| (length, calls))) {
+        for (length, calls) in chosen.days() {
             for calls in [&calls[..1], calls] {
                 bench.day_once(side, calls, length);
+                bench_mark();
+            }
+        }
+        for play in &chosen.plays {
+            for times in [1, 2] {
+                measure::play_counted(side, play, &mut Lent::of(play), times);
                 bench_mark();
             }
         }
     }
 }
 
-/// Instructions per call: for each kind, and then for the day on each of its images, those of each side.
-pub fn per_call(asked: &Asked, kinds: usize, day: Option<usize>) -> Result<Vec<Vec<f64>>, String> {
+/// Instructions per call: for each kind, then for the day on each of its images, then for each play and each of its records, those of each side.
+pub fn per_call(asked: &Asked, chosen: &Chosen) -> Result<Vec<Vec<f64>>, String> {
     let folder = std::env::temp_dir().join(format!("bench-{}", std::process::id()));
     std::fs::create_dir_all(&folder).map_err(|error| error.to_string())?;
     let totals = run(asked, &folder);
     let _ = std::fs::remove_dir_all(&folder);
     let totals = totals?;
-    let rows = kinds + if day.is_some() { DAYS.len() } else { 0 };
-    if totals.len() != 2 * rows * asked.sides.len() {
-        return Err(format!("there are {} totals, expected {}", totals.len(), 2 * rows * asked.sides.len()));
+    // How many calls are in the difference of a row's two counts.
+    let kinds = chosen.kinds.iter().map(|_| BATCH - 1);
+    let days = chosen.days().map(|(_, calls)| calls.len() - 1);
+    let calls: Vec<usize> = kinds.chain(days).chain(chosen.plays.iter().map(|play| play.calls.len())).collect();
+    if totals.len() != 2 * calls.len() * asked.sides.len() {
+        return Err(format!("there are {} totals, expected {}", totals.len(), 2 * calls.len() * asked.sides.len()));
     }
     let of = |side: usize, row: usize| {
-        let at = 2 * (side * rows + row);
-        let calls = if row < kinds { BATCH - 1 } else { day.unwrap_or(0) - 1 };
-        (totals[at + 1] - totals[at]) as f64 / calls as f64
+        let at = 2 * (side * calls.len() + row);
+        (totals[at + 1] - totals[at]) as f64 / calls[row] as f64
     };
-    Ok((0..rows).map(|row| (0..asked.sides.len()).map(|side| of(side, row)).collect()).collect())
+    Ok((0..calls.len()).map(|row| (0..asked.sides.len()).map(|side| of(side, row)).collect()).collect())
 }
 
 /// What counts, by name.

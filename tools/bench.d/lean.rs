@@ -428,10 +428,79 @@ fn served<F: Form<N>, const N: usize>(image: &mut [u8; N], input: usize, irr: u6
 }
 
 #[inline(always)]
+fn read_on<F: Form<N>, const N: usize>(image: &[u8; N], base: u64, size: u64, address: u64, width: u64) -> Outcome {
+    match offset_of(base, size, address, width) {
+        Ok(offset) => (0, Some(read_at::<F, N>(image, width, offset))),
+        Err(refused) => refused,
+    }
+}
+
+#[inline(always)]
+fn write_on<F: Form<N>, const N: usize>(image: &mut [u8; N], base: u64, size: u64, address: u64, width: u64, value: u64) -> Outcome {
+    match offset_of(base, size, address, width) {
+        Ok(offset) => (0, Some(u64::from(write_at::<F, N>(image, width, offset, value)))),
+        Err(refused) => refused,
+    }
+}
+
+#[inline(always)]
+fn level_on<F: Form<N>, const N: usize>(image: &mut [u8; N], input: u64, level: u64) -> Outcome {
+    if input >= 64 {
+        return (3, None);
+    }
+    let (input, irr) = (input as usize, word(image, F::IRR));
+    if level != 0 {
+        put_irr::<F, N>(image, irr | 1 << input);
+        return served::<F, N>(image, input, irr | 1 << input);
+    }
+    let isr = word(image, F::ISR);
+    put_irr::<F, N>(image, irr & !(1 << input));
+    put(image, F::ISR, isr & !(1 << input));
+    if isr >> input & 1 == 1 { returned::<F, N>(image, input) } else { (0, None) }
+}
+
+#[inline(always)]
+fn poll_on<F: Form<N>, const N: usize>(image: &mut [u8; N], input: u64) -> Outcome {
+    if input >= 64 { (3, None) } else { served::<F, N>(image, input as usize, word(image, F::IRR)) }
+}
+
+/// Takes the first so many of 16 entries of two bytes out, out of those that are used.
+#[inline(always)]
+fn take_out(entries: &mut [u8; 32], moved: usize, count: usize) {
+    if moved == count {
+        *entries = [0; 32];
+    } else {
+        entries.copy_within(2 * moved.., 0);
+        entries[32 - 2 * moved..].fill(0);
+    }
+}
+
+#[inline(always)]
+fn drain_on<F: Form<N>, const N: usize>(image: &mut [u8; N], room: &mut [u8]) -> Outcome {
+    let count = image[F::COUNT] as usize;
+    let moved = count.min(room.len() / 4);
+    if moved == 0 {
+        return (0, Some(0));
+    }
+    for (k, event) in room.chunks_exact_mut(4).take(moved).enumerate() {
+        let made = F::NUMBERS.map_or(k as u16, |at| number(image, at + 2 + 2 * k));
+        let bytes = u32::from(number(image, F::PAIRS + 2 * k)) | u32::from(made) << 16;
+        event.copy_from_slice(&bytes.to_le_bytes());
+    }
+    take_out((&mut image[F::PAIRS..F::PAIRS + 32]).try_into().unwrap(), moved, count);
+    if let Some(at) = F::NUMBERS {
+        take_out((&mut image[at + 2..at + 34]).try_into().unwrap(), moved, count);
+    }
+    image[F::COUNT] = (count - moved) as u8;
+    (0, Some(moved as u64))
+}
+
+#[inline(always)]
 fn read_in<F: Form<N>, const N: usize>(image: &[u8], base: u64, size: u64, address: u64, width: u64) -> Outcome {
-    let looked =
-        checked::<F, N>(image).and_then(|image| Ok((0, Some(read_at::<F, N>(image, width, offset_of(base, size, address, width)?)))));
-    looked.unwrap_or_else(|refused| refused)
+    match checked::<F, N>(image) {
+        Ok(image) => read_on::<F, N>(image, base, size, address, width),
+        Err(refused) => refused,
+    }
 }
 
 #[inline(always)]
@@ -450,66 +519,22 @@ fn reset_in<F: Form<N>, const N: usize>(image: &mut [u8]) -> Outcome {
 
 #[inline(always)]
 fn write_in<F: Form<N>, const N: usize>(image: &mut [u8], base: u64, size: u64, address: u64, width: u64, value: u64) -> Outcome {
-    changed::<F, N>(image, |image| match offset_of(base, size, address, width) {
-        Ok(offset) => (0, Some(u64::from(write_at::<F, N>(image, width, offset, value)))),
-        Err(refused) => refused,
-    })
+    changed::<F, N>(image, |image| write_on::<F, N>(image, base, size, address, width, value))
 }
 
 #[inline(always)]
 fn level_in<F: Form<N>, const N: usize>(image: &mut [u8], input: u64, level: u64) -> Outcome {
-    changed::<F, N>(image, |image| {
-        if input >= 64 {
-            return (3, None);
-        }
-        let (input, irr) = (input as usize, word(image, F::IRR));
-        if level != 0 {
-            put_irr::<F, N>(image, irr | 1 << input);
-            return served::<F, N>(image, input, irr | 1 << input);
-        }
-        let isr = word(image, F::ISR);
-        put_irr::<F, N>(image, irr & !(1 << input));
-        put(image, F::ISR, isr & !(1 << input));
-        if isr >> input & 1 == 1 { returned::<F, N>(image, input) } else { (0, None) }
-    })
+    changed::<F, N>(image, |image| level_on::<F, N>(image, input, level))
 }
 
 #[inline(always)]
 fn poll_in<F: Form<N>, const N: usize>(image: &mut [u8], input: u64) -> Outcome {
-    changed::<F, N>(image, |image| if input >= 64 { (3, None) } else { served::<F, N>(image, input as usize, word(image, F::IRR)) })
-}
-
-/// Takes the first so many of 16 entries of two bytes out, out of those that are used.
-#[inline(always)]
-fn take_out(entries: &mut [u8; 32], moved: usize, count: usize) {
-    if moved == count {
-        *entries = [0; 32];
-    } else {
-        entries.copy_within(2 * moved.., 0);
-        entries[32 - 2 * moved..].fill(0);
-    }
+    changed::<F, N>(image, |image| poll_on::<F, N>(image, input))
 }
 
 #[inline(always)]
 fn drain_in<F: Form<N>, const N: usize>(image: &mut [u8], room: &mut [u8]) -> Outcome {
-    changed::<F, N>(image, |image| {
-        let count = image[F::COUNT] as usize;
-        let moved = count.min(room.len() / 4);
-        if moved == 0 {
-            return (0, Some(0));
-        }
-        for (k, event) in room.chunks_exact_mut(4).take(moved).enumerate() {
-            let made = F::NUMBERS.map_or(k as u16, |at| number(image, at + 2 + 2 * k));
-            let bytes = u32::from(number(image, F::PAIRS + 2 * k)) | u32::from(made) << 16;
-            event.copy_from_slice(&bytes.to_le_bytes());
-        }
-        take_out((&mut image[F::PAIRS..F::PAIRS + 32]).try_into().unwrap(), moved, count);
-        if let Some(at) = F::NUMBERS {
-            take_out((&mut image[at + 2..at + 34]).try_into().unwrap(), moved, count);
-        }
-        image[F::COUNT] = (count - moved) as u8;
-        (0, Some(moved as u64))
-    })
+    changed::<F, N>(image, |image| drain_on::<F, N>(image, room))
 }
 
 /// What a conversion takes over.
@@ -558,6 +583,76 @@ fn put_in<F: Form<N>, const N: usize>(target: &mut [u8], taken: &Taken) -> Outco
     (0, None)
 }
 
+/// For each kind of record, from 1 on, the bits that it may have: of its first eight bytes, and of the value.
+const RECORD_ALLOWED: [(u64, u64); 6] = [(0xffff, 0), (0xffff, 0), (0xffff, 0), (0xffff_ffff, 0), (0xffff_ffff, !0), (0xff, 0)];
+
+#[inline(always)]
+fn is_good(record: &[u8; 16]) -> bool {
+    let Some((head, value)) = RECORD_ALLOWED.get(usize::from(record[0]).wrapping_sub(1)) else { return false };
+    word(record, 0) & !head | word(record, 8) & !value == 0
+}
+
+/// The records of a trace; or 12 for its contents, 13 for the first bad record.
+#[inline(always)]
+fn records_of(trace: &[u8]) -> Result<&[[u8; 16]], Outcome> {
+    const WRONG: Outcome = (12, None);
+    let (blocks, rest) = trace.split_first_chunk().ok_or(WRONG)?;
+    let blocks = usize::from(u16::from_le_bytes(*blocks));
+    if !(1..=64).contains(&blocks) {
+        return Err(WRONG);
+    }
+    let (listed, rest) = rest.split_at_checked(4 * blocks).ok_or(WRONG)?;
+    let mut records = 0;
+    for block in listed.as_chunks::<4>().0 {
+        let (from, count) = (number(block, 0), number(block, 2));
+        if usize::from(from) != 2 + 4 * blocks + 16 * records || count == 0 {
+            return Err(WRONG);
+        }
+        records += usize::from(count);
+    }
+    if records > 4000 || rest.len() != 16 * records {
+        return Err(WRONG);
+    }
+    let records = rest.as_chunks().0;
+    match records.iter().position(|record| !is_good(record)) {
+        Some(bad) => Err((13, Some(bad as u64))),
+        None => Ok(records),
+    }
+}
+
+#[inline(always)]
+fn play_in<F: Form<N>, const N: usize>(image: &mut [u8], trace: &[u8], answers: &mut [u8], events: &mut [u8]) -> Outcome {
+    let records = match records_of(trace) {
+        Ok(records) => records,
+        Err(refused) => return refused,
+    };
+    let drains = records.iter().filter(|record| record[0] == 6).count();
+    let answers = answers.as_chunks_mut().0;
+    if answers.len() < records.len() || events.len() < 64 * drains {
+        return (7, None);
+    }
+    let image: &mut [u8; N] = image.try_into().unwrap();
+    *image = F::RESET;
+    let mut used = 0;
+    for (record, answer) in records.iter().zip(answers) {
+        let (byte, offset) = (u64::from(record[1]), u64::from(number(record, 2)));
+        let outcome = match record[0] {
+            1 => level_on::<F, N>(image, byte, 1),
+            2 => level_on::<F, N>(image, byte, 0),
+            3 => poll_on::<F, N>(image, byte),
+            4 => read_on::<F, N>(image, 0, 0x1_0000, offset, byte),
+            5 => write_on::<F, N>(image, 0, 0x1_0000, offset, byte, word(record, 8)),
+            _ => {
+                let drained = drain_on::<F, N>(image, &mut events[used..]);
+                used += 4 * drained.1.unwrap_or(0) as usize;
+                drained
+            }
+        };
+        told(answer, outcome);
+    }
+    (0, Some(records.len() as u64))
+}
+
 // The calls. They stay calls of their own in the measured program, as those of a library do.
 
 #[inline(never)]
@@ -601,4 +696,13 @@ pub fn drain(image: &mut [u8], events: &mut [u8], place: usize, answer: &mut [u8
 pub fn convert(image: &[u8], target: &mut [u8], answer: &mut [u8]) -> u8 {
     let Some(answer) = answer.first_chunk_mut() else { return 7 };
     told(answer, by_length!(image, convert_in, target))
+}
+
+#[inline(never)]
+pub fn play(trace: &[u8], image: &mut [u8], answers: &mut [u8], events: &mut [u8], answer: &mut [u8]) -> u8 {
+    let Some(answer) = answer.first_chunk_mut() else { return 7 };
+    match by_length!(image, play_in, trace, answers, events) {
+        (7, _) => 7,
+        outcome => told(answer, outcome),
+    }
 }

@@ -19,6 +19,7 @@ mod measure;
 #[allow(dead_code)]
 #[path = "../harness/numbers.rs"]
 mod numbers;
+mod plays;
 #[path = "../harness/quiet.rs"]
 mod quiet;
 mod sides;
@@ -30,6 +31,7 @@ use call::Call;
 use day::DAYS;
 use kinds::Kind;
 use measure::{BATCH, Bench, Best};
+use plays::{Lent, Play, RECORDS};
 use std::process::ExitCode;
 use table::Row;
 
@@ -98,21 +100,37 @@ fn sides(list: &str) -> Result<Vec<char>, String> {
     if sides.is_empty() { Err("no side is left".into()) } else { Ok(sides) }
 }
 
-/// The kinds that are asked for, and whether the day is. A name's beginning with a star stands for all that begin so.
-fn chosen(asked: &Asked) -> Result<(Vec<Kind>, bool), String> {
-    let all = kinds::all();
+/// What is measured: kinds of call, the calls of the day where it is asked for, and plays.
+pub struct Chosen {
+    kinds: Vec<Kind>,
+    day: Option<Vec<Call>>,
+    plays: Vec<Play>,
+}
+
+impl Chosen {
+    /// The day, once for each length of its images.
+    fn days(&self) -> impl Iterator<Item = (usize, &[Call])> {
+        DAYS.into_iter().flat_map(|length| self.day.as_deref().map(|calls| (length, calls)))
+    }
+}
+
+/// What is asked for. A name's beginning with a star stands for all that begin so.
+fn chosen(asked: &Asked) -> Result<Chosen, String> {
+    let (kinds, plays) = (kinds::all(), plays::all());
     let fits = |pattern: &str, name: &str| match pattern.strip_suffix('*') {
         Some(beginning) => name.starts_with(beginning),
         None => pattern == "all" || pattern == name,
     };
-    for pattern in &asked.kinds {
-        if !fits(pattern, "day") && !all.iter().any(|kind| fits(pattern, kind.name)) {
-            return Err(format!("no kind {pattern} (see tools/bench --list)"));
-        }
+    let names: Vec<&str> = kinds.iter().map(|kind| kind.name).chain(plays.iter().map(|play| play.name.as_str())).chain(["day"]).collect();
+    if let Some(pattern) = asked.kinds.iter().find(|pattern| !names.iter().any(|name| fits(pattern, name))) {
+        return Err(format!("no kind {pattern} (see tools/bench --list)"));
     }
     let asked_for = |name: &str| asked.kinds.iter().any(|pattern| fits(pattern, name));
-    let day = asked_for("day");
-    Ok((all.into_iter().filter(|kind| asked_for(kind.name)).collect(), day))
+    Ok(Chosen {
+        day: asked_for("day").then(|| day::calls(asked.day)),
+        plays: plays.into_iter().filter(|play| asked_for(&play.name)).collect(),
+        kinds: kinds.into_iter().filter(|kind| asked_for(kind.name)).collect(),
+    })
 }
 
 fn verified(day: &[Call]) -> Result<(), String> {
@@ -123,6 +141,9 @@ fn verified(day: &[Call]) -> Result<(), String> {
         verify::day(day, length)?;
     }
     let numbers = verify::random()?;
+    let plays = plays::all();
+    plays.iter().try_for_each(verify::played)?;
+    let of_traces = verify::traces()?;
     let beside = if WITH_C { ", on kinds and day beside the published Rust too" } else { "" };
     eprintln!(
         "bench: {} kinds, a day of {} calls and {} random calls left the same bytes on the sides{beside}; random numbers 0..11: {numbers:?}",
@@ -130,53 +151,65 @@ fn verified(day: &[Call]) -> Result<(), String> {
         day.len(),
         verify::RANDOM
     );
+    eprintln!(
+        "bench: {} plays and {} random traces left the same bytes on the sides, and as their calls one by one; random numbers 0..13: {of_traces:?}",
+        plays.len(),
+        verify::TRACES
+    );
     Ok(())
 }
 
 /// How often all kinds are gone through.
 const PASSES: usize = 20;
 
-fn timed(asked: &Asked, kinds: &[Kind], day: Option<&[Call]>) -> Vec<Vec<f64>> {
+fn timed(asked: &Asked, chosen: &Chosen) -> Vec<Vec<f64>> {
     let mut bench = Bench::new();
-    let lengths = kinds.iter().map(|_| asked.calls).chain(DAYS.iter().flat_map(|_| day.map(<[Call]>::len)));
-    let mut rows: Vec<Best> = lengths.map(|calls| Best::new(asked.sides.len(), calls)).collect();
+    let best = |calls| Best::new(asked.sides.len(), calls);
+    let mut kinds: Vec<Best> = chosen.kinds.iter().map(|_| best(asked.calls)).collect();
+    let mut days: Vec<Best> = chosen.days().map(|(_, calls)| best(calls.len())).collect();
+    // As many plays in a round as have the records of the longest.
+    let times: Vec<usize> = chosen.plays.iter().map(|play| RECORDS / play.calls.len()).collect();
+    let mut plays: Vec<Best> = chosen.plays.iter().zip(&times).map(|(play, times)| best(times * play.calls.len())).collect();
+    let mut lent: Vec<Lent> = chosen.plays.iter().map(Lent::of).collect();
     let rounds = asked.rounds / PASSES;
     for pass in 0..PASSES {
         eprint!("\rbench: timing, pass {} of {PASSES} ", pass + 1);
         measure::deeper(pass, &mut || {
-            for (row, kind) in rows.iter_mut().zip(kinds) {
+            for (row, kind) in kinds.iter_mut().zip(&chosen.kinds) {
                 row.rounds(rounds, &asked.sides, |side| bench.kind(side, kind, asked.calls / BATCH));
             }
-            for (row, length) in rows[kinds.len()..].iter_mut().zip(DAYS) {
-                row.rounds(rounds, &asked.sides, |side| bench.day(side, day.unwrap_or(&[]), length));
+            for (row, (length, calls)) in days.iter_mut().zip(chosen.days()) {
+                row.rounds(rounds, &asked.sides, |side| bench.day(side, calls, length));
+            }
+            for (k, row) in plays.iter_mut().enumerate() {
+                row.rounds(rounds, &asked.sides, |side| measure::played(side, &chosen.plays[k], &mut lent[k], times[k]));
             }
         });
     }
     eprintln!();
-    rows.iter().map(Best::per_call).collect()
+    kinds.iter().chain(&days).chain(&plays).map(Best::per_call).collect()
 }
 
-fn run(mut asked: Asked, kinds: Vec<Kind>, with_day: bool) -> Result<(), String> {
+fn run(mut asked: Asked, chosen: Chosen) -> Result<(), String> {
     if asked.list {
-        kinds.iter().for_each(|kind| println!("{:20}{}", kind.name, kind.title));
+        chosen.kinds.iter().for_each(|kind| println!("{:20}{}", kind.name, kind.title));
         println!("{:20}a mixed day of calls, on one image: of form 1, and with numbers", "day");
+        chosen.plays.iter().for_each(|play| println!("{:20}{}", play.name, play.title));
         return Ok(());
     }
-    let calls = day::calls(asked.day);
-    let day = with_day.then_some(calls.as_slice());
     if asked.counted {
-        count::counted(&asked, &kinds, day);
+        count::counted(&asked, &chosen);
         return Ok(());
     }
     if asked.stack {
         return stack::print(asked.markdown);
     }
     let cpu = measure::pin();
-    verified(&calls)?;
-    let times = if asked.times { timed(&asked, &kinds, day) } else { Vec::new() };
+    verified(&day::calls(asked.day))?;
+    let times = if asked.times { timed(&asked, &chosen) } else { Vec::new() };
     let instructions = if asked.instructions {
         eprintln!("bench: counting instructions with {}", count::counter());
-        count::per_call(&asked, kinds.len(), day.map(<[Call]>::len)).unwrap_or_else(|why| {
+        count::per_call(&asked, &chosen).unwrap_or_else(|why| {
             eprintln!("bench: instructions are left out: {why}");
             asked.instructions = false;
             Vec::new()
@@ -184,8 +217,9 @@ fn run(mut asked: Asked, kinds: Vec<Kind>, with_day: bool) -> Result<(), String>
     } else {
         Vec::new()
     };
-    let days = ["mixed day", "numbers: mixed day"].into_iter().filter(|_| with_day).map(|title| (title, true));
-    let titles = kinds.iter().map(|kind| (kind.title, has_c(kind))).chain(days);
+    let days = chosen.days().zip(["mixed day", "numbers: mixed day"]).map(|(_, title)| (title, true));
+    let plays = chosen.plays.iter().map(|play| (play.title.as_str(), false));
+    let titles = chosen.kinds.iter().map(|kind| (kind.title, has_c(kind))).chain(days).chain(plays);
     let row = |(k, (title, c)): (usize, (&str, bool))| Row {
         title: title.into(),
         times: times.get(k).cloned().unwrap_or_default(),
@@ -194,7 +228,8 @@ fn run(mut asked: Asked, kinds: Vec<Kind>, with_day: bool) -> Result<(), String>
     };
     let rows: Vec<Row> = titles.enumerate().map(row).collect();
     table::print(&rows, &asked.sides, asked.times, asked.instructions, asked.markdown);
-    tell(&asked, &rows, cpu, day);
+    // In a play there is one loop and one call for all its records.
+    tell(&asked, &rows[..rows.len() - chosen.plays.len()], cpu, chosen.day.as_deref());
     Ok(())
 }
 
@@ -238,7 +273,7 @@ pub fn main() -> ExitCode {
         Err(why) => return told(why, 2),
     };
     match chosen(&asked) {
-        Ok((kinds, with_day)) => run(asked, kinds, with_day).map_or_else(|why| told(why, 1), |()| ExitCode::SUCCESS),
+        Ok(chosen) => run(asked, chosen).map_or_else(|why| told(why, 1), |()| ExitCode::SUCCESS),
         Err(why) => told(why, 2),
     }
 }

@@ -4,6 +4,7 @@
 use crate::call::Call;
 use crate::count::{BEGIN, END, sign};
 use crate::kinds::{Kind, NUMBERED, Slot};
+use crate::plays::{Lent, Play};
 use crate::sides;
 use std::time::Instant;
 
@@ -97,6 +98,22 @@ impl Bench {
     }
 }
 
+/// Nanoseconds of so many plays.
+pub fn played(side: char, of: &Play, lent: &mut Lent, times: usize) -> u64 {
+    let timed = play(side);
+    let began = Instant::now();
+    timed(of, lent, times);
+    began.elapsed().as_nanos() as u64
+}
+
+/// So many plays, for the counter.
+pub fn play_counted(side: char, of: &Play, lent: &mut Lent, times: usize) {
+    let timed = play(side);
+    sign(BEGIN);
+    timed(of, lent, times);
+    sign(END);
+}
+
 /// A side's timed loop over slots.
 fn each(side: char) -> fn(&Kind, &mut [Slot]) {
     match side {
@@ -114,6 +131,16 @@ fn day(side: char) -> fn(&[Call], &mut Slot, usize) {
         'b' => sides::bench_timed_day_b,
         'd' => sides::bench_timed_day_d,
         _ => sides::bench_timed_day_n,
+    }
+}
+
+/// A side's plays.
+fn play(side: char) -> fn(&Play, &mut Lent, usize) {
+    match side {
+        'a' => sides::bench_timed_play_a,
+        'b' => sides::bench_timed_play_b,
+        'd' => sides::bench_timed_play_d,
+        _ => sides::bench_timed_play_n,
     }
 }
 

@@ -138,6 +138,50 @@ fn check<F: Form<N>, const N: usize>(image: &[u8; N]) -> Result<(), Refusal> {
     F::NUMBERS.map_or(Ok(()), |numbers| unused(image, numbers + 2, count))
 }
 
+/// The fields of a record: kind, input or width, offset, the bytes that have to be zero, value.
+fn fields(record: &[u8; 16]) -> (u8, u64, u64, u32, u64) {
+    let [kind, byte, o0, o1, z0, z1, z2, z3, value @ ..] = *record;
+    (kind, u64::from(byte), u64::from(u16::from_le_bytes([o0, o1])), u32::from_le_bytes([z0, z1, z2, z3]), u64::from_le_bytes(value))
+}
+
+fn is_good(record: &[u8; 16]) -> bool {
+    let (kind, byte, offset, zeros, value) = fields(record);
+    let unused = match kind {
+        1..=3 => offset == 0 && value == 0,
+        4 => value == 0,
+        5 => true,
+        6 => byte == 0 && offset == 0 && value == 0,
+        _ => false,
+    };
+    unused && zeros == 0
+}
+
+/// The records of a trace; refusal 12 for its contents, 13 for the first bad record.
+fn records_of(trace: &[u8]) -> Result<&[[u8; 16]], Refusal> {
+    let (blocks, rest) = trace.split_first_chunk().ok_or(refusal(12))?;
+    let blocks = usize::from(u16::from_le_bytes(*blocks));
+    if !(1..=64).contains(&blocks) {
+        return Err(refusal(12));
+    }
+    let (listed, rest) = rest.split_at_checked(4 * blocks).ok_or(refusal(12))?;
+    let mut records = 0;
+    for block in listed.chunks_exact(4) {
+        let (from, count) = (u16::from_le_bytes([block[0], block[1]]), u16::from_le_bytes([block[2], block[3]]));
+        if usize::from(from) != 2 + 4 * blocks + 16 * records || count == 0 {
+            return Err(refusal(12));
+        }
+        records += usize::from(count);
+    }
+    if records > 4000 || rest.len() != 16 * records {
+        return Err(refusal(12));
+    }
+    let (records, _) = rest.as_chunks();
+    match records.iter().position(|record| !is_good(record)) {
+        Some(bad) => Err(broken(13, bad)),
+        None => Ok(records),
+    }
+}
+
 impl State {
     fn reset() -> Self {
         State {
@@ -280,9 +324,13 @@ impl State {
             event[..2].copy_from_slice(pair);
             event[2..].copy_from_slice(number);
         }
-        for bytes in [&mut self.pairs, &mut self.numbers] {
-            bytes.copy_within(2 * moved.., 0);
-            bytes[32 - 2 * moved..].fill(0);
+        if moved == self.waiting {
+            (self.pairs, self.numbers) = ([0; 32], [0; 32]);
+        } else {
+            for bytes in [&mut self.pairs, &mut self.numbers] {
+                bytes.copy_within(2 * moved.., 0);
+                bytes[32 - 2 * moved..].fill(0);
+            }
         }
         self.waiting -= moved;
         moved as u64
@@ -397,6 +445,28 @@ impl State {
             }
         }
     }
+
+    /// The call that a record is, with base 0 and size 65,536. What it drains goes behind the events that are used, and is used then.
+    #[inline(always)]
+    fn play(&mut self, record: &[u8; 16], events: &mut [u8], used: &mut usize) -> Outcome {
+        let (kind, byte, offset, _, value) = fields(record);
+        match kind {
+            1 => Ok(self.raise(input_of(byte)?)),
+            2 => Ok(self.lower(input_of(byte)?)),
+            3 => Ok(self.poll(input_of(byte)?)),
+            4 => Ok(Some(self.read(Width::of(byte)?, offset_of(0, 0x1_0000, offset, byte)?))),
+            5 => {
+                self.lost = 0;
+                self.write(Width::of(byte)?, offset_of(0, 0x1_0000, offset, byte)?, value);
+                Ok(Some(self.lost))
+            }
+            _ => {
+                let moved = self.drain(&mut events[*used..]);
+                *used += 4 * moved as usize;
+                Ok(Some(moved))
+            }
+        }
+    }
 }
 
 enum Width {
@@ -467,6 +537,26 @@ fn saved<F: Form<N>, const N: usize>(image: &mut [u8; N], state: &State) -> Outc
     Ok(None)
 }
 
+/// Refusals 12 and 13, and 7 where answers or events have no room. Then all is played on one state, which is saved at the end.
+fn played<F: Form<N>, const N: usize>(image: &mut [u8; N], trace: &[u8], answers: &mut [u8], events: &mut [u8]) -> Outcome {
+    let records = records_of(trace)?;
+    let drains = records.iter().filter(|record| record[0] == 6).count();
+    let (answers, _) = answers.as_chunks_mut();
+    if answers.len() < records.len() || events.len() < 64 * drains {
+        return Err(refusal(7));
+    }
+    let (mut state, mut used) = (State::reset(), 0);
+    for (record, answer) in records.iter().zip(answers) {
+        // Without the body of numbers they hold within one call; what waits has its place as its number by itself.
+        if F::NUMBERS.is_none() {
+            state.next = state.waiting as u16;
+        }
+        told(answer, state.play(record, events, &mut used));
+    }
+    state.save::<F, N>(image);
+    Ok(Some(records.len() as u64))
+}
+
 // The calls. They stay calls of their own in the measured program, as those of a library do.
 
 #[inline(never)]
@@ -526,4 +616,13 @@ pub fn convert(image: &[u8], target: &mut [u8], answer: &mut [u8]) -> u8 {
         return told(answer, Err(refusal(4)));
     }
     told(answer, looked(image, |state| by_length!(target, saved, state)))
+}
+
+#[inline(never)]
+pub fn play(trace: &[u8], image: &mut [u8], answers: &mut [u8], events: &mut [u8], answer: &mut [u8]) -> u8 {
+    let Some(answer) = answer.first_chunk_mut() else { return 7 };
+    match by_length!(image, played, trace, answers, events) {
+        Err(Refusal { number: 7, .. }) => 7,
+        outcome => told(answer, outcome),
+    }
 }

@@ -3,6 +3,7 @@
 
 use crate::call::Call;
 use crate::kinds::{Kind, NUMBERED, Slot};
+use crate::plays::{Lent, Play};
 use std::hint::black_box;
 use std::slice::{from_raw_parts as part, from_raw_parts_mut as part_mut};
 
@@ -26,6 +27,18 @@ mod library {
         pub fn pch_pic_poll(image: *mut u8, il: usize, input: u64, answer: *mut u8, al: usize) -> u8;
         pub fn pch_pic_drain(image: *mut u8, il: usize, events: *mut u8, el: usize, place: usize, answer: *mut u8, al: usize) -> u8;
         pub fn pch_pic_convert(image: *const u8, il: usize, target: *mut u8, tl: usize, answer: *mut u8, al: usize) -> u8;
+        pub fn pch_pic_play(
+            trace: *const u8,
+            tl: usize,
+            image: *mut u8,
+            il: usize,
+            answers: *mut u8,
+            bl: usize,
+            events: *mut u8,
+            el: usize,
+            answer: *mut u8,
+            al: usize,
+        ) -> u8;
     }
 }
 pub use library::*;
@@ -44,6 +57,7 @@ pub trait Side {
     unsafe fn poll(image: Area, input: u64, answer: Area) -> u8;
     unsafe fn drain(image: Area, events: Area, place: usize, answer: Area) -> u8;
     unsafe fn convert(image: Area, target: Area, answer: Area) -> u8;
+    unsafe fn play(trace: &[u8], image: Area, answers: Area, events: Area, answer: Area) -> u8;
 }
 
 pub struct Library;
@@ -76,6 +90,10 @@ impl Side for Library {
     #[inline(always)]
     unsafe fn convert(i: Area, t: Area, a: Area) -> u8 {
         unsafe { pch_pic_convert(i.0, i.1, t.0, t.1, a.0, a.1) }
+    }
+    #[inline(always)]
+    unsafe fn play(trace: &[u8], i: Area, b: Area, e: Area, a: Area) -> u8 {
+        unsafe { pch_pic_play(trace.as_ptr(), trace.len(), i.0, i.1, b.0, b.1, e.0, e.1, a.0, a.1) }
     }
 }
 
@@ -112,6 +130,10 @@ macro_rules! rust {
             #[inline(always)]
             unsafe fn convert(i: Area, t: Area, a: Area) -> u8 {
                 unsafe { $of::convert(part(i.0, i.1), part_mut(t.0, t.1), part_mut(a.0, a.1)) }
+            }
+            #[inline(always)]
+            unsafe fn play(trace: &[u8], i: Area, b: Area, e: Area, a: Area) -> u8 {
+                unsafe { $of::play(trace, part_mut(i.0, i.1), part_mut(b.0, b.1), part_mut(e.0, e.1), part_mut(a.0, a.1)) }
             }
         }
     };
@@ -154,6 +176,10 @@ impl Side for Nothing {
     }
     #[inline(always)]
     unsafe fn convert(i: Area, _: Area, a: Area) -> u8 {
+        nothing(i.0, a.0)
+    }
+    #[inline(always)]
+    unsafe fn play(_: &[u8], i: Area, _: Area, _: Area, a: Area) -> u8 {
         nothing(i.0, a.0)
     }
 }
@@ -233,9 +259,54 @@ fn day<S: Side>(calls: &[Call], slot: &mut Slot, image_len: usize) {
     }
 }
 
+/// The trace played in one call. The number that is handed back.
+#[inline(always)]
+pub fn play<S: Side>(trace: &[u8], lent: &mut Lent) -> u8 {
+    let area = |bytes: &mut Vec<u8>| (bytes.as_mut_ptr(), bytes.len());
+    // SAFETY: the areas are what is lent, apart from one another, as long as they are.
+    unsafe { S::play(trace, area(&mut lent.image), area(&mut lent.answers), area(&mut lent.events), area(&mut lent.answer)) }
+}
+
+/// The reset, and then the calls of a trace's records one by one, each with its own sixteen answer bytes, and the drained events back to back.
+#[inline(always)]
+pub fn one_by_one<S: Side>(calls: &[Call], lent: &mut Lent) {
+    let image = (lent.image.as_mut_ptr(), lent.image.len());
+    // SAFETY: as in play; a drain has the events that are left.
+    unsafe { S::reset(image, (lent.answer.as_mut_ptr(), lent.answer.len())) };
+    let mut used = 0;
+    for (call, answer) in calls.iter().zip(lent.answers.chunks_exact_mut(16)) {
+        let area = (answer.as_mut_ptr(), answer.len());
+        // SAFETY: as above.
+        black_box(unsafe {
+            match *call {
+                Call::Read { base, size, address, width } => S::read(image, (base, size), address, width, area),
+                Call::Write { base, size, address, width, value } => S::write(image, (base, size), address, width, value, area),
+                Call::Level { input, level } => S::level(image, input, level, area),
+                Call::Poll { input } => S::poll(image, input, area),
+                _ => {
+                    let number = S::drain(image, (lent.events.as_mut_ptr(), lent.events.len()), used, area);
+                    used += 4 * usize::from(answer[8]);
+                    number
+                }
+            }
+        });
+    }
+}
+
+#[inline(always)]
+fn played<S: Side>(play: &Play, lent: &mut Lent, times: usize) {
+    for _ in 0..times {
+        if play.one_by_one {
+            one_by_one::<S>(&play.calls, lent);
+        } else {
+            black_box(self::play::<S>(&play.trace, lent));
+        }
+    }
+}
+
 // What the instruction counter looks for by name: collection is on in functions whose names begin so.
 macro_rules! timed {
-    ($side:ty, $each:ident, $day:ident) => {
+    ($side:ty, $each:ident, $day:ident, $play:ident) => {
         #[unsafe(no_mangle)]
         #[inline(never)]
         pub fn $each(kind: &Kind, slots: &mut [Slot]) {
@@ -247,9 +318,15 @@ macro_rules! timed {
         pub fn $day(calls: &[Call], slot: &mut Slot, image_len: usize) {
             day::<$side>(calls, slot, image_len)
         }
+
+        #[unsafe(no_mangle)]
+        #[inline(never)]
+        pub fn $play(play: &Play, lent: &mut Lent, times: usize) {
+            played::<$side>(play, lent, times)
+        }
     };
 }
-timed!(Library, bench_timed_each_a, bench_timed_day_a);
-timed!(Plain, bench_timed_each_b, bench_timed_day_b);
-timed!(Lean, bench_timed_each_d, bench_timed_day_d);
-timed!(Nothing, bench_timed_each_n, bench_timed_day_n);
+timed!(Library, bench_timed_each_a, bench_timed_day_a, bench_timed_play_a);
+timed!(Plain, bench_timed_each_b, bench_timed_day_b, bench_timed_play_b);
+timed!(Lean, bench_timed_each_d, bench_timed_day_d, bench_timed_play_d);
+timed!(Nothing, bench_timed_each_n, bench_timed_day_n, bench_timed_play_n);

@@ -67,5 +67,6 @@ pub fn empty(rows: &[Row], sides: &[char]) -> Option<String> {
     };
     let time = range(|row| &row.times).map(|(least, most)| format!("{least:.1} to {most:.1} ns"));
     let instructions = range(|row| &row.instructions).map(|(least, most)| format!("{least:.0} to {most:.0} instructions"));
-    Some(time.into_iter().chain(instructions).collect::<Vec<_>>().join(", "))
+    let both: Vec<String> = time.into_iter().chain(instructions).collect();
+    (!both.is_empty()).then(|| both.join(", "))
 }

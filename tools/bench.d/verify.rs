@@ -3,7 +3,8 @@
 use crate::call::Call;
 use crate::chance::Chance;
 use crate::kinds::{BASE, Kind, LENGTH, LENGTHS, NUMBERED, Prepared, SIZE, Slot, count_at, moved};
-use crate::sides::{Lean, Library, Plain, Side, converted, make};
+use crate::plays::{self, Lent, Play};
+use crate::sides::{Lean, Library, Plain, Side, converted, make, one_by_one, play};
 
 /// What a side hands back, and the target of a conversion.
 fn by<S: Side>(call: &Call, slot: &mut Slot, image_len: usize, answer_len: usize) -> (u8, [u8; NUMBERED]) {
@@ -123,6 +124,76 @@ pub fn random() -> Result<[u64; 12], String> {
     // 02, C-16: there is no 6 any more
     match numbers.iter().enumerate().position(|(number, &met)| met == 0 && number != 6) {
         Some(number) => Err(format!("the random calls never met number {number}")),
+        None => Ok(numbers),
+    }
+}
+
+/// The sides play the trace, and must hand back the same number and leave the same bytes.
+fn same_play(what: &str, trace: &[u8], lent: &mut Lent) -> Result<u8, String> {
+    let (mut plain, mut lean) = (lent.clone(), lent.clone());
+    let number = play::<Library>(trace, lent);
+    let others = [("plain Rust", play::<Plain>(trace, &mut plain), plain), ("lean Rust", play::<Lean>(trace, &mut lean), lean)];
+    match others.iter().find(|other| other.1 != number || other.2 != *lent) {
+        Some((name, handed, _)) => Err(format!("{what}: a play hands back {number}, that of {name} {handed}, or leaves other bytes")),
+        None => Ok(number),
+    }
+}
+
+/// The calls of what was played, made one by one on each side, must leave the same bytes but in the answer area, which told the reset last.
+fn same_calls(what: &str, calls: &[Call], before: &Lent, left: &Lent) -> Result<(), String> {
+    let sides = [one_by_one::<Library>, one_by_one::<Plain>, one_by_one::<Lean>];
+    for (name, side) in ["the library", "plain Rust", "lean Rust"].into_iter().zip(sides) {
+        let mut lent = before.clone();
+        side(calls, &mut lent);
+        lent.answer.clone_from(&left.answer);
+        if lent != *left {
+            return Err(format!("{what}: the calls of {name} one by one leave other bytes than the play"));
+        }
+    }
+    Ok(())
+}
+
+/// A play that is measured: it is done, by the sides alike, and as one by one.
+pub fn played(of: &Play) -> Result<(), String> {
+    let (before, mut lent) = (Lent::of(of), Lent::of(of));
+    match same_play(&of.name, &of.trace, &mut lent)? {
+        0 => same_calls(&of.name, &of.calls, &before, &lent),
+        number => Err(format!("{}: the play is refused with {number}", of.name)),
+    }
+}
+
+/// How many random traces are played.
+pub const TRACES: u64 = 20_000;
+
+/// Random traces, some of them spoilt; gives how often each number came.
+pub fn traces() -> Result<[u64; 14], String> {
+    let mut chance = Chance::new(11);
+    let mut numbers = [0; 14];
+    for _ in 0..TRACES {
+        let (mut trace, calls, mut lent) = plays::random(&mut chance);
+        let spoilt = chance.percent(50);
+        match chance.below(8) {
+            _ if !spoilt => {}
+            0 => lent.answers.truncate(lent.answers.len() - 1),
+            1 => lent.events.truncate(lent.events.len().saturating_sub(1)),
+            2 => lent.image.push(0),
+            3 => lent.answer.truncate(15),
+            4 => trace.truncate(chance.below(trace.len() as u64) as usize),
+            // mostly in a record, and then often one that is used
+            _ => {
+                let at = chance.below(trace.len() as u64) as usize;
+                trace[at] ^= 1 << chance.below(8);
+            }
+        }
+        let before = lent.clone();
+        let number = same_play("random", &trace, &mut lent)?;
+        numbers[usize::from(number)] += 1;
+        if number == 0 && !spoilt {
+            same_calls("random", &calls, &before, &lent)?;
+        }
+    }
+    match [0, 4, 7, 12, 13].into_iter().find(|&number| numbers[number] == 0) {
+        Some(number) => Err(format!("the random traces never met number {number}")),
         None => Ok(numbers),
     }
 }

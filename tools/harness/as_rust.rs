@@ -94,6 +94,24 @@ pub unsafe fn pch_pic_table_write(
     unsafe { pch_pic_table::pch_pic_table_write(area(image, image_len), base, size, address, width, value, area(answer, answer_len)) }
 }
 
+pub unsafe fn pch_pic_play(
+    trace: *const u8,
+    trace_len: usize,
+    image: *mut u8,
+    image_len: usize,
+    answers: *mut u8,
+    answers_len: usize,
+    events: *mut u8,
+    events_len: usize,
+    answer: *mut u8,
+    answer_len: usize,
+) -> u8 {
+    unsafe {
+        let (image, answers, events) = (area(image, image_len), area(answers, answers_len), area(events, events_len));
+        pch_pic_trace::pch_pic_play(area(trace.cast_mut(), trace_len), image, answers, events, area(answer, answer_len))
+    }
+}
+
 pub unsafe fn pch_pic_difference(later: u16, earlier: u16) -> i16 {
     difference::pch_pic_difference(later, earlier)
 }

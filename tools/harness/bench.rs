@@ -39,6 +39,27 @@ pub struct Met {
     pub wrapping: u64,
     /// Differences of two numbers.
     pub differences: u64,
+    /// What was met in traces.
+    pub traces: MetInTraces,
+}
+
+/// What the plays of a run met; all but the first of those that were done.
+#[derive(Default)]
+pub struct MetInTraces {
+    /// Plays by the number that 02 expects.
+    pub plays: [u64; 14],
+    /// By the image's form.
+    pub forms: [u64; 3],
+    /// Records, refused ones among them, the most in one trace, and those that were held against calls made one by one.
+    pub records: u64,
+    pub refused: u64,
+    pub longest: u64,
+    pub one_by_one: u64,
+    /// Events returned, drained, dropped; and traces whose numbers went round.
+    pub returned: u64,
+    pub drained: u64,
+    pub dropped: u64,
+    pub round: u64,
 }
 
 pub struct Bench {

@@ -58,6 +58,11 @@ pub fn mood(chance: &mut Chance) -> Mood {
     Mood { base, size, inputs, mix: chance.one_of(&MIXES) }
 }
 
+/// One with a window that is given.
+pub fn mood_in(chance: &mut Chance, base: u64, size: u64) -> Mood {
+    Mood { base, size, ..mood(chance) }
+}
+
 /// Mostly a window that holds the registers; else ones at and around the far end, small and empty ones, any.
 fn window(chance: &mut Chance) -> (u64, u64) {
     match chance.below(20) {

@@ -1,4 +1,4 @@
-//! Makes the file of recorded answers: the published Rust answers, by the boundary that 01 states. `tools/record-answers` runs this.
+//! Makes the files of recorded answers and of recorded plays: the published Rust answers, by the boundary that 01 states. `tools/record-answers` runs this.
 
 // the modules are shared with the other programs, and not all of each is used here
 #![allow(dead_code)]
@@ -6,17 +6,24 @@
 mod boundary;
 mod call;
 mod chance;
+mod days;
 mod fixed;
 mod generate;
 mod image;
+mod lent;
 mod numbers;
+mod play_records;
+mod played;
 mod quiet;
 mod records;
+mod trace;
 
 use boundary::Boundary;
 use call::Call;
 use chance::Chance;
-use image::{FORMS, Form};
+use days::{Day, Play};
+use image::{FORMS, Form, NUMBERED};
+use play_records::Lent;
 use records::{
     ANSWER_AREA, ANSWER_FILL, Answered, BYTE, EVENT_BUFFER, EVENT_FILL, IMAGE, IMAGE_BUFFER, IMAGE_RECORDS, MAGIC, RECORD, WHOLE,
 };
@@ -106,6 +113,7 @@ const SEED: u64 = 20;
 fn main() {
     quiet::on_closed_pipes();
     let path = std::env::args().nth(1).expect("the path of the file to write");
+    let path_of_plays = std::env::args().nth(2).expect("the path of the plays' file");
     let mut recorder = Recorder::new();
     let mut chance = Chance::new(SEED);
     for form in FORMS {
@@ -138,11 +146,50 @@ fn main() {
         recorder.numbers
     );
     let file = recorder.finish();
-    if let Err(error) = std::fs::write(&path, &file) {
+    keep(&path, &file);
+    println!("{path}: {records} records, {calls} of them calls, {} bytes", file.len());
+    plays(&path_of_plays);
+}
+
+fn keep(path: &str, file: &[u8]) {
+    if let Err(error) = std::fs::write(path, file) {
         eprintln!("record-answers: {path}: {error}");
         std::process::exit(2);
     }
-    println!("{path}: {records} records, {calls} of them calls, {} bytes", file.len());
+}
+
+/// The fixed histories as traces in all forms, random traces, good and damaged, and one with the most records.
+fn plays(path: &str) {
+    let mut chance = Chance::new(SEED);
+    let (mut rust, mut file, mut numbers) = (Boundary::new(), vec![0; play_records::HEADER], [0_u32; 14]);
+    let mut record = |play: &Play| {
+        let before = Lent::new(&play.trace, [play.image.len(), play.answers, play.events, play.answer]);
+        let mut after = before.clone();
+        let Lent { trace, image, answers, events, answer } = &mut after;
+        let number = played::play(&mut rust, trace, image, answers, events, answer);
+        file.extend(play_records::write(&before, number, &after));
+        numbers[usize::from(number)] += 1;
+    };
+    for form in FORMS {
+        for history in fixed::histories(form) {
+            let records: Vec<trace::Record> = history.steps.iter().filter_map(|(call, _)| trace::record(call)).collect();
+            let (count, blocks) = (records.len(), days::cut(&mut chance, records.len()));
+            record(&Day { records, blocks, image: vec![0; form.length] }.play(count, 8, 0));
+        }
+        for length in (1..=40).step_by(2).chain([130]) {
+            let records = days::random_records(&mut chance, length);
+            let play = Day { records, blocks: days::cut(&mut chance, length), image: vec![0; form.length] }.play(length, 8, 0);
+            record(&play);
+            record(&days::damaged(&mut chance, play));
+        }
+    }
+    let records = days::random_records(&mut chance, 4000);
+    record(&Day { records, blocks: days::cut(&mut chance, 4000), image: vec![0; NUMBERED.length] }.play(4000, 0, 0));
+    let count: u32 = numbers.iter().sum();
+    file[..8].copy_from_slice(play_records::MAGIC);
+    file[8..12].copy_from_slice(&count.to_le_bytes());
+    keep(path, &file);
+    println!("{path}: {count} plays, numbers 0 to 13: {numbers:?}, {} bytes", file.len());
 }
 
 /// Every register half and the ends of the tables, with their neighbours, by every width, on an image where much is set.

@@ -8,6 +8,8 @@ mod boundary;
 mod call;
 mod image;
 mod numbers;
+mod played;
+mod trace;
 
 use boundary::Boundary;
 use call::Call;
@@ -127,6 +129,24 @@ pub unsafe fn pch_pic_table_write(
 ) -> u8 {
     let call = Call::Write { base, size, address, width, value };
     unsafe { perform(call, (image, image_len), (answer, answer_len), NONE) }
+}
+
+#[allow(clippy::too_many_arguments)]
+pub unsafe fn pch_pic_play(
+    trace: *const u8,
+    trace_len: usize,
+    image: *mut u8,
+    image_len: usize,
+    answers: *mut u8,
+    answers_len: usize,
+    events: *mut u8,
+    events_len: usize,
+    answer: *mut u8,
+    answer_len: usize,
+) -> u8 {
+    let (image, answers, events) = unsafe { (area(image, image_len), area(answers, answers_len), area(events, events_len)) };
+    let (trace, answer) = unsafe { (area(trace.cast_mut(), trace_len), area(answer, answer_len)) };
+    DEVICE.with_borrow_mut(|device| played::play(device, trace, image, answers, events, answer))
 }
 
 /// Of the two numbers below 65,536 in size that are congruent, the one in range.

@@ -1,7 +1,9 @@
 //! One call as a line of words: a failure is printed so, and `tools/differential --one` takes it back.
 
 use crate::call::Call;
+use crate::days::Play;
 use crate::lent::Areas;
+use std::collections::HashMap;
 
 /// A call as it reads, with all that it is lent, so that it can be made again alone.
 pub struct Line {
@@ -34,34 +36,74 @@ pub fn line(call: &Call, image: &[u8], lent: &Areas, fill: u64, head: usize) -> 
     )
 }
 
-/// The line back from its words, or what is wrong with it.
-pub fn parse(words: &[String]) -> Result<Line, String> {
-    let (kind, words) = words.split_first().ok_or("no call is named")?;
-    let mut fields = std::collections::HashMap::new();
-    for word in words {
-        let (name, value) = word.split_once('=').ok_or(format!("'{word}' is no NAME=VALUE"))?;
-        fields.insert(name, value);
+/// A play in the same way; its trace is in a file.
+pub fn play_line(play: &Play, file: &str) -> String {
+    let Play { ref image, answers, events, answer, null, fill, .. } = *play;
+    let bytes: String = image.iter().map(|byte| format!("{byte:02x}")).collect();
+    format!("play trace={file} answers={answers:#x} events={events:#x} answer={answer:#x} null={} fill={fill:#x} image={bytes}", null as u8)
+}
+
+/// The words NAME=VALUE of a line.
+struct Fields<'a>(HashMap<&'a str, &'a str>);
+
+impl<'a> Fields<'a> {
+    fn of(words: &'a [String], known: &[&str]) -> Result<Self, String> {
+        let mut fields = HashMap::new();
+        for word in words {
+            let (name, value) = word.split_once('=').ok_or(format!("'{word}' is no NAME=VALUE"))?;
+            if !known.contains(&name) {
+                return Err(format!("'{name}=' is no name of a call's"));
+            }
+            fields.insert(name, value);
+        }
+        Ok(Fields(fields))
     }
-    let known = [
-        "base", "size", "address", "width", "value", "input", "level", "place", "target", "image", "answer", "events", "null", "fill",
-        "head",
-    ];
-    if let Some(name) = fields.keys().find(|name| !known.contains(name)) {
-        return Err(format!("'{name}=' is no name of a call's"));
+
+    fn text(&self, name: &str) -> Result<&'a str, String> {
+        self.0.get(name).copied().ok_or(format!("{name}= is missing"))
     }
-    let number = |name: &str, or: Option<u64>| -> Result<u64, String> {
-        let Some(value) = fields.get(name) else { return or.ok_or(format!("{name}= is missing")) };
+
+    fn need(&self, name: &str) -> Result<u64, String> {
+        let value = self.text(name)?;
         let parsed = match value.strip_prefix("0x") {
             Some(digits) => u64::from_str_radix(digits, 16),
             None => value.parse(),
         };
         parsed.map_err(|_| format!("{name}={value} is no number"))
-    };
-    let need = |name: &str| number(name, None);
-    let access = || -> Result<(u64, u64, u64, u64), String> { Ok((need("base")?, need("size")?, need("address")?, need("width")?)) };
-    let most = |name: &str, value: u64, most: usize| {
+    }
+
+    fn number(&self, name: &str, or: u64) -> Result<u64, String> {
+        if self.0.contains_key(name) { self.need(name) } else { Ok(or) }
+    }
+
+    fn length(&self, name: &str, or: u64, most: usize) -> Result<usize, String> {
+        let value = self.number(name, or)?;
         if value <= most as u64 { Ok(value as usize) } else { Err(format!("{name}= is over {most}")) }
-    };
+    }
+
+    fn image(&self) -> Result<Vec<u8>, String> {
+        let digits = self.text("image")?;
+        let image = (0..digits.len())
+            .step_by(2)
+            .map(|i| digits.get(i..i + 2).and_then(|pair| u8::from_str_radix(pair, 16).ok()))
+            .collect::<Option<Vec<u8>>>()
+            .ok_or("image= wants pairs of hex digits")?;
+        if image.len() <= 320 { Ok(image) } else { Err("image= is over 320 bytes".into()) }
+    }
+}
+
+const FILL: u64 = 0xeeee_eeee_eeee_eeee;
+
+/// The line back from its words, or what is wrong with it.
+pub fn parse(words: &[String]) -> Result<Line, String> {
+    let (kind, words) = words.split_first().ok_or("no call is named")?;
+    let known = [
+        "base", "size", "address", "width", "value", "input", "level", "place", "target", "image", "answer", "events", "null", "fill",
+        "head",
+    ];
+    let fields = Fields::of(words, &known)?;
+    let need = |name: &str| fields.need(name);
+    let access = || -> Result<(u64, u64, u64, u64), String> { Ok((need("base")?, need("size")?, need("address")?, need("width")?)) };
     let call = match kind.as_str() {
         "reset" => Call::Reset,
         "read" => {
@@ -75,22 +117,31 @@ pub fn parse(words: &[String]) -> Result<Line, String> {
         "level" => Call::Level { input: need("input")?, level: need("level")? },
         "poll" => Call::Poll { input: need("input")? },
         "drain" => Call::Drain { place: need("place")? },
-        "convert" => Call::Convert { target: most("target", need("target")?, 320)? },
-        other => return Err(format!("'{other}' is none of reset, read, write, level, poll, drain, convert")),
+        "convert" => Call::Convert { target: fields.length("target", need("target")?, 320)? },
+        other => return Err(format!("'{other}' is none of reset, read, write, level, poll, drain, convert, play")),
     };
-    let digits = fields.get("image").ok_or("image= is missing")?;
-    let image = (0..digits.len())
-        .step_by(2)
-        .map(|i| digits.get(i..i + 2).and_then(|pair| u8::from_str_radix(pair, 16).ok()))
-        .collect::<Option<Vec<u8>>>()
-        .ok_or("image= wants pairs of hex digits")?;
     Ok(Line {
         call,
-        answer: most("answer", number("answer", Some(16))?, 48)?,
-        events: most("events", number("events", Some(0))?, 96)?,
-        null: number("null", Some(0))? != 0,
-        fill: number("fill", Some(0xeeee_eeee_eeee_eeee))?,
-        head: most("head", number("head", Some(0))?, 15)?,
-        image: if image.len() <= 320 { image } else { return Err("image= is over 320 bytes".into()) },
+        answer: fields.length("answer", 16, 48)?,
+        events: fields.length("events", 0, 96)?,
+        null: fields.number("null", 0)? != 0,
+        fill: fields.number("fill", FILL)?,
+        head: fields.length("head", 0, 15)?,
+        image: fields.image()?,
+    })
+}
+
+/// A play back from the words behind its name.
+pub fn parse_play(words: &[String]) -> Result<Play, String> {
+    let fields = Fields::of(words, &["trace", "image", "answers", "events", "answer", "null", "fill"])?;
+    let file = fields.text("trace")?;
+    Ok(Play {
+        trace: std::fs::read(file).map_err(|error| format!("{file}: {error}"))?,
+        image: fields.image()?,
+        answers: fields.length("answers", 64_000, 1 << 20)?,
+        events: fields.length("events", 256_000, 1 << 20)?,
+        answer: fields.length("answer", 16, 1 << 20)?,
+        null: fields.number("null", 0)? != 0,
+        fill: fields.number("fill", FILL)?,
     })
 }

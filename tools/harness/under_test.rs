@@ -2,7 +2,7 @@
 //! the same number and the same bytes.
 
 use crate::call::Call;
-use crate::lent::Areas;
+use crate::lent::{Areas, Five};
 use std::sync::atomic::{AtomicBool, Ordering};
 
 static BOXED: AtomicBool = AtomicBool::new(false);
@@ -32,6 +32,27 @@ pub fn call(call: &Call, lent: &mut Areas) -> u8 {
 pub fn difference(later: u16, earlier: u16) -> i16 {
     // SAFETY: it is lent nothing.
     unsafe { library::pch_pic_difference(later, earlier) }
+}
+
+/// Plays a trace.
+#[allow(dead_code)]
+pub fn play(lent: &mut Five) -> u8 {
+    let Five { trace, image, answers, events, answer } = lent;
+    let mut five = [trace, image, answers, events, answer];
+    if !BOXED.load(Ordering::Relaxed) {
+        return make_play(five.map(|block| block.lent()));
+    }
+    let mut boxes = five.each_ref().map(|block| Box::<[u8]>::from(block.bytes()));
+    let number = make_play(boxes.each_mut().map(|block| (block.as_mut_ptr(), block.len())));
+    for (block, left) in five.iter_mut().zip(&boxes) {
+        block.slice().copy_from_slice(left);
+    }
+    number
+}
+
+fn make_play([(t, tl), (i, il), (s, sl), (e, el), (a, al)]: [Area; 5]) -> u8 {
+    // SAFETY: each pointer and length is an area of its own that outlives the call; an empty one may be null, as the boundary says.
+    unsafe { library::pch_pic_play(t, tl, i, il, s, sl, e, el, a, al) }
 }
 
 type Area = (*mut u8, usize);

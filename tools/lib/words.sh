@@ -38,11 +38,12 @@ needs_rt() {
     }
 }
 
-# recorded: the file of recorded answers. It is data of the crate that replays it.
+# recorded: the file of recorded answers, which is data of the crate that replays it, and that of recorded plays.
 recorded() {
     local found
     for found in "$(dirname "$here")"/crates/*/data/answers.bin; do
         echo "$found"
-        return
+        break
     done
+    echo "$(dirname "$here")/tests/traces/plays.bin"
 }

@@ -1,3 +1,1 @@
--- The laws that the proofs of this crate cite.
-pub mod Aims
-pub mod Reaching
+-- The laws that the proofs of this crate cite are those of rules, inplace and refusals.

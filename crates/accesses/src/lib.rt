@@ -1,40 +1,16 @@
-// Reads and writes through the window, on the image alone: what they tell is handed back. The order of the tests is 4, 5, 8 to 11 by the image, then 2 before 1.
-// The four widths stand behind the tests in one function: so far from its start the compiler leaves them calls, and each pays for its own work alone.
+// Reads and writes through the window, on the image alone: what they tell is handed back. The image is tested here, 4, 5, 8 to 11; what comes after is `accepted_access`.
 use answer::Told;
-use answer::Value;
-use answer::done;
-use cells::read_dword;
-use cells::write_dword;
 use checked::Bodies;
 use checked::Head;
 use checked::test_bodies;
 use checked::test_head;
-use map::Width;
-use narrow::read_byte;
-use narrow::read_word;
-use narrow::write_byte;
-use narrow::write_word;
-use refusals::no_width;
 use refusals::of_bodies;
 use refusals::of_head;
-use refusals::outside;
-use wide::read_qword;
-use wide::write_qword;
-use window::Known;
-use window::Located;
 ghost use mathlib.Core.Path.{_≡_};
 ghost use mathlib.Core.List.{[]};
-ghost use Rattle.rules.specs.Device.{some};
-ghost use Rattle.rules.specs.Calls.{ending};
-ghost use Rattle.rules.specs.Calls as asked;
-ghost use Rattle.answer.specs.Given.{Tells, ends};
-
-// It is done, and this number is its value.
-fn gives(number: u64) -> Told
-    ensures { λ r. ⌜ Tells r 0 (some number) ⌝ }
-{
-    done(Value::Present(number))
-}
+ghost use Rattle.calls.specs.Calls.{ending};
+ghost use Rattle.calls.specs.Calls as asked;
+ghost use Rattle.answer.specs.Given.{ends};
 
 pub fn read(image: &[u8], base: u64, size: u64, address: u64, width: u64) -> Told
     ensures { λ r. ⌜ ends r (now (image .entry)) [] ≡ ending (asked.read base size address width) (now (image .entry)) ⌝ }
@@ -46,18 +22,7 @@ pub fn read(image: &[u8], base: u64, size: u64, address: u64, width: u64) -> Tol
     let Bodies::Good = test_bodies(image, form) else {
         return of_bodies(image, form);
     };
-    let Known::As(known) = window::width_of(width) else {
-        return no_width();
-    };
-    let Located::At(offset) = window::locate(base, size, address, width) else {
-        return outside(address);
-    };
-    match known {
-        Width::Byte => gives(read_byte(image, form, offset) as u64),
-        Width::Word => gives(read_word(image, form, offset)),
-        Width::Dword => gives(read_dword(image, form, offset) as u64),
-        Width::Qword => gives(read_qword(image, form, offset)),
-    }
+    accepted_access::read(image, form, base, size, address, width)
 }
 
 // The value that is told is how many events were dropped.
@@ -71,17 +36,5 @@ pub fn write(image: &mut [u8], base: u64, size: u64, address: u64, width: u64, v
     let Bodies::Good = test_bodies(image, form) else {
         return of_bodies(image, form);
     };
-    let Known::As(known) = window::width_of(width) else {
-        return no_width();
-    };
-    let Located::At(offset) = window::locate(base, size, address, width) else {
-        return outside(address);
-    };
-    let low = bits::half(value, false);
-    match known {
-        Width::Byte => gives(write_byte(image, form, offset, bits::byte_of(low, 0)) as u64),
-        Width::Word => gives(write_word(image, form, offset, low) as u64),
-        Width::Dword => gives(write_dword(image, form, offset, low) as u64),
-        Width::Qword => gives(write_qword(image, form, offset, value) as u64),
-    }
+    accepted_access::write(image, form, base, size, address, width, value)
 }

@@ -3,7 +3,7 @@ use mathlib.Core.Path.{_≡_}
 use mathlib.Core.List.{List}
 use Prim.Native.Nat.{ℕ}
 use Rattle.rules.specs.Device as device
-use Rattle.rules.specs.Calls.{Ending}
+use Rattle.calls.specs.Calls.{Ending}
 use Rattle.answer.specs.declared.Value.{Value}
 use Rattle.answer.specs.declared.Value.the-variants.{Absent, Present}
 use Rattle.answer.specs.declared.Told.{Told}

@@ -4,7 +4,8 @@ use bytes::put_zeros;
 ghost use mathlib.Core.Path.{_≡_};
 ghost use Prim.Native.Nat.{_≤_};
 ghost use lib.ListN.{length};
-ghost use Rattle.rules.specs.Calls.{answerLength, present, amount, answered};
+ghost use Rattle.calls.specs.Calls.{answerLength, present, answered};
+ghost use Rattle.rules.specs.Device.{amount};
 ghost use Rattle.answer.specs.Given.{valueView, Tells};
 
 // What a call gives, if it gives something.

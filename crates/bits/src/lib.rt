@@ -2,8 +2,8 @@
 // replace_u32, which has remainder and product (02, C-12). Each is an equation with a definition of rules.
 ghost use mathlib.Core.Path.{_≡_};
 ghost use Prim.Native.Nat.{_<_};
-ghost use Rattle.rules.specs.Numbers.{byteOf, withByte};
-ghost use Rattle.rules.specs.Inputs.{half, withHalf, asHalf};
+ghost use Rattle.basics.specs.Numbers.{byteOf, withByte};
+ghost use Rattle.basics.specs.Inputs.{half, withHalf, asHalf};
 
 // 2^32: a register is its high half times this, and its low half.
 const HALF: u64 = 0x1_0000_0000;

@@ -6,10 +6,10 @@ use native.Mathlib.Omega.{arith}
 use lib.ListN.{length, take}
 use lib.Seq.{drop-drop}
 use borrow.Rule.Slice.PartMut.{putMid}
-use Rattle.rules.specs.Numbers.{bytesOf, part}
-use Rattle.rules.proofs.laws.Lists.{length-part}
-use Rattle.rules.proofs.laws.Bytes.{length-bytesOf}
-use Rattle.rules.proofs.laws.Parts.{Filled, put}
+use Rattle.basics.specs.Numbers.{bytesOf, part}
+use Rattle.basics.proofs.laws.Lists.{length-part}
+use Rattle.basics.proofs.laws.Bytes.{length-bytesOf}
+use Rattle.basics.proofs.laws.Parts.{Filled, put}
 use Rattle.bytes.specs.Put.{withBytes, withWord}
 
 -- bytes are written over a part that is lent with the n places from `at` on

@@ -2,7 +2,7 @@
 use mathlib.Core.List.{List, _++_}
 use Prim.Native.Nat.{ℕ, _+_}
 use lib.ListN.{take, drop}
-use Rattle.rules.specs.Numbers.{bytesOf}
+use Rattle.basics.specs.Numbers.{bytesOf}
 
 -- the n from a place on are the low ones of x; with n = 8 they are a whole word
 abbrev pub withBytes : ℕ → ℕ → ℕ → List ℕ → List ℕ

@@ -2,8 +2,8 @@
 ghost use mathlib.Core.Path.{_≡_};
 ghost use Prim.Native.Nat.{_+_, _≤_};
 ghost use lib.ListN.{length, replicate};
-ghost use Rattle.rules.specs.Numbers.{numberOf, bytesOf};
-ghost use Rattle.rules.specs.Image.{registerAt};
+ghost use Rattle.basics.specs.Numbers.{numberOf, bytesOf};
+ghost use Rattle.images.specs.Image.{registerAt};
 ghost use Rattle.bytes.specs.Put.{withBytes, withWord};
 
 pub fn wide(x: u8) -> u64

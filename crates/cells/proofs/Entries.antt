@@ -9,18 +9,18 @@ use lib.Dec.{eqb}
 use lib.ListN.{length, take, drop, getD, set}
 use lib.Seq.{sets, sets-eq, drop-cons}
 use borrow.Author.Tests.{eqb-true}
-use Rattle.rules.specs.Numbers.{numberOf, bytesOf, byteOf, part}
+use Rattle.basics.specs.Numbers.{numberOf, bytesOf, byteOf, part}
 use Rattle.rules.specs.Core.{Core, CoreTurn, setRoute, withRoutes, turns, lineTurn}
 use Rattle.rules.specs.Map.{Row, Cell, bytes, nothing, table, lookup, within, routesAt, routesEnd, vectorsAt, vectorsEnd, inRoutes, inVectors, cellAt}
 use Rattle.rules.specs.Access.{qword, entry, readCell, readAt, entryActs, cellActs, writeActs}
 use Rattle.rules.specs.Numbering.{Numbers}
 use Rattle.rules.specs.Device.{Device, acted}
 use Rattle.rules.proofs.laws.Acts.{turns-append, acted-none, acted-append}
-use Rattle.rules.proofs.laws.Bits.{test}
-use Rattle.rules.proofs.laws.Bytes.{length-bytesOf}
-use Rattle.rules.proofs.laws.Maps.{Elsewhere, outside, inside, inside-from, not-route, lookup-bytes}
-use Rattle.rules.proofs.laws.Widths.{entry-route, entry-vector, entry-none, dword-of}
-use Rattle.rules.proofs.laws.Writes.{acted-store, acted-vector, entry-acts-route, entry-acts-vector, entry-acts-none, dword-acts-of}
+use Rattle.basics.proofs.laws.Bits.{test}
+use Rattle.basics.proofs.laws.Bytes.{length-bytesOf}
+use Rattle.laws.proofs.laws.Maps.{Elsewhere, outside, inside, inside-from, not-route, lookup-bytes}
+use Rattle.laws.proofs.laws.Widths.{entry-route, entry-vector, entry-none, dword-of}
+use Rattle.laws.proofs.laws.Writes.{acted-store, acted-vector, entry-acts-route, entry-acts-vector, entry-acts-none, dword-acts-of}
 use Rattle.bytes.specs.Put.{withBytes}
 use Rattle.inplace.specs.Held.{Holds, Reads, Becomes, Writes, withVectors, withStored}
 use Rattle.inplace.proofs.Doing.{stores-write, writes-none, writes-same, writes-then}

@@ -9,13 +9,13 @@ use borrow.Author.Tests.{eqb-true, eqb-false}
 use lib.Dec.{eqb}
 use lib.ListN.{length}
 use lib.Seq.{take-all}
-use Rattle.rules.specs.Numbers.{numberOf, part, Bytes}
-use Rattle.rules.specs.Form.{Form, formLength, contentsLength, contentsOf}
-use Rattle.rules.specs.Image.{registerAt}
-use Rattle.rules.proofs.laws.Lists.{part-part, equal-same, differ-same}
-use Rattle.rules.proofs.laws.Bits.{test}
-use Rattle.rules.proofs.laws.Layout.{length-contents}
-use Rattle.rules.proofs.laws.Saved.{bytes-contents}
+use Rattle.basics.specs.Numbers.{numberOf, part, Bytes}
+use Rattle.images.specs.Form.{Form, formLength, contentsLength, contentsOf}
+use Rattle.images.specs.Image.{registerAt}
+use Rattle.basics.proofs.laws.Lists.{part-part, equal-same, differ-same}
+use Rattle.basics.proofs.laws.Bits.{test}
+use Rattle.images.proofs.laws.Layout.{length-contents}
+use Rattle.images.proofs.laws.Saved.{bytes-contents}
 use Rattle.image.specs.Shown.{ContentsOf}
 use Rattle.image.specs.declared.form.Contents.{Contents}
 use Rattle.checked.specs.Good.{headGood}

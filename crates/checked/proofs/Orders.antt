@@ -8,13 +8,13 @@ use native.Mathlib.Omega.{arith}
 use types.Run.{OneOf}
 use denote.Enum.Declared.{tagOf}
 use lib.ListN.{length}
-use Rattle.rules.specs.Numbers.{part}
-use Rattle.rules.specs.Form.{Form, forms, unknown, known, formLength, contentsLength, contentsOf, formOf}
-use Rattle.rules.specs.Image.{Finding, clear, found, rules, firstFault, ImageTest, accepted, wrongLength, wrongContents, bodyTest, imageTest}
+use Rattle.basics.specs.Numbers.{part}
+use Rattle.images.specs.Form.{Form, forms, unknown, known, formLength, contentsLength, contentsOf, formOf}
+use Rattle.images.specs.Image.{Finding, clear, found, rules, firstFault, ImageTest, accepted, wrongLength, wrongContents, bodyTest, imageTest}
 use Rattle.rules.specs.Device.{none}
-use Rattle.rules.specs.Calls.{imageValue}
-use Rattle.rules.proofs.laws.Lists.{equal-same, same-equal}
-use Rattle.rules.proofs.laws.Tests.{form-known, test-known, test-contents, test-body}
+use Rattle.calls.specs.Calls.{imageValue}
+use Rattle.basics.proofs.laws.Lists.{equal-same, same-equal}
+use Rattle.images.proofs.laws.Tests.{form-known, test-known, test-contents, test-body}
 use Rattle.image.specs.Shown.{formKnown}
 use Rattle.image.specs.declared.form.KnownForm.{KnownForm}
 use Rattle.image.specs.declared.form.KnownForm.the-variants.{Unknown}

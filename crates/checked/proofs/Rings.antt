@@ -7,20 +7,21 @@ use native.Mathlib.Omega.{arith}
 use lib.Bits.{bitAnd, bitOr, or-add-and, and-le-l, and-le-r}
 use lib.Dec.{eqb, leb, lit≤}
 use lib.ListN.{length, drop, getD}
-use Rattle.rules.specs.Numbers.{part, Bytes}
+use Rattle.basics.specs.Numbers.{part, Bytes}
 use Rattle.rules.specs.Ring.{capacity}
-use Rattle.rules.specs.Form.{Form, one, two, numbered, word, irr, copy, count, pairs, numbers, has, place, formLength, read}
-use Rattle.rules.specs.Image.{registerAt, countIn}
-use Rattle.rules.proofs.laws.Lists.{length-part}
-use Rattle.rules.proofs.laws.Bytes.{bytes-part}
-use Rattle.rules.proofs.laws.Bits.{test}
-use Rattle.rules.proofs.laws.Layout.{field-fits}
+use Rattle.images.specs.Form.{Form, one, two, numbered, word, irr, copy, count, pairs, numbers, has, place, formLength, read}
+use Rattle.images.specs.Image.{registerAt, countIn}
+use Rattle.basics.proofs.laws.Lists.{length-part}
+use Rattle.basics.proofs.laws.Bytes.{bytes-part}
+use Rattle.basics.proofs.laws.Bits.{test}
+use Rattle.images.proofs.laws.Layout.{field-fits}
 use Rattle.image.specs.Shown.{PlacesOf}
 use Rattle.image.specs.declared.form.Places.{Places}
 use Rattle.image.proofs.Forms.{always-at, always-fits}
-use Rattle.checked.specs.Good.{allZero, flagsGood, pairsGood, numbersGood, ringGood, spareAt, bodiesGood, bitsOf}
+use Rattle.checked.specs.Good.{ringGood, spareAt, bodiesGood}
+use Rattle.unused.specs.Events.{allZero, flagsGood, pairsGood, numbersGood, bitsOf}
 use Rattle.checked.proofs.Tested.{rules-tested}
-use Rattle.checked.proofs.Pairs.{flagBits, pairs-empty, pairs-flagged, pairs-unused}
+use Rattle.unused.proofs.Pairs.{flagBits, pairs-empty, pairs-flagged, pairs-unused}
 
 same-and : (a : Bool) → (a && a) ≡ (a && true)
 same-and true = refl

@@ -8,16 +8,17 @@ use native.Mathlib.Omega.{arith}
 use lib.Dec.{eqb, leb}
 use lib.ListN.{length}
 use borrow.Author.Tests.{eq-eqb, eqb-true, le-leb, leb-true}
-use Rattle.rules.specs.Numbers.{part, Bytes}
+use Rattle.basics.specs.Numbers.{part, Bytes}
 use Rattle.rules.specs.Ring.{capacity}
-use Rattle.rules.specs.Form.{Form, word, copy, irr, pairs, has, formLength, read}
-use Rattle.rules.specs.Image.{registerAt, wordIn, countIn, rules, Finding, clear, found, firstFault}
-use Rattle.rules.proofs.laws.Lists.{part-add, part-part}
-use Rattle.rules.proofs.laws.Bytes.{part-known}
-use Rattle.rules.proofs.laws.Bits.{test}
-use Rattle.rules.proofs.laws.Tests.{clear-ruled, ruled-clear}
-use Rattle.checked.specs.Good.{isClear, bodiesGood, pairsGood, numbersGood}
-use Rattle.checked.proofs.Pairs.{pairsGood-flags, pairsGood-unused, good-pairs, numbersGood-unused, good-numbers}
+use Rattle.images.specs.Form.{Form, word, copy, irr, pairs, has, formLength, read}
+use Rattle.images.specs.Image.{registerAt, wordIn, countIn, rules, Finding, clear, found, firstFault}
+use Rattle.basics.proofs.laws.Lists.{part-add, part-part}
+use Rattle.basics.proofs.laws.Bytes.{part-known}
+use Rattle.basics.proofs.laws.Bits.{test}
+use Rattle.images.proofs.laws.Tests.{clear-ruled, ruled-clear}
+use Rattle.checked.specs.Good.{isClear, bodiesGood}
+use Rattle.unused.specs.Events.{pairsGood, numbersGood}
+use Rattle.unused.proofs.Pairs.{pairsGood-flags, pairsGood-unused, good-pairs, numbersGood-unused, good-numbers}
 
 -- ---- contents known by four numbers
 

@@ -1,15 +1,14 @@
 -- What the tests of an accepted image look at, as the rules see it.
 use mathlib.Core.Path.{_≡_}
 use mathlib.Core.Bool.{Bool, true, false, cond, _&&_}
-use mathlib.Core.List.{List, [], _∷_}
-use Prim.Native.Nat.{ℕ, zero, suc, _*_}
-use lib.Bits.{bitOr}
-use lib.Dec.{eqb, leb}
-use lib.ListN.{length, drop}
-use Rattle.rules.specs.Numbers.{part}
-use Rattle.rules.specs.Form.{Form, pairs, numbers, has, place, contentsLength, contentsOf, known, formOf, read}
-use Rattle.rules.specs.Image.{registerAt, Finding, clear, found, rules, firstFault, same, ImageTest, accepted, wrongLength, wrongContents, broken, bodyTest, imageTest}
+use mathlib.Core.List.{List}
+use Prim.Native.Nat.{ℕ}
+use lib.ListN.{length}
+use Rattle.basics.specs.Numbers.{part, same}
+use Rattle.images.specs.Form.{Form, pairs, numbers, has, place, contentsLength, contentsOf, known, formOf, read}
+use Rattle.images.specs.Image.{Finding, clear, found, rules, firstFault, ImageTest, accepted, wrongLength, wrongContents, broken, bodyTest, imageTest}
 use Rattle.image.specs.Shown.{formView}
+use Rattle.unused.specs.Events.{pairsGood, numbersGood}
 use Rattle.checked.specs.declared.Head.{Head}
 use Rattle.checked.specs.declared.Head.the-variants.{WrongLength, WrongContents, Of}
 use Rattle.checked.specs.declared.Bodies.{Bodies}
@@ -52,32 +51,9 @@ Headed WrongLength l = wrongLength ≡ imageTest l
 Headed WrongContents l = wrongContents ≡ imageTest l
 Headed (Of f) l = (formOf (length l) ≡ known (formView f)) × (headGood (formView f) l ≡ true)
 
--- the flags of the first n pairs are 0 or 1; all bytes are zero; of pairs the first n of which wait both rules hold
-abbrev pub flagsGood : ℕ → List ℕ → Bool
-flagsGood zero l = true
-flagsGood (suc n) [] = true
-flagsGood (suc n) (v ∷ []) = true
-flagsGood (suc n) (v ∷ f ∷ l) = leb f 1 && flagsGood n l
-
-abbrev pub allZero : List ℕ → Bool
-allZero [] = true
-allZero (x ∷ l) = eqb x 0 && allZero l
-
-abbrev pub pairsGood : ℕ → List ℕ → Bool
-pairsGood n l = flagsGood n l && allZero (drop (2 * n) l)
-
--- of numbers the first n of which wait the others are zero, if the form has numbers
-abbrev pub numbersGood : Form → ℕ → List ℕ → Bool
-numbersGood f n l = cond (has f numbers) (allZero (drop (2 * n) (read f l numbers))) true
-
 -- both rules of the ring's events, the first n of which wait; where the numbers stand, or the pairs in a form without them
 abbrev pub ringGood : Form → ℕ → List ℕ → Bool
 ringGood f n l = pairsGood n (read f l pairs) && numbersGood f n l
 
 abbrev pub spareAt : Form → ℕ
 spareAt f = cond (has f numbers) (place f numbers) (place f pairs)
-
--- the bits that any of the first k words has
-abbrev pub bitsOf : ℕ → List ℕ → ℕ
-bitsOf zero l = 0
-bitsOf (suc k) l = bitOr (bitsOf k l) (registerAt (8 * k) l)

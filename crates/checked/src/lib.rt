@@ -11,13 +11,10 @@ use image::form::contents_of;
 use image::form::form_of;
 use image::form::places_of;
 ghost use mathlib.Core.Path.{_≡_};
-ghost use mathlib.Core.Bool.{_&&_};
-ghost use Prim.Native.Nat.{_*_, _≤_};
-ghost use lib.ListN.{length, drop};
-ghost use Rattle.rules.specs.Ring.{capacity};
-ghost use Rattle.rules.specs.Form.{formLength, formOf, known};
+ghost use lib.ListN.{length};
+ghost use Rattle.images.specs.Form.{formLength, formOf, known};
 ghost use Rattle.image.specs.Shown.{formView};
-ghost use Rattle.checked.specs.Good.{Headed, holds, bitsOf, allZero, spareAt, headGood, bodiesGood};
+ghost use Rattle.checked.specs.Good.{Headed, holds, spareAt, headGood, bodiesGood};
 
 // What the length and the contents tell: an image of a form, or why it is none.
 pub enum Head {
@@ -29,39 +26,6 @@ pub enum Head {
 pub enum Bodies {
     Broken,
     Good,
-}
-
-// The bits that any of the four words of the pairs has.
-fn all_bits(pairs: &[u8]) -> u64
-    requires { ⌜ length (now pairs) ≡ 2 * capacity ⌝ }
-    ensures { λ r. ⌜ r ≡ bitsOf 4 (now (pairs .entry)) ⌝ }
-{
-    let mut found = 0u64;
-    let mut i = 0;
-    while i < 4 {
-        found |= word_at(pairs, 8 * i);
-        i += 1;
-    }
-    found
-}
-
-// Unused pairs and unused numbers are zero. In the word where they begin, those that wait are shifted out.
-fn unused_zero(count: usize, pairs: &[u8], spare: &[u8]) -> bool
-    requires { ⌜ (length (now pairs) ≡ 2 * capacity) × (length (now spare) ≡ 2 * capacity) × (count ≤ capacity) ⌝ }
-    ensures { λ r. ⌜ r ≡ (allZero (drop (2 * count) (now (pairs .entry))) && allZero (drop (2 * count) (now (spare .entry)))) ⌝ }
-{
-    if count == CAPACITY {
-        return true;
-    }
-    let first = count / 4;
-    let shift = 16 * (count % 4);
-    let mut found = (word_at(pairs, 8 * first) >> shift) | (word_at(spare, 8 * first) >> shift);
-    let mut i = first + 1;
-    while i < 4 {
-        found |= word_at(pairs, 8 * i) | word_at(spare, 8 * i);
-        i += 1;
-    }
-    found == 0
 }
 
 fn contents_good(image: &[u8], form: Form) -> bool
@@ -135,16 +99,16 @@ pub fn test_bodies(image: &[u8], form: Form) -> Bodies
     let end = at + PAIRS_LENGTH;
     let spare = spare_of(form);
     let last = spare + NUMBERS_LENGTH;
-    let found = all_bits(&image[at..end]);
+    let found = unused::all_bits(&image[at..end]);
     // every pair and every number is zero: the commonest ring
-    if found | all_bits(&image[spare..last]) == 0 {
+    if found | unused::all_bits(&image[spare..last]) == 0 {
         return Bodies::Good;
     }
     // a flag is over 1, of a waiting pair or of an unused one
     if found & 0xfe00_fe00_fe00_fe00 != 0 {
         return Bodies::Broken;
     }
-    if !unused_zero(count, &image[at..end], &image[spare..last]) {
+    if !unused::unused_zero(count, &image[at..end], &image[spare..last]) {
         return Bodies::Broken;
     }
     Bodies::Good

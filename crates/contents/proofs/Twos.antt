@@ -6,7 +6,7 @@ use native.Mathlib.Numerals.{add-one}
 use native.Mathlib.Omega.{arith}
 use lib.ListN.{length, take, drop, getD}
 use lib.Seq.{drop-cons}
-use Rattle.rules.specs.Numbers.{numberOf}
+use Rattle.basics.specs.Numbers.{numberOf}
 use Rattle.traces.specs.Trace.{twoAt}
 
 pub two-there : (l : List ℕ) (at : ℕ) → at + 2 ≤ length l → getD l at 0 + 256 * getD l (at + 1) 0 ≡ twoAt at l

@@ -14,7 +14,7 @@ use refusals::of_head;
 use refusals::wrong_length;
 ghost use mathlib.Core.Path.{_≡_};
 ghost use mathlib.Core.List.{[]};
-ghost use Rattle.rules.specs.Convert.{convertEnding};
+ghost use Rattle.calls.specs.Convert.{convertEnding};
 ghost use Rattle.answer.specs.Given.{ends};
 
 // The target is written only where all tests have passed; any bytes of its length will do.
@@ -34,7 +34,7 @@ pub fn convert(image: &[u8], target: &mut [u8]) -> Told
     let Bodies::Good = test_bodies(image, own) else {
         return of_bodies(image, own);
     };
-    let numbers = loaded::load_numbers(image, own);
+    let numbers = load_numbers::load_numbers(image, own);
     saved::save(target, form, loaded::load(image, own), &numbers);
     done(Value::Absent)
 }

@@ -3,9 +3,9 @@ use mathlib.Core.Path.{_≡_, refl, sym, ap, _∙_}
 use mathlib.Core.Bool.{Bool, true, false, not, _&&_}
 use Prim.Native.Nat.{ℕ, _-_, _^_, _<_}
 use lib.Bits.{bitAnd}
-use Rattle.rules.specs.Inputs.{on, inputs, register, without}
-use Rattle.rules.proofs.laws.Bits.{is-number, on-number, on-and, on-and-not, on-none, and-below, on-without, on-ext, without-lt}
-use Rattle.rules.proofs.laws.Inputs.{inputs-ext}
+use Rattle.basics.specs.Inputs.{on, inputs, register, without}
+use Rattle.basics.proofs.laws.Bits.{is-number, on-number, on-and, on-and-not, on-none, and-below, on-without, on-ext, without-lt}
+use Rattle.basics.proofs.laws.Inputs.{inputs-ext}
 use Rattle.decide.specs.Sets.{waitingOf, servedOf}
 
 pub pending-is : (set irr mask isr : ℕ) → set < 2 ^ 64 → mask < 2 ^ 64 → isr < 2 ^ 64

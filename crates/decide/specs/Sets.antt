@@ -1,7 +1,7 @@
 -- The sets that a step meets, by the registers as numbers. Of lines that have these registers they are the rules' pendingIn and servedIn.
 use mathlib.Core.Bool.{Bool, not, _&&_}
 use Prim.Native.Nat.{ℕ}
-use Rattle.rules.specs.Inputs.{on}
+use Rattle.basics.specs.Inputs.{on}
 
 -- in the set, latched, unmasked and not in service
 abbrev pub waitingOf : ℕ → ℕ → ℕ → ℕ → ℕ → Bool

@@ -2,7 +2,7 @@
 // A state by value and an image in place are moved by these same leaves.
 ghost use mathlib.Core.Path.{_≡_};
 ghost use Prim.Native.Nat.{ℕ, _<_};
-ghost use Rattle.rules.specs.Inputs.{on, register, withHalf};
+ghost use Rattle.basics.specs.Inputs.{on, register, withHalf};
 ghost use Rattle.rules.specs.Lines.{newlyUnmasked, newlyMasked};
 ghost use Rattle.decide.specs.Sets.{waitingOf, servedOf};
 

@@ -11,10 +11,10 @@ use borrow.Rule.Slice.PartMut.{putMid}
 use Rattle.rules.specs.Ring.{Event, drawn}
 use Rattle.rules.specs.Device.{Device, withRing}
 use Rattle.rules.specs.Numbering.{Numbers, withNumbers, quadsOf, fewer}
-use Rattle.rules.specs.Form.{Form, count, place, formLength}
-use Rattle.rules.specs.Image.{countIn, numbersIn}
-use Rattle.rules.proofs.laws.Bits.{test}
-use Rattle.rules.proofs.laws.Saved.{count-stands}
+use Rattle.images.specs.Form.{Form, count, place, formLength}
+use Rattle.images.specs.Image.{countIn, numbersIn}
+use Rattle.basics.proofs.laws.Bits.{test}
+use Rattle.images.proofs.laws.Saved.{count-stands}
 use Rattle.inplace.specs.Held.{Holds}
 use Rattle.inplace.proofs.Doing.{holds-as}
 use Rattle.shifts.specs.Shifted.{Shifts}

@@ -6,16 +6,16 @@ use Prim.Native.Nat.{ℕ, zero, suc, _+_, _-_, _*_, _<_, _≤_}
 use native.Mathlib.Omega.{arith}
 use lib.ListN.{length, take, drop, getD, set, replicate, length-append, drop-of-length-le}
 use lib.Seq.{drop-cons, sets, sets-eq, length-sets, length-take-le, take-all, take-at, take-take, take-append-le}
-use Rattle.rules.specs.Numbers.{part, Twos, written}
+use Rattle.basics.specs.Numbers.{part, Twos, written}
 use Rattle.rules.specs.Ring.{Event, capacity, eventTwos}
 use Rattle.rules.specs.Device.{Device, upFrom}
 use Rattle.rules.specs.Numbering.{Numbers, withNumbers, quadsOf, numberTwos}
-use Rattle.rules.specs.Form.{Form, Field, pairs, numbers, has, size, place, formLength}
-use Rattle.rules.specs.Image.{sixteen, fieldOf, encodeAs, numbersIn}
-use Rattle.rules.proofs.laws.Twos.{length-written}
-use Rattle.rules.proofs.laws.Layout.{has-all, read-image}
-use Rattle.rules.proofs.laws.Saved.{fields-sized}
-use Rattle.rules.proofs.laws.Images.{numbers-encode, numbers-lost}
+use Rattle.images.specs.Form.{Form, Field, pairs, numbers, has, size, place, formLength}
+use Rattle.images.specs.Image.{sixteen, fieldOf, encodeAs, numbersIn}
+use Rattle.images.proofs.laws.Twos.{length-written}
+use Rattle.images.proofs.laws.Layout.{has-all, read-image}
+use Rattle.images.proofs.laws.Saved.{fields-sized}
+use Rattle.laws.proofs.laws.Images.{numbers-encode, numbers-lost}
 use Rattle.inplace.specs.Held.{Holds}
 use Rattle.inplace.proofs.Doing.{holds-as}
 use Rattle.drains.specs.Drained.{woven, CopiesOut}

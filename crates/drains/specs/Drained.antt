@@ -6,7 +6,7 @@ use lib.ListN.{length, take, drop}
 use Rattle.rules.specs.Ring.{Drawn, drawn}
 use Rattle.rules.specs.Device.{Device}
 use Rattle.rules.specs.Numbering.{Numbers, withNumbers, drainedLength, quadsOf, fewer}
-use Rattle.rules.specs.Image.{numbersIn}
+use Rattle.images.specs.Image.{numbersIn}
 use Rattle.inplace.specs.Held.{Holds, Does, withRing}
 
 -- ---- what comes out

@@ -8,8 +8,8 @@ ghost use mathlib.Core.Path.{_≡_};
 ghost use Prim.Native.Nat.{_*_, _/_, _≤_, min};
 ghost use lib.ListN.{length};
 ghost use Rattle.rules.specs.Ring.{capacity};
-ghost use Rattle.rules.specs.Form.{formLength};
-ghost use Rattle.rules.specs.Image.{countIn};
+ghost use Rattle.images.specs.Form.{formLength};
+ghost use Rattle.images.specs.Image.{countIn};
 ghost use Rattle.image.specs.Shown.{formView};
 ghost use Rattle.drains.specs.Drained.{woven, CopiesOut, Drains};
 

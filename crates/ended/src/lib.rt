@@ -5,7 +5,7 @@ ghost use mathlib.Core.Path.{_≡_};
 ghost use mathlib.Core.List.{[]};
 ghost use Prim.Native.Nat.{_≤_};
 ghost use lib.ListN.{length};
-ghost use Rattle.rules.specs.Session.{played, answers};
+ghost use Rattle.sessions.specs.Session.{played, answers};
 ghost use Rattle.state.specs.View.{view, Well};
 ghost use Rattle.reply.specs.Says.{Says};
 ghost use Rattle.play.specs.Plays.{Plays};

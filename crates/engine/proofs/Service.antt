@@ -6,10 +6,11 @@ use Prim.Native.Nat.{ℕ, _<_, _-_, _^_}
 use lib.Bits.{bitAnd, bitOr}
 use lib.Count.{trailingZeros}
 use lib.ListN.{getD}
-use Rattle.rules.specs.Inputs.{on, inputs, register}
+use Rattle.basics.specs.Inputs.{on, inputs, register}
 use Rattle.rules.specs.Lines.{withIsr, serve, pendingIn}
-use Rattle.rules.proofs.laws.Bits.{put-is, without-only-is, and-below, numberWith-lt}
-use Rattle.rules.proofs.laws.Inputs.{first-below, first-input, no-input, unlatched-is}
+use Rattle.basics.proofs.laws.Bits.{put-is, without-only-is, and-below, numberWith-lt}
+use Rattle.basics.proofs.laws.Inputs.{first-below, first-input, no-input}
+use Rattle.laws.proofs.laws.Sets.{unlatched-is}
 use Rattle.state.specs.View.{linesView}
 use Rattle.state.specs.declared.Lines.{Lines}
 use Rattle.decide.specs.Sets.{waitingOf}

@@ -5,12 +5,13 @@ use mathlib.Core.List.{List, [], _∷_, map}
 use Prim.Native.Nat.{ℕ, _*_, _%_, _^_, _<_}
 use lib.Dec.{eqb}
 use borrow.Author.Tests.{eq-eqb, eqb-true}
-use Rattle.rules.specs.Inputs.{on, inputs, only, put, without}
+use Rattle.basics.specs.Inputs.{on, inputs, only, put, without}
 use Rattle.rules.specs.Lines.{Lines, stay, withIsr, withIrr, event, serve, enter, leave, pendingIn, servedIn, unlatchedIn, raised, lowered, polled}
 use Rattle.rules.specs.Ring.{offer}
 use Rattle.rules.specs.Device.{none, some, offers, returned}
-use Rattle.rules.proofs.laws.Bits.{test, is-number, put-lt, on-bit, on-without}
-use Rattle.rules.proofs.laws.Inputs.{inputs-ext, no-inputs, only-served, only-unlatched, enter-ext}
+use Rattle.basics.proofs.laws.Bits.{test, is-number, put-lt, on-bit, on-without}
+use Rattle.basics.proofs.laws.Inputs.{inputs-ext, no-inputs}
+use Rattle.laws.proofs.laws.Sets.{only-served, only-unlatched, enter-ext}
 use Rattle.engine.specs.Moves.{retire, updated}
 
 -- ---- returned, or offered

@@ -7,18 +7,18 @@ use native.Mathlib.Omega.{arith}
 use lib.ListN.{length, take, drop, getD, length-append, length-drop}
 use lib.Seq.{getD-take, getD-drop, length-take-le, take-at, drop-at, drop-drop}
 use borrow.Rule.Slice.PartMut.{putMid}
-use Rattle.rules.specs.Numbers.{numberOf, bytesOf, part, Bytes}
+use Rattle.basics.specs.Numbers.{numberOf, bytesOf, part, Bytes}
 use Rattle.rules.specs.Core.{withRoutes, htmsiEn, edge, pol, auto0, auto1}
 use Rattle.rules.specs.Device.{Device, WellFormed}
 use Rattle.rules.specs.Numbering.{Numbers, WellNumbered, fromZero}
-use Rattle.rules.specs.Form.{Field, routes, vectors, Form, size, has, place, formLength}
-use Rattle.rules.specs.Image.{bytesLength, fieldOf, encodeAs}
-use Rattle.rules.proofs.laws.Bytes.{bytes-append, bytes-take, bytes-drop, bytes-bytesOf, length-bytesOf}
-use Rattle.rules.proofs.laws.Lists.{part-part}
-use Rattle.rules.proofs.laws.Layout.{always, has-all}
-use Rattle.rules.proofs.laws.Saved.{fields-sized, field-stands, field-same}
+use Rattle.images.specs.Form.{Field, routes, vectors, Form, size, has, place, formLength}
+use Rattle.images.specs.Image.{bytesLength, fieldOf, encodeAs}
+use Rattle.basics.proofs.laws.Bytes.{bytes-append, bytes-take, bytes-drop, bytes-bytesOf, length-bytesOf}
+use Rattle.basics.proofs.laws.Lists.{part-part}
+use Rattle.images.proofs.laws.Layout.{always, has-all}
+use Rattle.images.proofs.laws.Saved.{fields-sized, field-stands, field-same}
 use Rattle.rules.proofs.laws.Numbered.{same-ring}
-use Rattle.rules.proofs.laws.InPlace.{within, Apart, part-written, routes-apart, vectors-apart}
+use Rattle.laws.proofs.laws.InPlace.{within, Apart, part-written, routes-apart, vectors-apart}
 use Rattle.bytes.specs.Put.{withBytes}
 use Rattle.inplace.specs.Held.{Holds, Reads, Becomes, withVectors, withStored}
 use Rattle.inplace.proofs.Doing.{holds-as, as-holds}

@@ -8,13 +8,13 @@ use native.Mathlib.Omega.{arith}
 use lib.Bits.{bitAnd, and-le-l}
 use lib.Count.{trailingZeros}
 use lib.ListN.{length, getD}
-use Rattle.rules.specs.Inputs.{on, from, inputs}
+use Rattle.basics.specs.Inputs.{on, from, inputs}
 use Rattle.rules.specs.Lines as lines
 use Rattle.rules.specs.Ring.{RingAct}
 use Rattle.rules.specs.Core.{Core}
 use Rattle.rules.specs.Device.{offers}
-use Rattle.rules.proofs.laws.Bits.{test}
-use Rattle.rules.proofs.laws.Inputs.{first-input, lowest-dropped, no-input}
+use Rattle.basics.proofs.laws.Bits.{test}
+use Rattle.basics.proofs.laws.Inputs.{first-input, lowest-dropped, no-input}
 use Rattle.inplace.specs.Held.{Reads, Offers}
 use Rattle.ring.specs.Fields.{offering}
 use Rattle.inplace.proofs.Doing.{offers-none, offers-then, offers-same}

@@ -2,7 +2,7 @@
 use mathlib.Core.Bool.{true, false}
 use mathlib.Core.List.{List, [], map}
 use Prim.Native.Nat.{ℕ}
-use Rattle.rules.specs.Inputs.{on, inputs}
+use Rattle.basics.specs.Inputs.{on, inputs}
 use Rattle.rules.specs.Lines as lines
 use Rattle.rules.specs.Ring.{RingAct}
 use Rattle.rules.specs.Core.{Core}

@@ -11,18 +11,18 @@ use lib.ListN.{length, replicate}
 use Rattle.rules.specs.Access.{dword}
 use Rattle.rules.specs.Device.{Device, WellFormed, Call, level, write, drain, withLines, upFrom, reset}
 use Rattle.rules.specs.Numbering.{Numbers, WellNumbered, Numbered, fromZero}
-use Rattle.rules.specs.Form.{numbered}
-use Rattle.rules.specs.Image.{encodeAs, decode, numbersIn}
-use Rattle.rules.specs.Calls.{Request}
-use Rattle.rules.specs.Calls as request
-use Rattle.histories.specs.Exported.{Exported, leftBy, isDone, doneCalls, leftAfter}
+use Rattle.images.specs.Form.{numbered}
+use Rattle.images.specs.Image.{encodeAs, decode, numbersIn}
+use Rattle.calls.specs.Calls.{Request}
+use Rattle.calls.specs.Calls as request
+use Rattle.exported.specs.Exported.{Exported, leftBy, isDone, doneCalls, leftAfter}
 use Rattle.difference.specs.Difference.{differenceOf}
 use Rattle.order.specs.Fates.{Placed, isDropped, placed, placedFrom, eventsMade, withFate}
 use Rattle.order.specs.Numbered.{allFrom, waitingWith, someHas, InOrder}
 use Rattle.order.specs.MadeFirst.{MadeAfter, TellsFirst}
 use Rattle.order.specs.Read.{returnedRead, drainedRead}
-use Rattle.rules.proofs.laws.Computing.{computing}
-use Rattle.rules.proofs.demands.RoundTrip.{saved-is-bytes, saved-is-accepted, saved-and-loaded, numbers-saved, reset-can-be-saved}
+use Rattle.calls.proofs.laws.Computing.{computing}
+use Rattle.laws.proofs.demands.RoundTrip.{saved-is-bytes, saved-is-accepted, saved-and-loaded, numbers-saved, reset-can-be-saved}
 use Rattle.order.proofs.demands.OfCalls.{numbers-of-an-image, numbers-from-reset}
 use Rattle.order.proofs.demands.MadeFirst.{handed-back-was-made, sign-tells-first, few-are-near}
 use Rattle.examples.proofs.ExportedMet.{handedOn, handed-on}

@@ -10,7 +10,7 @@ use native.Mathlib.Omega.{arith}
 use lib.Dec.{eqb, lit<, lit≤}
 use lib.ListN.{getD}
 use borrow.Author.Tests.{eqb-true, not-true}
-use Rattle.rules.specs.Inputs.{on}
+use Rattle.basics.specs.Inputs.{on}
 use Rattle.rules.specs.Lines.{Made, event}
 use Rattle.rules.specs.Ring.{Event}
 use Rattle.rules.specs.Core.{Core, Act}
@@ -22,8 +22,8 @@ use Rattle.rules.specs.Account.{tally, asserts, deasserts, carrying}
 use Rattle.histories.specs.Demands.{Each, done, also, inService, Eligible, disturbs, Spared, Undisturbed}
 use Rattle.rules.specs.Account.{carries}
 use Rattle.histories.specs.Demands.{CarriedAlone, someAct, isRaise, Unraised, assertsOf, foundBy}
-use Rattle.rules.specs.Dozen.{raises}
-use Rattle.rules.proofs.laws.Computing.{computing}
+use Rattle.rules.specs.History.{raises}
+use Rattle.calls.proofs.laws.Computing.{computing}
 use Rattle.histories.proofs.demands.Account.{asserts-match-service}
 use Rattle.histories.proofs.demands.Service.{in-service-from-the-poll-on, in-service-from-then-on, in-service-once-raised}
 use Rattle.histories.proofs.demands.Cleared.{no-assert-until-raised}

@@ -8,26 +8,26 @@ use native.Mathlib.Omega.{arith}
 use lib.Dec.{lit<, lit≤}
 use lib.ListN.{replicate}
 use Rattle.rules.specs.Lines.{Made}
-use Rattle.rules.specs.Numbers.{Bytes}
+use Rattle.basics.specs.Numbers.{Bytes}
 use Rattle.rules.specs.Ring.{Event}
 use Rattle.rules.specs.Access.{byte, dword}
 use Rattle.rules.specs.Device.{Device, Call, level, poll, read, write, drain, reset, upFrom}
 use Rattle.rules.specs.Numbering.{fromZero}
-use Rattle.rules.specs.Form.{one, two}
-use Rattle.rules.specs.Image.{decode, imageTest, accepted}
-use Rattle.rules.specs.Calls.{Request}
-use Rattle.rules.specs.Calls as request
+use Rattle.images.specs.Form.{one, two}
+use Rattle.images.specs.Image.{decode, imageTest, accepted}
+use Rattle.calls.specs.Calls.{Request}
+use Rattle.calls.specs.Calls as request
 use Rattle.rules.specs.History.{history, fromReset}
 use Rattle.rules.specs.Account.{tally}
 use Rattle.histories.specs.Demands.{inService, assertsOf, returnedIn}
-use Rattle.histories.specs.Exported.{Exported, leftBy, HandedOn, leftAfter, Underway, doneCall, doneCalls, atLoad, returnedBy, drainedBy}
+use Rattle.exported.specs.Exported.{Exported, leftBy, HandedOn, leftAfter, Underway, doneCall, doneCalls, atLoad, returnedBy, drainedBy}
 use Rattle.sweep.specs.Sweeps.{sweeping, isPoll, everyCall, someCall, Sweep, WakesAll}
 use Rattle.sweep.specs.Handed.{WakesAllRead, pollsFrom, pollsAll}
-use Rattle.rules.proofs.laws.Computing.{computing}
-use Rattle.rules.proofs.demands.RoundTrip.{saved-is-bytes, saved-is-accepted, reset-can-be-saved}
-use Rattle.histories.proofs.laws.Chains.{faithful-at-load, calls-split}
-use Rattle.histories.proofs.demands.FromCalls.{handed-on-is-no-load}
-use Rattle.histories.proofs.demands.HandedBack.{returned-is-read, drained-is-read}
+use Rattle.calls.proofs.laws.Computing.{computing}
+use Rattle.laws.proofs.demands.RoundTrip.{saved-is-bytes, saved-is-accepted, reset-can-be-saved}
+use Rattle.exported.proofs.laws.Chains.{faithful-at-load, calls-split}
+use Rattle.exported.proofs.demands.FromCalls.{handed-on-is-no-load}
+use Rattle.exported.proofs.demands.HandedBack.{returned-is-read, drained-is-read}
 use Rattle.sweep.proofs.laws.Polls.{polls-done}
 use Rattle.sweep.proofs.demands.WakesAll.{one-sweep-wakes-all}
 use Rattle.sweep.proofs.demands.OfCalls.{sweep-of-an-image, polls-are-a-sweep, polls-wake-all}

@@ -3,12 +3,12 @@ use mathlib.Core.Path.{_≡_, refl}
 use mathlib.Core.List.{List, [], _∷_, _++_, map}
 use Prim.Native.Nat.{ℕ, _-_, _^_}
 use lib.ListN.{replicate}
-use Rattle.rules.specs.Numbers.{bytesOf}
+use Rattle.basics.specs.Numbers.{bytesOf}
 use Rattle.rules.specs.Ring.{dropped}
 use Rattle.rules.specs.Device.{withLines, reset}
-use Rattle.rules.specs.Form.{numbered}
-use Rattle.rules.specs.Image.{encodeAs}
-use Rattle.rules.proofs.laws.Computing.{computing}
+use Rattle.images.specs.Form.{numbered}
+use Rattle.images.specs.Image.{encodeAs}
+use Rattle.calls.proofs.laws.Computing.{computing}
 use Rattle.traces.specs.Trace.{good, traceTest}
 use Rattle.traces.specs.Played.{recordsFrom, outcomes, outcomesOf, gathered, played}
 use Rattle.traces.proofs.laws.Computed.{tracing}

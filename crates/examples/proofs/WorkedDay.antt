@@ -9,15 +9,15 @@ use Rattle.rules.specs.Ring.{Event}
 use Rattle.rules.specs.Access.{byte, dword}
 use Rattle.rules.specs.Device.{Device, WellFormed, Call, level, poll, read, write, drain, Value, none, some, reset}
 use Rattle.rules.specs.Numbering.{fromZero}
-use Rattle.rules.specs.Form.{one, two}
-use Rattle.rules.specs.Image.{encodeAs}
-use Rattle.rules.specs.Calls.{answered}
-use Rattle.rules.specs.Calls as request
+use Rattle.images.specs.Form.{one, two}
+use Rattle.images.specs.Image.{encodeAs}
+use Rattle.calls.specs.Calls.{answered}
+use Rattle.calls.specs.Calls as request
 use Rattle.rules.specs.History.{fromReset}
-use Rattle.histories.specs.Exported.{Exported, leftBy, isDone, isLoad, carriedOn, afterReset}
-use Rattle.rules.proofs.laws.Computing.{computing}
-use Rattle.rules.proofs.laws.Saved.{from-zero-well}
-use Rattle.rules.proofs.demands.RoundTrip.{saved-is-bytes, reset-can-be-saved}
+use Rattle.exported.specs.Exported.{Exported, leftBy, isDone, isLoad, carriedOn, afterReset}
+use Rattle.calls.proofs.laws.Computing.{computing}
+use Rattle.images.proofs.laws.Saved.{from-zero-well}
+use Rattle.laws.proofs.demands.RoundTrip.{saved-is-bytes, reset-can-be-saved}
 use Rattle.histories.proofs.laws.WellFormed.{history-well}
 use Rattle.plain.specs.Events.{input, asLoaded, Fate, returned, kept, dropped, Note, waiting, dropCount}
 use Rattle.plain.specs.Machine.{Machine}

@@ -8,12 +8,12 @@ use lib.Dec.{eqb, ltb}
 use lib.ListN.{length, getD}
 use borrow.Author.Tests.{eq-eqb, eqb-true, eqb-false, lt-ltb, le-ltb, ltb-true, ltb-false, le-leb, lt-leb}
 use Rattle.rules.specs.Ring.{capacity}
-use Rattle.rules.specs.Form.{pairs, Form, size, has, place, formLength, read}
-use Rattle.rules.specs.Numbers.{part}
-use Rattle.rules.specs.Image.{Fault, badFlag, unusedSet, clear, found, Rule, flagRule, unusedRule, search, finding, accepted, broken, bodyTest}
-use Rattle.rules.proofs.laws.Lists.{length-part}
-use Rattle.rules.proofs.laws.Bits.{test}
-use Rattle.rules.proofs.laws.Tests.{clean-search, search-first, length-read}
+use Rattle.images.specs.Form.{pairs, Form, size, has, place, formLength, read}
+use Rattle.basics.specs.Numbers.{part}
+use Rattle.images.specs.Image.{Fault, badFlag, unusedSet, clear, found, Rule, flagRule, unusedRule, search, finding, accepted, broken, bodyTest}
+use Rattle.basics.proofs.laws.Lists.{length-part}
+use Rattle.basics.proofs.laws.Bits.{test}
+use Rattle.images.proofs.laws.Tests.{clean-search, search-first, length-read}
 use Rattle.faults.specs.Found.{First, pairFault}
 
 -- none of the first j bytes is bad

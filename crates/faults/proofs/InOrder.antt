@@ -7,14 +7,14 @@ use native.Mathlib.Nat.{add-zero}
 use native.Mathlib.Omega.{arith}
 use lib.ListN.{length, getD}
 use borrow.Author.Tests.{ne-eqb, lt-ltb}
-use Rattle.rules.specs.Numbers.{part}
+use Rattle.basics.specs.Numbers.{part}
 use Rattle.rules.specs.Ring.{capacity}
-use Rattle.rules.specs.Form.{Form, word, copy, irr, count, pairs, numbers, has, place, formLength, read}
-use Rattle.rules.specs.Image.{registerAt, wordIn, countIn, copyDiffers, manyWait, badFlag, unusedSet, Finding, clear, found, copyRule, countRule, flagRule, unusedRule, rules}
-use Rattle.rules.specs.Image.{search, finding, orElse, firstFault, ImageTest, accepted, broken, bodyTest}
-use Rattle.rules.proofs.laws.Bits.{test}
-use Rattle.rules.proofs.laws.Layout.{has-all}
-use Rattle.rules.proofs.laws.Tests.{search-first, finds-nothing, length-read, count-read, hold-copy, hold-count}
+use Rattle.images.specs.Form.{Form, word, copy, irr, count, pairs, numbers, has, place, formLength, read}
+use Rattle.images.specs.Image.{registerAt, wordIn, countIn, copyDiffers, manyWait, badFlag, unusedSet, Finding, clear, found, copyRule, countRule, flagRule, unusedRule, rules}
+use Rattle.images.specs.Image.{search, finding, orElse, firstFault, ImageTest, accepted, broken, bodyTest}
+use Rattle.basics.proofs.laws.Bits.{test}
+use Rattle.images.proofs.laws.Layout.{has-all}
+use Rattle.images.proofs.laws.Tests.{search-first, finds-nothing, length-read, count-read, hold-copy, hold-count}
 use Rattle.image.specs.Shown.{PlacesOf}
 use Rattle.image.specs.declared.form.Places.{Places}
 use Rattle.image.proofs.Forms.{always-at}

@@ -4,9 +4,9 @@ use mathlib.Core.Bool.{Bool, true, false}
 use mathlib.Core.List.{List}
 use Prim.Native.Nat.{ℕ, _<_, _≤_}
 use lib.ListN.{length, getD}
-use Rattle.rules.specs.Form.{pairs}
-use Rattle.rules.specs.Image.{copyDiffers, manyWait, badFlag, unusedSet, Finding, flagRule, unusedRule, search, orElse, ImageTest, accepted, wrongLength, wrongContents, broken}
-use Rattle.rules.specs.Image as rules-image
+use Rattle.images.specs.Form.{pairs}
+use Rattle.images.specs.Image.{copyDiffers, manyWait, badFlag, unusedSet, Finding, flagRule, unusedRule, search, orElse, ImageTest, accepted, wrongLength, wrongContents, broken}
+use Rattle.images.specs.Image as rules-image
 use Rattle.faults.specs.declared.Fault.{Fault}
 use Rattle.faults.specs.declared.Fault.the-variants.{Copy, Count, Flag, Unused}
 use Rattle.faults.specs.declared.Checked.{Checked}

@@ -11,11 +11,11 @@ use image::form::places_of;
 ghost use mathlib.Core.Path.{_≡_};
 ghost use Prim.Native.Nat.{_+_, _*_, _≤_};
 ghost use lib.ListN.{length};
-ghost use Rattle.rules.specs.Numbers.{part};
+ghost use Rattle.basics.specs.Numbers.{part};
 ghost use Rattle.rules.specs.Ring.{capacity};
-ghost use Rattle.rules.specs.Form.{formLength};
-ghost use Rattle.rules.specs.Form as rules-form;
-ghost use Rattle.rules.specs.Image.{flagRule, unusedRule, finding, rules, firstFault, bodyTest};
+ghost use Rattle.images.specs.Form.{formLength};
+ghost use Rattle.images.specs.Form as rules-form;
+ghost use Rattle.images.specs.Image.{flagRule, unusedRule, finding, rules, firstFault, bodyTest};
 ghost use Rattle.image.specs.Shown.{formView};
 ghost use Rattle.faults.specs.Found.{checkedView, First, pairFault};
 

@@ -6,12 +6,12 @@ use native.Mathlib.Omega.{arith}
 use lib.ListN.{length, take, drop, length-drop, drop-of-length-le}
 use lib.Seq.{take-all}
 use borrow.Rule.Slice.PartMut.{putMid}
-use Rattle.rules.specs.Numbers.{part}
-use Rattle.rules.specs.Calls.{Request, answered, bufferOf, placeOf, leaves, ending, outcome}
-use Rattle.rules.specs.Calls as asked
-use Rattle.rules.specs.Convert.{convertEnding, conversion}
-use Rattle.rules.proofs.laws.Conversions.{conversion-room}
-use Rattle.rules.proofs.laws.Outcomes.{room, behind, drain-behind}
+use Rattle.basics.specs.Numbers.{part}
+use Rattle.calls.specs.Calls.{Request, answered, bufferOf, placeOf, leaves, ending, outcome}
+use Rattle.calls.specs.Calls as asked
+use Rattle.calls.specs.Convert.{convertEnding, conversion}
+use Rattle.calls.proofs.laws.Conversions.{conversion-room}
+use Rattle.calls.proofs.laws.Outcomes.{room, behind, drain-behind}
 use Rattle.answer.specs.Given.{valueView, ends}
 use Rattle.answer.specs.declared.Told.{Told}
 

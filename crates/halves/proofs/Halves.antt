@@ -4,11 +4,11 @@ use mathlib.Core.Bool.{Bool}
 use mathlib.Core.List.{List, [], _∷_}
 use Prim.Native.Nat.{ℕ, _-_, _^_}
 use lib.Bits.{bitAnd}
-use Rattle.rules.specs.Inputs.{on, without, withHalf}
+use Rattle.basics.specs.Inputs.{on, without, withHalf}
 use Rattle.rules.specs.Lines.{withIsr}
 use Rattle.rules.specs.Core.{Plain, plain, withPlain, setIsr, store, setPlain, turns, lineTurn}
-use Rattle.rules.proofs.laws.Bits.{without-is}
-use Rattle.rules.proofs.laws.Writes.{acted-isr, acted-store}
+use Rattle.basics.proofs.laws.Bits.{without-is}
+use Rattle.laws.proofs.laws.Writes.{acted-isr, acted-store}
 use Rattle.inplace.specs.Held.{Reads, Becomes, Writes, withLines, withStored}
 use Rattle.inplace.proofs.Doing.{stores-write}
 

@@ -10,7 +10,7 @@ ghost use Prim.Native.Nat.{_≤_};
 ghost use lib.ListN.{length};
 ghost use Rattle.rules.specs.Core.{setIsr, store, setPlain};
 ghost use Rattle.rules.specs.Access.{valueOf, registerActs};
-ghost use Rattle.rules.specs.Form.{formLength};
+ghost use Rattle.images.specs.Form.{formLength};
 ghost use Rattle.image.specs.Shown.{formView};
 ghost use Rattle.map.specs.Views.{plainView, registerView};
 ghost use Rattle.inplace.specs.Held.{Reads, Writes};

@@ -9,10 +9,10 @@ use lib.ListN.{length, take, drop, getD, set, length-append}
 use lib.Seq.{length-take-le, set-split, drop-at}
 use Rattle.rules.specs.Map.{within}
 use Rattle.rules.specs.Device.{Value, none, some}
-use Rattle.rules.specs.Session.{digitOf, digit, digits, ifSome, digitsSpell}
-use Rattle.rules.proofs.laws.Bits.{test}
-use Rattle.rules.proofs.laws.Lists.{next}
-use Rattle.rules.proofs.laws.Maps.{inside, inside-from, outside}
+use Rattle.sessions.specs.Session.{digitOf, digit, digits, ifSome, digitsSpell}
+use Rattle.basics.proofs.laws.Bits.{test}
+use Rattle.basics.proofs.laws.Lists.{next}
+use Rattle.laws.proofs.laws.Maps.{inside, inside-from, outside}
 
 -- ---- a byte
 

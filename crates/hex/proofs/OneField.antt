@@ -7,8 +7,8 @@ use native.Mathlib.Omega.{arith}
 use lib.ListN.{length, take, drop, getD, length-drop}
 use borrow.Author.Tests.{eq-eqb, ne-eqb, le-leb, lt-leb}
 use Rattle.rules.specs.Device.{none}
-use Rattle.rules.specs.Session.{space, digitsSpell}
-use Rattle.rules.proofs.laws.Lists.{next}
+use Rattle.sessions.specs.Session.{space, digitsSpell}
+use Rattle.basics.proofs.laws.Lists.{next}
 use Rattle.hex.specs.Reads.{fieldOf}
 
 module _ (line : List ℕ) (at n : ℕ) where

@@ -5,7 +5,7 @@ use Prim.Native.Nat.{ℕ}
 use lib.Dec.{eqb, leb}
 use lib.ListN.{length, take}
 use Rattle.rules.specs.Device.{Value, none, some}
-use Rattle.rules.specs.Session.{space, digitsSpell}
+use Rattle.sessions.specs.Session.{space, digitsSpell}
 use Rattle.hex.specs.declared.Digit.{Digit}
 use Rattle.hex.specs.declared.Digit.the-variants.{Worth, Other}
 use Rattle.hex.specs.declared.Number.{Number}

@@ -3,7 +3,7 @@ ghost use mathlib.Core.Path.{_≡_};
 ghost use mathlib.Core.List.{_++_};
 ghost use Prim.Native.Nat.{_+_, _<_, _≤_};
 ghost use lib.ListN.{length, drop};
-ghost use Rattle.rules.specs.Session.{digitOf, digit, digits, digitsSpell};
+ghost use Rattle.sessions.specs.Session.{digitOf, digit, digits, digitsSpell};
 ghost use Rattle.hex.specs.Reads.{digitView, numberView, fieldOf};
 
 // What a byte is worth as a digit.

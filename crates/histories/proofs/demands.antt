@@ -3,12 +3,3 @@ pub mod Cleared
 pub mod Account
 pub mod Service
 pub mod Order
-pub mod FromCalls
-pub mod HandedBack
-pub mod ClearedCalls
-pub mod Losses
-pub mod Copy
-pub mod Convert
-pub mod Moved
-pub mod FormNumbers
-pub mod ReadAlike

@@ -3,13 +3,13 @@ use mathlib.Core.Bool.{Bool, true, false, cond, _||_}
 use mathlib.Core.List.{List, [], _∷_, _++_}
 use mathlib.Core.Path.{_≡_}
 use Prim.Native.Nat.{ℕ, _+_, _<_}
-use Rattle.rules.specs.Inputs.{on, only, asHalf}
+use Rattle.basics.specs.Inputs.{on, only, asHalf}
 use Rattle.rules.specs.Lines.{Lines, Made}
 use Rattle.rules.specs.Core.{Act, move, poll, raise, lower, clear, setMask, setIsr, store, setVector}
 use Rattle.rules.specs.Ring.{Event, Ring, RingAct, ringRun}
 use Rattle.rules.specs.Device.{Device, Call, actsOf, offers, draws, step, value}
 use Rattle.rules.specs.Device as call
-use Rattle.rules.specs.Calls.{amount}
+use Rattle.rules.specs.Device.{amount}
 use Rattle.rules.specs.Account.{carries, assertsWith}
 use Rattle.histories.specs.Premises.{writesIsr}
 

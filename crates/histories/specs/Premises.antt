@@ -5,7 +5,7 @@ use mathlib.Core.Path.{_≡_}
 use Prim.Native.Nat.{ℕ, _+_, _-_, _%_, _<_}
 use lib.Dec.{eqb}
 use lib.ListN.{getD}
-use Rattle.rules.specs.Inputs.{on}
+use Rattle.basics.specs.Inputs.{on}
 use Rattle.rules.specs.Core.{Core}
 use Rattle.rules.specs.Map.{inByteArea}
 use Rattle.rules.specs.Access.{Width, byte, word, dword, qword}

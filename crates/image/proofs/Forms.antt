@@ -8,11 +8,11 @@ use native.Mathlib.Omega.{arith}
 use lib.ListN.{length}
 use types.Run.{OneOf}
 use denote.Enum.Declared.{tagOf}
-use Rattle.rules.specs.Form.{Word, Field, word, copy, irr, next, numbers, one, two, numbered, has, size, place, formLength}
-use Rattle.rules.specs.Form as rules-form
-use Rattle.rules.specs.Image.{registerAt, wordIn, numberBodyLength}
-use Rattle.rules.proofs.laws.Bits.{test}
-use Rattle.rules.proofs.laws.Layout.{never, always, has-all, field-fits}
+use Rattle.images.specs.Form.{Word, Field, word, copy, irr, next, numbers, one, two, numbered, has, size, place, formLength}
+use Rattle.images.specs.Form as rules-form
+use Rattle.images.specs.Image.{registerAt, wordIn, numberBodyLength}
+use Rattle.basics.proofs.laws.Bits.{test}
+use Rattle.images.proofs.laws.Layout.{never, always, has-all, field-fits}
 use Rattle.image.specs.Shown.{formView, placeIn, PlacesOf}
 use Rattle.image.specs.declared.form.Form.{Form}
 use Rattle.image.specs.declared.form.Form.the-variants.{One, Two, Numbered}

@@ -3,10 +3,10 @@ use mathlib.Core.Path.{_≡_}
 use mathlib.Core.Bool.{true, false, cond}
 use Prim.Native.Nat.{ℕ, _+_, _≤_}
 use Rattle.rules.specs.Core.{htmsiEn, edge, pol, auto0, auto1}
-use Rattle.rules.specs.Form.{mask, irr, isr, copy, stored, Field, word, routes, vectors, count, drops, pairs, next, numbers, one, two, numbered}
-use Rattle.rules.specs.Form.{has, size, place, contentsLength, contentsOf, unknown, known}
-use Rattle.rules.specs.Form as rules-form
-use Rattle.rules.specs.Image.{registerAt}
+use Rattle.images.specs.Form.{mask, irr, isr, copy, stored, Field, word, routes, vectors, count, drops, pairs, next, numbers, one, two, numbered}
+use Rattle.images.specs.Form.{has, size, place, contentsLength, contentsOf, unknown, known}
+use Rattle.images.specs.Form as rules-form
+use Rattle.images.specs.Image.{registerAt}
 use Rattle.image.specs.declared.form.Form.{Form}
 use Rattle.image.specs.declared.form.Form.the-variants.{One, Two, Numbered}
 use Rattle.image.specs.declared.form.KnownForm.{KnownForm}

@@ -1,7 +1,7 @@
 // The form of an image, known by its length; where its fields stand, and its contents as numbers. Only here are places in an image literal numbers.
 ghost use mathlib.Core.Path.{_≡_};
 ghost use Prim.Native.Nat.{_≤_};
-ghost use Rattle.rules.specs.Form.{formOf, contentsLength};
+ghost use Rattle.images.specs.Form.{formOf, contentsLength};
 ghost use Rattle.image.specs.Shown.{formView, formKnown, copyLength, PlacesOf, ContentsOf};
 
 // Form 1; form 2, which has no copy of IRR; and form 2 with a fifth body, the numbers of events.

@@ -1,2 +1,1 @@
--- The laws that the proofs of this crate cite.
-pub mod Lines
+-- The laws that the proofs of this crate cite are those of rules, inplace and refusals.

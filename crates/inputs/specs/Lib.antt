@@ -1,2 +1,1 @@
--- What the functions of this crate promise, in the rules' terms.
-pub mod Returned
+-- The contracts cite the definitions of rules and answer alone.

@@ -14,14 +14,13 @@ use state::Tables;
 ghost use mathlib.Core.Path.{_≡_};
 ghost use Prim.Native.Nat.{_+_, _≤_};
 ghost use lib.ListN.{length};
-ghost use Rattle.rules.specs.Numbers.{numberOf, part};
+ghost use Rattle.basics.specs.Numbers.{numberOf, part};
 ghost use Rattle.rules.specs.Ring.{capacity};
-ghost use Rattle.rules.specs.Form.{formLength};
-ghost use Rattle.rules.specs.Numbering.{fromZero};
-ghost use Rattle.rules.specs.Image.{countIn, decodeAs, numberBody};
+ghost use Rattle.images.specs.Form.{formLength};
+ghost use Rattle.images.specs.Image.{countIn, decodeAs};
 ghost use Rattle.state.specs.View.{IsRing, Is};
 ghost use Rattle.image.specs.Shown.{formView};
-ghost use Rattle.loaded.specs.Shown.{IsLines, IsStored, LoadsNumbers};
+ghost use Rattle.loaded.specs.Shown.{IsLines, IsStored};
 
 pub fn load_lines(image: &[u8], form: Form) -> Lines
     requires { ⌜ length (now image) ≡ formLength (formView form) ⌝ }
@@ -109,39 +108,6 @@ fn load_vectors(image: &[u8], form: Form) -> [u8; 64]
         Form::Two => fill_entries(&image[150..214]),
         Form::Numbered => fill_entries(&image[155..219]),
     }
-}
-
-// The numbers of an image that has none: the waiting events have those from 0 on, and the next is how many wait. Stored one by one: a copy of so many bytes would be
-// a call of memcpy.
-fn counted(count: usize) -> [u8; 34]
-    requires { ⌜ count ≤ capacity ⌝ }
-    ensures { λ r. ⌜ r ≡ numberBody (fromZero count) ⌝ }
-{
-    let mut body = [0u8; 34];
-    body[0] = count as u8;
-    let mut i = 0;
-    while i < count {
-        body[form::NEXT_LENGTH + form::NUMBER * i] = i as u8;
-        i += 1;
-    }
-    body
-}
-
-// The body of the numbers with which an image loads.
-pub fn load_numbers(image: &[u8], form: Form) -> [u8; 34]
-    requires { ⌜ (length (now image) ≡ formLength (formView form)) × (countIn (formView form) (now image) ≤ capacity) ⌝ }
-    ensures { λ r. ⌜ LoadsNumbers (formView form) (now (image .entry)) r ⌝ }
-{
-    let p = places_of(form);
-    let Form::Numbered = form else {
-        let place = p.count;
-        return counted(image[place] as usize);
-    };
-    let at = p.next;
-    let end = at + form::NUMBER_BODY_LENGTH;
-    let mut body = [0u8; 34];
-    copy(&mut body, &image[at..end]);
-    body
 }
 
 pub fn load(image: &[u8], form: Form) -> PchPicState

@@ -4,15 +4,15 @@ use mathlib.Core.Bool.{Bool, true, false}
 use mathlib.Core.List.{List, [], _∷_, map}
 use Prim.Native.Nat.{ℕ, _+_, _-_, _^_, _<_}
 use lib.Bits.{bitAnd}
-use Rattle.rules.specs.Inputs.{on, inputs, register, without, withHalf}
+use Rattle.basics.specs.Inputs.{on, inputs, register, without, withHalf}
 use Rattle.rules.specs.Lines.{Lines, Turn, stay, withMask, withIrr, withIsr, event, andThen, pendingIn, serve, enter, leave, newlyUnmasked, newlyMasked, cleared, masked}
 use Rattle.rules.specs.Core.{move, moved, clear, setMask}
 use Rattle.rules.specs.Ring.{ringStep, ringRun, dropped, lostOf}
 use Rattle.rules.specs.Device.{Device, Value, offers, returned, lost}
 use Rattle.rules.specs.Numbering.{Numbers, takesAll}
-use Rattle.rules.proofs.laws.Lists.{Each}
-use Rattle.rules.proofs.laws.Bits.{without-is}
-use Rattle.rules.proofs.laws.Inputs.{enter-ext, leave-ext}
+use Rattle.basics.proofs.laws.Lists.{Each}
+use Rattle.basics.proofs.laws.Bits.{without-is}
+use Rattle.laws.proofs.laws.Sets.{enter-ext, leave-ext}
 use Rattle.decide.specs.Sets.{servedOf}
 use Rattle.inplace.specs.Held.{Holds, Reads, Becomes, takesEach, Offers, MovesIn, Writes, withLines, withRing, given, untaken}
 use Rattle.inplace.proofs.Doing.{does-same, becomes-then, takes-each, moves-acts}

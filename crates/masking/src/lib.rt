@@ -8,12 +8,12 @@ ghost use mathlib.Core.Bool.{true};
 ghost use mathlib.Core.List.{[], _∷_};
 ghost use Prim.Native.Nat.{_≤_};
 ghost use lib.ListN.{length};
-ghost use Rattle.rules.specs.Inputs.{on};
+ghost use Rattle.basics.specs.Inputs.{on};
 ghost use Rattle.rules.specs.Lines as lines;
 ghost use Rattle.rules.specs.Core as core;
 ghost use Rattle.rules.specs.Device.{lost};
 ghost use Rattle.rules.specs.Numbering.{takesAll};
-ghost use Rattle.rules.specs.Form.{formLength};
+ghost use Rattle.images.specs.Form.{formLength};
 ghost use Rattle.image.specs.Shown.{formView};
 ghost use Rattle.inplace.specs.Held.{MovesIn, Writes};
 

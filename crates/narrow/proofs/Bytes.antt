@@ -4,11 +4,11 @@ use mathlib.Core.Bool.{false}
 use mathlib.Core.List.{List, _++_}
 use Prim.Native.Nat.{ℕ, _+_, _^_, _<_}
 use lib.Bits.{bitAnd}
-use Rattle.rules.specs.Numbers.{byteOf, withByte}
+use Rattle.basics.specs.Numbers.{byteOf, withByte}
 use Rattle.rules.specs.Core.{turns}
 use Rattle.rules.specs.Map.{inByteArea}
 use Rattle.rules.specs.Access.{word, readDword, byteActs, dwordActs, writeActs}
-use Rattle.rules.proofs.laws.Writes.{byte-acts-outside}
+use Rattle.laws.proofs.laws.Writes.{byte-acts-outside}
 use Rattle.inplace.specs.Held.{Reads, Writes}
 use Rattle.inplace.proofs.Doing.{writes-same, writes-then}
 

@@ -7,16 +7,16 @@ use native.Mathlib.Omega.{arith}
 use lib.ListN.{length, take, drop, getD}
 use lib.Seq.{drop-drop}
 use borrow.Author.Tests.{lt-ltb, le-ltb}
-use Rattle.rules.specs.Numbers.{numberOf, bytesOf, part}
+use Rattle.basics.specs.Numbers.{numberOf, bytesOf, part}
 use Rattle.rules.specs.Ring.{capacity}
 use Rattle.rules.specs.Device.{Device}
 use Rattle.rules.specs.Numbering.{Numbers, following, takes, fromZero, numberTwos}
-use Rattle.rules.specs.Form.{Form, count, next, numbers, has, size, place, formLength}
-use Rattle.rules.specs.Image.{fieldOf, encodeAs, encodeLike, numbersIn, numbersAs, countIn}
-use Rattle.rules.proofs.laws.Twos.{sixteen-snoc}
-use Rattle.rules.proofs.laws.Saved.{has-next, numbers-there, numbers-not-there, encode-without, fields-sized, few-numbers, count-stands}
-use Rattle.rules.proofs.laws.Images.{numbers-as, encode-as, numbers-encode}
-use Rattle.rules.proofs.laws.InPlace.{withNext, withWaiting, next-apart, numbers-apart, field-written, bytes-written}
+use Rattle.images.specs.Form.{Form, count, next, numbers, has, size, place, formLength}
+use Rattle.images.specs.Image.{fieldOf, encodeAs, encodeLike, numbersIn, numbersAs, countIn}
+use Rattle.images.proofs.laws.Twos.{sixteen-snoc}
+use Rattle.images.proofs.laws.Saved.{has-next, numbers-there, numbers-not-there, encode-without, fields-sized, few-numbers, count-stands}
+use Rattle.laws.proofs.laws.Images.{numbers-as, encode-as, numbers-encode}
+use Rattle.laws.proofs.laws.InPlace.{withNext, withWaiting, next-apart, numbers-apart, field-written, bytes-written}
 use Rattle.rules.proofs.laws.Numbered.{Fits, fits, fitting, takes-returned}
 use Rattle.bytes.specs.Put.{withBytes}
 use Rattle.inplace.specs.Held.{Holds, Taken, NumberOffered}

@@ -2,7 +2,7 @@
 use mathlib.Core.Path.{_≡_}
 use mathlib.Core.List.{List}
 use Prim.Native.Nat.{ℕ}
-use Rattle.rules.specs.Numbers.{numberOf, part}
+use Rattle.basics.specs.Numbers.{numberOf, part}
 use Rattle.rules.specs.Numbering.{following}
 use Rattle.bytes.specs.Put.{withBytes}
 

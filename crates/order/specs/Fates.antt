@@ -8,7 +8,7 @@ use lib.ListN.{length}
 use Rattle.rules.specs.Lines.{Made}
 use Rattle.rules.specs.Ring.{capacity, Ring, ringRun}
 use Rattle.rules.specs.Device.{Device, Call, offers, step}
-use Rattle.rules.specs.Form.{decided}
+use Rattle.images.specs.Form.{decided}
 
 -- what becomes of an event that is made: it is returned, or it is offered and the ring keeps it or drops it (01, Inputs; 01, The ring)
 pub data Fate : Type 0 where

@@ -9,9 +9,9 @@ use native.Mathlib.Omega.{arith}
 use lib.Dec.{eqb}
 use lib.ListN.{length, take, drop, getD, set, length-set, List·getD-map}
 use Rattle.rules.specs.Ring.{Event, eventTwos}
-use Rattle.rules.specs.Image.{eventsOf}
-use Rattle.rules.proofs.laws.Lists.{turn, done, next}
-use Rattle.rules.proofs.laws.Twos.{length-spelled}
+use Rattle.images.specs.Image.{eventsOf}
+use Rattle.basics.proofs.laws.Lists.{turn, done, next}
+use Rattle.images.proofs.laws.Twos.{length-spelled}
 use Rattle.state.specs.View.{slots}
 use Rattle.state.proofs.Slots.{ev}
 

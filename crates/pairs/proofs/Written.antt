@@ -8,8 +8,8 @@ use native.Mathlib.Omega.{arith}
 use lib.ListN.{length, take, drop, getD, set, replicate, length-set, take-append-drop}
 use lib.Seq.{drop-drop, drop-set-lt, take-all}
 use Rattle.rules.specs.Ring.{Event, capacity, flag, eventTwos, pairsOf}
-use Rattle.rules.specs.Image.{sixteen}
-use Rattle.rules.proofs.laws.Lists.{turn}
+use Rattle.images.specs.Image.{sixteen}
+use Rattle.basics.proofs.laws.Lists.{turn}
 use Rattle.state.specs.View.{slot, slots}
 
 module _ (vs : List ℕ) (fs : List Bool) where

@@ -8,7 +8,7 @@ ghost use mathlib.Core.List.{_++_};
 ghost use Prim.Native.Nat.{_*_, _≤_};
 ghost use lib.ListN.{length, take, drop};
 ghost use Rattle.rules.specs.Ring.{capacity, flag, eventTwos, pairsOf};
-ghost use Rattle.rules.specs.Image.{sixteen, eventsOf};
+ghost use Rattle.images.specs.Image.{sixteen, eventsOf};
 ghost use Rattle.state.specs.View.{WellRing, IsRing, ringView};
 
 // The ring of the events that pairs spell, from the first slot on.

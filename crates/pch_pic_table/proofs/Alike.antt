@@ -3,8 +3,8 @@
 use mathlib.Core.Path.{_≡_}
 use mathlib.Core.List.{List, []}
 use Prim.Native.Nat.{ℕ}
-use Rattle.rules.specs.Calls.{read, write, leaves, outcome}
-use Rattle.rules.proofs.demands.OneOutcome.{one-result}
+use Rattle.calls.specs.Calls.{read, write, leaves, outcome}
+use Rattle.calls.proofs.demands.OneOutcome.{one-result}
 
 module _ (image answer : List ℕ) (base size address width : ℕ) where
   -- r and a: what pch_pic_table_read hands back and leaves in the answer area; s and b: what pch_pic_read does

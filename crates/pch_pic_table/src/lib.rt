@@ -1,8 +1,8 @@
 // Reads and writes that are decoded by the table, for a host: in every byte as pch_pic_read and pch_pic_write. Neither requires anything.
 ghost use mathlib.Core.Path.{_≡_};
 ghost use mathlib.Core.List.{[]};
-ghost use Rattle.rules.specs.Calls.{leaves, outcome};
-ghost use Rattle.rules.specs.Calls as asked;
+ghost use Rattle.calls.specs.Calls.{leaves, outcome};
+ghost use Rattle.calls.specs.Calls as asked;
 
 #[no_mangle]
 pub extern "C" fn pch_pic_table_read(

@@ -6,8 +6,8 @@ use mathlib.Core.List.{List, [], _∷_, _++_, map}
 use Prim.Native.Nat.{ℕ, zero, suc, _+_, _-_, _*_, _/_, _%_, _^_}
 use lib.Dec.{eqb}
 use lib.ListN.{length, take, getD, set}
-use Rattle.rules.specs.Numbers.{numberOf, byteOf, withByte}
-use Rattle.rules.specs.Inputs.{half, withHalf}
+use Rattle.basics.specs.Numbers.{numberOf, byteOf, withByte}
+use Rattle.basics.specs.Inputs.{half, withHalf}
 use Rattle.rules.specs.Ring.{Event}
 use Rattle.rules.specs.Core.{Stored, plain, withPlain, withRoutes}
 use Rattle.rules.specs.Map as map

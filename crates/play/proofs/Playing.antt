@@ -12,19 +12,20 @@ use Rattle.rules.specs.Ring as ring
 use Rattle.rules.specs.Ring.{Event, capacity, drawn, flag, pairsOf}
 use Rattle.rules.specs.Access.{Width, readAt, writeActs}
 use Rattle.rules.specs.Device.{Device, Call, level, poll, read, write, drain, step, acted}
-use Rattle.rules.specs.Window.{inside}
-use Rattle.rules.specs.Calls.{Tested, pass, refuse, noWidth, outside, inputCall, widthTest, addressTest, accessCall}
-use Rattle.rules.specs.Session.{space, plus, minus, equals, letter-d, letter-k, letter-o, digits, asks, sessionBase, sessionSize, vectorSaid, eventsSaid, said, playedLine}
-use Rattle.rules.specs.Session as session
-use Rattle.rules.proofs.laws.Bits.{test}
-use Rattle.rules.proofs.laws.Maps as maps
+use Rattle.calls.specs.Window.{inside}
+use Rattle.calls.specs.Calls.{Tested, pass, refuse, noWidth, outside, inputCall, widthTest, addressTest, accessCall}
+use Rattle.sessions.specs.Session.{space, plus, minus, equals, letter-d, letter-k, letter-o, digits, asks, sessionBase, sessionSize, vectorSaid, eventsSaid, said, playedLine}
+use Rattle.sessions.specs.Session as session
+use Rattle.basics.proofs.laws.Bits.{test}
+use Rattle.laws.proofs.laws.Maps as maps
 use Rattle.rules.proofs.laws.Steps.{withLines, withRing, level-device, level-value, poll-device, poll-value, drain-device, drain-drained, read-device, write-device}
 use Rattle.rules.specs.Lines.{polled, levelled}
-use Rattle.rules.proofs.laws.Outcomes.{input-refused, input-passed, width-refused, address-refused, access-passed}
+use Rattle.calls.proofs.laws.Outcomes.{input-refused, input-passed, width-refused, address-refused, access-passed}
 use Rattle.state.specs.View.{ringView}
 use Rattle.engine.specs.declared.Routed.{Routed}
-use Rattle.engine.specs.declared.Drained.{Drained}
-use Rattle.engine.specs.Moves.{Answers, Drains}
+use Rattle.output.specs.declared.Drained.{Drained}
+use Rattle.engine.specs.Moves.{Answers}
+use Rattle.output.specs.Drains.{Drains}
 use Rattle.reply.specs.Says.{pairSaid, pairsSaid}
 use Rattle.play.specs.Plays.{Plays, refusedWith, routedWith}
 use Rattle.play.specs.declared.Played.{Played}

@@ -2,8 +2,8 @@
 use mathlib.Core.List.{List, [], _∷_}
 use Prim.Native.Nat.{ℕ}
 use Rattle.rules.specs.Device.{Device, withLines}
-use Rattle.rules.specs.Session as session
-use Rattle.rules.specs.Session.{letter-e, digit, vectorSaid}
+use Rattle.sessions.specs.Session as session
+use Rattle.sessions.specs.Session.{letter-e, digit, vectorSaid}
 use Rattle.state.specs.View.{linesView, Is}
 use Rattle.engine.specs.declared.Routed.{Routed}
 use Rattle.engine.specs.Moves.{answerValue}

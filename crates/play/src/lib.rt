@@ -6,7 +6,7 @@ use window::Known;
 use window::Located;
 ghost use Prim.Native.Nat.{_<_, _≤_};
 ghost use lib.ListN.{length};
-ghost use Rattle.rules.specs.Session.{playedLine, played, ending};
+ghost use Rattle.sessions.specs.Session.{playedLine, played, ending};
 ghost use Rattle.state.specs.View.{view, Well};
 ghost use Rattle.request.specs.Requests.{requestView};
 ghost use Rattle.reply.specs.Says.{Says};
@@ -80,7 +80,7 @@ fn play_read(state: PchPicState, width: u64, address: u64, out: &mut [u8]) -> Pl
     let Located::At(offset) = window::locate(BASE, SIZE, address, width) else {
         return refused(state, 1, out);
     };
-    let value = readers::read_register(state, bytes, offset);
+    let value = by_width::read_register(state, bytes, offset);
     let len = reply::put_value(out, value);
     Played { state, len }
 }
@@ -96,7 +96,7 @@ fn play_write(state: PchPicState, width: u64, address: u64, value: u64, out: &mu
         return refused(state, 1, out);
     };
     // How many events were dropped is not said: a write answers ok.
-    let written = writers::write_register(state, bytes, offset, value);
+    let written = by_width::write_register(state, bytes, offset, value);
     let next = written.state;
     let len = reply::put_ok(out);
     Played { state: next, len }
@@ -108,7 +108,7 @@ fn play_drain(state: PchPicState, out: &mut [u8]) -> Played
 {
     let mut next = state;
     let mut pairs = [0u8; 32];
-    let drained = engine::drain_output_events(next.ring, &mut pairs);
+    let drained = output::drain_output_events(next.ring, &mut pairs);
     let ring = drained.ring;
     next.ring = ring;
     let len = reply::put_drained(out, &pairs, drained.count);

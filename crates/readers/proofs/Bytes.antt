@@ -9,8 +9,8 @@ use lib.Pow.{pow-add, shl-exact}
 use Rattle.rules.specs.Core.{Core}
 use Rattle.rules.specs.Map.{bytes, cellAt}
 use Rattle.rules.specs.Access.{word, readByte, readDword, readAt}
-use Rattle.rules.proofs.laws.Halves.{byte-place}
-use Rattle.rules.proofs.laws.Widths.{dword-four}
+use Rattle.laws.proofs.laws.Halves.{byte-place}
+use Rattle.laws.proofs.laws.Widths.{dword-four}
 use Rattle.readers.specs.Bytes.{bytesRead}
 
 -- v | b << (i * 8), for a v of i bytes

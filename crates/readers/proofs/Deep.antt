@@ -4,7 +4,7 @@ use mathlib.Core.Bool.{true≢false}
 use Prim.Native.Nat.{ℕ, _-_, _≤_}
 use native.Mathlib.Omega.{arith}
 use Rattle.rules.specs.Map.{bytes, cellAt}
-use Rattle.rules.proofs.laws.Maps.{at-bytes, four-inside}
+use Rattle.laws.proofs.laws.Maps.{at-bytes, four-inside}
 use Rattle.readers.specs.Depths.{SplitDepth}
 
 pub four-deep : (o depth : ℕ) → cellAt o ≡ bytes → 2 ≤ depth → SplitDepth o 4 (depth - 1)

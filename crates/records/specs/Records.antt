@@ -6,7 +6,7 @@ use mathlib.Core.List.{List, [], _∷_}
 use Prim.Native.Nat.{ℕ, _+_, _*_, _%_}
 use lib.Dec.{eqb, ltb}
 use lib.ListN.{getD, replicate}
-use Rattle.rules.specs.Numbers.{numberOf, part}
+use Rattle.basics.specs.Numbers.{numberOf, part}
 use Rattle.bytes.specs.Put.{withWord}
 use Rattle.records.specs.declared.Verdict.{Verdict}
 use Rattle.records.specs.declared.Verdict.the-variants.{Agrees, Nothing, Lent, Number, Answer, Image, Events, Whole, Cut, Kind}

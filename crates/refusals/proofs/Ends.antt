@@ -1,21 +1,17 @@
--- The image's test, as a call goes on or leaves by it, and what an image that passed it holds.
+-- The image's test, as a call goes on or leaves by it.
 use mathlib.Core.Path.{_≡_, refl, sym, ap, subst, _∙_}
 use mathlib.Core.List.{List, [], _∷_}
-use Prim.Native.Nat.{ℕ, _≤_}
-use native.Mathlib.Omega.{arith}
+use Prim.Native.Nat.{ℕ}
 use types.Run.{OneOf}
 use denote.Enum.Declared.{tagOf}
 use lib.ListN.{length}
-use Rattle.rules.specs.Numbers.{Bytes}
+use Rattle.basics.specs.Numbers.{Bytes}
 use Rattle.rules.specs.Device.{Call, Value, none}
-use Rattle.rules.specs.Form.{Form, forms, known, formOf, formLength}
-use Rattle.rules.specs.Image.{accepted, imageTest, decode, numbersIn, countIn}
-use Rattle.rules.specs.Calls.{imageNumber, imageValue, Tested, Request, calls, askedBy, bufferOf, Ending, ending}
-use Rattle.rules.proofs.laws.Tests.{form-known, test-known}
-use Rattle.rules.proofs.laws.Tests as tests
-use Rattle.rules.proofs.laws.Outcomes.{image-refused}
-use Rattle.inplace.specs.Held.{Holds}
-use Rattle.inplace.proofs.Doing.{held}
+use Rattle.images.specs.Form.{formLength}
+use Rattle.images.specs.Image.{accepted, imageTest}
+use Rattle.calls.specs.Calls.{imageNumber, imageValue, Tested, Request, calls, askedBy, bufferOf, Ending, ending}
+use Rattle.calls.proofs.laws.Outcomes.{image-refused}
+use Rattle.inplace.specs.Passed.{Passed}
 use Rattle.image.specs.Shown.{formView}
 use Rattle.image.specs.declared.form.Form as code
 use Rattle.checked.specs.Good.{headTest, Headed, holds, bodiesGood, bodiesTest}
@@ -68,22 +64,7 @@ module _ (i : List ℕ) (h : Head) (f : code.Form) (e : h ≡ Of f) (d : Headed 
 
 -- ---- the image was accepted
 
-pub record Passed (f : Form) (i : List ℕ) : Type 0 where
-  pub bytes : Bytes i
-  pub good : imageTest i ≡ accepted
-  pub known : formOf (length i) ≡ known f
-
 pub goes-on : (i : List ℕ) → Bytes i → (h : Head) (f : code.Form) → h ≡ Of f → Headed h i → (b : Bodies) → b ≡ Good → holds b ≡ bodiesGood (formView f) i → Passed (formView f) i
 goes-on i y h f e d b z g =
     let o = opened i h f e d in
     record { bytes = y; good = accepts i (formView f) (o .0) (o .1) (sym g ∙ ap holds z); known = o .0 }
-
-module _ {f : Form} {i : List ℕ} (p : Passed f i) where
-  pub long : length i ≡ formLength f
-  long = form-known forms (length i) f (p .known)
-
-  pub few : countIn f i ≤ 16
-  few = tests.accepted-has f i (sym (test-known i (p .known)) ∙ p .good) .ruled .counted
-
-  pub here : Holds i (decode i) (numbersIn i)
-  here = held i (p .bytes) (p .good)

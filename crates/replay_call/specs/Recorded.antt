@@ -5,7 +5,7 @@ use mathlib.Core.List.{List, _++_}
 use Prim.Native.Nat.{ℕ}
 use lib.Dec.{eqb}
 use lib.ListN.{take, drop}
-use Rattle.rules.specs.Calls.{Request, reset, read, write, level, poll, drain, Outcome, leaves, outcome}
+use Rattle.calls.specs.Calls.{Request, reset, read, write, level, poll, drain, Outcome, leaves, outcome}
 use Rattle.records.specs.Records.{wordAt, kindOf, lentImage, lentAnswer, lentEvents, answerFill, eventFill, AsNoted}
 use Rattle.replay_call.specs.declared.Made.{Made}
 

@@ -8,7 +8,7 @@ ghost use mathlib.Core.Bool.{true};
 ghost use mathlib.Core.List.{[]};
 ghost use Prim.Native.Nat.{_<_, _≤_};
 ghost use lib.ListN.{length};
-ghost use Rattle.rules.specs.Calls.{leaves};
+ghost use Rattle.calls.specs.Calls.{leaves};
 ghost use Rattle.records.specs.Records.{kindOf, lentImage, lentAnswer, lentEvents, agreed};
 ghost use Rattle.replay_call.specs.Recorded.{made, Makes, Recorded};
 

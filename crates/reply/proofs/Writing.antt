@@ -7,9 +7,9 @@ use native.Mathlib.Omega.{arith}
 use lib.ListN.{length, take, drop, getD, set, length-append, length-drop, take-append-drop}
 use lib.Seq.{length-take-le, take-at, drop-at, drop-append-le, drop-drop, set-at}
 use borrow.Rule.Slice.PartMut.{putMid}
-use Rattle.rules.specs.Session.{digits}
-use Rattle.rules.proofs.laws.Parts.{Filled, start, put-front}
-use Rattle.rules.proofs.laws.Lists.{next}
+use Rattle.sessions.specs.Session.{digits}
+use Rattle.basics.proofs.laws.Parts.{Filled, start, put-front}
+use Rattle.basics.proofs.laws.Lists.{next}
 use Rattle.reply.specs.Says.{Says, pairSaid, pairsSaid}
 use Rattle.hex.proofs.Digits.{length-digits}
 

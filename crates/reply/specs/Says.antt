@@ -5,7 +5,7 @@ use mathlib.Core.List.{List, [], _∷_, _++_}
 use Prim.Native.Nat.{ℕ, zero, suc, _+_, _*_}
 use lib.Dec.{eqb}
 use lib.ListN.{length, drop, getD}
-use Rattle.rules.specs.Session.{space, plus, minus, digits}
+use Rattle.sessions.specs.Session.{space, plus, minus, digits}
 
 -- n bytes are written to the front
 pub record Says (n : ℕ) (entry exit said : List ℕ) : Type 0 where

@@ -6,7 +6,7 @@ ghost use mathlib.Core.List.{[], _∷_};
 ghost use Prim.Native.Nat.{_+_, _*_, _<_, _≤_};
 ghost use lib.Dec.{eqb};
 ghost use lib.ListN.{length};
-ghost use Rattle.rules.specs.Session.{space, plus, minus, equals, question, letter-d, letter-e, letter-k, letter-o, letter-p, letter-r, letter-s, digit, digits, vectorSaid};
+ghost use Rattle.sessions.specs.Session.{space, plus, minus, equals, question, letter-d, letter-e, letter-k, letter-o, letter-p, letter-r, letter-s, digit, digits, vectorSaid};
 ghost use Rattle.engine.specs.Moves.{answerValue};
 ghost use Rattle.reply.specs.Says.{Says, pairSaid, pairsSaid};
 

@@ -8,8 +8,8 @@ use lib.Dec.{eqb, leb}
 use lib.ListN.{length, take, drop, getD, drop-of-length-le}
 use lib.Seq.{drop-drop}
 use Rattle.rules.specs.Device.{Value, none, some}
-use Rattle.rules.specs.Session.{space, letter-l, letter-p, letter-r, letter-w, letter-d, digitsSpell, Fields, wrong, right, joined, fields, Line, unknown, ifRight, levelLine, pollLine, readLine, writeLine, drainLine, lineOf}
-use Rattle.rules.proofs.laws.Lists.{next}
+use Rattle.sessions.specs.Session.{space, letter-l, letter-p, letter-r, letter-w, letter-d, digitsSpell, Fields, wrong, right, joined, fields, Line, unknown, ifRight, levelLine, pollLine, readLine, writeLine, drainLine, lineOf}
+use Rattle.basics.proofs.laws.Lists.{next}
 use Rattle.hex.specs.Reads.{numberView, fieldOf}
 use Rattle.hex.specs.declared.Number.{Number}
 use Rattle.hex.specs.declared.Number.the-variants.{Is, Wrong}

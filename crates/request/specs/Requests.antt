@@ -1,8 +1,8 @@
 -- What a line asks for, as the rules see it.
 use Rattle.rules.specs.Ring.{capacity}
 use Rattle.rules.specs.Device.{level, poll, read, write, drain}
-use Rattle.rules.specs.Calls.{pass, inputCall, accessCall}
-use Rattle.rules.specs.Session.{Line, asks, unknown, sessionBase, sessionSize}
+use Rattle.calls.specs.Calls.{pass, inputCall, accessCall}
+use Rattle.sessions.specs.Session.{Line, asks, unknown, sessionBase, sessionSize}
 use Rattle.request.specs.declared.Request.{Request}
 use Rattle.request.specs.declared.Request.the-variants as request
 

@@ -3,7 +3,7 @@ use hex::Number;
 ghost use mathlib.Core.Path.{_≡_};
 ghost use mathlib.Core.List.{[], _∷_};
 ghost use lib.ListN.{drop};
-ghost use Rattle.rules.specs.Session.{fields, ifRight, levelLine, pollLine, readLine, writeLine, drainLine, lineOf};
+ghost use Rattle.sessions.specs.Session.{fields, ifRight, levelLine, pollLine, readLine, writeLine, drainLine, lineOf};
 ghost use Rattle.request.specs.Requests.{requestView};
 
 pub enum Request {

@@ -9,16 +9,16 @@ use lib.ListN.{length, take, getD, set, replicate, length-append}
 use lib.Seq.{take-all, drop-at}
 use borrow.Author.Tests.{lt-ltb, le-ltb, ltb-true}
 use borrow.Rule.Slice.PartMut.{putMid}
-use Rattle.rules.specs.Numbers.{numberOf, bytesOf, part, Bytes}
+use Rattle.basics.specs.Numbers.{numberOf, bytesOf, part, Bytes}
 use Rattle.rules.specs.Ring.{capacity, stop, flag, pairsOf, Event, Ring, offer, offered, ringStep, ringRun, droppedBy, dropped, lostOf}
 use Rattle.rules.specs.Device.{Device, WellFormed, reset}
 use Rattle.rules.specs.Numbering.{Numbers, takes}
-use Rattle.rules.specs.Form.{Form, count, place, formLength}
-use Rattle.rules.specs.Image.{ringLength, ringBody, encodeAs}
-use Rattle.rules.proofs.laws.Bytes.{numberOf-bytesOf}
-use Rattle.rules.proofs.laws.Bits.{test}
+use Rattle.images.specs.Form.{Form, count, place, formLength}
+use Rattle.images.specs.Image.{ringLength, ringBody, encodeAs}
+use Rattle.basics.proofs.laws.Bytes.{numberOf-bytesOf}
+use Rattle.basics.proofs.laws.Bits.{test}
 use Rattle.rules.proofs.laws.Rings.{offered-room, offered-full}
-use Rattle.rules.proofs.laws.Images.{encode-as}
+use Rattle.laws.proofs.laws.Images.{encode-as}
 use Rattle.rules.proofs.laws.Numbered.{fits, fitting, takes-offered}
 use Rattle.bytes.specs.Put.{withBytes}
 use Rattle.inplace.specs.Held.{Holds, Offers, NumberOffered, withRing}

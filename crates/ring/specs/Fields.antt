@@ -6,7 +6,7 @@ use Prim.Native.Nat.{ℕ, _≤_}
 use lib.ListN.{length}
 use Rattle.rules.specs.Ring.{capacity, stop, Event, Ring, RingAct, offer, offered, droppedBy}
 use Rattle.rules.specs.Device.{reset}
-use Rattle.rules.specs.Image.{ringBody}
+use Rattle.images.specs.Image.{ringBody}
 use Rattle.inplace.specs.Held.{withRing}
 
 abbrev pub event : ℕ → Bool → Event

@@ -1,13 +1,5 @@
--- What was asked for in prose, as theorems over the definitions alone.
-pub mod Dozen
-pub mod WhollyInside
-pub mod WorkedSession
-pub mod RoundTrip
+-- What was asked for in prose of one call, as theorems over the definitions alone. Crates calls and laws have those of an exported call and of an image.
 pub mod EasyToGetWrong
-pub mod OneOutcome
-pub mod Refused
 pub mod Losses
 pub mod Numbered
-pub mod Broken
 pub mod Copy
-pub mod Convert

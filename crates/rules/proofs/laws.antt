@@ -1,29 +1,8 @@
--- Lemmas about the definitions, each stated once, over the width, the index or the list.
-pub mod Computing
-pub mod Bits
-pub mod Inputs
-pub mod Halves
-pub mod Lists
-pub mod Bytes
-pub mod Parts
-pub mod Places
-pub mod Layout
-pub mod Twos
-pub mod Tests
-pub mod Saved
-pub mod Images
-pub mod InPlace
+-- Lemmas about the definitions, each stated once. Crate laws has those that no edit of a definition is refused by.
+pub mod Running
+pub mod Computed
 pub mod Rings
 pub mod Numbered
 pub mod Acts
 pub mod Steps
-pub mod Outcomes
-pub mod Conversions
-pub mod Refusals
-pub mod Maps
-pub mod Widths
-pub mod Writes
-pub mod Losses
 pub mod Counts
-pub mod Serving
-pub mod Answers

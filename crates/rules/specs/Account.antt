@@ -4,7 +4,7 @@ use mathlib.Core.List.{List, [], _∷_}
 use Prim.Native.Nat.{ℕ, _+_}
 use lib.Dec.{eqb}
 use lib.ListN.{length, getD}
-use Rattle.rules.specs.Inputs.{inputs}
+use Rattle.basics.specs.Inputs.{inputs}
 use Rattle.rules.specs.Lines.{Lines, Made, servedIn}
 use Rattle.rules.specs.Ring.{Event}
 use Rattle.rules.specs.Core.{Core}

@@ -3,7 +3,7 @@ use mathlib.Core.Bool.{cond}
 use mathlib.Core.List.{List, [], _∷_}
 use Prim.Native.Nat.{ℕ, _-_, _<_}
 use lib.Dec.{ltb}
-use Rattle.rules.specs.Inputs.{on, only, put, without}
+use Rattle.basics.specs.Inputs.{on, only, put, without}
 use Rattle.rules.specs.Core.{Move, poll, raise, lower, clear, setMask, Act, move, setIsr, store, setPlain, setRoute, setVector}
 use Rattle.rules.specs.Device.{Device, Call, Value, none, some, actsOf, step}
 

@@ -1,6 +1,8 @@
 -- Histories of calls: one after another, from any device or from reset.
+use mathlib.Core.Bool.{true}
 use mathlib.Core.List.{List, [], _∷_, _++_}
-use Rattle.rules.specs.Device.{Device, Call, Step, step}
+use Prim.Native.Nat.{ℕ, zero, suc}
+use Rattle.rules.specs.Device.{Device, Call, level, Step, step}
 use Rattle.rules.specs.Device as device
 
 -- calls, one after another: the device after them, all events made and all drained, in order
@@ -14,3 +16,8 @@ history d (c ∷ cs) =
 -- a history from reset (00, demand 3)
 abbrev pub fromReset : List Call → Step
 fromReset cs = history device.reset cs
+
+-- k raises from input n on
+unfoldable pub raises : ℕ → ℕ → List Call
+raises n zero = []
+raises n (suc k) = level n true ∷ raises (suc n) k

@@ -1,4 +1,6 @@
--- Document 01's rules as definitions, and nothing else: no code, no proof. Read in this order. docs/DEVICE.md tells the same in plain words.
+-- Document 01's rules as definitions, and nothing else: no code, no proof. docs/DEVICE.md tells the same in plain words.
+-- Read in this order: basics/specs, what the rules speak in (Numbers, Inputs); here, the device itself; images/specs, its bytes (Form, Image); calls/specs, the
+-- exported calls on bytes (Window, Calls, Convert); sessions/specs, the text of a session and 01's marked dozen (Session, Dozen).
 -- A section of 01 is named in each comment by its first words; docs/DEVICE.md has the same headings.
 --
 -- To read them one needs little beside arithmetic and lists:
@@ -9,8 +11,6 @@
 --   `abbrev` and `unfoldable` say only how a proof opens a definition; to a reader they are the same.
 --   A Made is an event as an input makes it; a Turn is what a step leaves of the lines and makes; an Act is one thing that a call does to the device
 --   without its ring; a Step is what a whole call gives: the device after, the events made, the events drained; Numbers stand beside the device, of events and not of bytes.
-pub mod Numbers
-pub mod Inputs
 pub mod Lines
 pub mod Ring
 pub mod Core
@@ -18,13 +18,6 @@ pub mod Map
 pub mod Access
 pub mod Device
 pub mod Numbering
-pub mod Window
-pub mod Form
-pub mod Image
-pub mod Calls
 pub mod History
 pub mod Account
-pub mod Session
-pub mod Dozen
 pub mod Copy
-pub mod Convert

@@ -5,7 +5,7 @@ use mathlib.Core.List.{List, [], _∷_, _++_, map}
 use Prim.Native.Nat.{ℕ, zero, suc, _+_, _*_, _%_, _^_, _<_}
 use lib.Dec.{eqb, ltb}
 use lib.ListN.{length, take, drop, getD}
-use Rattle.rules.specs.Numbers.{Twos, numberOf, bytesOf}
+use Rattle.basics.specs.Numbers.{Twos, numberOf, bytesOf}
 use Rattle.rules.specs.Lines.{Made}
 use Rattle.rules.specs.Ring.{capacity, flag, Event}
 use Rattle.rules.specs.Device.{Device, Call, level, poll, read, write, drain, Value, none, some, step, value, upFrom}

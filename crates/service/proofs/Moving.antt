@@ -7,14 +7,15 @@ use native.Mathlib.Omega.{arith}
 use lib.Bits.{bitAnd, bitOr}
 use lib.Count.{trailingZeros}
 use lib.ListN.{getD}
-use Rattle.rules.specs.Inputs.{on, inputs, only, put, register, without}
+use Rattle.basics.specs.Inputs.{on, inputs, only, put, register, without}
 use Rattle.rules.specs.Lines.{Turn, stay, withIrr, withIsr, event, servedIn, pendingIn, serve, enter, leave, polled, raised, lowered}
 use Rattle.rules.specs.Core.{moved, poll, raise, lower}
 use Rattle.rules.specs.Ring.{ringRun}
 use Rattle.rules.specs.Device.{Device, Value, none, some, offers}
 use Rattle.rules.specs.Numbering.{Numbers}
-use Rattle.rules.proofs.laws.Bits.{test, put-is, without-these, on-bit, bit-lt}
-use Rattle.rules.proofs.laws.Inputs.{inputs-ext, first-input, no-input, enter-ext, leave-ext, only-served}
+use Rattle.basics.proofs.laws.Bits.{test, put-is, without-these, on-bit, bit-lt}
+use Rattle.basics.proofs.laws.Inputs.{inputs-ext, first-input, no-input}
+use Rattle.laws.proofs.laws.Sets.{enter-ext, leave-ext, only-served}
 use Rattle.decide.specs.Sets.{waitingOf, servedOf}
 use Rattle.decide.proofs.Deciding.{inputs-of, none-served}
 use Rattle.inplace.specs.Held.{Holds, Reads, Becomes, Does, MovesIn, Returns, withLines, given, untaken}

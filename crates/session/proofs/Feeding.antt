@@ -9,8 +9,8 @@ use lib.Seq.{length-take-le, take-suc, take-suc-set}
 use borrow.Author.Tests.{ne-eqb}
 use borrow.Rule.Slice.PartMut.{putMid}
 use Rattle.rules.specs.Device.{Device}
-use Rattle.rules.specs.Session as session
-use Rattle.rules.specs.Session.{newline, played, linesOf, answers}
+use Rattle.sessions.specs.Session as session
+use Rattle.sessions.specs.Session.{newline, played, linesOf, answers}
 use Rattle.state.specs.View.{view}
 use Rattle.play.specs.Plays.{Plays}
 use Rattle.ended.specs.Ended.{ended}

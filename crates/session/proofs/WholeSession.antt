@@ -5,7 +5,7 @@ use mathlib.Core.List.{List, [], _∷_, _++_, append-assoc, append-nil}
 use Prim.Native.Nat.{ℕ, _≤_}
 use lib.ListN.{length, take}
 use lib.Seq.{take-at}
-use Rattle.rules.specs.Session.{linesOf, answers, session}
+use Rattle.sessions.specs.Session.{linesOf, answers, session}
 use Rattle.state.specs.View.{view}
 use Rattle.reply.specs.Says.{Says}
 use Rattle.session.specs.Feeds.{Starts, Ready, toSay, Feeds}

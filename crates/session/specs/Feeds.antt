@@ -6,7 +6,7 @@ use Prim.Native.Nat.{ℕ, _<_, _≤_}
 use lib.Dec.{eqb}
 use lib.ListN.{length, take}
 use Rattle.rules.specs.Device.{reset}
-use Rattle.rules.specs.Session.{newline, linesOf, answers}
+use Rattle.sessions.specs.Session.{newline, linesOf, answers}
 use Rattle.state.specs.View.{view, Well, Is}
 use Rattle.reply.specs.Says.{Says}
 use Rattle.session.specs.declared.Session.{Session}

@@ -2,7 +2,7 @@
 use state::PchPicState;
 ghost use Prim.Native.Nat.{_≤_};
 ghost use lib.ListN.{length, take};
-ghost use Rattle.rules.specs.Session.{linesOf, answers};
+ghost use Rattle.sessions.specs.Session.{linesOf, answers};
 ghost use Rattle.state.specs.View.{view};
 ghost use Rattle.reply.specs.Says.{Says};
 ghost use Rattle.session.specs.Feeds.{Starts, Ready, FeedsByte, FeedsChunk};

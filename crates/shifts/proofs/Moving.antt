@@ -8,10 +8,10 @@ use native.Mathlib.Omega.{arith}
 use lib.ListN.{length, take, drop, getD, set, replicate, length-append, length-drop, length-set, length-replicate, take-append-drop, replicate-append-replicate}
 use lib.Seq.{take-suc, take-suc-set, drop-set-lt, drop-drop, drop-append-le, getD-drop, length-take-le, take-all}
 use borrow.Rule.Slice.PartMut.{putMid}
-use Rattle.rules.specs.Numbers.{part, Twos, written}
+use Rattle.basics.specs.Numbers.{part, Twos, written}
 use Rattle.rules.specs.Ring.{capacity}
-use Rattle.rules.specs.Image.{sixteen}
-use Rattle.rules.proofs.laws.Twos.{length-written, sixteen-unused}
+use Rattle.images.specs.Image.{sixteen}
+use Rattle.images.proofs.laws.Twos.{length-written, sixteen-unused}
 use Rattle.shifts.specs.Shifted.{Unused, shifted, Leaves}
 
 -- ---- moved to the front

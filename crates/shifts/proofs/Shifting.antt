@@ -8,17 +8,17 @@ use native.Mathlib.Omega.{arith}
 use lib.ListN.{length, take, drop, set, length-drop}
 use lib.Seq.{set-split, drop-drop}
 use borrow.Rule.Slice.PartMut.{putMid}
-use Rattle.rules.specs.Numbers.{part}
+use Rattle.basics.specs.Numbers.{part}
 use Rattle.rules.specs.Ring.{Event, capacity, eventTwos, drawn}
 use Rattle.rules.specs.Device.{Device, withRing}
 use Rattle.rules.specs.Numbering.{Numbers, numberTwos, fewer}
-use Rattle.rules.specs.Form.{Form, Field, count, pairs, numbers, is, has, size, place, formLength, read, image}
-use Rattle.rules.specs.Image.{sixteen, fieldOf}
-use Rattle.rules.proofs.laws.Bits.{test}
-use Rattle.rules.proofs.laws.Twos.{length-sixteen}
-use Rattle.rules.proofs.laws.Layout.{Sized, is-sound, is-self, by-field, has-all, field-fits, headed-image, image-known, length-image, read-image}
-use Rattle.rules.proofs.laws.Saved.{fields-sized}
-use Rattle.rules.proofs.laws.InPlace.{field-written}
+use Rattle.images.specs.Form.{Form, Field, count, pairs, numbers, is, has, size, place, formLength, read, image}
+use Rattle.images.specs.Image.{sixteen, fieldOf}
+use Rattle.basics.proofs.laws.Bits.{test}
+use Rattle.images.proofs.laws.Twos.{length-sixteen}
+use Rattle.images.proofs.laws.Layout.{Sized, is-sound, is-self, by-field, has-all, field-fits, headed-image, image-known, length-image, read-image}
+use Rattle.images.proofs.laws.Saved.{fields-sized}
+use Rattle.laws.proofs.laws.InPlace.{field-written}
 use Rattle.rules.proofs.laws.Numbered.{fits, fitting, drawn-fit}
 use Rattle.rules.proofs.laws.Steps.{drain-well}
 use Rattle.inplace.specs.Held.{Holds}

@@ -8,7 +8,7 @@ use borrow.Rule.Slice.PartMut.{putMid}
 use Rattle.rules.specs.Ring.{drawn}
 use Rattle.rules.specs.Device.{Device}
 use Rattle.rules.specs.Numbering.{Numbers, fewer}
-use Rattle.rules.specs.Form.{Form, numbers, has, size, place, read}
+use Rattle.images.specs.Form.{Form, numbers, has, size, place, read}
 use Rattle.inplace.specs.Held.{Holds, withRing}
 
 -- behind the first m things all is zero

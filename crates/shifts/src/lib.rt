@@ -8,8 +8,8 @@ ghost use mathlib.Core.List.{_++_};
 ghost use Prim.Native.Nat.{_≤_};
 ghost use lib.ListN.{length, drop, getD, replicate};
 ghost use Rattle.rules.specs.Ring.{capacity};
-ghost use Rattle.rules.specs.Form.{formLength};
-ghost use Rattle.rules.specs.Image.{pairsLength};
+ghost use Rattle.images.specs.Form.{formLength};
+ghost use Rattle.images.specs.Image.{pairsLength};
 ghost use Rattle.image.specs.Shown.{formView};
 ghost use Rattle.shifts.specs.Shifted.{Leaves, NumbersLeave, Shifts};
 

@@ -4,14 +4,14 @@ use mathlib.Core.List.{List, [], _∷_, _++_}
 use mathlib.Core.Path.{_≡_}
 use Prim.Native.Nat.{ℕ, zero, suc, _+_, _<_}
 use lib.Dec.{eqb}
-use Rattle.rules.specs.Inputs.{only}
+use Rattle.basics.specs.Inputs.{only}
 use Rattle.rules.specs.Ring.{Event}
 use Rattle.rules.specs.Device.{Device}
-use Rattle.rules.specs.Calls.{Request, presentIn}
-use Rattle.rules.specs.Calls as request
+use Rattle.calls.specs.Calls.{Request, presentIn}
+use Rattle.calls.specs.Calls as request
 use Rattle.rules.specs.Account.{tally}
 use Rattle.histories.specs.Demands.{inService, Eligible}
-use Rattle.histories.specs.Exported.{Exported, leftBy, isDone, returnedBy, drainedBy}
+use Rattle.exported.specs.Exported.{Exported, leftBy, isDone, returnedBy, drainedBy}
 use Rattle.sweep.specs.Sweeps.{wakes}
 
 -- ---- what a host reads

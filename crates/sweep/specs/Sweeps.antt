@@ -4,7 +4,7 @@ use mathlib.Core.List.{List, [], _∷_, _++_}
 use mathlib.Core.Path.{_≡_}
 use Prim.Native.Nat.{ℕ, _<_}
 use lib.Dec.{eqb}
-use Rattle.rules.specs.Inputs.{on, only}
+use Rattle.basics.specs.Inputs.{on, only}
 use Rattle.rules.specs.Lines.{Lines, Made, event}
 use Rattle.rules.specs.Core.{Act, poll, raise, lower, clear, setMask, move, setIsr, store, setVector}
 use Rattle.rules.specs.Device.{Device, Call, step}

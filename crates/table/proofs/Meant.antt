@@ -7,14 +7,14 @@ use native.Mathlib.Omega.{arith}
 use lib.Dec.{eqb, leb, ltb}
 use lib.ListN.{getD}
 use borrow.Author.Tests.{ne-eqb, eqb-true, ltb-true}
-use Rattle.rules.specs.Numbers.{byteOf, withByte}
-use Rattle.rules.specs.Inputs.{half}
+use Rattle.basics.specs.Numbers.{byteOf, withByte}
+use Rattle.basics.specs.Inputs.{half}
 use Rattle.rules.specs.Core.{Core, Act, store, setRoute, setVector}
 use Rattle.rules.specs.Map.{Row, Cell, halfOf, bytes, table, lookup, inRoutes, inVectors, inByteArea, cellAt}
 use Rattle.rules.specs.Map as map
 use Rattle.rules.specs.Access.{valueOf, entry, readCell, readDword, readByte, registerActs, entryActs, cellActs, dwordActs, byteActs}
-use Rattle.rules.proofs.laws.Bits.{test}
-use Rattle.rules.proofs.laws.Maps.{inside, inside-from, outside, lookup-bytes, not-aligned}
+use Rattle.basics.proofs.laws.Bits.{test}
+use Rattle.laws.proofs.laws.Maps.{inside, inside-from, outside, lookup-bytes, not-aligned}
 use Rattle.table.specs.Meaning.{Meaning, part, route, vector, nothing, within, meant}
 
 -- ---- where no register's half stands

@@ -14,8 +14,8 @@ use window::Known;
 use window::Located;
 ghost use mathlib.Core.Path.{_≡_};
 ghost use mathlib.Core.List.{[]};
-ghost use Rattle.rules.specs.Calls.{ending};
-ghost use Rattle.rules.specs.Calls as asked;
+ghost use Rattle.calls.specs.Calls.{ending};
+ghost use Rattle.calls.specs.Calls as asked;
 ghost use Rattle.answer.specs.Given.{ends};
 
 pub fn read(image: &[u8], base: u64, size: u64, address: u64, width: u64) -> Told

@@ -4,13 +4,13 @@ use mathlib.Core.Bool.{Bool, true, false}
 use mathlib.Core.List.{List}
 use Prim.Native.Nat.{ℕ, _%_, _<_}
 use native.Mathlib.Omega.{arith}
-use Rattle.rules.specs.Numbers.{byteOf, withByte}
-use Rattle.rules.specs.Inputs.{half}
+use Rattle.basics.specs.Numbers.{byteOf, withByte}
+use Rattle.basics.specs.Inputs.{half}
 use Rattle.rules.specs.Core.{withRoutes}
 use Rattle.rules.specs.Map.{Register, inByteArea}
 use Rattle.rules.specs.Access.{valueOf, readByte, registerActs, entryActs, byteActs}
-use Rattle.rules.proofs.laws.Maps.{inside}
-use Rattle.rules.proofs.laws.Writes.{byte-acts-inside}
+use Rattle.laws.proofs.laws.Maps.{inside}
+use Rattle.laws.proofs.laws.Writes.{byte-acts-inside}
 use Rattle.bytes.specs.Put.{withBytes}
 use Rattle.inplace.specs.Held.{Reads, Becomes, Writes, withVectors, withStored}
 use Rattle.inplace.proofs.Doing.{writes-none, writes-same}

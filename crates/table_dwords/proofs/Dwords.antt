@@ -3,17 +3,17 @@ use mathlib.Core.Path.{_≡_, refl, sym, ap, _∙_}
 use mathlib.Core.Bool.{Bool}
 use mathlib.Core.List.{List, [], _∷_, _++_}
 use Prim.Native.Nat.{ℕ, zero, suc, _+_}
-use Rattle.rules.specs.Numbers.{byteOf}
-use Rattle.rules.specs.Inputs.{half}
+use Rattle.basics.specs.Numbers.{byteOf}
+use Rattle.basics.specs.Inputs.{half}
 use Rattle.rules.specs.Core.{Core, CoreTurn, Act, turns}
 use Rattle.rules.specs.Map.{Register, halfOf, bytes, cellAt}
 use Rattle.rules.specs.Map as map
 use Rattle.rules.specs.Access.{valueOf, readCell, readDword, registerActs, entryActs, cellActs, dwordActs, byteActs}
 use Rattle.rules.specs.Device.{acted}
 use Rattle.rules.proofs.laws.Acts.{turns-append}
-use Rattle.rules.proofs.laws.Losses.{entry-quiet}
-use Rattle.rules.proofs.laws.Widths.{dword-of}
-use Rattle.rules.proofs.laws.Writes.{dword-acts-of, dword-acts-four}
+use Rattle.laws.proofs.laws.Losses.{entry-quiet}
+use Rattle.laws.proofs.laws.Widths.{dword-of}
+use Rattle.laws.proofs.laws.Writes.{dword-acts-of, dword-acts-four}
 use Rattle.inplace.specs.Held.{Reads, Writes}
 use Rattle.inplace.proofs.Doing.{writes-quiet, writes-none, writes-same, writes-then}
 use Rattle.table.specs.Meaning.{part, route, vector, nothing, meant}

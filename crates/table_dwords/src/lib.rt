@@ -11,7 +11,7 @@ ghost use Prim.Native.Nat.{_≤_};
 ghost use lib.ListN.{length};
 ghost use Rattle.rules.specs.Map.{bytes, cellAt};
 ghost use Rattle.rules.specs.Access.{readDword, dwordActs};
-ghost use Rattle.rules.specs.Form.{formLength};
+ghost use Rattle.images.specs.Form.{formLength};
 ghost use Rattle.image.specs.Shown.{formView};
 ghost use Rattle.inplace.specs.Held.{Reads, Writes};
 ghost use Rattle.table.specs.Meaning.{Agrees};

@@ -2,7 +2,7 @@
 use mathlib.Core.Path.{_≡_}
 use mathlib.Core.List.{List}
 use Prim.Native.Nat.{ℕ, _+_, _*_, _<_}
-use Rattle.rules.specs.Numbers.{part}
+use Rattle.basics.specs.Numbers.{part}
 use Rattle.traces.specs.Trace.{recordLength, blockCount, blockAt, blocksFrom, recordsIn, recordPlace}
 
 -- how many records the blocks before number b have

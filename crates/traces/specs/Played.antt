@@ -6,8 +6,8 @@ use lib.Dec.{eqb}
 use lib.ListN.{take, replicate}
 use Rattle.rules.specs.Ring.{capacity}
 use Rattle.rules.specs.Numbering.{drainedLength}
-use Rattle.rules.specs.Calls.{Request, Outcome, outcome, answerLength, valueIn}
-use Rattle.rules.specs.Calls as request
+use Rattle.calls.specs.Calls.{Request, Outcome, outcome, answerLength, valueIn}
+use Rattle.calls.specs.Calls as request
 use Rattle.traces.specs.Trace.{Record, recordCount, nth}
 
 -- ---- one record
@@ -70,6 +70,10 @@ gathered i (o ∷ os) =
     let rest = gathered (o .image) os in
     record { image = rest .image; answers = o .answer ++ rest .answers; events = drainedIn o ++ rest .events }
 
+-- what n records of a trace from number k on leave, played on an image
+abbrev pub playedFrom : List ℕ → ℕ → ℕ → List ℕ → Played
+playedFrom l n k i = gathered i (outcomes i (recordsFrom l n k))
+
 -- ---- a trace
 
 -- the image that a reset makes of bytes of an admitted length
@@ -81,4 +85,4 @@ abbrev pub outcomesOf : List ℕ → List ℕ → List Outcome
 outcomesOf l i = outcomes (afresh i) (records l)
 
 abbrev pub played : List ℕ → List ℕ → Played
-played l i = gathered (afresh i) (outcomesOf l i)
+played l i = playedFrom l (recordCount l) 0 (afresh i)

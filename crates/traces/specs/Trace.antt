@@ -4,7 +4,7 @@ use mathlib.Core.List.{List, [], _∷_}
 use Prim.Native.Nat.{ℕ, zero, suc, _+_, _*_}
 use lib.Dec.{eqb, leb, ltb}
 use lib.ListN.{length, getD}
-use Rattle.rules.specs.Numbers.{numberOf, part}
+use Rattle.basics.specs.Numbers.{numberOf, part}
 use Rattle.rules.specs.Device.{Value, none, some}
 
 -- ---- contents

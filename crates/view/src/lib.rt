@@ -1,10 +1,10 @@
-// A record of a lent trace, shown as a part of it: the trace's bytes and a place are plain parameters.
+// A record of a lent trace as a part of it, and its fields: the work behind a view, over plain parameters.
 use bytes::number;
 ghost use mathlib.Core.Path.{_≡_};
 ghost use Prim.Native.Nat.{_+_, _≤_};
 ghost use lib.ListN.{length};
-ghost use Rattle.rules.specs.Numbers.{part};
-ghost use Rattle.traces.specs.Trace.{recordLength, recordOf, recordAt};
+ghost use Rattle.basics.specs.Numbers.{part};
+ghost use Rattle.traces.specs.Trace.{recordLength, recordOf};
 ghost use Rattle.view.specs.Shown.{recordView};
 
 // How many bytes a record has.
@@ -29,7 +29,7 @@ pub fn part_at<'a>(trace: &'a [u8], place: usize) -> &'a [u8]
 }
 
 // The fields of a record that is shown.
-fn fields(shown: &[u8]) -> Record
+pub fn fields(shown: &[u8]) -> Record
     requires { ⌜ length (now shown) ≡ recordLength ⌝ }
     ensures { λ r. ⌜ recordView r ≡ recordOf (now (shown .entry)) ⌝ }
 {
@@ -40,12 +40,4 @@ fn fields(shown: &[u8]) -> Record
         zeros: number(&shown[4..8]) as u32,
         value: number(&shown[8..16]),
     }
-}
-
-// The record at a place.
-pub fn record_at(trace: &[u8], place: usize) -> Record
-    requires { ⌜ place + recordLength ≤ length (now trace) ⌝ }
-    ensures { λ r. ⌜ recordView r ≡ recordAt place (now (trace .entry)) ⌝ }
-{
-    fields(part_at(trace, place))
 }

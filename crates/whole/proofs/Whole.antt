@@ -4,21 +4,22 @@ use mathlib.Core.List.{List, [], _++_}
 use Prim.Native.Nat.{ℕ, _+_, _-_, _*_, _/_, min}
 use native.Mathlib.Omega.{arith}
 use lib.ListN.{length, take, drop, length-take}
-use Rattle.rules.specs.Form.{Form}
+use Rattle.images.specs.Form.{Form}
 use Rattle.rules.specs.Ring.{Event, Drawn, drawn}
 use Rattle.rules.specs.Device.{some, step, value}
 use Rattle.rules.specs.Device as device
 use Rattle.rules.specs.Numbering.{Numbered, withNumbers, drainedLength, quadsOf, fewer, drainedWith, valueWith}
-use Rattle.rules.specs.Image.{encodeLike, decode, numbersIn}
-use Rattle.rules.specs.Calls.{pass, written, ending}
-use Rattle.rules.specs.Calls as asked
-use Rattle.rules.proofs.laws.Images.{encode-same}
-use Rattle.rules.proofs.laws.Outcomes.{call-done}
-use Rattle.rules.proofs.laws.Answers.{length-with}
+use Rattle.images.specs.Image.{encodeLike, decode, numbersIn}
+use Rattle.calls.specs.Calls.{pass, written, ending}
+use Rattle.calls.specs.Calls as asked
+use Rattle.laws.proofs.laws.Images.{encode-same}
+use Rattle.calls.proofs.laws.Outcomes.{call-done}
+use Rattle.calls.proofs.laws.Answers.{length-with}
 use Rattle.rules.proofs.laws.Numbered.{drain-numbers}
 use Rattle.rules.proofs.laws.Steps.{withRing, drain-device, drain-drained}
 use Rattle.drains.specs.Drained.{Drains}
-use Rattle.refusals.proofs.Ends.{Passed, here}
+use Rattle.inplace.specs.Passed.{Passed}
+use Rattle.inplace.proofs.Passing.{here}
 
 module _ {f : Form} {i : List ℕ} (p : Passed f i) (entry : List ℕ) {n : ℕ} {j exit : List ℕ} (s : length j ≡ length i) (d : Drains i j entry exit n) where
   abbrev room : ℕ

@@ -14,8 +14,8 @@ use refusals::wrong_length;
 use state::PchPicState;
 ghost use mathlib.Core.Path.{_≡_};
 ghost use mathlib.Core.List.{[]};
-ghost use Rattle.rules.specs.Calls.{ending};
-ghost use Rattle.rules.specs.Calls as asked;
+ghost use Rattle.calls.specs.Calls.{ending};
+ghost use Rattle.calls.specs.Calls as asked;
 ghost use Rattle.answer.specs.Given.{ends};
 
 // Any bytes will do that have the length of a form; the reset device is saved in that form.

@@ -3,7 +3,7 @@ use mathlib.Core.Path.{_≡_}
 use mathlib.Core.Bool.{true, false}
 use mathlib.Core.List.{List, _++_}
 use Prim.Native.Nat.{ℕ, _+_}
-use Rattle.rules.specs.Inputs.{half}
+use Rattle.basics.specs.Inputs.{half}
 use Rattle.rules.specs.Access.{qword, dwordActs, writeActs}
 use Rattle.inplace.specs.Held.{Writes}
 use Rattle.inplace.proofs.Doing.{writes-same, writes-then}

@@ -9,7 +9,7 @@ ghost use mathlib.Core.Bool.{true};
 ghost use Prim.Native.Nat.{_+_, _-_, _^_, _≤_};
 ghost use lib.ListN.{length};
 ghost use Rattle.rules.specs.Access.{qword, readAt, writeActs};
-ghost use Rattle.rules.specs.Form.{formLength};
+ghost use Rattle.images.specs.Form.{formLength};
 ghost use Rattle.image.specs.Shown.{formView};
 ghost use Rattle.inplace.specs.Held.{Reads, Writes};
 ghost use Rattle.cells.specs.Runs.{Run};

@@ -6,9 +6,9 @@ use native.Mathlib.Omega.{arith}
 use lib.Dec.{eqb, leb}
 use borrow.Author.Tests.{le-leb, leb-true, eqb-true}
 use Rattle.rules.specs.Access.{Width, byte, word, dword, qword}
-use Rattle.rules.specs.Window.{inside}
-use Rattle.rules.specs.Calls.{pass, refuse, noWidth, outside, widthTest, addressTest}
-use Rattle.rules.proofs.laws.Bits.{test}
+use Rattle.calls.specs.Window.{inside}
+use Rattle.calls.specs.Calls.{pass, refuse, noWidth, outside, widthTest, addressTest}
+use Rattle.basics.proofs.laws.Bits.{test}
 use Rattle.map.specs.Views.{bytesIn}
 use Rattle.window.specs.Tests.{Ends}
 use Rattle.window.specs.declared.Located.{Located}

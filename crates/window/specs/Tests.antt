@@ -1,7 +1,7 @@
 -- The answers of the width's and the window's test as the rules see them.
 use Prim.Native.Nat.{ℕ, _+_, _-_, _^_, _≤_}
 use Rattle.rules.specs.Access.{Width}
-use Rattle.rules.specs.Calls.{Tested, pass, refuse, noWidth, outside}
+use Rattle.calls.specs.Calls.{Tested, pass, refuse, noWidth, outside}
 use Rattle.map.specs.Views.{widthView}
 use Rattle.window.specs.declared.Known.{Known}
 use Rattle.window.specs.declared.Known.the-variants.{As, Unknown}

@@ -2,7 +2,7 @@
 use map::Width;
 ghost use mathlib.Core.Path.{_≡_};
 ghost use Prim.Native.Nat.{_+_, _-_, _^_, min};
-ghost use Rattle.rules.specs.Calls.{widthTest, addressTest};
+ghost use Rattle.calls.specs.Calls.{widthTest, addressTest};
 ghost use Rattle.window.specs.Tests.{knownView, locatedView, Ends};
 
 // A width that is known, or not.

@@ -8,7 +8,7 @@ ghost use mathlib.Core.Path.{_≡_};
 ghost use lib.ListN.{length};
 ghost use Rattle.rules.specs.Lines.{withMask, withIrr, withIsr};
 ghost use Rattle.rules.specs.Core.{plain, withPlain};
-ghost use Rattle.rules.specs.Form.{word, stored, place, formLength};
+ghost use Rattle.images.specs.Form.{word, stored, place, formLength};
 ghost use Rattle.image.specs.Shown.{formView};
 ghost use Rattle.map.specs.Views.{plainView};
 ghost use Rattle.inplace.specs.Held.{Reads, Becomes, withLines, withStored};

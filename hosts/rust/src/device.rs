@@ -1,7 +1,8 @@
 //! The device: an image of its own, and the calls on it.
 
 use crate::{
-    contents, ffi, reg, Error, Event, Events, Form, Image, Returned, Width, Window, EVENTS, EVENT_LEN, IMAGE2_NUMBERED_LEN, INPUTS, VECTORS,
+    contents, event, ffi, reg, Error, Event, Events, Form, Image, Returned, Width, Window, EVENTS, EVENT_LEN, IMAGE2_NUMBERED_LEN, INPUTS,
+    VECTORS,
 };
 use core::fmt;
 
@@ -170,7 +171,7 @@ impl PchPic {
     /// [`Error::Input`] where the input is 64 or more.
     pub fn set_level(&mut self, input: u64, level: bool) -> Result<Returned, Error> {
         let value = ffi::level(&mut self.image, input, level)?;
-        Ok(Returned(value.map(|value| returned(value, level))))
+        Ok(Returned(value.map(|value| event::returned(value, level))))
     }
 
     /// Asks for an input that was raised before: if it is latched, unmasked and not in service, it goes into service and is asserted.
@@ -191,7 +192,7 @@ impl PchPic {
     /// [`Error::Input`] where the input is 64 or more.
     pub fn poll(&mut self, input: u64) -> Result<Returned, Error> {
         let value = ffi::poll(&mut self.image, input)?;
-        Ok(Returned(value.map(|value| returned(value, true))))
+        Ok(Returned(value.map(|value| event::returned(value, true))))
     }
 
     /// Moves waiting events to the front of `events`, oldest first, as many as wait or as fit, and says how many. The rest wait on.
@@ -208,7 +209,7 @@ impl PchPic {
         let room = events.len().min(EVENTS) * EVENT_LEN;
         let count = self.drain_bytes(&mut drained[..room], 0).expect("place 0 is in every buffer");
         for (event, bytes) in events.iter_mut().zip(drained.chunks_exact(EVENT_LEN)).take(count) {
-            *event = Event { vector: bytes[0], asserted: bytes[1] == 1, number: u16::from_le_bytes([bytes[2], bytes[3]]) };
+            *event = event::drained(bytes);
         }
         count
     }
@@ -349,11 +350,6 @@ impl From<Image> for PchPic {
     fn from(image: Image) -> Self {
         PchPic::try_from(&image[..]).expect("an image is accepted")
     }
-}
-
-/// The event of a returned value: the vector is its low byte, the number its bits 16 to 31.
-fn returned(value: u64, asserted: bool) -> Event {
-    Event { vector: value as u8, asserted, number: (value >> 16) as u16 }
 }
 
 /// How many events a done write dropped; the library always tells it.

@@ -26,7 +26,7 @@ pub enum Error {
     Length,
     /// 5: the image's first bytes, 27 of 290 or else 22, are not those of the form that its length says.
     Contents,
-    /// 7: the place of a drain is past the end of its buffer.
+    /// 7: the place of a drain is past the end of its buffer. (A play lends room enough.)
     Room,
     /// 8: the image, of form 1, has a copy of IRR that differs from IRR; the place of its first byte.
     Copy(u64),
@@ -36,6 +36,10 @@ pub enum Error {
     Flag(u64),
     /// 11: a byte behind the waiting events is not 0, or then one behind their numbers; the place of the first such byte.
     Unused(u64),
+    /// 12: a trace's contents are wrong, it has another length than they say, or more than 4,000 records.
+    Trace,
+    /// 13: a record of a trace is bad; the number of the first, counted from 0 over the trace.
+    Record(u64),
 }
 
 impl Error {
@@ -52,13 +56,20 @@ impl Error {
             Error::Count(_) => 9,
             Error::Flag(_) => 10,
             Error::Unused(_) => 11,
+            Error::Trace => 12,
+            Error::Record(_) => 13,
         }
     }
 
-    /// The value that goes with the number: of 1 the address, of 8 to 11 the place in the image.
+    /// The value that goes with the number: of 1 the address, of 8 to 11 the place in the image, of 13 the number of the record.
     pub const fn value(&self) -> Option<u64> {
         match self {
-            Error::Outside(value) | Error::Copy(value) | Error::Count(value) | Error::Flag(value) | Error::Unused(value) => Some(*value),
+            Error::Outside(value)
+            | Error::Copy(value)
+            | Error::Count(value)
+            | Error::Flag(value)
+            | Error::Unused(value)
+            | Error::Record(value) => Some(*value),
             _ => None,
         }
     }
@@ -76,6 +87,8 @@ impl Error {
             (9, Some(place)) => Some(Error::Count(place)),
             (10, Some(place)) => Some(Error::Flag(place)),
             (11, Some(place)) => Some(Error::Unused(place)),
+            (12, None) => Some(Error::Trace),
+            (13, Some(record)) => Some(Error::Record(record)),
             _ => None,
         }
     }
@@ -96,6 +109,8 @@ impl fmt::Display for Error {
             Error::Unused(place) => {
                 write!(f, "the image has a byte that is not 0 behind its waiting events or their numbers, at byte {place}")
             }
+            Error::Trace => f.write_str("the trace's contents or length are wrong, or it has more than 4000 records"),
+            Error::Record(record) => write!(f, "the trace has a bad record, number {record} from 0 on"),
         }
     }
 }
@@ -108,8 +123,8 @@ mod tests {
 
     #[test]
     fn a_number_and_its_value_come_back() {
-        for number in [1, 2, 3, 4, 5, 7, 8, 9, 10, 11] {
-            let value = (number == 1 || number >= 8).then_some(0x1234);
+        for number in [1, 2, 3, 4, 5, 7, 8, 9, 10, 11, 12, 13] {
+            let value = (number == 1 || (number >= 8 && number != 12)).then_some(0x1234);
             let error = Error::from_answer(number, value).unwrap();
             assert_eq!((error.number(), error.value()), (number, value));
         }
@@ -117,7 +132,7 @@ mod tests {
 
     #[test]
     fn other_answers_are_no_error() {
-        for number in [0, 6, 8, 12, 255] {
+        for number in [0, 6, 8, 13, 255] {
             assert_eq!(Error::from_answer(number, None), None);
         }
         assert_eq!(Error::from_answer(1, None), None);

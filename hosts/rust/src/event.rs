@@ -80,6 +80,16 @@ pub(crate) fn write(f: &mut fmt::Formatter<'_>, vector: u8, asserted: bool) -> f
     write!(f, "{} vector {vector:#04x}", if asserted { "assert" } else { "deassert" })
 }
 
+/// The event of a returned value: the vector is its low byte, the number its bits 16 to 31.
+pub(crate) fn returned(value: u64, asserted: bool) -> Event {
+    Event { vector: value as u8, asserted, number: (value >> 16) as u16 }
+}
+
+/// The event of the bytes that a drain writes: vector, flag, number.
+pub(crate) fn drained(bytes: &[u8]) -> Event {
+    Event { vector: bytes[0], asserted: bytes[1] == 1, number: u16::from_le_bytes([bytes[2], bytes[3]]) }
+}
+
 /// What [`PchPic::set_level`] and [`PchPic::poll`] return: one event, or none. It is an `Option` that is not overlooked.
 ///
 /// ```compile_fail

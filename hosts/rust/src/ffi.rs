@@ -7,9 +7,9 @@
 
 use crate::{Error, Window};
 
-const ANSWER_LEN: usize = 16;
+pub const ANSWER_LEN: usize = 16;
 
-type Answer = [u8; ANSWER_LEN];
+pub type Answer = [u8; ANSWER_LEN];
 
 extern "C" {
     fn pch_pic_reset(image: *mut u8, image_len: usize, answer: *mut u8, answer_len: usize) -> u8;
@@ -67,14 +67,27 @@ extern "C" {
         answer_len: usize,
     ) -> u8;
     fn pch_pic_convert(image: *const u8, image_len: usize, target: *mut u8, target_len: usize, answer: *mut u8, answer_len: usize) -> u8;
+    #[cfg(feature = "std")]
+    fn pch_pic_play(
+        trace: *const u8,
+        trace_len: usize,
+        image: *mut u8,
+        image_len: usize,
+        answers: *mut u8,
+        answers_len: usize,
+        events: *mut u8,
+        events_len: usize,
+        answer: *mut u8,
+        answer_len: usize,
+    ) -> u8;
     fn pch_pic_difference(later: u16, earlier: u16) -> i16;
 }
 
 /// What a call gives: the value, if one is present, or why it was refused.
-type Outcome = Result<Option<u64>, Error>;
+pub type Outcome = Result<Option<u64>, Error>;
 
 /// The number handed back, and the value of the answer area.
-fn outcome(number: u8, answer: &Answer) -> Outcome {
+pub fn outcome(number: u8, answer: &Answer) -> Outcome {
     let mut bytes = [0; 8];
     bytes.copy_from_slice(&answer[8..]);
     let value = (answer[1] == 1).then_some(u64::from_le_bytes(bytes));
@@ -180,6 +193,27 @@ pub fn convert(image: &[u8], target: &mut [u8]) -> Outcome {
     outcome(number, &answer)
 }
 
+#[cfg(feature = "std")]
+pub fn play(trace: &[u8], image: &mut [u8], answers: &mut [u8], events: &mut [u8]) -> Outcome {
+    let mut answer: Answer = [0; ANSWER_LEN];
+    // SAFETY: the five slices are valid for their lengths and apart; the library only reads the trace.
+    let number = unsafe {
+        pch_pic_play(
+            trace.as_ptr(),
+            trace.len(),
+            image.as_mut_ptr(),
+            image.len(),
+            answers.as_mut_ptr(),
+            answers.len(),
+            events.as_mut_ptr(),
+            events.len(),
+            answer.as_mut_ptr(),
+            ANSWER_LEN,
+        )
+    };
+    outcome(number, &answer)
+}
+
 pub fn difference(later: u16, earlier: u16) -> i16 {
     // SAFETY: it is lent nothing.
     unsafe { pch_pic_difference(later, earlier) }
@@ -219,6 +253,23 @@ mod tests {
         assert_eq!(poll(&mut image, 0), Err(Error::Length));
         assert_eq!(drain(&mut image, &mut [], 0), Err(Error::Length));
         assert_eq!(convert(&image, &mut [0; crate::IMAGE_LEN]), Err(Error::Length));
+        assert_eq!(play(&[], &mut image, &mut [], &mut []), Err(Error::Length));
+    }
+
+    /// One block of one record, a drain of all: 16 bytes for its answer, and 64 for its events.
+    #[test]
+    fn a_play_is_refused_in_order() {
+        let mut trace = [1, 0, 6, 0, 1, 0, 6, 0, 0, 0, 0, 0, 0, 0, 0, 0, 0, 0, 0, 0, 0, 0];
+        let (mut image, mut answers, mut events) = ([0xa5; crate::IMAGE_LEN], [0xa5; 17], [0xa5; 65]);
+        assert_eq!(play(&trace[1..], &mut image, &mut [], &mut []), Err(Error::Trace));
+        trace[9] = 1;
+        assert_eq!(play(&trace, &mut image, &mut [], &mut []), Err(Error::Record(0)));
+        trace[9] = 0;
+        assert_eq!(play(&trace, &mut image, &mut answers[..15], &mut events), Err(Error::Room));
+        assert_eq!(play(&trace, &mut image, &mut answers, &mut events[..63]), Err(Error::Room));
+        assert_eq!((image, answers, events), ([0xa5; crate::IMAGE_LEN], [0xa5; 17], [0xa5; 65]));
+        assert_eq!(play(&trace, &mut image, &mut answers, &mut events), Ok(Some(1)));
+        assert_eq!((image[0], answers[..2] == [0, 1], answers[16], events), (1, true, 0xa5, [0xa5; 65]));
     }
 
     #[test]

@@ -133,22 +133,26 @@ fn sync_folder(path: &Path) -> io::Result<()> {
     }
 }
 
-/// Saves a device in this form. The bytes go to a file beside the old one, which takes its name only when it is whole and on the disk.
+/// The bytes go to a file beside the old one, which takes its name only when it is whole and on the disk.
+pub(crate) fn replace(path: &Path, bytes: &[u8]) -> io::Result<()> {
+    if fs::metadata(path).is_ok_and(|old| !old.is_file()) {
+        return Err(io::Error::new(io::ErrorKind::InvalidInput, "what is there is no plain file"));
+    }
+    let beside = beside(path);
+    let written = write_and_sync(&beside, bytes).and_then(|()| fs::rename(&beside, path));
+    if written.is_err() {
+        let _ = fs::remove_file(&beside);
+    }
+    written.and_then(|()| sync_folder(path))
+}
+
+/// Saves a device in this form. The file is replaced whole or not at all.
 ///
 /// # Errors
 ///
 /// Those of the file system; and what is there and no plain file is not replaced.
 pub fn save(pic: &PchPic, form: Form, path: impl AsRef<Path>) -> io::Result<()> {
-    let path = path.as_ref();
-    if fs::metadata(path).is_ok_and(|old| !old.is_file()) {
-        return Err(io::Error::new(io::ErrorKind::InvalidInput, "what is there is no plain file"));
-    }
-    let beside = beside(path);
-    let written = write_and_sync(&beside, &sealed(&pic.save(form))).and_then(|()| fs::rename(&beside, path));
-    if written.is_err() {
-        let _ = fs::remove_file(&beside);
-    }
-    written.and_then(|()| sync_folder(path))
+    replace(path.as_ref(), &sealed(&pic.save(form)))
 }
 
 /// Loads a device from a file of any form. What comes next is [`Wires::resume`](crate::Wires::resume).

@@ -47,6 +47,11 @@
 //!
 //! A returned event is there at once, one that waits only when it is drained. Each has the [number](Event::number) that it got when it was made, and
 //! [`Event::sort`] puts them in that order again.
+//!
+//! # A day recorded and played back
+//!
+//! A [`Trace`] has the calls of a day from a reset on, and [playing](Trace::play) it gives every byte again. [`Recorded`] is a device whose calls are recorded
+//! as they are made, and [`Recorder`] takes calls one by one. They are there with feature `std`.
 
 #![cfg_attr(not(any(feature = "std", test)), no_std)]
 
@@ -62,7 +67,11 @@ mod ffi;
 #[cfg(feature = "std")]
 pub mod file;
 mod form;
+#[cfg(feature = "std")]
+mod recorder;
 pub mod reg;
+#[cfg(feature = "std")]
+pub mod trace;
 mod wires;
 
 pub use access::{Width, Window};
@@ -70,7 +79,11 @@ pub use device::PchPic;
 pub use error::Error;
 pub use event::{difference, Event, Events, Returned};
 pub use form::{Form, Image};
-pub use wires::{Change, Wires};
+#[cfg(feature = "std")]
+pub use recorder::{RecordError, Recorded, Recorder};
+#[cfg(feature = "std")]
+pub use trace::{Played, Record, Step, Trace};
+pub use wires::{Change, Device, Wires};
 
 /// The bytes of a saved image of [`Form::One`].
 pub const IMAGE_LEN: usize = 259;
@@ -92,3 +105,18 @@ pub const EVENTS: usize = 16;
 
 /// The bytes of an event as [`PchPic::drain_bytes`] writes it.
 pub const EVENT_LEN: usize = 4;
+
+/// The bytes that have room for every trace.
+pub const TRACE_MAX: usize = 65_536;
+
+/// The bytes of a record of a trace.
+pub const RECORD_LEN: usize = 16;
+
+/// The records of a trace at most.
+pub const RECORDS_MAX: usize = 4_000;
+
+/// The blocks of a trace at most.
+pub const BLOCKS_MAX: usize = 64;
+
+/// The bytes that have room for all events that can wait.
+pub const DRAIN_ROOM: usize = EVENTS * EVENT_LEN;

@@ -1,7 +1,49 @@
 //! The wires of a device, and what a host does with them.
 
-use crate::{event, Error, Event, PchPic, EVENTS, INPUTS, VECTORS};
+use crate::{event, Error, Event, PchPic, Returned, EVENTS, INPUTS, VECTORS};
 use core::fmt;
+
+/// What [`Wires`] asks of a device: the calls of a [`PchPic`], made on it alone or recorded too.
+pub trait Device {
+    /// The device, to be looked at.
+    fn pic(&self) -> &PchPic;
+
+    /// As [`PchPic::set_level`].
+    ///
+    /// # Errors
+    ///
+    /// [`Error::Input`] where the input is 64 or more.
+    fn set_level(&mut self, input: u64, level: bool) -> Result<Returned, Error>;
+
+    /// As [`PchPic::poll`].
+    ///
+    /// # Errors
+    ///
+    /// [`Error::Input`] where the input is 64 or more.
+    fn poll(&mut self, input: u64) -> Result<Returned, Error>;
+
+    /// As [`PchPic::drain`].
+    #[must_use = "the events are out of the device, and the count says how many there are"]
+    fn drain(&mut self, events: &mut [Event]) -> usize;
+}
+
+impl Device for PchPic {
+    fn pic(&self) -> &PchPic {
+        self
+    }
+
+    fn set_level(&mut self, input: u64, level: bool) -> Result<Returned, Error> {
+        PchPic::set_level(self, input, level)
+    }
+
+    fn poll(&mut self, input: u64) -> Result<Returned, Error> {
+        PchPic::poll(self, input)
+    }
+
+    fn drain(&mut self, events: &mut [Event]) -> usize {
+        PchPic::drain(self, events)
+    }
+}
 
 /// A vector goes on or off at the controller above.
 #[derive(Clone, Copy, Debug, PartialEq, Eq, Hash)]
@@ -112,7 +154,7 @@ impl Wires {
     /// assert!(wires.vectors_on().eq([3, 9, 40]));
     /// # Ok::<(), pch_pic::Error>(())
     /// ```
-    pub fn settle(&mut self, pic: &mut PchPic, mut route: impl FnMut(Change)) {
+    pub fn settle(&mut self, pic: &mut impl Device, mut route: impl FnMut(Change)) {
         // Waiting events are older than those of the inputs. And a line that a CLEAR took goes off above before it goes on again.
         self.catch_up(pic, &mut route);
         self.sweep(pic, &mut route);
@@ -126,7 +168,7 @@ impl Wires {
     /// # Errors
     ///
     /// [`Error::Input`] where the input is 64 or more.
-    pub fn line(&mut self, pic: &mut PchPic, input: u64, high: bool, mut route: impl FnMut(Change)) -> Result<(), Error> {
+    pub fn line(&mut self, pic: &mut impl Device, input: u64, high: bool, mut route: impl FnMut(Change)) -> Result<(), Error> {
         if input >= INPUTS as u64 {
             return Err(Error::Input);
         }
@@ -139,9 +181,9 @@ impl Wires {
 
     /// After a load: the lines are as `high` says, bit n for input n, and the rest follows. Wires that are new say that the controller above
     /// has nothing on; see [`assume`](Wires::assume).
-    pub fn resume(&mut self, pic: &mut PchPic, high: u64, route: impl FnMut(Change)) {
+    pub fn resume(&mut self, pic: &mut impl Device, high: u64, route: impl FnMut(Change)) {
         // A line that was high when the device was saved may have gone low since: then its input is still latched.
-        for input in inputs(pic.latched() & !high) {
+        for input in inputs(pic.pic().latched() & !high) {
             // What it returns is left to the count.
             let _ = pic.set_level(input, false);
         }
@@ -150,10 +192,10 @@ impl Wires {
     }
 
     /// Passes on what waits, and then what no event told: a drop, a vector changed in service, a write of ISR, a load.
-    fn catch_up(&mut self, pic: &mut PchPic, route: &mut impl FnMut(Change)) {
+    fn catch_up(&mut self, pic: &mut impl Device, route: &mut impl FnMut(Change)) {
         let mut events = [Event::default(); EVENTS];
         let count = pic.drain(&mut events);
-        let held = pic.held();
+        let held = pic.pic().held();
         for event in &events[..count] {
             self.pass_on(&held, *event, route);
         }
@@ -166,17 +208,17 @@ impl Wires {
 
     /// One sweep: each input is polled. Whatever the guest did, every latched and unmasked input is in service then, and each was asserted at
     /// most once.
-    fn sweep(&mut self, pic: &mut PchPic, route: &mut impl FnMut(Change)) {
+    fn sweep(&mut self, pic: &mut impl Device, route: &mut impl FnMut(Change)) {
         for input in inputs(u64::MAX) {
             for event in pic.poll(input).into_iter().flatten() {
-                self.pass_on(&pic.held(), event, route);
+                self.pass_on(&pic.pic().held(), event, route);
             }
         }
     }
 
-    fn shift(&mut self, pic: &mut PchPic, input: u64, high: bool, route: &mut impl FnMut(Change)) {
+    fn shift(&mut self, pic: &mut impl Device, input: u64, high: bool, route: &mut impl FnMut(Change)) {
         for event in pic.set_level(input, high).into_iter().flatten() {
-            self.pass_on(&pic.held(), event, route);
+            self.pass_on(&pic.pic().held(), event, route);
         }
     }
 

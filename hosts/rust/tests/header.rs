@@ -1,6 +1,9 @@
 //! The C header and this crate name the same numbers.
 
-use pch_pic::{reg, Error, EVENTS, EVENT_LEN, IMAGE2_LEN, IMAGE2_NUMBERED_LEN, IMAGE_LEN, INPUTS};
+use pch_pic::{
+    reg, Error, BLOCKS_MAX, DRAIN_ROOM, EVENTS, EVENT_LEN, IMAGE2_LEN, IMAGE2_NUMBERED_LEN, IMAGE_LEN, INPUTS, RECORDS_MAX, RECORD_LEN,
+    TRACE_MAX,
+};
 use std::collections::HashMap;
 
 const HEADER: &str = include_str!("../../../include/pch_pic.h");
@@ -30,6 +33,11 @@ fn sizes() {
         ("INPUTS", INPUTS),
         ("EVENTS", EVENTS),
         ("EVENT_LEN", EVENT_LEN),
+        ("DRAIN_ROOM", DRAIN_ROOM),
+        ("TRACE_MAX", TRACE_MAX),
+        ("RECORD_LEN", RECORD_LEN),
+        ("RECORDS_MAX", RECORDS_MAX),
+        ("BLOCKS_MAX", BLOCKS_MAX),
     ] {
         assert_eq!(header[name], value as u64, "{name}");
     }
@@ -53,11 +61,62 @@ fn refusals() {
         ("COUNT", Error::Count(0)),
         ("FLAG", Error::Flag(0)),
         ("UNUSED", Error::Unused(0)),
+        ("TRACE", Error::Trace),
+        ("RECORD", Error::Record(0)),
     ] {
         assert_eq!(header[name], u64::from(error.number()), "{name}");
-        // The crate's text tells the address or the place too.
-        let ours = error.to_string().replace(" at 0x0", "").replace(", at byte 0", "");
+        // The crate's text tells the address, the place or the record too.
+        let ours = error.to_string().replace(" at 0x0", "").replace(", at byte 0", "").replace(", number 0 from 0 on", "");
         assert_eq!(text(name), Some(ours), "{name}");
+    }
+}
+
+#[cfg(feature = "std")]
+#[test]
+fn records() {
+    use pch_pic::Record;
+    let header = header();
+    for (name, record) in [
+        ("RAISE", Record::Raise(0)),
+        ("LOWER", Record::Lower(0)),
+        ("POLL", Record::Poll(0)),
+        ("READ", Record::Read { offset: 0, width: 0 }),
+        ("WRITE", Record::Write { offset: 0, width: 0, value: 0 }),
+        ("DRAIN", Record::Drain),
+    ] {
+        assert_eq!(header[name], u64::from(record.to_bytes()[0]), "{name}");
+    }
+    let bytes = Record::Write { offset: 1, width: 1, value: 1 }.to_bytes();
+    for place in ["RECORD_BYTE", "RECORD_OFFSET", "RECORD_VALUE"] {
+        assert_eq!(bytes[header[place] as usize], 1, "{place}");
+    }
+}
+
+/// What a recorder refuses has one text in both hosts.
+#[cfg(feature = "std")]
+#[test]
+fn recorders() {
+    use pch_pic::RecordError::{Again, Blocks, Byte, Empty, Full, Loaded, Offset, Plan, Planned, Refused, Some as Few, Started};
+    let source = include_str!("../../c/recorder.c");
+    let told = source.lines().filter_map(|line| line.trim().strip_prefix("case PIC_")?.split_once(": return \""));
+    let told: HashMap<_, _> = told.filter_map(|(name, rest)| Some((name, rest.strip_suffix("\";")?.to_string()))).collect();
+    let ours = [
+        ("FULL", Full),
+        ("BLOCKS", Blocks),
+        ("EMPTY", Empty),
+        ("PLAN", Plan),
+        ("PLANNED", Planned),
+        ("BYTE", Byte),
+        ("OFFSET", Offset),
+        ("REFUSED", Refused),
+        ("SOME", Few),
+        ("AGAIN", Again),
+        ("LOADED", Loaded),
+        ("STARTED", Started),
+    ];
+    assert_eq!(told.len(), ours.len());
+    for (name, error) in ours {
+        assert_eq!(told[name], error.to_string(), "{name}");
     }
 }
 

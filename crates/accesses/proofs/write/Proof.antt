@@ -1,18 +1,14 @@
--- `write`: each refusal leaves where 01's order puts it; done, the image is that of the device after the write.
-use mathlib.Core.Path.{_≡_, refl, sym, ap, _∙_}
+-- `write`: the image is refused where 01's order puts it; accepted, the call goes on.
+use mathlib.Core.Path.{_≡_, refl}
 use mathlib.Core.List.{List}
-use lib.ListN.{length}
 use Prim.Native.Nat.{ℕ}
-use Rattle.rules.specs.Form.{formLength}
-use Rattle.rules.specs.Device as device
-use Rattle.rules.specs.Calls as asked
-use Rattle.image.specs.Shown.{formView}
-use Rattle.window.specs.Tests.{knownView}
-use Rattle.window.proofs.Bounds.{reach}
-use Rattle.refusals.proofs.Ends.{Passed, fitting, goes-on, long, tells, by-head, by-bodies}
-use Rattle.accesses.proofs.Aims.{no-width, no-place, write-done}
-use Rattle.accesses.proofs.Reaching.{byte-low, word-low, dword-low}
+use lib.ListN.{length}
 use borrow.Author.Needs.{needs}
+use Rattle.images.specs.Form.{formLength}
+use Rattle.calls.specs.Calls as asked
+use Rattle.image.specs.Shown.{formView}
+use Rattle.inplace.specs.Passed.{Passed}
+use Rattle.refusals.proofs.Ends.{fitting, goes-on, by-head, by-bodies}
 use Rattle.accesses.proofs.write.Statement.{statement}
 use Rattle.accesses.proofs.write.Tie as tie
 
@@ -50,48 +46,6 @@ write-spec =
     (λ c. let u = c .before .before in let b = u .before .before in let k = b .before .before in let e = k .before in let h = e .before .before in let a = h .before .before .before .args in
     by-bodies (a .image .now) (h .test-head .result) (e .told .given .0 .0) (e .told .given .1) (h .test-head .ensures) (b .test-bodies .result) (b .test-bodies .ensures)
     (asked.write (a .base) (a .size) (a .address) (a .width) (a .value)) refl (u .enum-told2 .given .1) (c .of-bodies .result) (c .of-bodies .ensures))
-    (λ c κs. search needs) (λ c. search needs) (λ c. search needs) (λ c κs. search needs) (λ c. search needs)
-    (λ c. let u = c .before in let w = u .before .before in let p = w .before in let a = knownAt p .before .before .before .before .before .before .args in
-    tells (c .no-width .result) (c .no-width .ensures)
-    (no-width (on p) (a .base) (a .size) (a .address) (a .width) (w .width-of .ensures) (asked.write (a .base) (a .size) (a .address) (a .width) (a .value)) (λ w o. device.write w o (a .value)) refl (u .enum-told3 .given .1)))
-    (λ c κs. search needs) (λ c. search needs) (λ c. search needs) (λ c κs. search needs) (λ c. search needs)
-    (λ c. let u = c .before in let l = u .before .before in let e = l .before .before in let w = e .before .before in let p = w .before in let a = knownAt p .before .before .before .before .before .before .args in tells (c .outside .result) (c .outside .ensures)
-    (no-place (on p) (a .base) (a .size) (a .address) (a .width) (w .width-of .ensures) (asked.write (a .base) (a .size) (a .address) (a .width) (a .value)) (λ w o. device.write w o (a .value)) refl (e .known .given .1) (l .locate .ensures .0) (u .enum-told4 .given .1)))
-    (λ c κs. search needs)
+    (λ c κs. on (c .before))
     (λ c. search needs)
-    (λ c κs. search needs)
-    (λ c κs. let o = c .before .before .before .before .before .before in let l = o .before .before in let e = l .before .before in let w = e .before .before in let p = w .before in long (on p))
-    (λ c. search needs)
-    (λ c κs. search needs)
-    (λ c. search needs)
-    (λ c κs. let t = c .before in let o = t .before .before .before .before in let l = o .before .before in let e = l .before .before in let w = e .before .before in let p = w .before in (long (on p), rw (t .enum-told6 .given .1) at (reach _ _ (l .locate .ensures .1) (o .offset .given .1) (sym (w .width-of .ensures) ∙ ap knownView (e .known .given .1)))))
-    (λ c. search needs)
-    (λ c κs. search needs)
-    (λ c. search needs)
-    (λ c κs. let o = c .before .before .before .before .before in let l = o .before .before in let e = l .before .before in let w = e .before .before in let p = w .before in long (on p))
-    (λ c. search needs)
-    (λ c κs. search needs)
-    (λ c. search needs)
-    (λ c κs. let t = c .before in let o = t .before .before .before .before in let l = o .before .before in let e = l .before .before in let w = e .before .before in let p = w .before in (long (on p), rw (t .enum-told8 .given .1) at (reach _ _ (l .locate .ensures .1) (o .offset .given .1) (sym (w .width-of .ensures) ∙ ap knownView (e .known .given .1)))))
-    (λ c. search needs)
-    (λ c κs. search needs)
-    (λ c. search needs)
-    (λ c. let r = c .before .before .before in let t = r .before .before .before in let h = t .before .before in let o = h .before .before in
-    let l = o .before .before in let e = l .before .before in let w = e .before .before in let p = w .before in let a = knownAt p .before .before .before .before .before .before .args in tells (c .gives .result) (c .gives .ensures)
-    (write-done (on p) (a .base) (a .size) (a .address) (a .width) (w .width-of .ensures) (e .known .given .1) (l .locate .ensures .0) (o .offset .given .1) (a .value) (search needs)
-    (rw (t .enum-told5 .given .1) (byte-low _ (a .value) (h .half .ensures) (r .before .byte-of .ensures) (r .write-byte .ensures .1)))))
-    (λ c. search needs)
-    (λ c. let r = c .before .before .before in let t = r .before .before in let h = t .before .before in let o = h .before .before in
-    let l = o .before .before in let e = l .before .before in let w = e .before .before in let p = w .before in let a = knownAt p .before .before .before .before .before .before .args in tells (c .gives2 .result) (c .gives2 .ensures)
-    (write-done (on p) (a .base) (a .size) (a .address) (a .width) (w .width-of .ensures) (e .known .given .1) (l .locate .ensures .0) (o .offset .given .1) (a .value) (search needs)
-    (rw (t .enum-told6 .given .1) (word-low _ (a .value) (h .half .ensures) (r .write-word .ensures .1)))))
-    (λ c. search needs)
-    (λ c. let r = c .before .before .before in let t = r .before .before in let h = t .before .before in let o = h .before .before in
-    let l = o .before .before in let e = l .before .before in let w = e .before .before in let p = w .before in let a = knownAt p .before .before .before .before .before .before .args in tells (c .gives3 .result) (c .gives3 .ensures)
-    (write-done (on p) (a .base) (a .size) (a .address) (a .width) (w .width-of .ensures) (e .known .given .1) (l .locate .ensures .0) (o .offset .given .1) (a .value) (search needs)
-    (rw (t .enum-told7 .given .1) (dword-low _ (a .value) (h .half .ensures) (r .write-dword .ensures .1)))))
-    (λ c. search needs)
-    (λ c. let r = c .before .before .before in let t = r .before .before in let h = t .before .before in let o = h .before .before in
-    let l = o .before .before in let e = l .before .before in let w = e .before .before in let p = w .before in let a = knownAt p .before .before .before .before .before .before .args in tells (c .gives4 .result) (c .gives4 .ensures)
-    (write-done (on p) (a .base) (a .size) (a .address) (a .width) (w .width-of .ensures) (e .known .given .1) (l .locate .ensures .0) (o .offset .given .1) (a .value) (search needs)
-    (rw (t .enum-told8 .given .1) (r .write-qword .ensures .1)))))
+    (λ c. c .before .before .write .ensures))

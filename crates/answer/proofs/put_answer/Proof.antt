@@ -5,9 +5,9 @@ use Prim.Native.Nat.{ℕ, _≤_}
 use native.Mathlib.Omega.{arith}
 use lib.ListN.{length, drop, set, replicate, length-set}
 use borrow.Rule.Slice.PartMut.{putMid}
-use Rattle.rules.specs.Numbers.{bytesOf, part}
-use Rattle.rules.specs.Calls.{answerLength, answered}
-use Rattle.rules.proofs.laws.Parts.{Filled, start, put-this, length-next}
+use Rattle.basics.specs.Numbers.{bytesOf, part}
+use Rattle.calls.specs.Calls.{answerLength, answered}
+use Rattle.basics.proofs.laws.Parts.{Filled, start, put-this, length-next}
 use Rattle.bytes.proofs.Putting.{word-put}
 use borrow.Author.Needs.{needs}
 use Rattle.answer.proofs.put_answer.Statement.{statement}

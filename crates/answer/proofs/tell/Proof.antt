@@ -2,7 +2,7 @@
 use mathlib.Core.Path.{_≡_, refl, sym, _∙_}
 use mathlib.Core.List.{List}
 use Prim.Native.Nat.{ℕ}
-use Rattle.rules.specs.Calls.{answered}
+use Rattle.calls.specs.Calls.{answered}
 use Rattle.answer.specs.Given.{valueView}
 use Rattle.answer.specs.declared.Value.{Value}
 use Rattle.answer.specs.declared.Told.{Told}

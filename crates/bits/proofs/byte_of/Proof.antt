@@ -2,7 +2,7 @@
 use Prim.Native.Nat.{_*_, _/_, _^_}
 use lib.Bits.{mask-lt}
 use borrow.Author.Needs.{needs}
-use Rattle.rules.proofs.laws.Halves.{byte-taken}
+use Rattle.laws.proofs.laws.Halves.{byte-taken}
 use Rattle.bits.proofs.byte_of.Statement.{statement}
 use Rattle.bits.proofs.byte_of.Tie as tie
 

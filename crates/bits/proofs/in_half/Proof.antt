@@ -1,5 +1,5 @@
 -- `in_half` is right since a number of 32 bits loses none when it is shifted by 32.
-use Rattle.rules.proofs.laws.Halves.{high-placed, low-placed}
+use Rattle.laws.proofs.laws.Halves.{high-placed, low-placed}
 use Rattle.bits.proofs.in_half.Statement.{statement}
 use Rattle.bits.proofs.in_half.Tie as tie
 

@@ -1,7 +1,7 @@
 -- `with_byte` is right since its mask keeps the other bytes: the law of a part replaced by masks, at byte k of 32 bits.
 use native.Mathlib.Omega.{arith}
 use borrow.Author.Needs.{needs}
-use Rattle.rules.proofs.laws.Halves.{byte-replaced}
+use Rattle.laws.proofs.laws.Halves.{byte-replaced}
 use Rattle.bits.proofs.with_byte.Statement.{statement}
 use Rattle.bits.proofs.with_byte.Tie as tie
 

@@ -5,7 +5,7 @@ use Prim.Native.Nat.{_-_, _≤_}
 use native.Mathlib.Omega.{arith}
 use borrow.Author.Needs.{needs}
 use lib.ListN.{length, take, drop, length-set}
-use Rattle.rules.proofs.laws.Lists.{copied, copied-all}
+use Rattle.basics.proofs.laws.Lists.{copied, copied-all}
 use Rattle.bytes.proofs.copy.Statement.{statement}
 use Rattle.bytes.proofs.copy.Tie as tie
 

@@ -6,7 +6,7 @@ use native.Mathlib.Nat.{sub-zero}
 use native.Mathlib.Omega.{arith}
 use borrow.Author.Needs.{needs}
 use lib.ListN.{length, take, replicate, length-set}
-use Rattle.rules.proofs.laws.Lists.{turn, done}
+use Rattle.basics.proofs.laws.Lists.{turn, done}
 use Rattle.bytes.proofs.put_zeros.Statement.{statement}
 use Rattle.bytes.proofs.put_zeros.Tie as tie
 

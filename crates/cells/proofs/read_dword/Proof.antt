@@ -1,8 +1,8 @@
 use mathlib.Core.Path.{sym, ap, _∙_}
 use Prim.Native.Nat.{ℕ}
-use Rattle.rules.specs.Inputs.{half}
+use Rattle.basics.specs.Inputs.{half}
 use Rattle.rules.specs.Access.{readCell}
-use Rattle.rules.proofs.laws.Widths.{dword-of}
+use Rattle.laws.proofs.laws.Widths.{dword-of}
 use Rattle.map.specs.Views.{cellView}
 use borrow.Author.Needs.{needs}
 use Rattle.cells.proofs.read_dword.Statement.{statement}

@@ -1,7 +1,7 @@
 -- `read_four`: at once where they are a run, and else one by one.
 use native.Mathlib.Omega.{arith}
 use Rattle.rules.specs.Access.{readCell}
-use Rattle.rules.proofs.laws.Maps.{at-bytes}
+use Rattle.laws.proofs.laws.Maps.{at-bytes}
 use Rattle.cells.proofs.Entries.{four-run, four-read}
 use borrow.Author.Needs.{needs}
 use Rattle.cells.proofs.read_four.Statement.{statement}

@@ -4,7 +4,7 @@ use mathlib.Core.List.{[]}
 use native.Mathlib.Omega.{arith}
 use Rattle.rules.specs.Map.{bytes}
 use Rattle.rules.specs.Access.{cellActs, dwordActs}
-use Rattle.rules.proofs.laws.Writes.{dword-acts-of}
+use Rattle.laws.proofs.laws.Writes.{dword-acts-of}
 use Rattle.map.specs.Views.{cellView}
 use Rattle.inplace.proofs.Doing.{writes-none, writes-same}
 use borrow.Author.Needs.{needs}

@@ -1,6 +1,6 @@
 -- `write_four`: at once where they are a run, and else one by one.
 use native.Mathlib.Omega.{arith}
-use Rattle.rules.proofs.laws.Maps.{at-bytes}
+use Rattle.laws.proofs.laws.Maps.{at-bytes}
 use Rattle.cells.proofs.Entries.{four-run, four-together, four-written}
 use borrow.Author.Needs.{needs}
 use Rattle.cells.proofs.write_four.Statement.{statement}

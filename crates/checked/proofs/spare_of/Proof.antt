@@ -1,7 +1,7 @@
 -- `spare_of`: in each form the place of the field that stands there.
 use mathlib.Core.Path.{refl}
 use borrow.Author.Needs.{needs}
-use Rattle.rules.specs.Form.{pairs, numbers}
+use Rattle.images.specs.Form.{pairs, numbers}
 use Rattle.checked.proofs.spare_of.Statement.{statement}
 use Rattle.checked.proofs.spare_of.Tie as tie
 

@@ -8,9 +8,9 @@ use borrow.Author.Needs.{needs}
 use borrow.Author.Tests.{eq-eqb, ne-eqb, le-leb, lt-leb, not-true, not-false}
 use lib.Dec.{eqb, leb}
 use lib.ListN.{length, getD}
-use Rattle.rules.specs.Numbers.{Bytes}
+use Rattle.basics.specs.Numbers.{Bytes}
 use Rattle.rules.specs.Ring.{capacity}
-use Rattle.rules.specs.Form.{Form, word, irr, count, pairs}
+use Rattle.images.specs.Form.{Form, word, irr, count, pairs}
 use Rattle.image.specs.Shown.{formView}
 use Rattle.image.proofs.Forms.{always-within, copy-within}
 use Rattle.checked.specs.Good.{bodiesGood, ringGood}

@@ -2,7 +2,7 @@
 use mathlib.Core.Path.{_≡_, sym, ap, _∙_}
 use borrow.Author.Needs.{needs}
 use lib.ListN.{length}
-use Rattle.rules.specs.Form.{known, formOf}
+use Rattle.images.specs.Form.{known, formOf}
 use Rattle.image.specs.Shown.{formView, formKnown}
 use Rattle.image.specs.declared.form.Form.{Form}
 use Rattle.checked.proofs.Orders.{no-form}

@@ -3,15 +3,17 @@ use mathlib.Core.Path.{_≡_, refl, sym, ap, _∙_}
 use mathlib.Core.List.{List}
 use Prim.Native.Nat.{ℕ}
 use lib.ListN.{length}
-use Rattle.rules.specs.Form.{forms, known, formOf, formLength}
+use Rattle.images.specs.Form.{forms, known, formOf, formLength}
 use Rattle.rules.specs.Device.{Device}
-use Rattle.rules.specs.Image.{encodeAs, imageTest, numbersIn, numberBody}
-use Rattle.rules.proofs.laws.Tests.{form-known}
-use Rattle.rules.proofs.laws.Images.{decode-as, numbers-as}
-use Rattle.rules.proofs.laws.Conversions.{no-image, no-target, not-accepted, convert-done}
+use Rattle.images.specs.Image.{encodeAs, imageTest, numbersIn, numberBody}
+use Rattle.images.proofs.laws.Tests.{form-known}
+use Rattle.laws.proofs.laws.Images.{decode-as, numbers-as}
+use Rattle.calls.proofs.laws.Conversions.{no-image, no-target, not-accepted, convert-done}
 use Rattle.image.specs.Shown.{formView, formKnown}
 use Rattle.checked.proofs.Orders.{head-refuses}
-use Rattle.refusals.proofs.Ends.{Passed, fitting, goes-on, long, few, tells, head-told, broken-refused, bodies-told}
+use Rattle.inplace.specs.Passed.{Passed}
+use Rattle.inplace.proofs.Passing.{long, few}
+use Rattle.refusals.proofs.Ends.{fitting, goes-on, tells, head-told, broken-refused, bodies-told}
 use borrow.Author.Needs.{needs}
 use Rattle.convert.proofs.convert.Statement.{statement}
 use Rattle.convert.proofs.convert.Tie as tie

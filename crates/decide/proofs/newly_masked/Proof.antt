@@ -1,6 +1,6 @@
 -- `newly_masked` is right since a half compared bit by bit and put in its place compares the registers: the other half stays.
 use borrow.Author.Needs.{needs}
-use Rattle.rules.proofs.laws.Halves.{newly-masked-is}
+use Rattle.laws.proofs.laws.Halves.{newly-masked-is}
 use Rattle.decide.proofs.newly_masked.Statement.{statement}
 use Rattle.decide.proofs.newly_masked.Tie as tie
 

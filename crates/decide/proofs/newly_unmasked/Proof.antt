@@ -1,6 +1,6 @@
 -- `newly_unmasked` is right since a half compared bit by bit and put in its place compares the registers: the other half stays.
 use borrow.Author.Needs.{needs}
-use Rattle.rules.proofs.laws.Halves.{newly-unmasked-is}
+use Rattle.laws.proofs.laws.Halves.{newly-unmasked-is}
 use Rattle.decide.proofs.newly_unmasked.Statement.{statement}
 use Rattle.decide.proofs.newly_unmasked.Tie as tie
 

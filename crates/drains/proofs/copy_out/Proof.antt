@@ -5,7 +5,7 @@ use Prim.Native.Nat.{_+_, _≤_}
 use native.Mathlib.Omega.{arith}
 use lib.ListN.{length}
 use borrow.Author.Needs.{needs}
-use Rattle.rules.specs.Form.{pairs, numbers, has}
+use Rattle.images.specs.Form.{pairs, numbers, has}
 use Rattle.image.specs.Shown.{formView}
 use Rattle.image.proofs.Forms.{placed, always-within, field-within, has-numbers, no-numbers}
 use Rattle.drains.proofs.Weaving.{with-numbers, from-zero}

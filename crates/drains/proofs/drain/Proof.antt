@@ -5,7 +5,7 @@ use native.Mathlib.Omega.{arith}
 use lib.ListN.{getD, length-take}
 use borrow.Author.Needs.{needs}
 use Rattle.rules.specs.Ring.{capacity}
-use Rattle.rules.specs.Form.{count}
+use Rattle.images.specs.Form.{count}
 use Rattle.image.specs.Shown.{formView}
 use Rattle.image.proofs.Forms.{placed, always-within}
 use Rattle.drains.proofs.Drawing.{drains}

@@ -1,7 +1,7 @@
 -- `end` is right since the end's line has 14 bytes, so that there is room for the ending behind it.
 use native.Mathlib.Omega.{arith}
 use borrow.Author.Needs.{needs}
-use Rattle.rules.specs.Session.{newline, answers}
+use Rattle.sessions.specs.Session.{newline, answers}
 use Rattle.reply.proofs.Writing.{put-byte, filled, says}
 use Rattle.ended.proofs.end.Statement.{statement}
 use Rattle.ended.proofs.end.Tie as tie

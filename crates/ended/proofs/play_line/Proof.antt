@@ -6,7 +6,7 @@ use native.Mathlib.Omega.{arith}
 use lib.ListN.{drop}
 use lib.Seq.{length-take-le}
 use borrow.Author.Needs.{needs}
-use Rattle.rules.specs.Session.{newline, played}
+use Rattle.sessions.specs.Session.{newline, played}
 use Rattle.state.specs.View.{view}
 use Rattle.reply.specs.Says.{Says}
 use Rattle.reply.proofs.Writing.{put-byte, filled, fits, size, in-front, says}

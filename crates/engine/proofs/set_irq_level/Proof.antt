@@ -6,7 +6,7 @@ use mathlib.Core.List.{List}
 use Prim.Native.Nat.{ℕ, _-_, _<_, _^_}
 use lib.Bits.{bitAnd, bitOr}
 use Rattle.rules.specs.Lines.{withIrr, levelled}
-use Rattle.rules.proofs.laws.Bits.{put-is, without-only-is}
+use Rattle.basics.proofs.laws.Bits.{put-is, without-only-is}
 use Rattle.state.specs.View.{linesView}
 use Rattle.state.specs.declared.Lines.{Lines}
 use Rattle.engine.specs.Moves.{Answers, updated}

@@ -1,7 +1,7 @@
 -- `vectors`: the bytes from the input's place on spell the number.
 use mathlib.Core.Path.{refl}
 use native.Mathlib.Omega.{arith}
-use Rattle.rules.specs.Form.{vectors}
+use Rattle.images.specs.Form.{vectors}
 use Rattle.image.specs.Shown.{formView}
 use Rattle.image.proofs.Forms.{placed, always-fits}
 use Rattle.entries.proofs.Tables.{entries-read}

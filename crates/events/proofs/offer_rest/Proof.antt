@@ -5,8 +5,8 @@ use native.Mathlib.Nat.{lt-of-le-of-lt}
 use native.Mathlib.Omega.{arith}
 use lib.Count.{trailingZeros, trailing-le}
 use lib.ListN.{length}
-use Rattle.rules.specs.Inputs.{on, inputs}
-use Rattle.rules.proofs.laws.Inputs.{first-below}
+use Rattle.basics.specs.Inputs.{on, inputs}
+use Rattle.basics.proofs.laws.Inputs.{first-below}
 use Rattle.events.proofs.Offering.{Offering, offering-starts, offering-done, offering-next, less, inputs-few}
 use borrow.Author.Needs.{needs}
 use Rattle.events.proofs.offer_rest.Statement.{statement}

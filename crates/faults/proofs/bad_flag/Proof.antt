@@ -2,7 +2,7 @@
 use Prim.Native.Nat.{_-_, _*_, _≤_}
 use native.Mathlib.Omega.{arith}
 use borrow.Author.Needs.{needs}
-use Rattle.rules.specs.Image.{flagRule}
+use Rattle.images.specs.Image.{flagRule}
 use Rattle.faults.proofs.Firsts.{GoodUpTo, flag-on, flag-here, no-flag}
 use Rattle.faults.proofs.bad_flag.Statement.{statement}
 use Rattle.faults.proofs.bad_flag.Tie as tie

@@ -7,8 +7,8 @@ use native.Mathlib.Omega.{arith}
 use borrow.Author.Needs.{needs}
 use types.Run.{OneOf}
 use denote.Enum.Declared.{tagOf}
-use Rattle.rules.specs.Form.{word, irr, count, pairs}
-use Rattle.rules.specs.Image.{accepted}
+use Rattle.images.specs.Form.{word, irr, count, pairs}
+use Rattle.images.specs.Image.{accepted}
 use Rattle.image.specs.Shown.{formView}
 use Rattle.image.proofs.Forms.{always-within, copy-within}
 use Rattle.faults.specs.Found.{checkedView}

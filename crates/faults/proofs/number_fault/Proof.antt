@@ -5,8 +5,8 @@ use Prim.Native.Nat.{_+_, _-_, _≤_}
 use native.Mathlib.Omega.{arith}
 use borrow.Author.Needs.{needs}
 use lib.ListN.{length}
-use Rattle.rules.specs.Form.{numbers, has}
-use Rattle.rules.specs.Image.{unusedRule, bodyTest}
+use Rattle.images.specs.Form.{numbers, has}
+use Rattle.images.specs.Image.{unusedRule, bodyTest}
 use Rattle.image.specs.Shown.{formView}
 use Rattle.image.proofs.Forms.{has-numbers, no-numbers, field-within}
 use Rattle.faults.proofs.Firsts.{lacks-clear, rule-told, rule-clear}

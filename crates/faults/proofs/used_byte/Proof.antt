@@ -3,8 +3,8 @@ use Prim.Native.Nat.{_-_, _*_, _≤_}
 use native.Mathlib.Omega.{arith}
 use borrow.Author.Needs.{needs}
 use lib.ListN.{length}
-use Rattle.rules.specs.Form.{pairs}
-use Rattle.rules.specs.Image.{unusedRule}
+use Rattle.images.specs.Form.{pairs}
+use Rattle.images.specs.Image.{unusedRule}
 use Rattle.faults.proofs.Firsts.{GoodUpTo, waiting-good, zero-on, used-here, none-used}
 use Rattle.faults.proofs.used_byte.Statement.{statement}
 use Rattle.faults.proofs.used_byte.Tie as tie

@@ -4,7 +4,7 @@ use Prim.Native.Nat.{_+_, _-_}
 use native.Mathlib.Omega.{arith}
 use lib.ListN.{take, drop}
 use borrow.Author.Needs.{needs}
-use Rattle.rules.specs.Session.{digitsSpell}
+use Rattle.sessions.specs.Session.{digitsSpell}
 use Rattle.hex.proofs.OneField.{field-short, field-unmarked, field-spelled}
 use Rattle.hex.proofs.field.Statement.{statement}
 use Rattle.hex.proofs.field.Tie as tie

@@ -4,7 +4,7 @@ use Prim.Native.Nat.{_+_, _-_, _*_, _^_, _<_}
 use native.Mathlib.Omega.{arith}
 use lib.ListN.{length, drop-of-length-le}
 use borrow.Author.Needs.{needs}
-use Rattle.rules.specs.Session.{digitsSpell}
+use Rattle.sessions.specs.Session.{digitsSpell}
 use Rattle.hex.specs.Reads.{digitView}
 use Rattle.hex.proofs.Digits.{Reading, reading-next, digitsSpell-wrong}
 use Rattle.hex.proofs.number_of.Statement.{statement}

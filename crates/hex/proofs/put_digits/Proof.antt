@@ -4,7 +4,7 @@ use mathlib.Core.List.{_++_}
 use Prim.Native.Nat.{_≤_}
 use native.Mathlib.Omega.{arith}
 use lib.ListN.{length, drop, length-set}
-use Rattle.rules.specs.Session.{digits}
+use Rattle.sessions.specs.Session.{digits}
 use Rattle.hex.proofs.Digits.{digit-stored}
 use Rattle.hex.proofs.put_digits.Statement.{statement}
 use Rattle.hex.proofs.put_digits.Tie as tie

@@ -9,7 +9,7 @@ use Prim.Native.Nat.{ℕ, _+_}
 use native.Mathlib.Omega.{arith}
 use lib.Dec.{eqb}
 use lib.ListN.{length}
-use Rattle.rules.specs.Inputs.{on}
+use Rattle.basics.specs.Inputs.{on}
 use Rattle.rules.specs.Lines.{Lines, Made, servedIn}
 use Rattle.rules.specs.Core.{Core, Act, move, setIsr, store, setVector, lineTurn, turn, turns}
 use Rattle.rules.specs.Device.{Device, Call, actsOf, acted, step, reset}
@@ -17,8 +17,8 @@ use Rattle.rules.specs.History.{history, fromReset}
 use Rattle.histories.specs.Premises.{Along, Admitted, writesIsr, ServedVectorsStay}
 use Rattle.rules.specs.Account.{tally, servedWith, hasVector, carries, asserts, deasserts, carrying}
 use Rattle.histories.specs.Demands.{someAct, setsIsr}
-use Rattle.rules.proofs.laws.Bits.{on-none}
-use Rattle.rules.proofs.laws.Inputs.{no-inputs}
+use Rattle.basics.proofs.laws.Bits.{on-none}
+use Rattle.basics.proofs.laws.Inputs.{no-inputs}
 use Rattle.rules.proofs.laws.Counts.{size-ext, tally-append, vector-balanced}
 use Rattle.histories.proofs.laws.Reach.{each-both, NotIsr, no-isr-act, isr-acts, LeavesVectors, lines-or-vectors}
 use Rattle.histories.proofs.laws.Folds.{fold-acts, fold-calls, still, vectors-stay}

@@ -4,7 +4,7 @@ use mathlib.Core.Bool.{_&&_}
 use mathlib.Core.List.{List, _∷_}
 use Prim.Native.Nat.{ℕ, _<_}
 use native.Mathlib.Omega.{arith}
-use Rattle.rules.specs.Inputs.{only}
+use Rattle.basics.specs.Inputs.{only}
 use Rattle.rules.specs.Device.{Device, Call, step}
 use Rattle.rules.specs.History.{history}
 use Rattle.rules.proofs.laws.Counts.{tally-append}

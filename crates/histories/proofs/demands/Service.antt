@@ -6,7 +6,7 @@ use mathlib.Core.Bool.{Bool, true, false, not, true≢false, and-false}
 use mathlib.Core.List.{List, [], _∷_, _++_}
 use Prim.Native.Nat.{ℕ, _<_}
 use borrow.Author.Tests.{eqb-true}
-use Rattle.rules.specs.Inputs.{on, inputs, only, put, without, withHalf, asHalf}
+use Rattle.basics.specs.Inputs.{on, inputs, only, put, without, withHalf, asHalf}
 use Rattle.rules.specs.Lines.{Lines, Made, withIrr, withMask, pendingIn, serve, leave, newlyUnmasked, newlyMasked}
 use Rattle.rules.specs.Lines.{polled, raised, lowered, cleared, masked}
 use Rattle.rules.specs.Core.{Core, Move, poll, raise, lower, clear, setMask, Act, move, setIsr, store, setVector, moved, lineTurn, turn, turns}
@@ -15,9 +15,9 @@ use Rattle.rules.specs.Device as call
 use Rattle.rules.specs.History.{history}
 use Rattle.histories.specs.Premises.{Along}
 use Rattle.histories.specs.Demands.{done, also, inService, Eligible, disturbs, Spared, Undisturbed, pollsOrRaises}
-use Rattle.rules.proofs.laws.Bits.{on-put, on-without}
-use Rattle.rules.proofs.laws.Serving.{poll-serves, raise-latches, raise-serves}
-use Rattle.rules.proofs.laws.Halves.{by-halves, on-new-half, on-kept-half}
+use Rattle.basics.proofs.laws.Bits.{on-put, on-without}
+use Rattle.laws.proofs.laws.Serving.{poll-serves, raise-latches, raise-serves}
+use Rattle.laws.proofs.laws.Halves.{by-halves, on-new-half, on-kept-half}
 use Rattle.histories.proofs.laws.Reach.{each-both, NotIsr, no-isr-act}
 use Rattle.histories.proofs.laws.Folds.{fold-acts, fold-calls, history-append, along-append, along-each}
 

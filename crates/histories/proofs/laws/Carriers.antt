@@ -9,7 +9,7 @@ use native.Mathlib.Omega.{arith}
 use lib.Dec.{eqb}
 use lib.ListN.{getD}
 use borrow.Author.Tests.{eq-eqb}
-use Rattle.rules.specs.Inputs.{on, inputs, only, put, without, withHalf}
+use Rattle.basics.specs.Inputs.{on, inputs, only, put, without, withHalf}
 use Rattle.rules.specs.Lines.{Lines, Made, event, withIrr, withMask, pendingIn, servedIn, serve, enter, leave, newlyUnmasked, newlyMasked}
 use Rattle.rules.specs.Lines.{polled, raised, lowered, cleared, masked}
 use Rattle.rules.specs.Core.{Core, Move, poll, raise, lower, clear, setMask, Act, move, setIsr, store, setVector, moved, lineTurn, turn}
@@ -18,8 +18,8 @@ use Rattle.rules.specs.History.{history}
 use Rattle.histories.specs.Premises.{Along}
 use Rattle.rules.specs.Account.{tally, hasVector, carries, asserts}
 use Rattle.histories.specs.Demands.{assertsOf, CarriedAlone}
-use Rattle.rules.proofs.laws.Bits.{test}
-use Rattle.rules.proofs.laws.Inputs.{first-has}
+use Rattle.basics.proofs.laws.Bits.{test}
+use Rattle.basics.proofs.laws.Inputs.{first-has}
 use Rattle.rules.proofs.laws.Counts.{tally-append, tally-nil, tally-none}
 use Rattle.histories.proofs.laws.Reach.{LeavesVectors, lines-or-vectors}
 use Rattle.histories.proofs.laws.Folds.{fold-acts, fold-calls, still, vectors-stay}

@@ -15,7 +15,7 @@ use Rattle.rules.specs.Device as call
 use Rattle.rules.specs.History.{history}
 use Rattle.rules.specs.Account.{tally}
 use Rattle.histories.specs.Demands.{asEvent, foundBy, ringActs, returnedIn}
-use Rattle.rules.proofs.laws.Bits.{test}
+use Rattle.basics.proofs.laws.Bits.{test}
 use Rattle.rules.proofs.laws.Rings.{offered-room, run-append, fifo}
 use Rattle.rules.proofs.laws.Counts.{tally-append}
 

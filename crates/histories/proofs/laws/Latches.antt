@@ -6,7 +6,7 @@ use mathlib.Core.List.{List, [], _∷_, _++_, append-nil}
 use Prim.Native.Nat.{ℕ, _<_}
 use native.Mathlib.Omega.{arith}
 use borrow.Author.Tests.{eqb-true}
-use Rattle.rules.specs.Inputs.{on, inputs, only, put, without, withHalf}
+use Rattle.basics.specs.Inputs.{on, inputs, only, put, without, withHalf}
 use Rattle.rules.specs.Lines.{Lines, Made, event, withIrr, withMask, pendingIn, servedIn, serve, enter, leave, newlyUnmasked, newlyMasked}
 use Rattle.rules.specs.Lines.{polled, raised, lowered, cleared, masked}
 use Rattle.rules.specs.Core.{Core, Move, poll, raise, lower, clear, setMask, Act, move, setIsr, store, setVector, moved, lineTurn, turn, turns}
@@ -17,8 +17,9 @@ use Rattle.rules.specs.History.{history}
 use Rattle.histories.specs.Premises.{Along}
 use Rattle.rules.specs.Account.{tally}
 use Rattle.histories.specs.Demands.{Each, done, also, clears, someAct, Clears, Unraised, assertsOf}
-use Rattle.rules.proofs.laws.Bits.{test, on-put, on-without}
-use Rattle.rules.proofs.laws.Inputs.{first-has, only-waiting}
+use Rattle.basics.proofs.laws.Bits.{test, on-put, on-without}
+use Rattle.basics.proofs.laws.Inputs.{first-has}
+use Rattle.laws.proofs.laws.Sets.{only-waiting}
 use Rattle.rules.proofs.laws.Counts.{tally-append, tally-nil, tally-none}
 use Rattle.histories.proofs.laws.Reach.{each-both, each-so, NotMask, NotClear, mask-or-clear, ReturnsNone, write-returns-none}
 use Rattle.histories.proofs.laws.Folds.{fold-acts, fold-calls}

@@ -10,8 +10,8 @@ use native.Mathlib.Omega.{arith}
 use native.Mathlib.Nat.{le-refl}
 use lib.Dec.{eqb, leb, ltb}
 use borrow.Author.Tests.{eqb-true, not-true, lt-ltb, le-ltb, lt-leb, le-leb, ltb-true, ltb-false}
-use Rattle.rules.specs.Numbers.{byteOf}
-use Rattle.rules.specs.Inputs.{half}
+use Rattle.basics.specs.Numbers.{byteOf}
+use Rattle.basics.specs.Inputs.{half}
 use Rattle.rules.specs.Core.{Core, Plain, Move, poll, raise, lower, clear, setMask, Act, move, setIsr, store, setPlain, setRoute, setVector, turns}
 use Rattle.rules.specs.Map.{Register, Cell, halfOf, bytes, nothing, Row, table, lookup}
 use Rattle.rules.specs.Map.{routesAt, vectorsAt, inRoutes, inVectors, inByteArea, cellAt}
@@ -21,7 +21,7 @@ use Rattle.rules.specs.Device.{Call, actsOf}
 use Rattle.rules.specs.Device as call
 use Rattle.histories.specs.Premises.{byteReaches, reaches, isIsr, writesIsr}
 use Rattle.histories.specs.Demands.{Each, done, also, someAct, setsIsr}
-use Rattle.rules.proofs.laws.Bits.{test}
+use Rattle.basics.proofs.laws.Bits.{test}
 
 -- ---- lists of acts
 

@@ -8,8 +8,8 @@ use native.Mathlib.Omega.{arith}
 use lib.Dec.{ltb, lit<}
 use lib.ListN.{length, set, length-append, length-set}
 use borrow.Author.Tests.{ltb-true}
-use Rattle.rules.specs.Numbers.{Bytes}
-use Rattle.rules.specs.Inputs.{on, inputs, only, put, without, withHalf}
+use Rattle.basics.specs.Numbers.{Bytes}
+use Rattle.basics.specs.Inputs.{on, inputs, only, put, without, withHalf}
 use Rattle.rules.specs.Lines.{Lines, Made, Turn, event, withIrr, withMask, pendingIn, servedIn, serve, enter, leave, newlyUnmasked, newlyMasked}
 use Rattle.rules.specs.Lines.{polled, raised, lowered, cleared, masked}
 use Rattle.rules.specs.Ring.{capacity, stop, Event, Ring, offered, ringStep, ringRun}
@@ -19,7 +19,7 @@ use Rattle.rules.specs.Device.{Device, WellFormed, Call, offers, actsOf, acted,
 use Rattle.rules.specs.Device as call
 use Rattle.rules.specs.History.{history}
 use Rattle.histories.specs.Demands.{Each, asEvent}
-use Rattle.rules.proofs.laws.Bits.{test, put-lt, without-lt}
+use Rattle.basics.proofs.laws.Bits.{test, put-lt, without-lt}
 use Rattle.rules.proofs.laws.Rings.{count-stops}
 use Rattle.rules.proofs.laws.Steps.{drain-well}
 use Rattle.histories.proofs.laws.Reach.{StoresBytes, byte-acts}

@@ -1,17 +1,14 @@
--- `level`: each refusal leaves where 01's order puts it; done, only the lines moved, and the vector returned is told with its number.
-use mathlib.Core.Path.{_≡_, refl, _∙_}
-use lib.ListN.{length}
-use mathlib.Core.Bool.{not}
-use lib.Dec.{eqb}
+-- `level`: the image is refused where 01's order puts it; accepted, the call goes on.
+use mathlib.Core.Path.{_≡_, refl}
 use mathlib.Core.List.{List}
 use Prim.Native.Nat.{ℕ}
-use Rattle.rules.specs.Form.{formLength}
-use Rattle.rules.specs.Device as device
-use Rattle.rules.specs.Calls as asked
-use Rattle.image.specs.Shown.{formView}
-use Rattle.refusals.proofs.Ends.{Passed, fitting, goes-on, long, tells, by-head, by-bodies}
-use Rattle.inputs.proofs.Lines.{no-input, level-done}
+use lib.ListN.{length}
 use borrow.Author.Needs.{needs}
+use Rattle.images.specs.Form.{formLength}
+use Rattle.calls.specs.Calls as asked
+use Rattle.image.specs.Shown.{formView}
+use Rattle.inplace.specs.Passed.{Passed}
+use Rattle.refusals.proofs.Ends.{fitting, goes-on, by-head, by-bodies}
 use Rattle.inputs.proofs.level.Statement.{statement}
 use Rattle.inputs.proofs.level.Tie as tie
 
@@ -49,14 +46,6 @@ level-spec =
     (λ c. let u = c .before .before in let b = u .before .before in let k = b .before .before in let e = k .before in let h = e .before .before in let a = h .before .before .before .args in
     by-bodies (a .image .now) (h .test-head .result) (e .told .given .0 .0) (e .told .given .1) (h .test-head .ensures) (b .test-bodies .result) (b .test-bodies .ensures)
     (asked.level (a .input) (a .level)) refl (u .enum-told2 .given .1) (c .of-bodies .result) (c .of-bodies .ensures))
-    (λ c κs. search needs) (λ c. search needs)
-    (λ c. let h = c .before in let t = h .before in let a = knownAt t .before .before .before .before .before .before .args in
-    tells (c .no-input .result) (c .no-input .ensures) (no-input (on t) (a .input) (asked.level (a .input) (a .level)) (device.level (a .input) (not (eqb (a .level) 0))) refl (h .if1 .taken)))
-    (λ c κs. (long (on (c .before .before)), search needs))
-    (λ c κs. let r = c .before .before .before in let t = r .before .before .before in let a = knownAt t .before .before .before .before .before .before .args in
-    let same : length (r .set-level .last .0) ≡ length (a .image .now) = search needs in
-    same ∙ long (on t))
-    (λ c κs. search needs) (λ c. search needs)
-    (λ c. let n = c .before .before .before in let r = n .before .before .before .before in let h = r .before .before in let t = h .before in let a = knownAt t .before .before .before .before .before .before .args in
-    let same : length (r .set-level .last .0) ≡ length (a .image .now) = search needs in
-    tells (c .done .result) (c .done .ensures) (level-done (on t) (a .input) (h .if1 .left) same (search needs) (n .numbered .ensures) (a .level) (r .set-level .ensures))))
+    (λ c κs. on (c .before))
+    (λ c. search needs)
+    (λ c. c .before .before .level .ensures))

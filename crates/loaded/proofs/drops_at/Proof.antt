@@ -3,8 +3,8 @@ use mathlib.Core.Path.{_≡_, sym, ap, _∙_, subst}
 use Prim.Native.Nat.{_+_, _-_, _<_, _^_}
 use native.Mathlib.Omega.{arith}
 use borrow.Author.Needs.{needs}
-use Rattle.rules.specs.Numbers.{numberOf, part}
-use Rattle.rules.proofs.laws.Bytes.{part-below}
+use Rattle.basics.specs.Numbers.{numberOf, part}
+use Rattle.basics.proofs.laws.Bytes.{part-below}
 use Rattle.loaded.proofs.drops_at.Statement.{statement}
 use Rattle.loaded.proofs.drops_at.Tie as tie
 

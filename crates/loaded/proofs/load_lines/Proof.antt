@@ -4,8 +4,8 @@ use mathlib.Core.Path.{_≡_, refl}
 use Prim.Native.Nat.{_+_, _≤_}
 use lib.ListN.{length}
 use borrow.Author.Needs.{needs}
-use Rattle.rules.specs.Form.{mask, irr, isr, Field, word, size}
-use Rattle.rules.proofs.laws.Layout.{always}
+use Rattle.images.specs.Form.{mask, irr, isr, Field, word, size}
+use Rattle.images.proofs.laws.Layout.{always}
 use Rattle.image.specs.Shown.{formView, placeIn}
 use Rattle.image.proofs.Forms.{always-within, always-word}
 use Rattle.loaded.proofs.load_lines.Statement.{statement}

@@ -6,17 +6,17 @@ use Prim.Native.Nat.{ℕ, _+_, _-_, _≤_}
 use native.Mathlib.Omega.{arith}
 use lib.ListN.{length, getD}
 use borrow.Author.Needs.{needs}
-use Rattle.rules.specs.Numbers.{numberOf, part}
-use Rattle.rules.specs.Form.{Field, count, drops, pairs, size}
-use Rattle.rules.proofs.laws.Layout.{always}
+use Rattle.basics.specs.Numbers.{numberOf, part}
+use Rattle.images.specs.Form.{Field, count, drops, pairs, size}
+use Rattle.images.proofs.laws.Layout.{always}
 use Rattle.image.specs.Shown.{formView, placeIn}
-use Rattle.rules.specs.Form.{Form, place, read}
-use Rattle.rules.specs.Image.{countIn, eventsOf, decodeAs}
-use Rattle.rules.proofs.laws.Tests.{length-read}
+use Rattle.images.specs.Form.{Form, place, read}
+use Rattle.images.specs.Image.{countIn, eventsOf, decodeAs}
+use Rattle.images.proofs.laws.Tests.{length-read}
 use Rattle.image.specs.Shown.{PlacesOf}
 use Rattle.image.specs.declared.form.Places.{Places}
 use Rattle.image.proofs.Forms.{always-within}
-use Rattle.rules.proofs.laws.Layout.{has-all}
+use Rattle.images.proofs.laws.Layout.{has-all}
 use Rattle.loaded.proofs.load_ring.Statement.{statement}
 use Rattle.loaded.proofs.load_ring.Tie as tie
 

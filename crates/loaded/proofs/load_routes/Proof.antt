@@ -4,11 +4,11 @@ use mathlib.Core.Path.{_≡_, refl, _∙_}
 use Prim.Native.Nat.{ℕ, _+_, _-_, _≤_}
 use native.Mathlib.Omega.{arith}
 use mathlib.Core.List.{List}
-use Rattle.rules.specs.Numbers.{part}
+use Rattle.basics.specs.Numbers.{part}
 use lib.ListN.{length}
 use borrow.Author.Needs.{needs}
-use Rattle.rules.specs.Form.{Field, routes, size}
-use Rattle.rules.proofs.laws.Layout.{always}
+use Rattle.images.specs.Form.{Field, routes, size}
+use Rattle.images.proofs.laws.Layout.{always}
 use Rattle.image.specs.Shown.{formView, placeIn}
 use Rattle.image.proofs.Forms.{always-at, always-within}
 use Rattle.loaded.proofs.load_routes.Statement.{statement}

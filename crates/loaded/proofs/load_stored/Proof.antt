@@ -4,12 +4,12 @@ use mathlib.Core.Path.{_≡_, refl}
 use Prim.Native.Nat.{_+_, _≤_}
 use lib.ListN.{length}
 use borrow.Author.Needs.{needs}
-use Rattle.rules.specs.Form.{stored, Field, word, routes, size}
+use Rattle.images.specs.Form.{stored, Field, word, routes, size}
 use Rattle.rules.specs.Core.{htmsiEn, edge, pol, auto0, auto1}
-use Rattle.rules.proofs.laws.Layout.{always}
+use Rattle.images.proofs.laws.Layout.{always}
 use Rattle.image.specs.Shown.{formView, placeIn}
 use Rattle.image.proofs.Forms.{always-within, always-word}
-use Rattle.rules.specs.Form.{read}
+use Rattle.images.specs.Form.{read}
 use Rattle.loaded.proofs.load_stored.Statement.{statement}
 use Rattle.loaded.proofs.load_stored.Tie as tie
 

@@ -2,8 +2,8 @@
 use mathlib.Core.Path.{_≡_, sym, ap, _∙_}
 use native.Mathlib.Omega.{arith}
 use lib.ListN.{length}
-use Rattle.rules.specs.Form.{formLength}
-use Rattle.rules.specs.Image.{decodeAs}
+use Rattle.images.specs.Form.{formLength}
+use Rattle.images.specs.Image.{decodeAs}
 use Rattle.image.specs.Shown.{formView}
 use borrow.Author.Needs.{needs}
 use Rattle.loaded.proofs.load_vectors.Statement.{statement}

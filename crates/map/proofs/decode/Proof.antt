@@ -1,7 +1,7 @@
 -- `decode` is right since at a listed offset the map computes, and an offset that no arm lists is missed by every row of the table.
 use mathlib.Core.Path.{sym, ap}
 use Rattle.rules.specs.Map.{cellAt}
-use Rattle.rules.proofs.laws.Maps.{below, between, beyond, unlisted-route, unlisted-vector, unlisted-elsewhere}
+use Rattle.laws.proofs.laws.Maps.{below, between, beyond, unlisted-route, unlisted-vector, unlisted-elsewhere}
 use Rattle.map.proofs.decode.Statement.{statement}
 use Rattle.map.proofs.decode.Tie as tie
 

@@ -3,7 +3,7 @@ use mathlib.Core.Path.{sym, ap}
 use mathlib.Core.Logic.{⊎-elim}
 use native.Mathlib.Omega.{arith}
 use borrow.Author.Tests.{ltb-true, ltb-false}
-use Rattle.rules.proofs.laws.Maps.{inside, outside}
+use Rattle.laws.proofs.laws.Maps.{inside, outside}
 use Rattle.map.specs.Views.{indexIf, byteIndex}
 use Rattle.map.proofs.reg8_offset.Statement.{statement}
 use Rattle.map.proofs.reg8_offset.Tie as tie

@@ -7,7 +7,7 @@ use native.Mathlib.Omega.{arith}
 use lib.Dec.{eqb}
 use borrow.Author.Needs.{needs}
 use borrow.Author.Tests.{eqb-true, eqb-false}
-use Rattle.rules.proofs.laws.Bits.{test}
+use Rattle.basics.proofs.laws.Bits.{test}
 use Rattle.table.specs.Meaning.{Meaning, meant}
 use Rattle.map_rows.specs.Rows.{begins}
 use Rattle.map_rows.proofs.row_end.Statement.{statement}

@@ -1,8 +1,8 @@
 use mathlib.Core.Path.{sym, ap, _∙_}
 use Prim.Native.Nat.{ℕ}
 use lib.Bits.{bitAnd, mask-lt}
-use Rattle.rules.specs.Numbers.{byteOf}
-use Rattle.rules.proofs.laws.Widths.{byte-inside, byte-outside}
+use Rattle.basics.specs.Numbers.{byteOf}
+use Rattle.laws.proofs.laws.Widths.{byte-inside, byte-outside}
 use borrow.Author.Needs.{needs}
 use Rattle.narrow.proofs.read_byte.Statement.{statement}
 use Rattle.narrow.proofs.read_byte.Tie as tie

@@ -3,8 +3,8 @@ use mathlib.Core.Path.{sym, _∙_}
 use native.Mathlib.Omega.{arith}
 use lib.Bits.{bitAnd, mask-lt}
 use Rattle.rules.specs.Access.{entryActs, byteActs}
-use Rattle.rules.proofs.laws.Halves.{byte-replaced}
-use Rattle.rules.proofs.laws.Writes.{byte-acts-inside}
+use Rattle.laws.proofs.laws.Halves.{byte-replaced}
+use Rattle.laws.proofs.laws.Writes.{byte-acts-inside}
 use Rattle.inplace.proofs.Doing.{writes-same}
 use Rattle.narrow.proofs.Bytes.{outside-written}
 use borrow.Author.Needs.{needs}

@@ -3,8 +3,8 @@ use mathlib.Core.Path.{_≡_, refl}
 use mathlib.Core.Bool.{true}
 use native.Mathlib.Omega.{arith}
 use borrow.Author.Needs.{needs}
-use Rattle.rules.specs.Form.{count, next, numbers, has}
-use Rattle.rules.proofs.laws.Saved.{has-next}
+use Rattle.images.specs.Form.{count, next, numbers, has}
+use Rattle.images.proofs.laws.Saved.{has-next}
 use mathlib.Core.Path.{_∙_}
 use Rattle.image.specs.Shown.{formView}
 use Rattle.image.proofs.Forms.{placed, always-within, field-within, has-numbers, no-numbers}

@@ -5,9 +5,9 @@ use Prim.Native.Nat.{_+_, _≤_}
 use native.Mathlib.Omega.{arith}
 use lib.ListN.{length}
 use borrow.Author.Needs.{needs}
-use Rattle.rules.specs.Form.{Field, count, next, numbers, has, size}
-use Rattle.rules.proofs.laws.Layout.{has-all}
-use Rattle.rules.proofs.laws.Saved.{has-next}
+use Rattle.images.specs.Form.{Field, count, next, numbers, has, size}
+use Rattle.images.proofs.laws.Layout.{has-all}
+use Rattle.images.proofs.laws.Saved.{has-next}
 use Rattle.image.specs.Shown.{formView, placeIn}
 use Rattle.image.proofs.Forms.{placed, field-within, has-numbers, no-numbers}
 use Rattle.numbers.proofs.Takings.{none-offered, full-offered, room-offered}

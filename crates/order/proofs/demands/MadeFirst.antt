@@ -8,19 +8,19 @@ use native.Mathlib.Omega.{arith}
 use lib.IntN.{ℤ, pos, _-ℤ_}
 use lib.Signed.{_<ℤ_}
 use lib.ListN.{length, length-append}
-use Rattle.rules.specs.Numbers.{Bytes}
+use Rattle.basics.specs.Numbers.{Bytes}
 use Rattle.rules.specs.Device.{Device, Call, upFrom}
 use Rattle.rules.specs.Numbering.{Numbers, Numbered}
-use Rattle.rules.specs.Form.{decided}
-use Rattle.rules.specs.Image.{decode, numbersIn, imageTest, accepted}
+use Rattle.images.specs.Form.{decided}
+use Rattle.images.specs.Image.{decode, numbersIn, imageTest, accepted}
 use Rattle.rules.specs.History.{history}
-use Rattle.histories.specs.Exported.{Exported, HandedOn, doneCalls, leftAfter}
+use Rattle.exported.specs.Exported.{Exported, HandedOn, doneCalls, leftAfter}
 use Rattle.difference.specs.Difference.{differenceOf}
 use Rattle.order.specs.Fates.{Fate, Fate-discrete, isReturned, isKept, Placed, eventsMade, withFate}
 use Rattle.order.specs.Numbered.{numberAt, numberedFrom, allFrom, waitingWith, InOrder}
 use Rattle.order.specs.MadeFirst.{Among, HandedBack, MadeAfter, Near, TellsFirst, InTheirOrder}
 use Rattle.order.specs.Read.{returnedRead, drainedRead}
-use Rattle.rules.proofs.laws.Bits.{test}
+use Rattle.basics.proofs.laws.Bits.{test}
 use Rattle.difference.proofs.Integers.{over, under, same, minus, of-<ℤ, to-<ℤ}
 use Rattle.difference.proofs.OrderOfMaking.{as-places}
 use Rattle.order.proofs.laws.Positions.{all-positions}

@@ -5,21 +5,21 @@ use mathlib.Core.List.{List, [], _∷_, _++_, map-append}
 use native.Mathlib.Omega.{arith}
 use Prim.Native.Nat.{ℕ}
 use lib.ListN.{length}
-use Rattle.rules.specs.Numbers.{Bytes}
+use Rattle.basics.specs.Numbers.{Bytes}
 use Rattle.rules.specs.Device.{reset}
 use Rattle.rules.specs.Numbering.{Numbered, fromZero, eventsIn}
-use Rattle.rules.specs.Form.{Form, one, two, numbered, numbers, has, formLength}
-use Rattle.rules.specs.Image.{encodeAs, decode, numbersIn, imageTest, accepted}
-use Rattle.rules.specs.Calls.{Request, presentIn, afresh, askedBy}
-use Rattle.rules.specs.Calls as request
+use Rattle.images.specs.Form.{Form, one, two, numbered, numbers, has, formLength}
+use Rattle.images.specs.Image.{encodeAs, decode, numbersIn, imageTest, accepted}
+use Rattle.calls.specs.Calls.{Request, presentIn, afresh, askedBy}
+use Rattle.calls.specs.Calls as request
 use Rattle.rules.specs.History.{history}
-use Rattle.histories.specs.Exported.{Exported, leftBy, isDone, Underway, carriedThrough, NoLoads, HandedOn, doneCalls, leftAfter}
-use Rattle.histories.specs.Exported.{current, inImage, Faithful, atLoad, afterReset, returnedTo, drainedTo, returnedBy, drainedBy}
+use Rattle.exported.specs.Exported.{Exported, leftBy, isDone, Underway, carriedThrough, NoLoads, HandedOn, doneCalls, leftAfter}
+use Rattle.exported.specs.Exported.{current, inImage, Faithful, atLoad, afterReset, returnedTo, drainedTo, returnedBy, drainedBy}
 use Rattle.order.specs.Numbered.{InOrder}
 use Rattle.order.specs.Read.{numberedTo, quadsTo, returnedRead, drainedRead}
-use Rattle.rules.proofs.laws.Bits.{test}
-use Rattle.histories.proofs.laws.Chains.{current-well, left-length, left-holds, faithful-at-load, faithful-after-reset, reset-leaves}
-use Rattle.histories.proofs.demands.FromCalls.{image-holds-numbers, image-holds-history, numbers-run-through, handed-on-is-no-load, left-through}
+use Rattle.basics.proofs.laws.Bits.{test}
+use Rattle.exported.proofs.laws.Chains.{current-well, left-length, left-holds, faithful-at-load, faithful-after-reset, reset-leaves}
+use Rattle.exported.proofs.demands.FromCalls.{image-holds-numbers, image-holds-history, numbers-run-through, handed-on-is-no-load, left-through}
 use Rattle.order.proofs.laws.Reading.{read-as}
 use Rattle.order.proofs.demands.OfHistories.{numbers-are-positions}
 

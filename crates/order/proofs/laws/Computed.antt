@@ -9,14 +9,14 @@ use Rattle.rules.specs.Ring.{Ring}
 use Rattle.rules.specs.Access.{dword}
 use Rattle.rules.specs.Device.{Call, level, write, drain, some, reset}
 use Rattle.rules.specs.Numbering.{fromZero}
-use Rattle.rules.specs.Form.{numbered}
-use Rattle.rules.specs.Image.{encodeAs}
-use Rattle.rules.specs.Calls as request
-use Rattle.histories.specs.Exported.{Exported, leftBy}
+use Rattle.images.specs.Form.{numbered}
+use Rattle.images.specs.Image.{encodeAs}
+use Rattle.calls.specs.Calls as request
+use Rattle.exported.specs.Exported.{Exported, leftBy}
 use Rattle.order.specs.Fates.{isReturned, isKept, isDropped, placed, placedFrom, eventsMade}
 use Rattle.order.specs.Numbered.{allFrom, inValue, returnedThrough, drainedThrough}
 use Rattle.order.specs.Read.{inAnswer, quadsTo, returnedRead}
-use Rattle.rules.proofs.laws.Computing.{computing}
+use Rattle.calls.proofs.laws.Computing.{computing}
 
 -- ---- events
 

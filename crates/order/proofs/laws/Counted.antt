@@ -12,7 +12,7 @@ use Rattle.rules.specs.Numbering.{Numbered}
 use Rattle.rules.specs.Account.{tally}
 use Rattle.order.specs.Fates.{Fate, Placed, isReturned, isKept, isDropped, withFate}
 use Rattle.order.specs.Numbered.{numberAt, allFrom, someHas}
-use Rattle.rules.proofs.laws.Bits.{test}
+use Rattle.basics.proofs.laws.Bits.{test}
 use Rattle.rules.proofs.laws.Counts.{tally-append, tally-nil}
 
 -- ---- one of three fates

@@ -10,7 +10,7 @@ use Rattle.rules.specs.Device.{Device, Call, level, poll, read, write, drain, o
 use Rattle.rules.specs.History.{history}
 use Rattle.histories.specs.Demands.{asEvent, ringActs, returnedIn}
 use Rattle.order.specs.Fates.{Fate, isReturned, isKept, isDropped, Placed, ringPast, placed, placedFrom, withFate}
-use Rattle.rules.proofs.laws.Bits.{test}
+use Rattle.basics.proofs.laws.Bits.{test}
 use Rattle.rules.proofs.laws.Rings.{dropped-append}
 use Rattle.histories.proofs.laws.Draining.{returned-append}
 use Rattle.order.proofs.laws.Positions.{fate-append}

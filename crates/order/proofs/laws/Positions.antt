@@ -8,11 +8,11 @@ use Rattle.rules.specs.Lines.{Made}
 use Rattle.rules.specs.Ring.{Ring, ringRun}
 use Rattle.rules.specs.Device.{Device, Call, offers, step, upFrom}
 use Rattle.rules.specs.Numbering.{following}
-use Rattle.rules.specs.Form.{decided}
+use Rattle.images.specs.Form.{decided}
 use Rattle.rules.specs.History.{history}
 use Rattle.order.specs.Fates.{Fate, Fate-discrete, Placed, ringPast, placed, placedFrom, withFate}
 use Rattle.order.specs.Numbered.{numberAt, numberedFrom, allFrom}
-use Rattle.rules.proofs.laws.Bits.{test}
+use Rattle.basics.proofs.laws.Bits.{test}
 use Rattle.order.proofs.laws.Computed as computed
 
 -- ---- numbers of positions

@@ -10,21 +10,22 @@ use Rattle.rules.specs.Ring.{Event, ringRun}
 use Rattle.rules.specs.Device.{Device, WellFormed, Call, Value, none, some, step}
 use Rattle.rules.specs.Device as device
 use Rattle.rules.specs.Numbering.{Numbers, WellNumbered, Numbered, withNumbers, drainedLength, quadsIn, numbersAfter, drainedWith, valueWith}
-use Rattle.rules.specs.Form.{numbers, has}
-use Rattle.rules.specs.Image.{numbersIn}
-use Rattle.rules.specs.Calls.{pass, widthTest, addressTest, Request, calls, askedBy, amount, answered, bufferOf, placeOf, written, Outcome}
-use Rattle.rules.specs.Calls as request
+use Rattle.images.specs.Form.{numbers, has}
+use Rattle.images.specs.Image.{numbersIn}
+use Rattle.calls.specs.Calls.{pass, widthTest, addressTest, Request, calls, askedBy, answered, bufferOf, placeOf, written, Outcome}
+use Rattle.rules.specs.Device.{amount}
+use Rattle.calls.specs.Calls as request
 use Rattle.rules.specs.History.{history}
-use Rattle.histories.specs.Exported.{Exported, leftBy, isDone, isLoad, Underway, carriedOn, NoLoads, doneCall, doneCalls, current, Faithful, numbersThrough}
+use Rattle.exported.specs.Exported.{Exported, leftBy, isDone, isLoad, Underway, carriedOn, NoLoads, doneCall, doneCalls, current, Faithful, numbersThrough}
 use Rattle.order.specs.Numbered.{inValue, returnedOf, returnedThrough, drainedThrough}
 use Rattle.order.specs.Read.{inAnswer, numberedTo, quadsTo, returnedRead, drainedRead}
-use Rattle.rules.proofs.laws.Bits.{test}
-use Rattle.rules.proofs.laws.Lists.{Each}
-use Rattle.rules.proofs.laws.Answers.{none-read, some-read, value-read, quads-read}
+use Rattle.basics.proofs.laws.Bits.{test}
+use Rattle.basics.proofs.laws.Lists.{Each}
+use Rattle.calls.proofs.laws.Answers.{none-read, some-read, value-read, quads-read}
 use Rattle.histories.proofs.laws.WellFormed.{step-events}
-use Rattle.histories.proofs.laws.Chains.{passed, current-well, handed, carried-on, faithful-kept}
-use Rattle.histories.proofs.laws.Readings.{level-single, poll-single, returned-below, access-is, input-is, asked-is, drained-told}
-use Rattle.histories.proofs.demands.FromCalls.{image-holds-numbers}
+use Rattle.exported.proofs.laws.Chains.{passed, current-well, handed, carried-on, faithful-kept}
+use Rattle.exported.proofs.laws.Readings.{level-single, poll-single, returned-below, access-is, input-is, asked-is, drained-told}
+use Rattle.exported.proofs.demands.FromCalls.{image-holds-numbers}
 use Rattle.order.proofs.laws.Computed as computed
 
 -- ---- one call

@@ -13,7 +13,7 @@ use Rattle.rules.specs.Core.{turns}
 use Rattle.rules.specs.Numbering.{Numbers, takes, takesAll, withNumbers, numbersAfter, drainedWith}
 use Rattle.order.specs.Fates.{isKept, ringPast, placed, withFate}
 use Rattle.order.specs.Numbered.{numberAt, allFrom, waitingWith}
-use Rattle.rules.proofs.laws.Bits.{test}
+use Rattle.basics.proofs.laws.Bits.{test}
 use Rattle.rules.proofs.laws.Numbered.{Fits, takes-returned, takes-offered, drawn-fit, eventOf}
 use Rattle.order.proofs.laws.Positions.{next-number, past-then, from-append}
 

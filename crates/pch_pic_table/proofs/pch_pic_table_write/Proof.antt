@@ -1,8 +1,8 @@
 -- `pch_pic_table_write`: 7 where the answer area is short; else what the call tells stands there.
 use mathlib.Core.Path.{sym}
 use Prim.Native.Nat.{zero-le}
-use Rattle.rules.specs.Calls as asked
-use Rattle.rules.proofs.laws.Outcomes.{answer-short}
+use Rattle.calls.specs.Calls as asked
+use Rattle.calls.proofs.laws.Outcomes.{answer-short}
 use Rattle.fronts.proofs.Told.{told}
 use borrow.Author.Needs.{needs}
 use Rattle.pch_pic_table.proofs.pch_pic_table_write.Statement.{statement}

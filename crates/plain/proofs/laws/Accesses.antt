@@ -5,8 +5,8 @@ use mathlib.Core.List.{List, [], _∷_, _++_, append-nil}
 use Prim.Native.Nat.{ℕ, zero, suc, _+_, _-_, _*_, _%_, _^_, _<_}
 use native.Mathlib.Omega.{arith}
 use lib.ListN.{getD, set}
-use Rattle.rules.specs.Numbers.{numberOf, byteOf, withByte}
-use Rattle.rules.specs.Inputs.{on, numberWith, inputs, only, put, without, half, withHalf, asHalf}
+use Rattle.basics.specs.Numbers.{numberOf, byteOf, withByte}
+use Rattle.basics.specs.Inputs.{on, numberWith, inputs, only, put, without, half, withHalf, asHalf}
 use Rattle.rules.specs.Lines.{Lines, withIrr, withMask, serve, enter, leave, pendingIn, polled, raised, lowered, cleared, masked, newlyUnmasked, newlyMasked}
 use Rattle.rules.specs.Ring.{ringRun, dropped}
 use Rattle.rules.specs.Core.{Core, Plain, Stored, plain, withPlain, withRoutes, moved, lineTurn, vectorsAfter, storedAfter, turn, turns}
@@ -17,7 +17,7 @@ use Rattle.rules.specs.Access.{Width, byte, word, dword, qword, registerActs, e
 use Rattle.rules.specs.Access as access
 use Rattle.rules.specs.Device.{acted}
 use Rattle.rules.specs.Device as device
-use Rattle.rules.proofs.laws.Bits.{test, is-number, register-ext, put-lt, without-lt}
+use Rattle.basics.proofs.laws.Bits.{test, is-number, register-ext, put-lt, without-lt}
 use Rattle.plain.specs.Machine.{Machine}
 use Rattle.plain.specs.Plain.{Engine, withStored, withVectors, numberBelow, number, valueOf, entry, readCell, readDword, readByte, readAt}
 use Rattle.plain.specs.Plain.{writeHalf, writeEntry, writeCell, writeDword, writeByte, writeAt}

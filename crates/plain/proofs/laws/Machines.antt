@@ -6,12 +6,12 @@ use Prim.Native.Nat.{ℕ, zero, suc, _+_, _/_, _%_, _<_, _≤_}
 use native.Mathlib.Omega.{arith}
 use lib.Dec.{eqb, ltb}
 use borrow.Author.Tests.{ne-eqb, eqb-true, ltb-true, ltb-false}
-use Rattle.rules.specs.Inputs.{on, from, inputs, only, put, without, withHalf, asHalf}
+use Rattle.basics.specs.Inputs.{on, from, inputs, only, put, without, withHalf, asHalf}
 use Rattle.rules.specs.Lines.{Lines, Made, Turn, event, isPending, pendingIn, servedIn, withIrr, withIsr, withMask, serve, enter, leave, newlyUnmasked, newlyMasked}
 use Rattle.rules.specs.Lines.{polled, raised, lowered, cleared, masked}
-use Rattle.rules.proofs.laws.Bits.{test, on-none, on-put, on-without}
-use Rattle.rules.proofs.laws.Inputs.{inputs-ext, no-inputs, only-input, first-has}
-use Rattle.rules.proofs.laws.Halves.{placed, by-halves, on-new-half, on-kept-half}
+use Rattle.basics.proofs.laws.Bits.{test, on-none, on-put, on-without}
+use Rattle.basics.proofs.laws.Inputs.{inputs-ext, no-inputs, only-input, first-has}
+use Rattle.laws.proofs.laws.Halves.{placed, by-halves, on-new-half, on-kept-half}
 use Rattle.plain.specs.Machine.{Machine, Signal, quiet, asserts, deasserts, Stepped, rests, polls, raises, lowers}
 use Rattle.plain.specs.Plain.{Heard, inFront, heardFrom, Steps, at, Brought, nothing, bit, brings, clearedBy, unmaskedBy, maskedBy, wakable, servedBy}
 use Rattle.plain.specs.Plain.{Found, nobody, found, lowestFrom, isIt}

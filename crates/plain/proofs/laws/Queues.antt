@@ -11,7 +11,7 @@ use borrow.Author.Tests.{ltb-true, ltb-false}
 use Rattle.rules.specs.Lines.{Made, event}
 use Rattle.rules.specs.Ring.{capacity, stop, Event, Ring, offer, drawn, offered, ringStep, ringRun, droppedBy, dropped}
 use Rattle.rules.specs.Device as device
-use Rattle.rules.proofs.laws.Bits.{test}
+use Rattle.basics.proofs.laws.Bits.{test}
 use Rattle.plain.specs.Events.{Source, Offered, Queue, keptIn, droppedIn, waiting, dropCount, hasRoom, withDrained, asLoaded, kept, Note, returned, input}
 use Rattle.plain.specs.Plain.{Engine, withQueue, Heard, noted, returns, offers, eachHeard}
 use Rattle.plain.specs.Events as events

@@ -3,7 +3,7 @@ use mathlib.Core.Path.{_≡_, refl, sym, ap, subst, _∙_}
 use mathlib.Core.Bool.{Bool, true, false}
 use mathlib.Core.List.{List, [], _∷_, _++_, map, append-nil, append-assoc}
 use Prim.Native.Nat.{ℕ, _<_}
-use Rattle.rules.specs.Inputs.{half, withHalf}
+use Rattle.basics.specs.Inputs.{half, withHalf}
 use Rattle.rules.specs.Lines.{Made, Turn, withIsr, leave, masked}
 use Rattle.rules.specs.Ring.{Event, Ring, RingAct, Drawn, ringRun, dropped}
 use Rattle.rules.specs.Core.{Stored, CoreTurn, Move, Act, move, setIsr, setMask, moved, lineTurn, vectorsAfter, storedAfter, turn, turns}

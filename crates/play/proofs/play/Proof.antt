@@ -4,7 +4,7 @@ use mathlib.Core.List.{List}
 use Prim.Native.Nat.{ℕ}
 use borrow.Author.Needs.{needs}
 use Rattle.rules.specs.Device.{Device}
-use Rattle.rules.specs.Session.{lineOf, playedLine, played}
+use Rattle.sessions.specs.Session.{lineOf, playedLine, played}
 use Rattle.state.specs.View.{view}
 use Rattle.request.specs.Requests.{requestView}
 use Rattle.request.specs.declared.Request.{Request}

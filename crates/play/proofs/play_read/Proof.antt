@@ -3,8 +3,8 @@ use mathlib.Core.Path.{_≡_, refl, sym, ap, _∙_}
 use Prim.Native.Nat.{ℕ}
 use borrow.Author.Needs.{needs}
 use Rattle.rules.specs.Device.{read}
-use Rattle.rules.specs.Calls.{pass, widthTest, addressTest}
-use Rattle.rules.specs.Session.{sessionBase, sessionSize}
+use Rattle.calls.specs.Calls.{pass, widthTest, addressTest}
+use Rattle.sessions.specs.Session.{sessionBase, sessionSize}
 use Rattle.state.specs.View.{view}
 use Rattle.map.specs.Views.{widthView}
 use Rattle.window.specs.Tests.{knownView, locatedView}

@@ -9,7 +9,7 @@ use borrow.Author.Needs.{needs}
 use borrow.Fn.Kinds.{In}
 use borrow.Fn.PlainCycle.{Measures, is, falls, and}
 use Rattle.rules.specs.Access.{entry, readCell}
-use Rattle.rules.proofs.laws.Widths.{aligned-no-bytes, byte-inside, byte-outside, dword-of}
+use Rattle.laws.proofs.laws.Widths.{aligned-no-bytes, byte-inside, byte-outside, dword-of}
 use Rattle.state.specs.View.{view}
 use Rattle.map.specs.Views.{cellView}
 use Rattle.readers.specs.Bytes.{bytesRead}
@@ -19,9 +19,9 @@ use Rattle.readers.proofs.Deep.{four-deep}
 use Rattle.bits.proofs.byte_of.Reads as byte-of-reads
 use Rattle.bits.proofs.half.Reads as half-reads
 use Rattle.map.proofs.decode.Reads as decode-reads
-use Rattle.readers.proofs.read_entry.Reads as read-entry-reads
+use Rattle.values.proofs.read_entry.Reads as read-entry-reads
 use Rattle.map.proofs.reg8_offset.Reads as reg8-offset-reads
-use Rattle.readers.proofs.value_of.Reads as value-of-reads
+use Rattle.values.proofs.value_of.Reads as value-of-reads
 use Rattle.readers.proofs.read_byte.Reads as read-byte
 use Rattle.readers.proofs.read_byte.Kinds as read-byte-kinds
 use Rattle.readers.proofs.read_dword.Reads as read-dword

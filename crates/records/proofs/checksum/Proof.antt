@@ -3,7 +3,7 @@ use mathlib.Core.Path.{_≡_, refl, sym, ap, _∙_}
 use Prim.Native.Nat.{_+_, _-_, _*_, _%_, _≤_, _<_}
 use native.Mathlib.Omega.{arith}
 use lib.ListN.{length, drop, drop-of-length-le}
-use Rattle.rules.proofs.laws.Lists.{next}
+use Rattle.basics.proofs.laws.Lists.{next}
 use Rattle.records.specs.Records.{checksumOf}
 use Rattle.records.proofs.checksum.Statement.{statement}
 use Rattle.records.proofs.checksum.Tie as tie

@@ -1,7 +1,7 @@
 -- `image_value`: of a broken rule the place, of all else nothing.
 use mathlib.Core.Path.{sym, ap}
 use borrow.Author.Needs.{needs}
-use Rattle.rules.specs.Calls.{imageValue}
+use Rattle.calls.specs.Calls.{imageValue}
 use Rattle.faults.specs.Found.{checkedView}
 use Rattle.refusals.proofs.image_value.Statement.{statement}
 use Rattle.refusals.proofs.image_value.Tie as tie

@@ -1,7 +1,7 @@
 -- `of_bodies`: the number and the value of what was found.
 use mathlib.Core.Path.{ap, _∙_}
 use borrow.Author.Needs.{needs}
-use Rattle.rules.specs.Calls.{imageNumber, imageValue}
+use Rattle.calls.specs.Calls.{imageNumber, imageValue}
 use Rattle.refusals.proofs.of_bodies.Statement.{statement}
 use Rattle.refusals.proofs.of_bodies.Tie as tie
 

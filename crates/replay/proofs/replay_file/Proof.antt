@@ -1,7 +1,7 @@
 -- `replay_file` is safe: a number of four bytes is small.
 use native.Mathlib.Omega.{arith}
 use borrow.Author.Needs.{needs}
-use Rattle.rules.proofs.laws.Bytes.{part-below}
+use Rattle.basics.proofs.laws.Bytes.{part-below}
 use Rattle.replay.proofs.replay_file.Statement.{statement}
 use Rattle.replay.proofs.replay_file.Tie as tie
 

@@ -9,8 +9,8 @@ use lib.ListN.{take, drop}
 use lib.Seq.{length-take-le}
 use borrow.Author.Needs.{needs}
 use borrow.Author.Tests.{lt-ltb, ne-eqb}
-use Rattle.rules.specs.Calls.{Request, leaves, outcome}
-use Rattle.rules.specs.Calls as asked
+use Rattle.calls.specs.Calls.{Request, leaves, outcome}
+use Rattle.calls.specs.Calls as asked
 use Rattle.records.specs.Records.{kindOf, lentEvents, wordAt, eventFill}
 use Rattle.replay_call.specs.Recorded.{requestOf, made, Makes}
 use Rattle.replay_call.proofs.make.Statement.{statement}

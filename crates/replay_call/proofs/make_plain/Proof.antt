@@ -4,8 +4,8 @@ use mathlib.Core.List.{List, []}
 use Prim.Native.Nat.{ℕ}
 use native.Mathlib.Omega.{arith}
 use borrow.Author.Needs.{needs}
-use Rattle.rules.specs.Calls.{Request, leaves, outcome}
-use Rattle.rules.specs.Calls as asked
+use Rattle.calls.specs.Calls.{Request, leaves, outcome}
+use Rattle.calls.specs.Calls as asked
 use Rattle.records.specs.Records.{kindOf}
 use Rattle.replay_call.specs.Recorded.{requestOf, made}
 use Rattle.replay_call.proofs.make_plain.Statement.{statement}

@@ -7,7 +7,7 @@ use native.Mathlib.Omega.{arith}
 use lib.ListN.{length, take, drop, length-append, length-drop}
 use lib.Seq.{length-take-le}
 use borrow.Author.Needs.{needs}
-use Rattle.rules.specs.Calls.{Outcome, leaves}
+use Rattle.calls.specs.Calls.{Outcome, leaves}
 use Rattle.records.specs.Records.{kindOf, lentImage, lentAnswer, lentEvents, answerFill, eventFill, checksumOf, AsNoted}
 use Rattle.replay_call.specs.Recorded.{made, Makes, ruled, Recorded}
 use Rattle.replay_call.specs.declared.Made.{Made}

@@ -3,7 +3,7 @@ use mathlib.Core.Path.{_≡_, sym}
 use Prim.Native.Nat.{_+_, _-_, _*_}
 use native.Mathlib.Omega.{arith}
 use borrow.Author.Needs.{needs}
-use Rattle.rules.proofs.laws.Parts.{start, put-front}
+use Rattle.basics.proofs.laws.Parts.{start, put-front}
 use Rattle.reply.specs.Says.{pairsSaid}
 use Rattle.reply.proofs.Writing.{put-byte, size, says}
 use Rattle.reply.proofs.put_drained.Statement.{statement}

@@ -2,7 +2,7 @@
 use native.Mathlib.Omega.{arith}
 use lib.ListN.{length-set}
 use borrow.Author.Needs.{needs}
-use Rattle.rules.proofs.laws.Parts.{start}
+use Rattle.basics.proofs.laws.Parts.{start}
 use Rattle.reply.proofs.Writing.{put-byte, put-number, size, says}
 use Rattle.reply.proofs.put_drops.Statement.{statement}
 use Rattle.reply.proofs.put_drops.Tie as tie

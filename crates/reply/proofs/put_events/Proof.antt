@@ -4,7 +4,7 @@ use Prim.Native.Nat.{ℕ, _+_, _-_, _*_, _≤_}
 use native.Mathlib.Omega.{arith}
 use lib.ListN.{length, drop, length-drop}
 use lib.Seq.{length-take-le}
-use Rattle.rules.proofs.laws.Parts.{Filled, start}
+use Rattle.basics.proofs.laws.Parts.{Filled, start}
 use Rattle.reply.specs.Says.{Says, pairsSaid}
 use Rattle.reply.proofs.Writing.{pair-said, size, says}
 use Rattle.reply.proofs.put_events.Statement.{statement}

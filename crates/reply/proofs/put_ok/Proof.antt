@@ -2,7 +2,7 @@
 use native.Mathlib.Omega.{arith}
 use lib.ListN.{length-set}
 use borrow.Author.Needs.{needs}
-use Rattle.rules.proofs.laws.Parts.{start}
+use Rattle.basics.proofs.laws.Parts.{start}
 use Rattle.reply.proofs.Writing.{put-byte, says}
 use Rattle.reply.proofs.put_ok.Statement.{statement}
 use Rattle.reply.proofs.put_ok.Tie as tie

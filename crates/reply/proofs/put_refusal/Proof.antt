@@ -3,7 +3,7 @@ use native.Mathlib.Omega.{arith}
 use lib.ListN.{length-set}
 use borrow.Author.Tests.{lt-ltb}
 use borrow.Author.Needs.{needs}
-use Rattle.rules.proofs.laws.Parts.{start}
+use Rattle.basics.proofs.laws.Parts.{start}
 use Rattle.reply.proofs.Writing.{put-byte, says}
 use Rattle.reply.proofs.put_refusal.Statement.{statement}
 use Rattle.reply.proofs.put_refusal.Tie as tie

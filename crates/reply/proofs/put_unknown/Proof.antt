@@ -1,7 +1,7 @@
 -- `put_unknown` writes the one byte.
 use native.Mathlib.Omega.{arith}
 use borrow.Author.Needs.{needs}
-use Rattle.rules.proofs.laws.Parts.{start}
+use Rattle.basics.proofs.laws.Parts.{start}
 use Rattle.reply.proofs.Writing.{put-byte, says}
 use Rattle.reply.proofs.put_unknown.Statement.{statement}
 use Rattle.reply.proofs.put_unknown.Tie as tie

@@ -2,7 +2,7 @@
 use native.Mathlib.Omega.{arith}
 use lib.ListN.{length-set}
 use borrow.Author.Needs.{needs}
-use Rattle.rules.proofs.laws.Parts.{start}
+use Rattle.basics.proofs.laws.Parts.{start}
 use Rattle.reply.proofs.Writing.{put-byte, two-and-number, size, says}
 use Rattle.reply.proofs.put_vector.Statement.{statement}
 use Rattle.reply.proofs.put_vector.Tie as tie

@@ -1,6 +1,6 @@
 -- `drain_request` is right since nothing may follow the letter.
 use mathlib.Core.List.{[]}
-use Rattle.rules.specs.Session.{drainLine}
+use Rattle.sessions.specs.Session.{drainLine}
 use Rattle.request.proofs.Fields.{ends, goes-on, asked}
 use Rattle.request.proofs.drain_request.Statement.{statement}
 use Rattle.request.proofs.drain_request.Tie as tie

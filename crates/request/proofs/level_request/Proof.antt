@@ -6,7 +6,7 @@ use borrow.Author.Tests.{le-leb, lt-leb}
 use lib.ListN.{drop}
 use borrow.Author.Needs.{needs}
 use Rattle.rules.specs.Device.{some}
-use Rattle.rules.specs.Session.{joined, levelLine}
+use Rattle.sessions.specs.Session.{joined, levelLine}
 use Rattle.hex.specs.Reads.{fieldOf}
 use Rattle.request.proofs.Fields.{fieldsAt, ends, goes-on, asked, found, lost}
 use Rattle.request.proofs.level_request.Statement.{statement}

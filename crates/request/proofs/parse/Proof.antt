@@ -4,7 +4,7 @@ use lib.ListN.{getD}
 use native.Mathlib.Omega.{arith}
 use borrow.Author.Tests.{ne-eqb}
 use borrow.Author.Needs.{needs}
-use Rattle.rules.specs.Session.{letter-l, letter-p, letter-r, letter-w, letter-d}
+use Rattle.sessions.specs.Session.{letter-l, letter-p, letter-r, letter-w, letter-d}
 use Rattle.request.proofs.Fields.{by-letter, line-empty}
 use Rattle.request.proofs.parse.Statement.{statement}
 use Rattle.request.proofs.parse.Tie as tie

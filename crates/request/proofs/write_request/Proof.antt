@@ -5,7 +5,7 @@ use Prim.Native.Nat.{ℕ}
 use lib.ListN.{drop}
 use borrow.Author.Needs.{needs}
 use Rattle.rules.specs.Device.{some}
-use Rattle.rules.specs.Session.{joined, writeLine}
+use Rattle.sessions.specs.Session.{joined, writeLine}
 use Rattle.hex.specs.Reads.{fieldOf}
 use Rattle.request.proofs.Fields.{fieldsAt, ends, goes-on, asked, found, lost}
 use Rattle.request.proofs.write_request.Statement.{statement}

@@ -6,13 +6,14 @@ use Prim.Native.Nat.{ℕ, _-_, _<_}
 use native.Mathlib.Omega.{arith}
 use lib.Dec.{leb, ltb}
 use borrow.Author.Tests.{leb-true, ltb-true, lt-ltb}
-use Rattle.rules.specs.Inputs.{only, put, inputs}
+use Rattle.basics.specs.Inputs.{only, put, inputs}
 use Rattle.rules.specs.Lines.{Lines, withIrr, withMask, pendingIn, serve, enter, newlyUnmasked, polled, raised, lowered, cleared, masked}
 use Rattle.rules.specs.Core.{Core, Move, poll, raise, lower, clear, setMask, Act, move, setIsr, store, setVector, moved, lineTurn, turn, turns}
 use Rattle.rules.specs.Map.{within, routesAt, routesEnd, vectorsAt, vectorsEnd, inRoutes, inVectors}
 use Rattle.rules.specs.Device.{Device, Call, some, actsOf, acted, step, reset}
 use Rattle.rules.specs.History.{history, fromReset}
 use Rattle.rules.specs.Copy.{copyMoved, copyAfter, copyActed, copyThrough, irqCount, indexFrom}
+use Rattle.rules.proofs.laws.Computed as computed
 
 -- ---- the copy
 

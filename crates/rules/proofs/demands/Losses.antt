@@ -6,14 +6,13 @@ use mathlib.Core.List.{List, _++_}
 use Prim.Native.Nat.{ℕ, _+_, _/_, _^_, _<_}
 use native.Mathlib.Omega.{arith}
 use lib.ListN.{length, replicate, length-append}
-use Rattle.rules.specs.Numbers.{byteOf}
-use Rattle.rules.specs.Inputs.{half}
+use Rattle.basics.specs.Numbers.{byteOf}
+use Rattle.basics.specs.Inputs.{half}
 use Rattle.rules.specs.Ring.{dropped, ringRun}
 use Rattle.rules.specs.Core.{Act, CoreTurn, turns}
 use Rattle.rules.specs.Access.{byte, word, dword, qword, dwordActs, byteActs, writeActs}
-use Rattle.rules.specs.Device.{Device, write, some, offers, acted, actsOf, step, lost, value, withLines, withRing, reset}
-use Rattle.rules.specs.Calls.{amount}
-use Rattle.rules.proofs.laws.Computing.{computing}
+use Rattle.rules.specs.Device.{Device, write, some, amount, offers, acted, actsOf, step, lost, value, withLines, withRing, reset}
+use Rattle.rules.proofs.laws.Running.{running}
 use Rattle.rules.proofs.laws.Rings.{dropped-append}
 use Rattle.rules.proofs.laws.Acts.{turns-append, offers-append}
 
@@ -21,7 +20,7 @@ use Rattle.rules.proofs.laws.Acts.{turns-append, offers-append}
 
 -- a write says its number, also where nothing is dropped: after a reset 0 to 31 are unmasked, and none waits
 pub tells-none-dropped : value reset (write dword 0x020 0) ≡ some 0
-unfolding computing dropped
+unfolding running dropped
 tells-none-dropped = refl
 
 -- ---- at the stop
@@ -33,11 +32,11 @@ nearStop =
     (record { waiting = replicate 16 (record { vector = 9; asserted = true }); drops = 4294967294 })
 
 pub tells-past-the-stop : value nearStop (write dword 0x020 3) ≡ some 2
-unfolding computing dropped
+unfolding running dropped
 tells-past-the-stop = refl
 
 pub count-at-the-stop : step nearStop (write dword 0x020 3) .after .ring .drops ≡ 4294967295
-unfolding computing
+unfolding running
 count-at-the-stop = refl
 
 -- ---- both parts

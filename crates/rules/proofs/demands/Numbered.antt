@@ -5,14 +5,13 @@ use mathlib.Core.Bool.{true, false}
 use mathlib.Core.List.{List, [], _∷_, _++_, map}
 use Prim.Native.Nat.{ℕ, _+_, _*_, _/_, _%_, _^_, _<_, _≤_, min}
 use native.Mathlib.Omega.{arith}
-use lib.ListN.{length, take, drop, replicate, length-take}
+use lib.ListN.{length, take, drop, length-take}
 use borrow.Author.Tests.{lt-ltb, le-ltb}
 use Rattle.rules.specs.Lines.{Made}
 use Rattle.rules.specs.Ring.{Event, drawn}
 use Rattle.rules.specs.Core.{turns}
 use Rattle.rules.specs.Device.{Device, drain, some, actsOf, step}
 use Rattle.rules.specs.Numbering.{Numbers, WellNumbered, following, takes, takesAll, returnedWith, withNumbers, quadsOf, numbersAfter, drainedWith}
-use Rattle.rules.specs.Image.{numberBody}
 use Rattle.rules.proofs.laws.Steps.{drain-drained}
 
 -- ---- numbers
@@ -75,8 +74,3 @@ drain-takes-the-oldest d s v k =
 -- vector 5, asserted, number 258: vector, flag, number with the little end first
 pub drained-bytes : quadsOf (record { event = record { vector = 5; asserted = true }; number = 258 } ∷ []) ≡ 5 ∷ 1 ∷ 2 ∷ 1 ∷ []
 drained-bytes = refl
-
--- the fifth body of one waiting event with the number 772, where 258 comes next: the next number, then sixteen numbers, unused ones zero
-pub fifth-body-bytes : numberBody (record { next = 258; waiting = 772 ∷ [] }) ≡ 2 ∷ 1 ∷ 4 ∷ 3 ∷ replicate 30 0
-unfolding numberBody
-fifth-body-bytes = refl

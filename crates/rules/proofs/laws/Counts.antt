@@ -7,13 +7,13 @@ use Prim.Native.Nat.{ℕ, zero, suc, _+_, _<_}
 use native.Mathlib.Omega.{arith}
 use lib.ListN.{length}
 use borrow.Author.Tests.{eqb-true}
-use Rattle.rules.specs.Inputs.{on, from, inputs, only, put, without, withHalf}
+use Rattle.basics.specs.Inputs.{on, from, inputs, only, put, without, withHalf}
 use Rattle.rules.specs.Lines.{Lines, Made, Turn, stay, andThen, event, pendingIn, servedIn, serve, enter, leave, withIrr, withMask}
 use Rattle.rules.specs.Lines.{newlyUnmasked, newlyMasked, polled, raised, lowered, cleared, masked}
 use Rattle.rules.specs.Core.{Move, poll, raise, lower, clear, setMask, moved}
 use Rattle.rules.specs.Account.{tally, assertsWith, deassertsWith, servedWith, hasVector, carries, asserts, deasserts}
-use Rattle.rules.proofs.laws.Bits.{test, on-put, on-without}
-use Rattle.rules.proofs.laws.Inputs.{inputs-ext, only-input, first-has}
+use Rattle.basics.proofs.laws.Bits.{test, on-put, on-without}
+use Rattle.basics.proofs.laws.Inputs.{inputs-ext, only-input, first-has}
 
 -- ---- how many inputs
 

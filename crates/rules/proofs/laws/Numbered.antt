@@ -13,7 +13,7 @@ use Rattle.rules.specs.Device.{Device, Call, level, poll, read, write, d
 use Rattle.rules.specs.Core.{turns}
 use Rattle.rules.specs.Access.{Width}
 use Rattle.rules.specs.Numbering.{Numbers, WellNumbered, following, takes, takesAll, roomOf, fewer, numbersAfter}
-use Rattle.rules.proofs.laws.Bits.{test}
+use Rattle.basics.proofs.laws.Bits.{test}
 
 -- numbers of 16 bits, n of them waiting: what WellNumbered says of a device's ring
 pub record Fits (s : Numbers) (n : ℕ) : Type 0 where

@@ -8,7 +8,7 @@ use lib.Dec.{ltb}
 use lib.ListN.{length, length-append, take-append-drop}
 use borrow.Author.Tests.{lt-ltb, le-ltb}
 use Rattle.rules.specs.Ring.{capacity, stop, Event, Ring, RingAct, Drawn, offer, draw, offered, drawn, ringStep, ringRun, keptBy, droppedBy, kept, dropped, lostOf}
-use Rattle.rules.proofs.laws.Bits.{test}
+use Rattle.basics.proofs.laws.Bits.{test}
 
 -- an event that finds room waits behind the others
 pub offered-room : (r : Ring) (e : Event) → length (r .waiting) < capacity → offered r e ≡ record { waiting = r .waiting ++ (e ∷ []); drops = r .drops }

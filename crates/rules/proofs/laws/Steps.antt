@@ -5,8 +5,8 @@ use mathlib.Core.List.{List, [], _∷_, map, append-nil}
 use Prim.Native.Nat.{ℕ, zero, suc}
 use native.Mathlib.Omega.{arith}
 use lib.ListN.{drop, length-drop}
-use Rattle.rules.specs.Numbers.{Bytes}
-use Rattle.rules.specs.Inputs.{inputs, only, put, without}
+use Rattle.basics.specs.Numbers.{Bytes}
+use Rattle.basics.specs.Inputs.{inputs, only, put, without}
 use Rattle.rules.specs.Lines.{Lines, Made, withIrr, event, serve, enter, leave, pendingIn, servedIn, polled, raised, lowered}
 pub use Rattle.rules.specs.Lines.{levelled}
 use Rattle.rules.specs.Ring.{Event, RingAct, drawn, ringStep, ringRun}

@@ -2,9 +2,9 @@
 use mathlib.Core.Path.{refl}
 use borrow.Author.Needs.{needs}
 use Rattle.image.specs.Shown.{formView}
-use Rattle.rules.proofs.laws.Layout.{by-word, by-plain, by-field}
+use Rattle.images.proofs.laws.Layout.{by-word, by-plain, by-field}
 use Rattle.state.specs.View.{view}
-use Rattle.saved.proofs.Putting.{puts-then, puts-all, headed}
+use Rattle.saves.proofs.Putting.{puts-then, puts-all, headed}
 use Rattle.saved.proofs.save.Statement.{statement}
 use Rattle.saved.proofs.save.Tie as tie
 

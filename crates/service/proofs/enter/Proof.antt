@@ -3,7 +3,7 @@ use Prim.Native.Nat.{_<_}
 use native.Mathlib.Nat.{lt-of-le-of-lt}
 use native.Mathlib.Omega.{arith}
 use lib.Count.{trailingZeros, trailing-le}
-use Rattle.rules.proofs.laws.Inputs.{first-below}
+use Rattle.basics.proofs.laws.Inputs.{first-below}
 use Rattle.service.proofs.Moving.{enter-none, enter-some}
 use borrow.Author.Needs.{needs}
 use Rattle.service.proofs.enter.Statement.{statement}

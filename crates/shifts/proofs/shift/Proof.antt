@@ -5,8 +5,8 @@ use Prim.Native.Nat.{_+_, _≤_}
 use native.Mathlib.Omega.{arith}
 use lib.ListN.{length, length-set}
 use borrow.Author.Needs.{needs}
-use Rattle.rules.specs.Form.{Field, count, pairs, size}
-use Rattle.rules.proofs.laws.Layout.{always}
+use Rattle.images.specs.Form.{Field, count, pairs, size}
+use Rattle.images.proofs.laws.Layout.{always}
 use Rattle.image.specs.Shown.{formView, placeIn}
 use Rattle.image.proofs.Forms.{placed, always-within}
 use Rattle.shifts.proofs.Shifting.{shifts}

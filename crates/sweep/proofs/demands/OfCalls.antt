@@ -6,24 +6,24 @@ use Prim.Native.Nat.{ℕ, _+_, _*_, _%_, _^_, _<_, _≤_}
 use native.Mathlib.Omega.{arith}
 use lib.Dec.{lit≤}
 use lib.ListN.{length, getD}
-use Rattle.rules.specs.Numbers.{Bytes}
+use Rattle.basics.specs.Numbers.{Bytes}
 use Rattle.rules.specs.Device.{Call}
 use Rattle.rules.specs.Device as call
 use Rattle.rules.specs.Numbering.{valueWith}
-use Rattle.rules.specs.Image.{decode, numbersIn, imageTest, accepted}
-use Rattle.rules.specs.Calls.{Request, askedBy, answered, presentIn, valueIn, Outcome}
-use Rattle.rules.specs.Calls as request
+use Rattle.images.specs.Image.{decode, numbersIn, imageTest, accepted}
+use Rattle.calls.specs.Calls.{Request, askedBy, answered, presentIn, valueIn, Outcome}
+use Rattle.calls.specs.Calls as request
 use Rattle.rules.specs.History.{history}
 use Rattle.histories.specs.Demands.{pollsOrRaises}
-use Rattle.histories.specs.Exported.{Exported, leftBy, isDone, isReset, Underway, carriedThrough, NoLoads, HandedOn, doneCalls}
-use Rattle.histories.specs.Exported.{leftAfter, current, inImage, Faithful, atLoad}
+use Rattle.exported.specs.Exported.{Exported, leftBy, isDone, isReset, Underway, carriedThrough, NoLoads, HandedOn, doneCalls}
+use Rattle.exported.specs.Exported.{leftAfter, current, inImage, Faithful, atLoad}
 use Rattle.sweep.specs.Sweeps.{sweeping, Sweep}
 use Rattle.sweep.specs.Handed.{asksFor, readsAssert, WakesAllRead, pollsAll}
-use Rattle.rules.proofs.laws.Answers.{value-read}
-use Rattle.rules.proofs.laws.Images.{decode-well-formed, numbers-well}
-use Rattle.histories.proofs.laws.Chains.{faithful-at-load, done-call}
-use Rattle.histories.proofs.laws.Readings.{read-as}
-use Rattle.histories.proofs.demands.FromCalls.{image-holds-device, image-holds-history, handed-on-is-no-load, left-through}
+use Rattle.calls.proofs.laws.Answers.{value-read}
+use Rattle.laws.proofs.laws.Images.{decode-well-formed, numbers-well}
+use Rattle.exported.proofs.laws.Chains.{faithful-at-load, done-call}
+use Rattle.exported.proofs.laws.Readings.{read-as}
+use Rattle.exported.proofs.demands.FromCalls.{image-holds-device, image-holds-history, handed-on-is-no-load, left-through}
 use Rattle.sweep.proofs.laws.Announcing.{call-announces, vector-answered}
 use Rattle.sweep.proofs.laws.Reading.{returned-silent, asserts-read, asks-is}
 use Rattle.sweep.proofs.laws.Polls.{all-polled, polls-done}

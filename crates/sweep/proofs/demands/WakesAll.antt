@@ -6,14 +6,14 @@ use mathlib.Core.List.{List, [], _∷_, _++_}
 use Prim.Native.Nat.{ℕ, _+_, _<_}
 use native.Mathlib.Omega.{arith}
 use lib.Dec.{lit<}
-use Rattle.rules.specs.Inputs.{on}
+use Rattle.basics.specs.Inputs.{on}
 use Rattle.rules.specs.Device.{Device, Call, actsOf}
 use Rattle.rules.specs.Device as call
 use Rattle.rules.specs.History.{history}
 use Rattle.histories.specs.Premises.{Along}
 use Rattle.histories.specs.Demands.{inService, Eligible, pollsOrRaises, assertsOf, someAct}
 use Rattle.sweep.specs.Sweeps.{unsettles, sweeping, isPoll, everyCall, someCall, Sweep, wakes, WakesAll, Announced, AssertedBy}
-use Rattle.rules.proofs.laws.Bits.{test}
+use Rattle.basics.proofs.laws.Bits.{test}
 use Rattle.sweep.proofs.laws.Quiet.{sweeping-is}
 use Rattle.sweep.proofs.laws.OneInput.{calls-swept, calls-awake}
 use Rattle.sweep.proofs.laws.Announcing.{calls-announce, asserted-by, calls-drain}

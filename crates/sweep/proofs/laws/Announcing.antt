@@ -7,7 +7,7 @@ use Prim.Native.Nat.{ℕ, _+_, _*_, _^_, _<_}
 use native.Mathlib.Omega.{arith}
 use lib.ListN.{getD}
 use borrow.Author.Tests.{eq-eqb, eqb-true}
-use Rattle.rules.specs.Inputs.{inputs, only, put}
+use Rattle.basics.specs.Inputs.{inputs, only, put}
 use Rattle.rules.specs.Lines.{Lines, Made, withIrr, pendingIn, serve, enter, polled, raised}
 use Rattle.rules.specs.Ring.{Event, Ring, draw, kept, ringStep, ringRun, drawn}
 use Rattle.rules.specs.Core.{moved, lineTurn, turns}
@@ -15,16 +15,16 @@ use Rattle.rules.specs.Device.{Device, Call, some, actsOf, acted, offers, draws
 use Rattle.rules.specs.Device as call
 use Rattle.rules.specs.Numbering.{Numbers, returnedWith, valueWith}
 use Rattle.rules.specs.History.{history}
-use Rattle.rules.specs.Calls.{answered, presentIn}
+use Rattle.calls.specs.Calls.{answered, presentIn}
 use Rattle.rules.specs.Account.{tally}
 use Rattle.histories.specs.Premises.{Along}
 use Rattle.histories.specs.Demands.{pollsOrRaises, assertsOf}
 use Rattle.sweep.specs.Sweeps.{sweeping, everyCall, assertFrom, Announced, nothing, one, AssertedBy}
-use Rattle.rules.proofs.laws.Bits.{test}
-use Rattle.rules.proofs.laws.Inputs.{first-has}
+use Rattle.basics.proofs.laws.Bits.{test}
+use Rattle.basics.proofs.laws.Inputs.{first-has}
 use Rattle.rules.proofs.laws.Rings.{fifo}
 use Rattle.rules.proofs.laws.Counts.{tally-append, tally-nil}
-use Rattle.rules.proofs.laws.Answers.{none-read, some-read}
+use Rattle.calls.proofs.laws.Answers.{none-read, some-read}
 use Rattle.histories.proofs.laws.Folds.{still, along-each}
 use Rattle.sweep.proofs.laws.Quiet.{write-leaves-lines, along-every}
 

@@ -7,7 +7,7 @@ use mathlib.Core.List.{List, [], _∷_, _++_}
 use Prim.Native.Nat.{ℕ, _+_, _<_}
 use native.Mathlib.Omega.{arith}
 use borrow.Author.Tests.{eq-eqb, ne-eqb, eqb-true, eqb-false}
-use Rattle.rules.specs.Inputs.{on, inputs, only, put}
+use Rattle.basics.specs.Inputs.{on, inputs, only, put}
 use Rattle.rules.specs.Lines.{Lines, Made, event, withIrr, withIsr, pendingIn, serve, enter, polled, raised}
 use Rattle.rules.specs.Core.{Core, poll, raise, lower, clear, setMask, Act, move, setIsr, store, setVector, moved, lineTurn, turn, turns}
 use Rattle.rules.specs.Device.{Device, Call, actsOf, acted, step}
@@ -16,10 +16,10 @@ use Rattle.rules.specs.History.{history}
 use Rattle.rules.specs.Account.{tally}
 use Rattle.histories.specs.Demands.{inService, Eligible, pollsOrRaises, assertsOf}
 use Rattle.sweep.specs.Sweeps.{sweeping, everyCall, someCall, deassertsIn}
-use Rattle.rules.proofs.laws.Bits.{test, on-put}
-use Rattle.rules.proofs.laws.Inputs.{first-has}
+use Rattle.basics.proofs.laws.Bits.{test, on-put}
+use Rattle.basics.proofs.laws.Inputs.{first-has}
 use Rattle.rules.proofs.laws.Counts.{tally-append}
-use Rattle.rules.proofs.laws.Serving.{poll-serves}
+use Rattle.laws.proofs.laws.Serving.{poll-serves}
 use Rattle.histories.proofs.laws.Folds.{fold-acts, fold-calls}
 use Rattle.sweep.proofs.laws.Quiet.{Settled, settled-acts, along-every}
 

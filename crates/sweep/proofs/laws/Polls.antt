@@ -9,20 +9,20 @@ use native.Mathlib.Nat.{eq-or-lt-of-le}
 use native.Mathlib.Omega.{arith}
 use lib.ListN.{length}
 use borrow.Author.Tests.{eq-eqb, le-leb, lt-ltb}
-use Rattle.rules.specs.Numbers.{Bytes}
+use Rattle.basics.specs.Numbers.{Bytes}
 use Rattle.rules.specs.Device.{Call, poll, upFrom, Value, step}
 use Rattle.rules.specs.Numbering.{numbersAfter, valueWith}
-use Rattle.rules.specs.Image.{decode, numbersIn, imageTest, accepted}
-use Rattle.rules.specs.Calls.{performed, answerLength, answered, outcome}
-use Rattle.rules.specs.Calls as request
-use Rattle.histories.specs.Exported.{Exported, leftBy, isDone, HandedOn, doneCall, doneCalls}
+use Rattle.images.specs.Image.{decode, numbersIn, imageTest, accepted}
+use Rattle.calls.specs.Calls.{performed, answerLength, answered, outcome}
+use Rattle.calls.specs.Calls as request
+use Rattle.exported.specs.Exported.{Exported, leftBy, isDone, HandedOn, doneCall, doneCalls}
 use Rattle.sweep.specs.Sweeps.{sweeping, isPoll, everyCall, someCall, Sweep}
 use Rattle.sweep.specs.Handed.{pollsFrom}
 use Rattle.rules.proofs.laws.Numbered.{numbers-step}
-use Rattle.rules.proofs.laws.Saved.{bytes-encode}
-use Rattle.rules.proofs.laws.Images.{accepted-has, encode-as, encode-decode, decode-well-formed, numbers-well, accepted-encode}
+use Rattle.images.proofs.laws.Saved.{bytes-encode}
+use Rattle.laws.proofs.laws.Images.{accepted-has, encode-as, encode-decode, decode-well-formed, numbers-well, accepted-encode}
 use Rattle.histories.proofs.laws.WellFormed.{step-well}
-use Rattle.histories.proofs.demands.FromCalls.{a-call-is-a-step}
+use Rattle.exported.proofs.demands.FromCalls.{a-call-is-a-step}
 
 -- ---- their calls
 

@@ -5,8 +5,8 @@ use mathlib.Core.List.{List, [], _∷_}
 use Prim.Native.Nat.{ℕ, _+_, _-_, _%_}
 use lib.Dec.{eqb}
 use borrow.Author.Tests.{eqb-true, not-true}
-use Rattle.rules.specs.Numbers.{byteOf}
-use Rattle.rules.specs.Inputs.{half}
+use Rattle.basics.specs.Numbers.{byteOf}
+use Rattle.basics.specs.Inputs.{half}
 use Rattle.rules.specs.Core.{Core, Act, poll, raise, lower, clear, setMask, move, setIsr, store, setVector}
 use Rattle.rules.specs.Map.{Cell, halfOf, bytes, nothing, inRoutes, inVectors, inByteArea, cellAt}
 use Rattle.rules.specs.Map as map
@@ -16,7 +16,7 @@ use Rattle.rules.specs.Device as call
 use Rattle.histories.specs.Premises.{Along, byteReaches, reaches}
 use Rattle.histories.specs.Demands.{Each, done, also, someAct}
 use Rattle.sweep.specs.Sweeps.{movesLines, unsettles, sweeping, everyCall}
-use Rattle.rules.proofs.laws.Bits.{test}
+use Rattle.basics.proofs.laws.Bits.{test}
 use Rattle.histories.proofs.laws.Reach.{each-both, each-so, cell-has, ruled-out, some-append, ReturnsNone, write-returns-none, LeavesLines}
 
 -- an act that does none of it

@@ -6,26 +6,26 @@ use mathlib.Core.List.{List, [], _∷_, _++_}
 use Prim.Native.Nat.{ℕ, _+_}
 use native.Mathlib.Omega.{arith}
 use lib.Dec.{eqb}
-use Rattle.rules.specs.Inputs.{only}
+use Rattle.basics.specs.Inputs.{only}
 use Rattle.rules.specs.Lines.{Made}
 use Rattle.rules.specs.Ring.{Event}
 use Rattle.rules.specs.Device.{Call, Step, step}
 use Rattle.rules.specs.Device as device
 use Rattle.rules.specs.Numbering.{valueWith}
-use Rattle.rules.specs.Image.{numbersIn}
-use Rattle.rules.specs.Calls.{Request, pass, calls, askedBy, widthTest, addressTest, answered, presentIn, Outcome}
-use Rattle.rules.specs.Calls as request
+use Rattle.images.specs.Image.{numbersIn}
+use Rattle.calls.specs.Calls.{Request, pass, calls, askedBy, widthTest, addressTest, answered, presentIn, Outcome}
+use Rattle.calls.specs.Calls as request
 use Rattle.rules.specs.History.{history}
 use Rattle.rules.specs.Account.{tally}
 use Rattle.histories.specs.Demands.{pollsOrRaises, assertsOf, returnedIn}
-use Rattle.histories.specs.Exported.{Exported, leftBy, isDone, isLoad, callOf, Underway, carriedOn, NoLoads, doneCall, doneCalls, current, Faithful}
+use Rattle.exported.specs.Exported.{Exported, leftBy, isDone, isLoad, callOf, Underway, carriedOn, NoLoads, doneCall, doneCalls, current, Faithful}
 use Rattle.sweep.specs.Sweeps.{sweeping, everyCall, deassertsIn}
 use Rattle.sweep.specs.Handed.{asksFor, readsAssert, assertsRead}
-use Rattle.rules.proofs.laws.Bits.{test}
+use Rattle.basics.proofs.laws.Bits.{test}
 use Rattle.rules.proofs.laws.Counts.{tally-append, tally-nil}
 use Rattle.histories.proofs.laws.Folds.{history-append}
-use Rattle.histories.proofs.laws.Chains.{passed, handed, faithful-on, carried-on}
-use Rattle.histories.proofs.laws.Readings.{access-is, input-is, asked-is}
+use Rattle.exported.proofs.laws.Chains.{passed, handed, faithful-on, carried-on}
+use Rattle.exported.proofs.laws.Readings.{access-is, input-is, asked-is}
 use Rattle.sweep.proofs.laws.Announcing.{call-announces, read-is-asserted}
 
 -- ---- deasserts

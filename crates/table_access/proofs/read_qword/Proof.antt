@@ -1,5 +1,5 @@
 -- `read_qword`: a Dword, and the next one.
-use Rattle.rules.proofs.laws.Widths.{qword-both}
+use Rattle.laws.proofs.laws.Widths.{qword-both}
 use borrow.Author.Needs.{needs}
 use Rattle.table_access.proofs.read_qword.Statement.{statement}
 use Rattle.table_access.proofs.read_qword.Tie as tie

@@ -1,6 +1,6 @@
 -- `write_access`: by the width.
 use native.Mathlib.Omega.{arith}
-use Rattle.accesses.proofs.Reaching.{byte-low, word-low, dword-low}
+use Rattle.accepted_access.proofs.Reaching.{byte-low, word-low, dword-low}
 use borrow.Author.Needs.{needs}
 use Rattle.table_access.proofs.write_access.Statement.{statement}
 use Rattle.table_access.proofs.write_access.Tie as tie

@@ -3,14 +3,16 @@ use mathlib.Core.Path.{_≡_, refl, sym, ap, _∙_}
 use mathlib.Core.List.{List}
 use lib.ListN.{length}
 use Prim.Native.Nat.{ℕ}
-use Rattle.rules.specs.Form.{formLength}
+use Rattle.images.specs.Form.{formLength}
 use Rattle.rules.specs.Device as device
-use Rattle.rules.specs.Calls as asked
+use Rattle.calls.specs.Calls as asked
 use Rattle.image.specs.Shown.{formView}
 use Rattle.window.specs.Tests.{knownView}
 use Rattle.window.proofs.Bounds.{reach}
-use Rattle.refusals.proofs.Ends.{Passed, fitting, goes-on, long, tells, by-head, by-bodies}
-use Rattle.accesses.proofs.Aims.{no-width, no-place, read-done}
+use Rattle.inplace.specs.Passed.{Passed}
+use Rattle.inplace.proofs.Passing.{long}
+use Rattle.refusals.proofs.Ends.{fitting, goes-on, tells, by-head, by-bodies}
+use Rattle.accepted_access.proofs.Aims.{no-width, no-place, read-done}
 use borrow.Author.Needs.{needs}
 use Rattle.table_accesses.proofs.read.Statement.{statement}
 use Rattle.table_accesses.proofs.read.Tie as tie

@@ -1,7 +1,7 @@
 -- `read_four`: the four Bytes that a Dword among the bytes is.
 use native.Mathlib.Omega.{arith}
-use Rattle.rules.proofs.laws.Maps.{at-bytes}
-use Rattle.rules.proofs.laws.Widths.{dword-four}
+use Rattle.laws.proofs.laws.Maps.{at-bytes}
+use Rattle.laws.proofs.laws.Widths.{dword-four}
 use borrow.Author.Needs.{needs}
 use Rattle.table_dwords.proofs.read_four.Statement.{statement}
 use Rattle.table_dwords.proofs.read_four.Tie as tie

@@ -1,6 +1,6 @@
 -- `write_four`: the four Bytes that a Dword among the bytes is, each of which drops nothing.
 use native.Mathlib.Omega.{arith}
-use Rattle.rules.proofs.laws.Maps.{at-bytes}
+use Rattle.laws.proofs.laws.Maps.{at-bytes}
 use Rattle.table_dwords.proofs.Dwords.{four-writes}
 use borrow.Author.Needs.{needs}
 use Rattle.table_dwords.proofs.write_four.Statement.{statement}

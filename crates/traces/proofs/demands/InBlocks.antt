@@ -7,8 +7,8 @@ use native.Mathlib.Nat.{zero-add}
 use native.Mathlib.Omega.{arith}
 use lib.Dec.{ltb}
 use borrow.Author.Tests.{ltb-true, ltb-false}
-use Rattle.rules.specs.Numbers.{part}
-use Rattle.rules.proofs.laws.Bits.{test}
+use Rattle.basics.specs.Numbers.{part}
+use Rattle.basics.proofs.laws.Bits.{test}
 use Rattle.traces.specs.Trace.{recordLength, blockCount, blockAt, firstPlace, recordPlace, recordCount, contentsGood}
 use Rattle.traces.specs.Blocks.{recordsBefore, placeInBlock, InBlock, Has}
 use Rattle.traces.proofs.laws.Contents.{contents-have}

@@ -9,16 +9,16 @@ use lib.ListN.{length, take, replicate, length-append}
 use borrow.Author.Tests.{ne-eqb}
 use Rattle.rules.specs.Device.{reset}
 use Rattle.rules.specs.Numbering.{drainedLength, fromZero}
-use Rattle.rules.specs.Form.{Form, known, formOf}
-use Rattle.rules.specs.Image.{encodeLike}
-use Rattle.rules.specs.Calls.{Request, answerLength, answered, valueIn, hasRoom, Ending, ending, settled, Outcome, outcome}
-use Rattle.rules.specs.Calls as request
-use Rattle.rules.proofs.laws.Bits.{test}
-use Rattle.rules.proofs.laws.Outcomes.{reset-done}
-use Rattle.rules.proofs.demands.Refused.{refused-changes-nothing}
+use Rattle.images.specs.Form.{Form, known, formOf}
+use Rattle.images.specs.Image.{encodeLike}
+use Rattle.calls.specs.Calls.{Request, answerLength, answered, valueIn, hasRoom, Ending, ending, settled, Outcome, outcome}
+use Rattle.calls.specs.Calls as request
+use Rattle.basics.proofs.laws.Bits.{test}
+use Rattle.calls.proofs.laws.Outcomes.{reset-done}
+use Rattle.calls.proofs.demands.Refused.{refused-changes-nothing}
 use Rattle.traces.specs.Trace.{Record, recordCount, nth}
-use Rattle.traces.specs.Played.{requestOf, asked, playedOn, drainedIn, afresh, played}
-use Rattle.traces.proofs.laws.Plays.{playedFrom, played-none, played-next}
+use Rattle.traces.specs.Played.{requestOf, asked, playedOn, drainedIn, playedFrom, afresh, played}
+use Rattle.traces.proofs.laws.Plays.{played-none, played-next}
 
 -- bytes of an admitted length, whatever they are, become the image of the device after reset, in that form, with numbers from 0
 pub plays-from-reset : (i : List ℕ) (f : Form) → formOf (length i) ≡ known f → afresh i ≡ encodeLike i reset (fromZero 0)
@@ -38,7 +38,7 @@ unfolding outcome answered
 sixteen-bytes q i = test (hasRoom q (replicate answerLength 0)) (λ t. rw t refl) (λ t. rw t refl)
 
 -- so a play has sixteen for each record
-answers-from : (l : List ℕ) (n k : ℕ) (i : List ℕ) → length (playedFrom l n k i .answers) ≡ 16 * n
+pub answers-from : (l : List ℕ) (n k : ℕ) (i : List ℕ) → length (playedFrom l n k i .answers) ≡ 16 * n
 answers-from l zero k i = rw (played-none l k i)
 answers-from l (suc n) k i =
     rw (played-next l k i n, length-append, sixteen-bytes (requestOf (nth l k)) i, answers-from l n (suc k) (playedOn i (nth l k) .image)) (omega arith)

@@ -6,7 +6,7 @@ use Prim.Native.Nat.{ℕ, _+_, _<_, _≤_}
 use native.Mathlib.Omega.{arith}
 use lib.Dec.{ltb}
 use borrow.Author.Tests.{ltb-true, ltb-false, lt-ltb, le-ltb, not-true, not-false}
-use Rattle.rules.proofs.laws.Bits.{test}
+use Rattle.basics.proofs.laws.Bits.{test}
 use Rattle.traces.specs.Trace.{firstPlace, recordCount, contentsGood, nth, isGood, isBad, firstBad, TraceTest, good, wrongContents, badRecord, foundBad, traceTest}
 use Rattle.traces.proofs.laws.Firsts.{First, first-found}
 

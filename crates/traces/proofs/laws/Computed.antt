@@ -4,9 +4,9 @@ use mathlib.Core.Bool.{Bool, true, false}
 use mathlib.Core.List.{List, [], _∷_, _++_, map}
 use Prim.Native.Nat.{ℕ}
 use lib.ListN.{take, set, replicate}
-use Rattle.rules.specs.Numbers.{bytesOf}
+use Rattle.basics.specs.Numbers.{bytesOf}
 use Rattle.rules.specs.Device.{none, some}
-use Rattle.rules.specs.Calls as request
+use Rattle.calls.specs.Calls as request
 use Rattle.traces.specs.Trace.{blocksFrom, recordsIn, backToBack, contentsGood, recordOf, isGood, firstBad, good, wrongContents, badRecord, traceTest, traceNumber, traceValue}
 use Rattle.traces.specs.Played.{requestOf}
 

@@ -6,7 +6,7 @@ use Prim.Native.Nat.{ℕ, _+_, _*_, _≤_}
 use lib.Dec.{eqb, leb}
 use lib.ListN.{length}
 use borrow.Author.Tests.{leb-true, eqb-true, le-leb, eq-eqb}
-use Rattle.rules.proofs.laws.Bits.{test}
+use Rattle.basics.proofs.laws.Bits.{test}
 use Rattle.traces.proofs.laws.Computed as computed
 use Rattle.traces.specs.Trace.{mostBlocks, mostRecords, recordLength, blockCount, blocks, backToBack, firstPlace, recordCount, contentsGood}
 

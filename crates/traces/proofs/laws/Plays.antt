@@ -3,11 +3,7 @@ use mathlib.Core.Path.{_≡_, refl}
 use mathlib.Core.List.{List, [], _++_}
 use Prim.Native.Nat.{ℕ, suc}
 use Rattle.traces.specs.Trace.{nth}
-use Rattle.traces.specs.Played.{playedOn, drainedIn, recordsFrom, outcomes, Played, gathered}
-
--- what n records from number k on leave, played on an image
-abbrev pub playedFrom : List ℕ → ℕ → ℕ → List ℕ → Played
-playedFrom l n k i = gathered i (outcomes i (recordsFrom l n k))
+use Rattle.traces.specs.Played.{playedOn, drainedIn, recordsFrom, outcomes, gathered, playedFrom}
 
 module _ (l : List ℕ) (k : ℕ) (i : List ℕ) where
   pub played-none : playedFrom l 0 k i ≡ record { image = i; answers = []; events = [] }

@@ -3,7 +3,7 @@ use Prim.Native.Nat.{_<_}
 use native.Mathlib.Omega.{arith}
 use lib.ListN.{getD}
 use borrow.Author.Needs.{needs}
-use Rattle.rules.proofs.laws.Bytes.{part-below}
+use Rattle.basics.proofs.laws.Bytes.{part-below}
 use Rattle.view.proofs.fields.Statement.{statement}
 use Rattle.view.proofs.fields.Tie as tie
 

@@ -3,7 +3,7 @@ use mathlib.Core.Path.{_≡_, ap}
 use Prim.Native.Nat.{_+_, _-_}
 use native.Mathlib.Omega.{arith}
 use borrow.Author.Needs.{needs}
-use Rattle.rules.specs.Numbers.{part}
+use Rattle.basics.specs.Numbers.{part}
 use Rattle.view.proofs.part_at.Statement.{statement}
 use Rattle.view.proofs.part_at.Tie as tie
 

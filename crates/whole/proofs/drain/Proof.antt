@@ -3,10 +3,12 @@ use mathlib.Core.Path.{_≡_, refl}
 use mathlib.Core.List.{List}
 use lib.ListN.{length}
 use Prim.Native.Nat.{ℕ}
-use Rattle.rules.specs.Form.{formLength}
-use Rattle.rules.specs.Calls as asked
+use Rattle.images.specs.Form.{formLength}
+use Rattle.calls.specs.Calls as asked
 use Rattle.image.specs.Shown.{formView}
-use Rattle.refusals.proofs.Ends.{Passed, fitting, goes-on, long, few, tells, by-head, by-bodies}
+use Rattle.inplace.specs.Passed.{Passed}
+use Rattle.inplace.proofs.Passing.{long, few}
+use Rattle.refusals.proofs.Ends.{fitting, goes-on, tells, by-head, by-bodies}
 use Rattle.whole.proofs.Whole.{drain-done}
 use borrow.Author.Needs.{needs}
 use Rattle.whole.proofs.drain.Statement.{statement}

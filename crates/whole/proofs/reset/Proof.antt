@@ -4,11 +4,11 @@ use mathlib.Core.List.{[]}
 use lib.ListN.{length, replicate}
 use Rattle.rules.specs.Device.{Device, none, reset, upFrom}
 use Rattle.rules.specs.Numbering.{fromZero}
-use Rattle.rules.specs.Form.{forms, known, formOf, formLength}
-use Rattle.rules.specs.Image.{encodeAs, numberBody}
-use Rattle.rules.proofs.laws.Tests.{form-known}
-use Rattle.rules.proofs.laws.Images.{encode-as}
-use Rattle.rules.proofs.laws.Outcomes.{reset-refused, reset-done}
+use Rattle.images.specs.Form.{forms, known, formOf, formLength}
+use Rattle.images.specs.Image.{encodeAs, numberBody}
+use Rattle.images.proofs.laws.Tests.{form-known}
+use Rattle.laws.proofs.laws.Images.{encode-as}
+use Rattle.calls.proofs.laws.Outcomes.{reset-refused, reset-done}
 use Rattle.image.specs.Shown.{formView, formKnown}
 use Rattle.refusals.proofs.Ends.{tells}
 use borrow.Author.Needs.{needs}

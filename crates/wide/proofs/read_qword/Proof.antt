@@ -1,6 +1,6 @@
 -- `read_qword`: eight bytes of a run at once; and else a Dword, and the next one.
 use native.Mathlib.Omega.{arith}
-use Rattle.rules.proofs.laws.Widths.{qword-both}
+use Rattle.laws.proofs.laws.Widths.{qword-both}
 use Rattle.cells.proofs.Entries.{eight-read}
 use borrow.Author.Needs.{needs}
 use Rattle.wide.proofs.read_qword.Statement.{statement}

@@ -2,7 +2,7 @@
 use mathlib.Core.Path.{sym, ap}
 use native.Mathlib.Omega.{arith}
 use borrow.Author.Tests.{ne-eqb}
-use Rattle.rules.specs.Calls.{widthTest}
+use Rattle.calls.specs.Calls.{widthTest}
 use Rattle.window.proofs.width_of.Statement.{statement}
 use Rattle.window.proofs.width_of.Tie as tie
 

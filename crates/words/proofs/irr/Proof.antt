@@ -1,7 +1,7 @@
 -- `irr`: the eight bytes from its place on spell it.
 use mathlib.Core.Path.{refl}
 use native.Mathlib.Omega.{arith}
-use Rattle.rules.specs.Form.{irr, word}
+use Rattle.images.specs.Form.{irr, word}
 use Rattle.image.specs.Shown.{formView}
 use Rattle.image.proofs.Forms.{placed}
 use Rattle.words.proofs.Registers.{word-within, word-read}

@@ -1,7 +1,7 @@
 -- `isr`: the eight bytes from its place on spell it.
 use mathlib.Core.Path.{refl}
 use native.Mathlib.Omega.{arith}
-use Rattle.rules.specs.Form.{isr, word}
+use Rattle.images.specs.Form.{isr, word}
 use Rattle.image.specs.Shown.{formView}
 use Rattle.image.proofs.Forms.{placed}
 use Rattle.words.proofs.Registers.{word-within, word-read}

@@ -2,7 +2,7 @@
 use mathlib.Core.Path.{refl, sym, ap, _∙_}
 use Prim.Native.Nat.{ℕ}
 use Rattle.rules.specs.Core.{htmsiEn, edge, pol, auto0, auto1}
-use Rattle.rules.specs.Form.{Form, stored, word, place}
+use Rattle.images.specs.Form.{Form, stored, word, place}
 use Rattle.image.specs.Shown.{formView}
 use Rattle.image.proofs.Forms.{placed}
 use Rattle.map.specs.Views.{plainView}

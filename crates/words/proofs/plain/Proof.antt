@@ -1,7 +1,7 @@
 -- `plain`: the eight bytes from its place on spell it.
 use mathlib.Core.Path.{refl}
 use native.Mathlib.Omega.{arith}
-use Rattle.rules.specs.Form.{stored}
+use Rattle.images.specs.Form.{stored}
 use Rattle.image.specs.Shown.{formView}
 use Rattle.map.specs.Views.{plainView}
 use Rattle.words.proofs.Registers.{word-within, word-read}

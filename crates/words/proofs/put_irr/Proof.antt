@@ -2,7 +2,7 @@
 use mathlib.Core.Path.{_≡_, refl}
 use native.Mathlib.Omega.{arith}
 use lib.ListN.{length}
-use Rattle.rules.specs.Form.{irr, word}
+use Rattle.images.specs.Form.{irr, word}
 use Rattle.image.specs.Shown.{formView}
 use Rattle.image.proofs.Forms.{placed, copy-within}
 use Rattle.words.proofs.Registers.{word-within, irr-stored}

@@ -1,7 +1,7 @@
 -- `put_isr`: its eight bytes are replaced.
 use mathlib.Core.Path.{refl}
 use native.Mathlib.Omega.{arith}
-use Rattle.rules.specs.Form.{isr, word}
+use Rattle.images.specs.Form.{isr, word}
 use Rattle.image.specs.Shown.{formView}
 use Rattle.image.proofs.Forms.{placed}
 use Rattle.words.proofs.Registers.{word-within, isr-stored}

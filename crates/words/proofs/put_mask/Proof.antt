@@ -1,7 +1,7 @@
 -- `put_mask`: its eight bytes are replaced.
 use mathlib.Core.Path.{refl}
 use native.Mathlib.Omega.{arith}
-use Rattle.rules.specs.Form.{mask, word}
+use Rattle.images.specs.Form.{mask, word}
 use Rattle.image.specs.Shown.{formView}
 use Rattle.image.proofs.Forms.{placed}
 use Rattle.words.proofs.Registers.{word-within, mask-stored}

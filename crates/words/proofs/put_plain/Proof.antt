@@ -1,7 +1,7 @@
 -- `put_plain`: the eight bytes from its place on are replaced.
 use mathlib.Core.Path.{refl}
 use native.Mathlib.Omega.{arith}
-use Rattle.rules.specs.Form.{stored}
+use Rattle.images.specs.Form.{stored}
 use Rattle.image.specs.Shown.{formView}
 use Rattle.map.specs.Views.{plainView}
 use Rattle.words.proofs.Registers.{word-within, plain-stored}

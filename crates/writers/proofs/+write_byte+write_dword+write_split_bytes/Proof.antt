@@ -7,23 +7,23 @@ use borrow.Author.Needs.{needs}
 use borrow.Fn.Kinds.{In}
 use borrow.Fn.PlainCycle.{Measures, is, falls, and}
 use Rattle.rules.specs.Access.{entryActs, cellActs}
-use Rattle.rules.proofs.laws.Widths.{aligned-no-bytes}
-use Rattle.rules.proofs.laws.Losses.{entry-quiet}
-use Rattle.rules.proofs.laws.Writes.{byte-acts-inside, dword-acts-of}
+use Rattle.laws.proofs.laws.Widths.{aligned-no-bytes}
+use Rattle.laws.proofs.laws.Losses.{entry-quiet}
+use Rattle.laws.proofs.laws.Writes.{byte-acts-inside, dword-acts-of}
 use Rattle.state.specs.View.{view}
 use Rattle.map.specs.Views.{cellView}
-use Rattle.writers.specs.Writes.{Writes, bytesActs}
+use Rattle.registers.specs.Writes.{Writes, bytesActs}
 use Rattle.map.proofs.Indexes.{byte-came, no-byte}
 use Rattle.readers.proofs.Deep.{four-deep}
-use Rattle.writers.proofs.Bytes.{four-bytes}
-use Rattle.writers.proofs.Acted.{writes-acts, writes-quiet, writes-none, byte-few, bytes-few, writes-outside, writes-more}
+use Rattle.registers.proofs.Bytes.{four-bytes}
+use Rattle.registers.proofs.Acted.{writes-acts, writes-quiet, writes-none, byte-few, bytes-few, writes-outside, writes-more}
 use Rattle.bits.proofs.byte_of.Reads as byte-of-reads
 use Rattle.bits.proofs.with_byte.Reads as with-byte-reads
 use Rattle.map.proofs.decode.Reads as decode-reads
 use Rattle.readers.proofs.read_dword.Reads as read-dword-reads
 use Rattle.map.proofs.reg8_offset.Reads as reg8-offset-reads
-use Rattle.writers.proofs.write_entry.Reads as write-entry-reads
-use Rattle.writers.proofs.write_half.Reads as write-half-reads
+use Rattle.registers.proofs.write_entry.Reads as write-entry-reads
+use Rattle.registers.proofs.write_half.Reads as write-half-reads
 use Rattle.writers.proofs.write_byte.Reads as write-byte
 use Rattle.writers.proofs.write_byte.Kinds as write-byte-kinds
 use Rattle.writers.proofs.write_dword.Reads as write-dword

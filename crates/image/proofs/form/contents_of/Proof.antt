@@ -4,8 +4,8 @@ use Prim.Native.Nat.{_-_, _≤_}
 use native.Mathlib.Omega.{arith}
 use lib.Dec.{lit≤}
 use borrow.Author.Needs.{needs}
-use Rattle.rules.specs.Form.{Form, one, two, numbered, contentsLength, contentsOf}
-use Rattle.rules.specs.Image.{registerAt}
+use Rattle.images.specs.Form.{Form, one, two, numbered, contentsLength, contentsOf}
+use Rattle.images.specs.Image.{registerAt}
 use Rattle.image.specs.Shown.{ContentsOf}
 use Rattle.image.specs.declared.form.Contents.{Contents}
 use Rattle.image.proofs.form.contents_of.Statement.{statement}

@@ -4,9 +4,9 @@ use mathlib.Core.Bool.{Bool, true, false, _&&_, false≢true, and-eq-true-iff}
 use mathlib.Core.List.{List, [], _∷_}
 use Prim.Native.Nat.{ℕ, _+_}
 use lib.Dec.{eqb}
-use Rattle.rules.specs.Form.{Field, word, copy, Form, one, two, numbered, is, listed, fields, has, place, contentsLength}
-use Rattle.rules.proofs.laws.Bits.{test}
-use Rattle.rules.proofs.laws.Layout.{never, is-sound}
+use Rattle.images.specs.Form.{Field, word, copy, Form, one, two, numbered, is, listed, fields, has, place, contentsLength}
+use Rattle.basics.proofs.laws.Bits.{test}
+use Rattle.images.proofs.laws.Layout.{never, is-sound}
 use Rattle.image.specs.Shown.{formView, placeIn, copyLength, PlacesOf}
 use Rattle.image.specs.declared.form.Places.{Places}
 use borrow.Author.Tests.{eqb-true}

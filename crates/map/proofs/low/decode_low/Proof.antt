@@ -7,7 +7,7 @@ use lib.Dec.{eqb}
 use borrow.Author.Needs.{needs}
 use Rattle.rules.specs.Map.{Register, id, mask, clear, irr, isr, plain, halfOf, table, cellAt}
 use Rattle.rules.specs.Core.{htmsiEn, edge, pol, auto0, auto1}
-use Rattle.rules.proofs.laws.Maps.{MissedLow, lowOf, halves-missed, half-of, below, between, beyond, unlisted-route, unlisted-vector, unlisted-elsewhere}
+use Rattle.laws.proofs.laws.Maps.{MissedLow, lowOf, halves-missed, half-of, below, between, beyond, unlisted-route, unlisted-vector, unlisted-elsewhere}
 use Rattle.map.proofs.low.decode_low.Statement.{statement}
 use Rattle.map.proofs.low.decode_low.Tie as tie
 

@@ -5,7 +5,7 @@ use native.Mathlib.Omega.{arith}
 use lib.ListN.{take, replicate}
 use lib.Seq.{length-take-le}
 use borrow.Author.Needs.{needs}
-use Rattle.rules.proofs.laws.Parts.{start, put-this, length-next, filled}
+use Rattle.basics.proofs.laws.Parts.{start, put-this, length-next, filled}
 use Rattle.replay.proofs.each.set_image.Statement.{statement}
 use Rattle.replay.proofs.each.set_image.Tie as tie
 

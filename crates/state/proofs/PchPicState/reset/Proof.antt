@@ -7,7 +7,7 @@ use native.Mathlib.Numerals.{add-one}
 use lib.ListN.{length, take, length-set}
 use Rattle.rules.specs.Device.{upFrom}
 use Rattle.rules.specs.Device as device
-use Rattle.rules.proofs.laws.Lists.{turn, done}
+use Rattle.basics.proofs.laws.Lists.{turn, done}
 use Rattle.state.specs.View.{slots}
 use Rattle.state.proofs.PchPicState.reset.Statement.{statement}
 use Rattle.state.proofs.PchPicState.reset.Tie as tie

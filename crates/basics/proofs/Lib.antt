@@ -1,0 +1,2 @@
+-- What is proved of the definitions: laws that all above cite.
+pub mod laws

@@ -1,0 +1,5 @@
+-- Lemmas about exported calls one after another, for the demands.
+pub mod Chains
+pub mod Readings
+pub mod Without
+pub mod Dropping

@@ -1,0 +1,2 @@
+-- What a view shows, in the terms of traces.
+pub mod Showing

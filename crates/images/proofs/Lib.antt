@@ -1,0 +1,2 @@
+-- What is proved of the definitions: laws that the code's proofs cite.
+pub mod laws

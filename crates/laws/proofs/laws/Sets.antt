@@ -1,0 +1,41 @@
+-- The sets that the engine masks out of the registers, as the sets that Lines speaks of; the two moves depend on their set below 64 only.
+use mathlib.Core.Path.{_≡_, ap, _∙_}
+use mathlib.Core.Bool.{Bool, false, cond, not, _&&_, and-true, and-assoc, and-comm}
+use mathlib.Core.List.{List, [], _∷_, map}
+use Prim.Native.Nat.{ℕ, _-_, _^_, _<_}
+use lib.Bits.{bitAnd}
+use Rattle.basics.specs.Inputs.{on, inputs, only, without}
+use Rattle.rules.specs.Lines.{Lines, isPending, pendingIn, servedIn, unlatchedIn, withIsr, serve, event, enter, leave}
+use Rattle.basics.proofs.laws.Bits.{on-and, on-and-not, without-ext}
+use Rattle.basics.proofs.laws.Inputs.{inputs-ext, only-input}
+
+-- m & irr & !mask & !isr; isr & m; m & isr & !irr
+module _ (m : ℕ) (l : Lines) where
+  pub served-is : inputs (on (bitAnd (l .isr) m)) ≡ inputs (servedIn (on m) l)
+  served-is = inputs-ext _ _ (λ i q. on-and (l .isr) m i)
+
+  pub unlatched-is : l .irr < 2 ^ 64 → inputs (on (bitAnd (bitAnd m (l .isr)) ((2 ^ 64 - 1) - l .irr))) ≡ inputs (unlatchedIn (on m) l)
+  unlatched-is hr = inputs-ext _ _ (λ i q. simp (on-and-not, on-and, and-assoc))
+
+-- one input
+module _ (n : ℕ) (l : Lines) (h : n < 64) where
+  pub only-waiting : inputs (pendingIn (only n) l) ≡ cond (isPending l n) (n ∷ []) []
+  only-waiting = only-input n (isPending l) h
+
+  pub only-served : inputs (servedIn (only n) l) ≡ cond (on (l .isr) n) (n ∷ []) []
+  only-served = inputs-ext _ _ (λ i q. and-comm (on (l .isr) i) (only n i)) ∙ only-input n (on (l .isr)) h
+
+  -- in service, and its latch went off before
+  pub only-unlatched : on (l .irr) n ≡ false → inputs (unlatchedIn (only n) l) ≡ cond (on (l .isr) n) (n ∷ []) []
+  only-unlatched e = only-input n (λ i. on (l .isr) i && not (on (l .irr) i)) h ∙ rw (e, and-true)
+
+-- the two moves depend on their set below 64 only
+module _ (vs : List ℕ) (offered : Bool) (f g : ℕ → Bool) (l : Lines) (e : (i : ℕ) → i < 64 → f i ≡ g i) where
+  pub enter-ext : enter vs offered f l ≡ enter vs offered g l
+  enter-ext = ap (serve vs offered l) (inputs-ext _ _ (λ i q. rw (e i q)))
+
+  pub leave-ext : leave vs offered f l ≡ leave vs offered g l
+  leave-ext =
+      let isr = without-ext (l .isr) f g e in
+      let left = inputs-ext (servedIn f l) (servedIn g l) (λ i q. rw (e i q)) in
+      λ t. record { after = withIsr l (isr t); made = map (event vs offered false) (left t) }

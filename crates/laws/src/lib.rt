@@ -1,0 +1,1 @@
+// Laws and demands that follow from the rules: see proofs/. There is no code.

@@ -1,0 +1,2 @@
+-- What loading the numbers promises.
+pub mod Numbers

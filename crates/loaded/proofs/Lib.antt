@@ -1,1 +1,0 @@
--- This crate needs no laws of its own.

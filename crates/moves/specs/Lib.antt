@@ -1,0 +1,2 @@
+-- What the moves that offer events promise.
+pub mod Offers

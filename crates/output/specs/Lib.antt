@@ -1,0 +1,2 @@
+-- What a drain promises.
+pub mod Drains

@@ -1,0 +1,27 @@
+// The calls on a lent trace. None requires anything: every input has its outcome. Here is what lacks room, refusal 7, which writes no byte; the crates below test and play.
+use trace_refusals::NO_ROOM;
+ghost use mathlib.Core.Path.{_≡_};
+ghost use Rattle.plays.specs.Playing.{playLeaves, playing};
+
+// A trace played from reset on the image: each record's sixteen answer bytes, and the drained events back to back.
+#[no_mangle]
+pub extern "C" fn pch_pic_play(
+    trace: &[u8],
+    image: &mut [u8],
+    answers: &mut [u8],
+    events: &mut [u8],
+    answer: &mut [u8],
+) -> u8
+    ensures { λ r. ⌜ playLeaves r (now (image .exit)) (now (answers .exit)) (now (events .exit)) (now (answer .exit))
+        ≡ playing (now (trace .entry)) (now (image .entry)) (now (answers .entry)) (now (events .entry)) (now (answer .entry)) ⌝ }
+{
+    if answer.len() < 16 {
+        return NO_ROOM;
+    }
+    let told = player::play(trace, image, answers, events);
+    let number = told.number;
+    if number == NO_ROOM {
+        return NO_ROOM;
+    }
+    answer::tell(answer, told)
+}

@@ -1,0 +1,17 @@
+-- `fault_number`: in each arm the number that the rules give. Written out, so that a wrong number is refused here, and not at what calls it.
+use borrow.Author.Needs.{needs}
+use Rattle.refusals.proofs.fault_number.Statement.{statement}
+use Rattle.refusals.proofs.fault_number.Tie as tie
+
+pub fault-number-spec : {M : Type 1} → statement M
+fault-number-spec =
+    tie.close
+    (tie.spec
+    (λ c. search needs)
+    (λ c. search needs)
+    (λ c. search needs)
+    (λ c. search needs)
+    (λ c. search needs)
+    (λ c. search needs)
+    (λ c. search needs)
+    (λ c. search needs))

@@ -1,0 +1,3 @@
+-- The laws that the proofs of the writers cite.
+pub mod Acted
+pub mod Bytes

@@ -1,0 +1,2 @@
+-- What the writers promise.
+pub mod Writes

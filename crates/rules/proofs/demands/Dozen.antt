@@ -1,9 +1,0 @@
--- Demand 2, the marked dozen: from reset, each row of the table finds what 01 says. One statement over the whole table, computed.
-use mathlib.Core.Path.{_≡_, refl}
-use mathlib.Core.List.{map}
-use Rattle.rules.specs.Dozen.{found, dozen}
-use Rattle.rules.proofs.laws.Computing.{computing}
-
-pub dozen-holds : map found dozen ≡ map (λ m. m .expected) dozen
-unfolding computing
-dozen-holds = refl

@@ -1,0 +1,2 @@
+-- What it is to save a part of a state.
+pub mod Shown

@@ -1,0 +1,2 @@
+-- What the tests of a ring's events look at.
+pub mod Events

@@ -1,2 +1,0 @@
--- What the writers promise, in the rules' terms.
-pub mod Writes

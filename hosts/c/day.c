@@ -1,0 +1,252 @@
+/* A day as a trace: session lines recorded, and a trace played and printed as a session with its answers beside it.
+ *     day --record FILE [LINES]   makes the trace FILE of the lines, which docs/DEVICE.md tells; - or no word is standard input
+ *     day --play FILE             prints each record of the trace and what it gave, and how many events were dropped; - is standard input
+ * It ends with 0; with 1 where something cannot be read or written, a line is no record or a trace is refused; and with 2 where its words are wrong. */
+#include "recorder.h"
+
+#include <errno.h>
+#include <inttypes.h>
+#include <stdio.h>
+#include <stdlib.h>
+#include <string.h>
+
+/* The longest line of a session has 25 bytes. A block of 64 records has 1 KiB, and 63 blocks take the longest day. */
+enum { LINE_LEN = 64, BLOCK = 64 };
+
+static uint8_t trace[PCH_PIC_TRACE_MAX];
+
+static void fail(const char *what, const char *why)
+{
+    fprintf(stderr, "day: %s: %s\n", what, why);
+    exit(1);
+}
+
+/* A name as it is to be told and opened. */
+static const char *told(const char *name)
+{
+    return strcmp(name, "-") == 0 ? "standard input" : name;
+}
+
+static const char *opened(const char *name)
+{
+    return strcmp(name, "-") == 0 ? "/dev/stdin" : name;
+}
+
+static int digit(char c)
+{
+    return c >= '0' && c <= '9' ? c - '0' : c >= 'a' && c <= 'f' ? c - 'a' + 10 : -1;
+}
+
+/* A line of a session as a call: its form has a letter X for each hex digit, which go to the fields one after another, a field for each run of them. */
+static bool matches(const char *line, size_t len, const char *form, uint64_t fields[3])
+{
+    size_t field = 0;
+    if (len != strlen(form)) {
+        return false;
+    }
+    memset(fields, 0, 3 * sizeof fields[0]);
+    for (size_t i = 0; i < len; i++) {
+        if (form[i] != 'X') {
+            if (line[i] != form[i]) {
+                return false;
+            }
+            field += i > 0 && form[i - 1] == 'X';
+        } else if (digit(line[i]) >= 0) {
+            fields[field] = fields[field] << 4 | (uint64_t)digit(line[i]);
+        } else {
+            return false;
+        }
+    }
+    return true;
+}
+
+/* A session has base 0 and 0x400 bytes. -1 where the line is no call. */
+static int record_line(struct pic_recorder *recorder, const char *line, size_t len)
+{
+    uint64_t f[3];
+    if (matches(line, len, "l XX 1", f)) {
+        return pic_recorder_raise(recorder, f[0]);
+    }
+    if (matches(line, len, "l XX 0", f)) {
+        return pic_recorder_lower(recorder, f[0]);
+    }
+    if (matches(line, len, "p XX", f)) {
+        return pic_recorder_poll(recorder, f[0]);
+    }
+    if (matches(line, len, "r X XXXX", f)) {
+        return pic_recorder_read(recorder, 0, PCH_PIC_WINDOW_LEN, f[1], f[0]);
+    }
+    if (matches(line, len, "w X XXXX XXXXXXXXXXXXXXXX", f)) {
+        return pic_recorder_write(recorder, 0, PCH_PIC_WINDOW_LEN, f[1], f[0], f[2]);
+    }
+    return matches(line, len, "d", f) ? pic_recorder_drain(recorder, PCH_PIC_DRAIN_ROOM) : -1;
+}
+
+/* The next line without its ending; false at the end. Of a line that is longer than any call the rest is passed over. */
+static bool next_line(FILE *lines, char line[LINE_LEN], size_t *len)
+{
+    int c = getc(lines);
+    *len = 0;
+    if (c == EOF) {
+        return false;
+    }
+    for (; c != EOF && c != '\n'; c = getc(lines)) {
+        if (*len < LINE_LEN) {
+            line[*len] = (char)c;
+            ++*len;
+        }
+    }
+    return true;
+}
+
+/* A line that no record can say. Bytes that would not print are shown as ?. */
+static void refuse(const char *name, unsigned long number, const char *line, size_t len, const char *why)
+{
+    char shown[LINE_LEN + 1];
+    for (size_t i = 0; i < len; i++) {
+        shown[i] = line[i] >= ' ' && line[i] <= '~' ? line[i] : '?';
+    }
+    shown[len] = 0;
+    fprintf(stderr, "day: %s, line %lu: '%s': %s\n", told(name), number, shown, why);
+    exit(1);
+}
+
+static void record_lines(struct pic_recorder *recorder, const char *name)
+{
+    char line[LINE_LEN];
+    size_t len;
+    FILE *lines = fopen(opened(name), "rb");
+    if (lines == NULL) {
+        fail(told(name), strerror(errno));
+    }
+    for (unsigned long number = 1; next_line(lines, line, &len); number++) {
+        int refused = record_line(recorder, line, len);
+        if (refused != PCH_PIC_DONE) {
+            refuse(name, number, line, len, refused < 0 ? "it is no call" : pic_recorder_why(refused));
+        }
+        if (number % BLOCK == 0) {
+            pic_recorder_close(recorder);
+        }
+    }
+    if (ferror(lines)) {
+        fail(told(name), strerror(errno));
+    }
+    fclose(lines);
+}
+
+static void record(const char *file, const char *name)
+{
+    static struct pic_recorder recorder;
+    pic_recorder_begin(&recorder);
+    record_lines(&recorder, name);
+    int number = pic_recorder_save(&recorder, file);
+    if (number == PIC_EMPTY) {
+        fail(told(name), "there is no call in it, and a trace has one at least");
+    }
+    /* A folder says so itself; of anything else that is no plain file errno has no word. */
+    if (number != PCH_PIC_DONE) {
+        fail(file, number == PIC_FILE && errno == EINVAL ? "it is no plain file, and is not replaced" : pic_recorder_why(number));
+    }
+}
+
+static uint64_t number_at(const uint8_t *bytes, size_t len)
+{
+    uint64_t value = 0;
+    while (len > 0) {
+        len--;
+        value = value << 8 | bytes[len];
+    }
+    return value;
+}
+
+/* A record as the line of a session that asks for it. */
+static void print_line(const uint8_t *record, char line[LINE_LEN])
+{
+    unsigned byte = record[PCH_PIC_RECORD_BYTE], offset = (unsigned)number_at(record + PCH_PIC_RECORD_OFFSET, 2);
+    uint64_t value = number_at(record + PCH_PIC_RECORD_VALUE, 8);
+    switch (record[PCH_PIC_RECORD_KIND]) {
+    case PCH_PIC_RAISE: snprintf(line, LINE_LEN, "l %02x 1", byte); break;
+    case PCH_PIC_LOWER: snprintf(line, LINE_LEN, "l %02x 0", byte); break;
+    case PCH_PIC_POLL: snprintf(line, LINE_LEN, "p %02x", byte); break;
+    case PCH_PIC_READ: snprintf(line, LINE_LEN, "r %x %04x", byte, offset); break;
+    case PCH_PIC_WRITE: snprintf(line, LINE_LEN, "w %x %04x %016" PRIx64, byte, offset, value); break;
+    default: snprintf(line, LINE_LEN, "d"); break;
+    }
+}
+
+/* What it gave, as a session answers: a refusal, an event, a value, or that it is done. */
+static void print_answer(const struct pic_step *step)
+{
+    unsigned kind = step->record[PCH_PIC_RECORD_KIND], number = step->answer[PCH_PIC_ANSWER_NUMBER];
+    if (number != PCH_PIC_DONE) {
+        printf("e%u\n", number);
+    } else if (kind == PCH_PIC_READ) {
+        printf("= %016" PRIx64 "\n", number_at(step->answer + PCH_PIC_ANSWER_VALUE, 8));
+    } else if (kind == PCH_PIC_WRITE) {
+        printf("ok\n");
+    } else if (kind == PCH_PIC_DRAIN) {
+        printf("d");
+        for (size_t i = 0; i < step->drained; i++) {
+            const uint8_t *event = step->events + PCH_PIC_EVENT_LEN * i;
+            printf(" %c%02x", event[PCH_PIC_EVENT_FLAG] == 1 ? '+' : '-', event[PCH_PIC_EVENT_VECTOR]);
+        }
+        printf("\n");
+    } else if (step->answer[PCH_PIC_ANSWER_PRESENT] == 1) {
+        printf("v %02x\n", step->answer[PCH_PIC_ANSWER_VECTOR]);
+    } else {
+        printf("-\n");
+    }
+}
+
+/* How many events were dropped is in the image. */
+static unsigned long drops_of(const uint8_t *image, size_t len)
+{
+    struct pic pic;
+    return pic_init(&pic, 0) == PCH_PIC_DONE && pic_take(&pic, image, len, NULL) == PCH_PIC_DONE ? pic_drops(&pic) : 0;
+}
+
+static void play(const char *name)
+{
+    static struct pic_played played;
+    struct pic_step step = {0};
+    char line[LINE_LEN];
+    size_t len = 0;
+    uint64_t bad = 0;
+    int number = pic_trace_load(opened(name), trace, &len);
+    if (number == PCH_PIC_DONE) {
+        number = pic_trace_play(trace, len, &played, &bad);
+    }
+    if (number == PCH_PIC_RECORD) {
+        fprintf(stderr, "day: %s: refused with %d: %s, number %" PRIu64 " from 0 on\n", told(name), number, pic_why(number), bad);
+        exit(1);
+    }
+    if (number == PIC_FILE) {
+        fail(told(name), pic_why(number));
+    }
+    if (number != PCH_PIC_DONE) {
+        fprintf(stderr, "day: %s: refused with %d: %s\n", told(name), number, pic_why(number));
+        exit(1);
+    }
+    while (pic_trace_step(trace, &played, &step)) {
+        print_line(step.record, line);
+        printf("%-25s   ", line);
+        print_answer(&step);
+    }
+    printf("%-25s   drops %08lx\n", "(end)", drops_of(played.image, sizeof played.image));
+    if (fflush(stdout) != 0 || ferror(stdout)) {
+        fail("standard output", strerror(errno));
+    }
+}
+
+int main(int argc, char **argv)
+{
+    if (argc == 3 && strcmp(argv[1], "--play") == 0) {
+        play(argv[2]);
+    } else if ((argc == 3 || argc == 4) && strcmp(argv[1], "--record") == 0) {
+        record(argv[2], argc == 4 ? argv[3] : "-");
+    } else {
+        fprintf(stderr, "usage: day --play FILE | day --record FILE [LINES]\n");
+        return 2;
+    }
+    return 0;
+}

@@ -1,0 +1,378 @@
+/* The recorder keeps records and the lengths of closed blocks; contents are made of them only at the end, since they stand in front and grow with the
+ * blocks. A planned day knows its contents from the start, and so each of its records has a place in the file. */
+#define _POSIX_C_SOURCE 200809L
+#include "recorder.h"
+
+#include <errno.h>
+#include <fcntl.h>
+#include <stdio.h>
+#include <string.h>
+#include <unistd.h>
+
+enum { NO_FILE = -1, MOST_BYTE = 0xff, MOST_OFFSET = 0xffff };
+
+static void put(uint8_t *bytes, size_t len, uint64_t value)
+{
+    for (size_t i = 0; i < len; i++) {
+        bytes[i] = (uint8_t)(value >> 8 * i);
+    }
+}
+
+static uint64_t get(const uint8_t *bytes, size_t len)
+{
+    uint64_t value = 0;
+    while (len > 0) {
+        len--;
+        value = value << 8 | bytes[len];
+    }
+    return value;
+}
+
+static size_t contents_len(size_t blocks)
+{
+    return PCH_PIC_TRACE_ENTRIES + PCH_PIC_BLOCK_LEN * blocks;
+}
+
+/* The contents of blocks with so many records each; how many bytes they are. */
+static size_t put_contents(uint8_t *trace, const uint16_t *blocks, size_t count)
+{
+    size_t at = contents_len(count);
+    put(trace + PCH_PIC_TRACE_BLOCKS, 2, count);
+    for (size_t block = 0; block < count; block++) {
+        uint8_t *entry = trace + contents_len(block);
+        put(entry + PCH_PIC_BLOCK_OFFSET, 2, at);
+        put(entry + PCH_PIC_BLOCK_RECORDS, 2, blocks[block]);
+        at += (size_t)PCH_PIC_RECORD_LEN * blocks[block];
+    }
+    return contents_len(count);
+}
+
+void pic_recorder_begin(struct pic_recorder *recorder)
+{
+    memset(recorder, 0, sizeof *recorder);
+    recorder->most = PCH_PIC_RECORDS_MAX;
+    recorder->file = NO_FILE;
+}
+
+int pic_recorder_plan(struct pic_recorder *recorder, const uint16_t *blocks, size_t count)
+{
+    size_t records = 0;
+    if (count < 1 || count > PCH_PIC_BLOCKS_MAX) {
+        return PIC_PLAN;
+    }
+    for (size_t block = 0; block < count; block++) {
+        records += blocks[block];
+        if (blocks[block] == 0 || records > PCH_PIC_RECORDS_MAX) {
+            return PIC_PLAN;
+        }
+    }
+    pic_recorder_begin(recorder);
+    memcpy(recorder->plan, blocks, count * sizeof blocks[0]);
+    recorder->planned = count;
+    recorder->most = records;
+    return PCH_PIC_DONE;
+}
+
+int pic_recorder_keep(struct pic_recorder *recorder, const char *path)
+{
+    uint8_t trace[PCH_PIC_TRACE_MAX] = {0};
+    if (recorder->planned == 0) {
+        return PIC_PLAN;
+    }
+    if (recorder->count != 0 || recorder->file != NO_FILE) {
+        return PIC_STARTED;
+    }
+    size_t len = put_contents(trace, recorder->plan, recorder->planned) + PCH_PIC_RECORD_LEN * recorder->most;
+    int number = pic_replace(path, trace, len);
+    if (number == PCH_PIC_DONE) {
+        recorder->file = open(path, O_WRONLY | O_CLOEXEC);
+        number = recorder->file < 0 ? PIC_FILE : PCH_PIC_DONE;
+    }
+    return number;
+}
+
+/* Writes a record at its place in the file; a full block goes to the disk, so that it outlasts a lost power. */
+static bool keep(const struct pic_recorder *recorder, const uint8_t *record, bool full)
+{
+    off_t place = (off_t)(contents_len(recorder->planned) + PCH_PIC_RECORD_LEN * recorder->count);
+    for (size_t done = 0; done < PCH_PIC_RECORD_LEN;) {
+        ssize_t more = pwrite(recorder->file, record + done, PCH_PIC_RECORD_LEN - done, place + (off_t)done);
+        if (more == 0 || (more < 0 && errno != EINTR)) {
+            return false;
+        }
+        done += more > 0 ? (size_t)more : 0;
+    }
+    return !full || fdatasync(recorder->file) == 0;
+}
+
+static void close_block(struct pic_recorder *recorder)
+{
+    recorder->blocks[recorder->closed] = (uint16_t)recorder->open;
+    recorder->closed++;
+    recorder->open = 0;
+}
+
+/* Room is tested before anything is taken. In a planned day the plan has room for most records, each in its block. */
+static int take(struct pic_recorder *recorder, const uint8_t record[PCH_PIC_RECORD_LEN])
+{
+    if (recorder->count == recorder->most) {
+        return PIC_FULL;
+    }
+    if (recorder->closed == PCH_PIC_BLOCKS_MAX) {
+        return PIC_BLOCKS;
+    }
+    bool full = recorder->planned != 0 && recorder->open + 1 == recorder->plan[recorder->closed];
+    if (recorder->file != NO_FILE && !keep(recorder, record, full)) {
+        return PIC_FILE;
+    }
+    memcpy(recorder->records + PCH_PIC_RECORD_LEN * recorder->count, record, PCH_PIC_RECORD_LEN);
+    recorder->count++;
+    recorder->open++;
+    if (full) {
+        close_block(recorder);
+    }
+    return PCH_PIC_DONE;
+}
+
+static int take_call(struct pic_recorder *recorder, int kind, uint64_t of, uint64_t offset, uint64_t value)
+{
+    uint8_t record[PCH_PIC_RECORD_LEN] = {0};
+    if (of > MOST_BYTE) {
+        return PIC_BYTE;
+    }
+    record[PCH_PIC_RECORD_KIND] = (uint8_t)kind;
+    record[PCH_PIC_RECORD_BYTE] = (uint8_t)of;
+    put(record + PCH_PIC_RECORD_OFFSET, 2, offset);
+    put(record + PCH_PIC_RECORD_VALUE, 8, value);
+    return take(recorder, record);
+}
+
+static bool known_width(uint64_t width)
+{
+    return width == 1 || width == 2 || width == 4 || width == 8;
+}
+
+/* Whether width bytes at address, which is not below base, are inside the window; none is that reaches address 2^64 - 1. */
+static bool inside(uint64_t base, uint64_t size, uint64_t address, uint64_t width)
+{
+    uint64_t offset = address - base;
+    return offset <= size && width <= size - offset && width <= UINT64_MAX - address;
+}
+
+/* An access of an unknown width is refused by every window alike. One that is outside is refused with its address, which is the offset only where
+ * the base is 0; and it may be inside the larger window that a trace is played in. */
+static int access_of(uint64_t base, uint64_t size, uint64_t address, uint64_t width)
+{
+    if (address < base || address - base > MOST_OFFSET) {
+        return PIC_OFFSET;
+    }
+    if (width > MOST_BYTE) {
+        return PIC_BYTE;
+    }
+    bool here = inside(base, size, address, width), there = inside(0, PCH_PIC_PLAY_SIZE, address - base, width);
+    bool alike = !known_width(width) || (here && there) || (!here && !there && base == 0);
+    return alike ? PCH_PIC_DONE : PIC_REFUSED;
+}
+
+int pic_recorder_raise(struct pic_recorder *recorder, uint64_t input)
+{
+    return take_call(recorder, PCH_PIC_RAISE, input, 0, 0);
+}
+
+int pic_recorder_lower(struct pic_recorder *recorder, uint64_t input)
+{
+    return take_call(recorder, PCH_PIC_LOWER, input, 0, 0);
+}
+
+int pic_recorder_poll(struct pic_recorder *recorder, uint64_t input)
+{
+    return take_call(recorder, PCH_PIC_POLL, input, 0, 0);
+}
+
+int pic_recorder_read(struct pic_recorder *recorder, uint64_t base, uint64_t size, uint64_t address, uint64_t width)
+{
+    int number = access_of(base, size, address, width);
+    return number == PCH_PIC_DONE ? take_call(recorder, PCH_PIC_READ, width, address - base, 0) : number;
+}
+
+int pic_recorder_write(struct pic_recorder *recorder, uint64_t base, uint64_t size, uint64_t address, uint64_t width, uint64_t value)
+{
+    int number = access_of(base, size, address, width);
+    return number == PCH_PIC_DONE ? take_call(recorder, PCH_PIC_WRITE, width, address - base, value) : number;
+}
+
+int pic_recorder_drain(struct pic_recorder *recorder, size_t room)
+{
+    return room < PCH_PIC_DRAIN_ROOM ? PIC_SOME : take_call(recorder, PCH_PIC_DRAIN, 0, 0, 0);
+}
+
+int pic_recorder_close(struct pic_recorder *recorder)
+{
+    if (recorder->planned != 0) {
+        return PIC_PLANNED;
+    }
+    if (recorder->open == 0) {
+        return PIC_EMPTY;
+    }
+    close_block(recorder);
+    return PCH_PIC_DONE;
+}
+
+static int take_watched(struct pic_recorder *recorder, const struct pic *pic, const struct pic_call *call)
+{
+    switch (call->kind) {
+    case PCH_PIC_RAISE: return pic_recorder_raise(recorder, call->of);
+    case PCH_PIC_LOWER: return pic_recorder_lower(recorder, call->of);
+    case PCH_PIC_POLL: return pic_recorder_poll(recorder, call->of);
+    case PCH_PIC_READ: return pic_recorder_read(recorder, pic->base, pic->size, call->address, call->of);
+    case PCH_PIC_WRITE: return pic_recorder_write(recorder, pic->base, pic->size, call->address, call->of, call->value);
+    case PCH_PIC_DRAIN: return pic_recorder_drain(recorder, PCH_PIC_DRAIN_ROOM);
+    case PIC_CALL_RESET: return PIC_AGAIN;
+    default: return PIC_LOADED;
+    }
+}
+
+/* A call that is left out would make all that follows play otherwise, so the first that is not taken is the end. */
+static void watched(void *watcher, const struct pic *pic, const struct pic_call *call)
+{
+    struct pic_recorder *recorder = watcher;
+    if (recorder->stopped == PCH_PIC_DONE) {
+        recorder->stopped = take_watched(recorder, pic, call);
+        recorder->error = recorder->stopped == PIC_FILE ? errno : 0;
+    }
+}
+
+int pic_recorder_watch(struct pic_recorder *recorder, struct pic *pic)
+{
+    uint8_t fresh[PCH_PIC_IMAGE2_NUMBERED_LEN], answer[PCH_PIC_ANSWER_LEN];
+    int number = pch_pic_reset(fresh, sizeof fresh, answer, sizeof answer);
+    if (number != PCH_PIC_DONE) {
+        return number;
+    }
+    if (recorder->count != 0 || memcmp(fresh, pic->image, sizeof fresh) != 0) {
+        return PIC_STARTED;
+    }
+    pic->watch = watched;
+    pic->watcher = recorder;
+    return PCH_PIC_DONE;
+}
+
+int pic_recorder_finish(const struct pic_recorder *recorder, uint8_t trace[PCH_PIC_TRACE_MAX], size_t *len)
+{
+    uint16_t blocks[PCH_PIC_BLOCKS_MAX];
+    size_t count = recorder->closed, records = PCH_PIC_RECORD_LEN * recorder->count;
+    if (recorder->count == 0) {
+        return PIC_EMPTY;
+    }
+    memcpy(blocks, recorder->blocks, sizeof blocks);
+    if (recorder->open != 0) {
+        blocks[count] = (uint16_t)recorder->open;
+        count++;
+    }
+    size_t first = put_contents(trace, blocks, count);
+    memcpy(trace + first, recorder->records, records);
+    *len = first + records;
+    return PCH_PIC_DONE;
+}
+
+int pic_recorder_save(const struct pic_recorder *recorder, const char *path)
+{
+    uint8_t trace[PCH_PIC_TRACE_MAX];
+    size_t len;
+    int number = pic_recorder_finish(recorder, trace, &len);
+    return number == PCH_PIC_DONE ? pic_replace(path, trace, len) : number;
+}
+
+int pic_recorder_end(struct pic_recorder *recorder)
+{
+    int file = recorder->file;
+    if (file == NO_FILE) {
+        return PCH_PIC_DONE;
+    }
+    recorder->file = NO_FILE;
+    recorder->most = recorder->count;
+    bool synced = fsync(file) == 0;
+    int why = errno;
+    bool closed = close(file) == 0;
+    if (!synced) {
+        errno = why;
+    }
+    return synced && closed ? PCH_PIC_DONE : PIC_FILE;
+}
+
+int pic_trace_load(const char *path, uint8_t trace[PCH_PIC_TRACE_MAX], size_t *len)
+{
+    FILE *file = fopen(path, "rb");
+    if (file == NULL) {
+        return PIC_FILE;
+    }
+    *len = fread(trace, 1, PCH_PIC_TRACE_MAX, file);
+    bool longer = *len == PCH_PIC_TRACE_MAX && fgetc(file) != EOF, failed = ferror(file) != 0;
+    int why = errno;
+    fclose(file);
+    errno = why;
+    return failed ? PIC_FILE : longer ? PCH_PIC_TRACE : PCH_PIC_DONE;
+}
+
+static int refused(int number, const uint8_t answer[PCH_PIC_ANSWER_LEN], uint64_t *bad)
+{
+    if (number == PCH_PIC_RECORD && bad != NULL) {
+        *bad = get(answer + PCH_PIC_ANSWER_VALUE, 8);
+    }
+    return number;
+}
+
+/* With no room for answers a good trace, which has a record, is refused with 7, and that last. */
+int pic_trace_test(const uint8_t *trace, size_t len, uint64_t *bad)
+{
+    uint8_t image[PCH_PIC_IMAGE2_NUMBERED_LEN] = {0}, answer[PCH_PIC_ANSWER_LEN];
+    int number = pch_pic_play(trace, len, image, sizeof image, NULL, 0, NULL, 0, answer, sizeof answer);
+    return number == PCH_PIC_ROOM ? PCH_PIC_DONE : refused(number, answer, bad);
+}
+
+int pic_trace_play(const uint8_t *trace, size_t len, struct pic_played *played, uint64_t *bad)
+{
+    uint8_t answer[PCH_PIC_ANSWER_LEN];
+    int number = pch_pic_play(trace, len, played->image, sizeof played->image, played->answers, sizeof played->answers, played->events,
+                              sizeof played->events, answer, sizeof answer);
+    if (number == PCH_PIC_DONE) {
+        played->records = (size_t)get(answer + PCH_PIC_ANSWER_VALUE, 8);
+    }
+    return refused(number, answer, bad);
+}
+
+bool pic_trace_step(const uint8_t *trace, const struct pic_played *played, struct pic_step *step)
+{
+    if (step->record == NULL) {
+        step->events = played->events;
+    } else {
+        step->number++;
+        step->events += PCH_PIC_EVENT_LEN * step->drained;
+    }
+    if (step->number >= played->records) {
+        return false;
+    }
+    step->record = trace + contents_len((size_t)get(trace + PCH_PIC_TRACE_BLOCKS, 2)) + PCH_PIC_RECORD_LEN * step->number;
+    step->answer = played->answers + PCH_PIC_ANSWER_LEN * step->number;
+    step->drained = step->record[PCH_PIC_RECORD_KIND] == PCH_PIC_DRAIN ? (size_t)get(step->answer + PCH_PIC_ANSWER_VALUE, 8) : 0;
+    return true;
+}
+
+const char *pic_recorder_why(int number)
+{
+    switch (number) {
+    case PIC_FULL: return "the trace has all the records that it can have";
+    case PIC_BLOCKS: return "the trace has 64 blocks, and takes no more";
+    case PIC_EMPTY: return "a block or a trace without a record is none";
+    case PIC_PLAN: return "there is no plan of 1 to 64 blocks with at most 4000 records, none empty";
+    case PIC_PLANNED: return "the blocks are planned, and end where the plan says";
+    case PIC_BYTE: return "no record can say it: the input or the width is over 255";
+    case PIC_OFFSET: return "no record can say it: the address is not 0 to 65535 above the window's base";
+    case PIC_REFUSED: return "no record can say it: the window refuses the access, and a trace plays it otherwise";
+    case PIC_SOME: return "no record can say it: the drain has room for some events only";
+    case PIC_AGAIN: return "no record can say it: a reset";
+    case PIC_LOADED: return "no record can say it: a load";
+    case PIC_STARTED: return "the device or the recorder is not at its start, and a trace begins with a reset";
+    default: return pic_why(number);
+    }
+}

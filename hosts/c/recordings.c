@@ -1,0 +1,489 @@
+/* Days recorded and played back: every byte that the live calls gave comes again. Also what a recorder refuses, days that are cut short, and files.
+ *     recordings FOLDER   plays them, with its files in FOLDER; the last line is 'N passed, M failed' */
+#define _POSIX_C_SOURCE 200809L
+#include "recorder.h"
+
+#include <errno.h>
+#include <signal.h>
+#include <stdio.h>
+#include <stdlib.h>
+#include <string.h>
+#include <sys/stat.h>
+#include <sys/wait.h>
+#include <unistd.h>
+
+enum { BASE = 0x10000000, IMAGE_LEN = PCH_PIC_IMAGE2_NUMBERED_LEN, ANSWER_LEN = PCH_PIC_ANSWER_LEN, PATH_LEN = 4096 };
+
+static int passed, failed;
+
+static void expect(const char *what, bool ok)
+{
+    if (ok) {
+        passed++;
+    } else {
+        failed++;
+        printf("FAILED: %s\n", what);
+    }
+}
+
+static struct pic_recorder recorder;
+static struct pic_played played;
+static uint8_t trace[PCH_PIC_TRACE_MAX], again[PCH_PIC_TRACE_MAX];
+static char path[PATH_LEN];
+
+/* What the live calls gave, as a play gives it. */
+static struct {
+    uint8_t image[IMAGE_LEN];
+    uint8_t answers[PCH_PIC_RECORDS_MAX * ANSWER_LEN];
+    uint8_t events[(size_t)PCH_PIC_RECORDS_MAX * PCH_PIC_DRAIN_ROOM];
+    size_t calls, drained;
+} live;
+
+static void start_live(void)
+{
+    uint8_t answer[ANSWER_LEN];
+    memset(&live, 0, sizeof live);
+    expect("a live device", pch_pic_reset(live.image, IMAGE_LEN, answer, ANSWER_LEN) == PCH_PIC_DONE);
+}
+
+/* One call, of the library itself and with the window of a host, and its record. */
+static int both(int kind, uint64_t of, uint64_t offset, uint64_t value)
+{
+    uint8_t *image = live.image, *answer = live.answers + ANSWER_LEN * live.calls, *events = live.events + live.drained;
+    uint64_t at = BASE + offset, size = PCH_PIC_WINDOW_LEN;
+    live.calls++;
+    switch (kind) {
+    case PCH_PIC_RAISE: pch_pic_level(image, IMAGE_LEN, of, 1, answer, ANSWER_LEN); return pic_recorder_raise(&recorder, of);
+    case PCH_PIC_LOWER: pch_pic_level(image, IMAGE_LEN, of, 0, answer, ANSWER_LEN); return pic_recorder_lower(&recorder, of);
+    case PCH_PIC_POLL: pch_pic_poll(image, IMAGE_LEN, of, answer, ANSWER_LEN); return pic_recorder_poll(&recorder, of);
+    case PCH_PIC_READ: pch_pic_read(image, IMAGE_LEN, BASE, size, at, of, answer, ANSWER_LEN); return pic_recorder_read(&recorder, BASE, size, at, of);
+    case PCH_PIC_WRITE:
+        pch_pic_write(image, IMAGE_LEN, BASE, size, at, of, value, answer, ANSWER_LEN);
+        return pic_recorder_write(&recorder, BASE, size, at, of, value);
+    default:
+        pch_pic_drain(image, IMAGE_LEN, events, PCH_PIC_DRAIN_ROOM, 0, answer, ANSWER_LEN);
+        live.drained += PCH_PIC_EVENT_LEN * answer[PCH_PIC_ANSWER_VALUE];
+        return pic_recorder_drain(&recorder, PCH_PIC_DRAIN_ROOM);
+    }
+}
+
+static void does(int kind, uint64_t of, uint64_t offset, uint64_t value)
+{
+    int number = both(kind, of, offset, value);
+    if (number != PCH_PIC_DONE) {
+        expect(pic_recorder_why(number), false);
+    }
+}
+
+/* Whether the trace plays to every byte that the live calls gave, and to no other: what is behind them stays. */
+static bool plays_alike(size_t len)
+{
+    memset(&played, 0xa5, sizeof played);
+    if (pic_trace_test(trace, len, NULL) != PCH_PIC_DONE || pic_trace_play(trace, len, &played, NULL) != PCH_PIC_DONE) {
+        return false;
+    }
+    size_t answers = ANSWER_LEN * live.calls;
+    bool alike = played.records == live.calls && memcmp(played.image, live.image, IMAGE_LEN) == 0;
+    alike = alike && memcmp(played.answers, live.answers, answers) == 0 && memcmp(played.events, live.events, live.drained) == 0;
+    alike = alike && (answers == sizeof played.answers || played.answers[answers] == 0xa5);
+    return alike && (live.drained == sizeof played.events || played.events[live.drained] == 0xa5);
+}
+
+/* Whether the records of a played trace are met one by one, each with its own answer and events. */
+static bool steps_through(void)
+{
+    struct pic_step step = {0};
+    size_t met = 0, events = 0;
+    while (pic_trace_step(trace, &played, &step)) {
+        bool own = step.number == met && step.answer == played.answers + ANSWER_LEN * met && step.events == played.events + events;
+        if (!own || (step.drained != 0 && step.record[0] != PCH_PIC_DRAIN) || memcmp(step.record, recorder.records + PCH_PIC_RECORD_LEN * met, 16) != 0) {
+            return false;
+        }
+        events += PCH_PIC_EVENT_LEN * step.drained;
+        met++;
+    }
+    return met == live.calls && events == live.drained;
+}
+
+/* Vectors and routes as a driver sets them, and everything masked and cleared. */
+static void start_up(void)
+{
+    for (uint64_t input = 0; input < PCH_PIC_INPUTS; input++) {
+        does(PCH_PIC_WRITE, 1, PCH_PIC_REG_VECTORS + input, 0x40 + input);
+    }
+    does(PCH_PIC_WRITE, 8, PCH_PIC_REG_MASK, UINT64_MAX);
+    does(PCH_PIC_WRITE, 8, PCH_PIC_REG_CLEAR, UINT64_MAX);
+    does(PCH_PIC_READ, 8, PCH_PIC_REG_ID, 0);
+}
+
+/* Seventeen lines go up, and are masked at once: sixteen events wait, and one is dropped. */
+static void seventeen(void)
+{
+    does(PCH_PIC_WRITE, 4, PCH_PIC_REG_MASK, 0);
+    for (uint64_t input = 0; input <= PCH_PIC_EVENTS; input++) {
+        does(PCH_PIC_RAISE, input, 0, 0);
+    }
+    does(PCH_PIC_WRITE, 4, PCH_PIC_REG_MASK, 0xffffffff);
+    expect("one event was dropped", live.answers[ANSWER_LEN * (live.calls - 1) + PCH_PIC_ANSWER_VALUE] == 1);
+    does(PCH_PIC_DRAIN, 0, 0, 0);
+    expect("sixteen were drained", live.drained == (size_t)PCH_PIC_DRAIN_ROOM);
+}
+
+static void refused_calls(void)
+{
+    size_t from = ANSWER_LEN * live.calls;
+    does(PCH_PIC_RAISE, 64, 0, 0);
+    does(PCH_PIC_LOWER, 255, 0, 0);
+    does(PCH_PIC_POLL, 64, 0, 0);
+    does(PCH_PIC_READ, 3, PCH_PIC_REG_ID, 0);
+    does(PCH_PIC_WRITE, 0, PCH_PIC_REG_MASK, 0);
+    does(PCH_PIC_READ, 255, 0xffff, 0);
+    expect("refused calls have answers", live.answers[from] == PCH_PIC_INPUT && live.answers[ANSWER_LEN * (live.calls - 1)] == PCH_PIC_WIDTH);
+}
+
+static void a_day(void)
+{
+    size_t len = 0;
+    start_live();
+    pic_recorder_begin(&recorder);
+    start_up();
+    expect("the start-up is a block", pic_recorder_close(&recorder) == PCH_PIC_DONE);
+    seventeen();
+    refused_calls();
+    expect("another", pic_recorder_close(&recorder) == PCH_PIC_DONE);
+    does(PCH_PIC_LOWER, 3, 0, 0);
+    does(PCH_PIC_WRITE, 4, PCH_PIC_REG_MASK, 0xfffffff0);
+    does(PCH_PIC_POLL, 1, 0, 0);
+    does(PCH_PIC_READ, 4, PCH_PIC_WINDOW_LEN - 4, 0);
+    does(PCH_PIC_DRAIN, 0, 0, 0);
+    does(PCH_PIC_DRAIN, 0, 0, 0);
+    expect("a day is finished", pic_recorder_finish(&recorder, trace, &len) == PCH_PIC_DONE);
+    expect("three blocks", trace[0] == 3 && trace[1] == 0 && len == 14 + 16 * live.calls);
+    expect("67 records in the first, right behind the contents", trace[2] == 14 && trace[3] == 0 && trace[4] == 67 && trace[5] == 0);
+    expect("a day plays to the same bytes", plays_alike(len));
+    expect("and is gone through record by record", steps_through());
+    trace[14 + 16 * 70 + 4] = 1;
+    uint64_t bad = 0;
+    expect("a changed byte is found, with its record", pic_trace_test(trace, len, &bad) == PCH_PIC_RECORD && bad == 70);
+    memset(&played, 0x77, sizeof played);
+    expect("and nothing is played", pic_trace_play(trace, len, &played, &bad) == PCH_PIC_RECORD && played.answers[0] == 0x77 && played.image[0] == 0x77);
+}
+
+static uint64_t chance(void)
+{
+    static uint64_t state = 0x9e3779b97f4a7c15;
+    state ^= state << 13;
+    state ^= state >> 7;
+    state ^= state << 17;
+    return state;
+}
+
+/* Few drains, so that events are dropped too. */
+static int any_kind(uint64_t dice)
+{
+    dice %= 256;
+    return dice < 80    ? PCH_PIC_RAISE
+           : dice < 100 ? PCH_PIC_LOWER
+           : dice < 120 ? PCH_PIC_POLL
+           : dice < 140 ? PCH_PIC_READ
+           : dice < 255 ? PCH_PIC_WRITE
+                        : PCH_PIC_DRAIN;
+}
+
+static void any_call(void)
+{
+    static const uint16_t offsets[] = {PCH_PIC_REG_MASK, PCH_PIC_REG_MASK + 4, PCH_PIC_REG_CLEAR, PCH_PIC_REG_ISR, PCH_PIC_REG_VECTORS, PCH_PIC_REG_POL};
+    uint64_t dice = chance(), offset = offsets[(dice >> 16) % 6] + (dice >> 24 & 7), width = UINT64_C(1) << (dice >> 12 & 3);
+    int kind = any_kind(dice);
+    if (kind == PCH_PIC_READ || kind == PCH_PIC_WRITE) {
+        does(kind, width, offset, kind == PCH_PIC_WRITE ? chance() & chance() : 0);
+    } else {
+        does(kind, kind == PCH_PIC_DRAIN ? 0 : dice >> 32 & 31, 0, 0);
+    }
+}
+
+/* As long as a day can be: 4000 records in 64 blocks. */
+static void the_longest_day(void)
+{
+    size_t len = 0;
+    start_live();
+    pic_recorder_begin(&recorder);
+    while (live.calls < PCH_PIC_RECORDS_MAX) {
+        any_call();
+        if (live.calls % 62 == 0 && live.calls / 62 < PCH_PIC_BLOCKS_MAX && pic_recorder_close(&recorder) != PCH_PIC_DONE) {
+            expect("a block of 62 is closed", false);
+        }
+    }
+    expect("record 4001 is refused", pic_recorder_raise(&recorder, 1) == PIC_FULL);
+    expect("4000 records are finished", pic_recorder_finish(&recorder, trace, &len) == PCH_PIC_DONE && len == 64258 && trace[0] == 64);
+    expect("they play to the same bytes", plays_alike(len));
+    expect("and are gone through", steps_through());
+    struct pic pic;
+    expect("some events were dropped", pic_init(&pic, 0) == 0 && pic_take(&pic, played.image, IMAGE_LEN, NULL) == 0 && pic_drops(&pic) > 0);
+}
+
+static void limits(void)
+{
+    size_t len = 7;
+    int number = PCH_PIC_DONE;
+    pic_recorder_begin(&recorder);
+    expect("no record is no trace", pic_recorder_finish(&recorder, trace, &len) == PIC_EMPTY && len == 7);
+    expect("no record is no block", pic_recorder_close(&recorder) == PIC_EMPTY);
+    for (int block = 0; block < PCH_PIC_BLOCKS_MAX && number == PCH_PIC_DONE; block++) {
+        number = pic_recorder_poll(&recorder, 1);
+        number = number == PCH_PIC_DONE ? pic_recorder_close(&recorder) : number;
+    }
+    expect("64 blocks of one", number == PCH_PIC_DONE);
+    expect("a closed block is not closed again", pic_recorder_close(&recorder) == PIC_EMPTY);
+    expect("block 65 is refused", pic_recorder_drain(&recorder, 64) == PIC_BLOCKS);
+    expect("64 blocks are a trace", pic_recorder_finish(&recorder, trace, &len) == PCH_PIC_DONE && len == 258 + 64 * 16);
+    expect("a good one", pic_trace_test(trace, len, NULL) == PCH_PIC_DONE);
+}
+
+static void plans(void)
+{
+    uint16_t blocks[PCH_PIC_BLOCKS_MAX + 1];
+    size_t len = 0;
+    for (size_t i = 0; i <= PCH_PIC_BLOCKS_MAX; i++) {
+        blocks[i] = 1;
+    }
+    expect("a plan of no block", pic_recorder_plan(&recorder, blocks, 0) == PIC_PLAN);
+    expect("a plan of 65", pic_recorder_plan(&recorder, blocks, PCH_PIC_BLOCKS_MAX + 1) == PIC_PLAN);
+    expect("a plan of 64", pic_recorder_plan(&recorder, blocks, PCH_PIC_BLOCKS_MAX) == PCH_PIC_DONE);
+    blocks[1] = 0;
+    expect("a plan with an empty block", pic_recorder_plan(&recorder, blocks, 2) == PIC_PLAN);
+    blocks[0] = 3999;
+    blocks[1] = 2;
+    expect("a plan of 4001 records", pic_recorder_plan(&recorder, blocks, 2) == PIC_PLAN);
+    blocks[0] = 2;
+    expect("a plan of 2 and 2", pic_recorder_plan(&recorder, blocks, 2) == PCH_PIC_DONE);
+    expect("its blocks close themselves", pic_recorder_raise(&recorder, 1) == PCH_PIC_DONE && pic_recorder_close(&recorder) == PIC_PLANNED);
+    expect("three of four", pic_recorder_raise(&recorder, 2) == PCH_PIC_DONE && pic_recorder_raise(&recorder, 3) == PCH_PIC_DONE);
+    expect("are a good trace", pic_recorder_finish(&recorder, trace, &len) == PCH_PIC_DONE && pic_trace_test(trace, len, NULL) == PCH_PIC_DONE);
+    expect("of 2 and 1", trace[0] == 2 && trace[4] == 2 && trace[8] == 1 && len == 10 + 3 * 16);
+    expect("the fourth is the last", pic_recorder_raise(&recorder, 4) == PCH_PIC_DONE && pic_recorder_raise(&recorder, 5) == PIC_FULL);
+}
+
+/* Each leaves the recorder as it was. */
+static void what_no_record_can_say(void)
+{
+    const uint64_t window = PCH_PIC_WINDOW_LEN, large = UINT64_C(1) << 32;
+    pic_recorder_begin(&recorder);
+    expect("input 256", pic_recorder_raise(&recorder, 256) == PIC_BYTE && pic_recorder_lower(&recorder, UINT64_MAX) == PIC_BYTE);
+    expect("a poll of input 256", pic_recorder_poll(&recorder, 256) == PIC_BYTE);
+    expect("width 256", pic_recorder_read(&recorder, 0, window, 0, 256) == PIC_BYTE);
+    expect("a write of width 2^32 + 4", pic_recorder_write(&recorder, 0, window, 0, large + 4, 0) == PIC_BYTE);
+    expect("an address below the base", pic_recorder_read(&recorder, BASE, window, BASE - 1, 4) == PIC_OFFSET);
+    expect("an offset of 65536", pic_recorder_write(&recorder, BASE, large, BASE + 65536, 4, 0) == PIC_OFFSET);
+    expect("outside the window, inside that of a trace", pic_recorder_read(&recorder, 0, window, window, 4) == PIC_REFUSED);
+    expect("over the window's end", pic_recorder_write(&recorder, BASE, window, BASE + window - 4, 8, 0) == PIC_REFUSED);
+    expect("outside both, with another address", pic_recorder_read(&recorder, BASE, window, BASE + 65535, 2) == PIC_REFUSED);
+    expect("inside a large window, outside that of a trace", pic_recorder_read(&recorder, 0, large, 65535, 2) == PIC_REFUSED);
+    expect("at the end of all addresses", pic_recorder_read(&recorder, UINT64_MAX - 3, window, UINT64_MAX - 3, 4) == PIC_REFUSED);
+    expect("a drain of some", pic_recorder_drain(&recorder, PCH_PIC_DRAIN_ROOM - 1) == PIC_SOME);
+    expect("none of them was taken", recorder.count == 0 && recorder.open == 0);
+}
+
+/* Refused by the window and by that of a trace alike, with the same address. */
+static void what_it_can_say_though_it_is_refused(void)
+{
+    size_t len = 0;
+    uint8_t answer[ANSWER_LEN];
+    start_live();
+    pic_recorder_begin(&recorder);
+    pch_pic_read(live.image, IMAGE_LEN, 0, PCH_PIC_WINDOW_LEN, 65535, 2, live.answers, ANSWER_LEN);
+    live.calls++;
+    expect("outside both windows", pic_recorder_read(&recorder, 0, PCH_PIC_WINDOW_LEN, 65535, 2) == PCH_PIC_DONE);
+    pch_pic_write(live.image, IMAGE_LEN, UINT64_MAX - 3, 4, UINT64_MAX - 3, 2, 5, live.answers + ANSWER_LEN, ANSWER_LEN);
+    live.calls++;
+    expect("inside, near the end of all addresses", pic_recorder_write(&recorder, UINT64_MAX - 3, 4, UINT64_MAX - 3, 2, 5) == PCH_PIC_DONE);
+    expect("a trace of both", pic_recorder_finish(&recorder, trace, &len) == PCH_PIC_DONE);
+    expect("plays alike", plays_alike(len) && played.answers[0] == PCH_PIC_OUTSIDE && played.answers[8] == 0xff && played.answers[16] == PCH_PIC_DONE);
+    expect("in a form without numbers too", pch_pic_play(trace, len, played.image, PCH_PIC_IMAGE_LEN, played.answers, 32, NULL, 0, answer, ANSWER_LEN) == 0);
+}
+
+/* A child that records so many calls and is killed. */
+static bool cut_short(const uint16_t *blocks, size_t count, unsigned calls)
+{
+    int status = 0;
+    fflush(stdout);
+    pid_t child = fork();
+    if (child == 0) {
+        int number = pic_recorder_plan(&recorder, blocks, count);
+        number = number == PCH_PIC_DONE ? pic_recorder_keep(&recorder, path) : number;
+        for (unsigned call = 0; call < calls && number == PCH_PIC_DONE; call++) {
+            number = pic_recorder_write(&recorder, BASE, PCH_PIC_WINDOW_LEN, BASE + PCH_PIC_REG_POL, 8, 0x0101010101010101 * (call + 1));
+        }
+        if (number != PCH_PIC_DONE) {
+            _exit(1);
+        }
+        raise(SIGKILL);
+    }
+    return child > 0 && waitpid(child, &status, 0) == child && WIFSIGNALED(status) && WTERMSIG(status) == SIGKILL;
+}
+
+/* The contents of a plan of 3, 1 and 4. */
+static const uint8_t contents_314[14] = {3, 0, 14, 0, 3, 0, 62, 0, 1, 0, 78, 0, 4, 0};
+
+static void killed_at_any_record(void)
+{
+    static const uint16_t blocks[] = {3, 1, 4};
+    for (unsigned calls = 0; calls <= 8; calls++) {
+        size_t len = 0;
+        uint64_t bad = 99;
+        expect("it was killed", cut_short(blocks, 3, calls));
+        expect("the file is there, as long as planned", pic_trace_load(path, trace, &len) == PCH_PIC_DONE && len == 14 + 8 * 16);
+        expect("its contents are right", memcmp(trace, contents_314, sizeof contents_314) == 0);
+        int number = pic_trace_test(trace, len, &bad);
+        expect("the first record that is not there is bad", calls < 8 ? number == PCH_PIC_RECORD && bad == calls : number == PCH_PIC_DONE);
+        bool there = true;
+        for (unsigned call = 0; call < 8; call++) {
+            there = there && trace[14 + 16 * call + 15] == (call < calls ? call + 1 : 0);
+        }
+        expect("those that were taken are there", there);
+    }
+}
+
+static void files(void)
+{
+    static const uint16_t blocks[] = {3, 1, 4};
+    size_t len = 0, kept_len = 0;
+    char folder[PATH_LEN + 8];
+    snprintf(folder, sizeof folder, "%s.folder", path);
+    mkdir(folder, 0777);
+    expect("a missing file", (errno = 0, pic_trace_load("nosuch/file", trace, &len)) == PIC_FILE && errno == ENOENT);
+    expect("a folder", (errno = 0, pic_trace_load(folder, trace, &len)) == PIC_FILE && errno == EISDIR);
+    expect("endless zeros are no trace", pic_trace_load("/dev/zero", trace, &len) == PCH_PIC_TRACE);
+    expect("no file is kept without a plan", (pic_recorder_begin(&recorder), pic_recorder_keep(&recorder, path)) == PIC_PLAN);
+    expect("a day of 3, 1 and 4", pic_recorder_plan(&recorder, blocks, 3) == PCH_PIC_DONE);
+    expect("a folder is not replaced", (errno = 0, pic_recorder_keep(&recorder, folder)) == PIC_FILE && errno == EISDIR);
+    expect("it is kept", pic_recorder_keep(&recorder, path) == PCH_PIC_DONE);
+    expect("once", pic_recorder_keep(&recorder, path) == PIC_STARTED);
+    expect("five calls", pic_recorder_raise(&recorder, 1) == 0 && pic_recorder_poll(&recorder, 2) == 0 && pic_recorder_drain(&recorder, 64) == 0 &&
+                             pic_recorder_lower(&recorder, 1) == 0 && pic_recorder_raise(&recorder, 5) == 0);
+    expect("the day ends", pic_recorder_end(&recorder) == PCH_PIC_DONE && pic_recorder_raise(&recorder, 1) == PIC_FULL);
+    uint64_t bad = 0;
+    expect("the file has a bad record", pic_trace_load(path, trace, &len) == 0 && pic_trace_test(trace, len, &bad) == PCH_PIC_RECORD && bad == 5);
+    expect("saved, it has none", pic_recorder_save(&recorder, path) == PCH_PIC_DONE && pic_trace_load(path, trace, &len) == PCH_PIC_DONE);
+    expect("and is what is finished",
+           pic_recorder_finish(&recorder, again, &kept_len) == 0 && kept_len == len && memcmp(trace, again, len) == 0 && len == 14 + 5 * 16);
+    expect("it plays", pic_trace_play(trace, len, &played, NULL) == PCH_PIC_DONE && played.records == 5);
+    expect("no save over a folder", pic_recorder_save(&recorder, folder) == PIC_FILE);
+    rmdir(folder);
+    remove(path);
+}
+
+/* A file that takes no more: the record is not taken, and the error is told. */
+static void a_full_disk(void)
+{
+    static const uint16_t blocks[] = {4};
+    if (access("/dev/full", W_OK) != 0) {
+        return;
+    }
+    expect("a plan of 4", pic_recorder_plan(&recorder, blocks, 1) == PCH_PIC_DONE && pic_recorder_keep(&recorder, path) == PCH_PIC_DONE);
+    FILE *full = fopen("/dev/full", "w");
+    expect("a full disk in its place", full != NULL && dup2(fileno(full), recorder.file) == recorder.file);
+    expect("is told", (errno = 0, pic_recorder_raise(&recorder, 1)) == PIC_FILE && errno == ENOSPC && recorder.count == 0);
+    if (full != NULL) {
+        fclose(full);
+    }
+    pic_recorder_end(&recorder);
+    remove(path);
+}
+
+static void no_route(void *above, struct pic_event event)
+{
+    (void)above;
+    (void)event;
+}
+
+static void watched_write(struct pic *pic, struct pic_wires *wires, uint64_t offset, uint64_t width, uint64_t value)
+{
+    expect("a watched write is done", pic_write(pic, BASE + offset, width, value, NULL) == 0 && pic_settle(pic, wires) == 0);
+}
+
+/* All that a host does by pic.c is recorded, its sweeps and drains too, and comes out the same. */
+static void a_watched_device(void)
+{
+    static struct pic pic, plain;
+    static struct pic_wires wires, other;
+    uint64_t value = 0, offset = PCH_PIC_REG_ISR;
+    size_t len = 0;
+    wires.route = other.route = no_route;
+    pic_recorder_begin(&recorder);
+    expect("a device", pic_init(&pic, BASE) == PCH_PIC_DONE && pic_init(&plain, BASE) == PCH_PIC_DONE);
+    expect("is watched", pic_recorder_watch(&recorder, &pic) == PCH_PIC_DONE);
+    watched_write(&pic, &wires, PCH_PIC_REG_VECTORS + 5, 1, 0x55);
+    watched_write(&pic, &wires, PCH_PIC_REG_MASK, 8, 0);
+    expect("a line", pic_line(&pic, &wires, 5, true) == 0 && wires.on[0x55] && pic_line(&pic, &wires, 5, false) == 0);
+    expect("a read", pic_read(&pic, BASE + offset, 4, &value) == 0 && pic_table_read(&pic, BASE + offset, 4, &value) == 0);
+    expect("no such width", pic_read(&pic, BASE, 3, &value) == PCH_PIC_WIDTH);
+    expect("the same unwatched", pic_write(&plain, BASE + PCH_PIC_REG_VECTORS + 5, 1, 0x55, NULL) == 0 && pic_settle(&plain, &other) == 0 &&
+                                     pic_write(&plain, BASE + PCH_PIC_REG_MASK, 8, 0, NULL) == 0 && pic_settle(&plain, &other) == 0 &&
+                                     pic_line(&plain, &other, 5, true) == 0 && pic_line(&plain, &other, 5, false) == 0);
+    expect("watching changes nothing", memcmp(pic.image, plain.image, IMAGE_LEN) == 0);
+    expect("two settles of 65 calls, two writes, two lines of two calls, three reads", recorder.stopped == 0 && recorder.count == 2 * 66 + 4 + 3);
+    expect("a trace", pic_recorder_finish(&recorder, trace, &len) == 0 && pic_trace_play(trace, len, &played, NULL) == 0);
+    expect("plays to the same device", memcmp(played.image, pic.image, IMAGE_LEN) == 0);
+}
+
+/* What cannot be recorded ends the recording, and the device goes on. */
+static void a_recording_that_stops(void)
+{
+    struct pic pic;
+    uint8_t before[IMAGE_LEN], image[IMAGE_LEN];
+    uint64_t value = 0;
+    size_t len = 0;
+    static const int why[] = {PIC_AGAIN, PIC_LOADED, PIC_REFUSED, PIC_BYTE};
+    for (int way = 0; way < 4; way++) {
+        struct pic_event event;
+        pic_recorder_begin(&recorder);
+        expect("watched", pic_init(&pic, BASE) == 0 && pic_recorder_watch(&recorder, &pic) == 0);
+        expect("two calls", pic_write(&pic, BASE + PCH_PIC_REG_MASK, 4, 0, NULL) == 0 && pic_level(&pic, 7, true, &event) == 0);
+        memset(image, 0, sizeof image);
+        expect("a load that is refused is none", pic_take(&pic, image, sizeof image, NULL) == PCH_PIC_CONTENTS && recorder.stopped == 0);
+        memcpy(before, pic.image, sizeof before);
+        pic_image(&pic, PIC_FORM_NUMBERED, image);
+        expect("what no record can say is done all the same",
+               way == 0   ? pic_reset(&pic) == PCH_PIC_DONE
+               : way == 1 ? pic_take(&pic, image, sizeof image, NULL) == PCH_PIC_DONE
+               : way == 2 ? pic_read(&pic, BASE + PCH_PIC_WINDOW_LEN, 4, &value) == PCH_PIC_OUTSIDE
+                          : pic_poll(&pic, 256, &event) == PCH_PIC_INPUT);
+        expect("and stops the recording", recorder.stopped == why[way]);
+        expect("the device goes on", pic_level(&pic, 9, true, &event) == PCH_PIC_DONE && recorder.count == 2);
+        expect("the day up to there", pic_recorder_finish(&recorder, trace, &len) == 0 && pic_trace_play(trace, len, &played, NULL) == 0);
+        expect("plays", played.records == 2 && memcmp(played.image, before, sizeof before) == 0);
+        expect("a device that is not at its start is not watched", (pic_recorder_begin(&recorder), pic_recorder_watch(&recorder, &pic)) == PIC_STARTED);
+    }
+}
+
+static void texts(void)
+{
+    for (int number = PIC_FULL; number <= PIC_STARTED; number++) {
+        expect("each number has its text", strcmp(pic_recorder_why(number), "unknown number") != 0);
+    }
+    expect("so have those of the library", strcmp(pic_recorder_why(PCH_PIC_RECORD), pch_pic_why(13)) == 0);
+    expect("and no other", strcmp(pic_recorder_why(PIC_STARTED + 1), "unknown number") == 0 && strcmp(pch_pic_why(99), "unknown number") == 0);
+}
+
+int main(int argc, char **argv)
+{
+    if (argc != 2 || snprintf(path, sizeof path, "%s/recordings.trace", argv[1]) >= (int)sizeof path) {
+        fprintf(stderr, "usage: recordings FOLDER\n");
+        return 2;
+    }
+    a_day();
+    the_longest_day();
+    limits();
+    plans();
+    what_no_record_can_say();
+    what_it_can_say_though_it_is_refused();
+    killed_at_any_record();
+    files();
+    a_full_disk();
+    a_watched_device();
+    a_recording_that_stops();
+    texts();
+    printf("%d passed, %d failed\n", passed, failed);
+    return failed != 0;
+}

@@ -1,0 +1,110 @@
+//! A day as a trace: session lines recorded, and a trace played and printed as a session with its answers beside it.
+//!
+//! `day --record FILE [LINES]` makes the trace FILE of the lines, which docs/DEVICE.md tells; - or no word is standard input. `day --play FILE` prints each
+//! record of the trace and what it gave, and how many events were dropped; - is standard input. hosts/c/day.c does the same, and `./run` by it.
+
+use pch_pic::trace::LoadError;
+use pch_pic::{RecordError, Recorder, Trace, Window, EVENTS};
+use std::env;
+use std::fmt::Display;
+use std::io::{self, Write};
+use std::process::ExitCode;
+
+/// A block of 64 records has 1 KiB, and 63 blocks take the longest day.
+const BLOCK: usize = 64;
+
+/// A session has base 0 and 0x400 bytes.
+const WINDOW: Window = Window::at(0);
+
+fn path(name: &str) -> &str {
+    if name == "-" {
+        "/dev/stdin"
+    } else {
+        name
+    }
+}
+
+fn told(name: &str) -> &str {
+    if name == "-" {
+        "standard input"
+    } else {
+        name
+    }
+}
+
+/// A number of so many lower-case hex digits.
+fn hex(word: &str, digits: usize) -> Option<u64> {
+    let right = word.len() == digits && word.bytes().all(|byte| matches!(byte, b'0'..=b'9' | b'a'..=b'f'));
+    right.then(|| u64::from_str_radix(word, 16).ok())?
+}
+
+/// A line of a session; none where it is no call.
+fn take(recorder: &mut Recorder, line: &str) -> Option<Result<(), RecordError>> {
+    let words: Vec<_> = line.split(' ').collect();
+    Some(match words[..] {
+        ["l", input, "1"] => recorder.raise(hex(input, 2)?),
+        ["l", input, "0"] => recorder.lower(hex(input, 2)?),
+        ["p", input] => recorder.poll(hex(input, 2)?),
+        ["r", width, offset] => recorder.read(WINDOW, hex(offset, 4)?, hex(width, 1)?),
+        ["w", width, offset, value] => recorder.write(WINDOW, hex(offset, 4)?, hex(width, 1)?, hex(value, 16)?),
+        ["d"] => recorder.drain(EVENTS),
+        _ => return None,
+    })
+}
+
+/// The lines of a text; a last one needs no ending, unless it is empty.
+fn record(file: &str, name: &str) -> Result<(), String> {
+    let at = |name: &str, why: &dyn Display| format!("{}: {why}", told(name));
+    let text = std::fs::read(path(name)).map_err(|why| at(name, &why))?;
+    let mut recorder = Recorder::new();
+    let lines = text.split_inclusive(|byte| *byte == b'\n').map(|line| line.strip_suffix(b"\n").unwrap_or(line));
+    for (number, line) in lines.enumerate() {
+        let shown: String = line.iter().map(|byte| if (b' '..=b'~').contains(byte) { char::from(*byte) } else { '?' }).collect();
+        let refused = |why: &dyn Display| format!("{}, line {}: '{shown}': {why}", told(name), number + 1);
+        let taken = std::str::from_utf8(line).ok().and_then(|line| take(&mut recorder, line));
+        taken.ok_or_else(|| refused(&"it is no call"))?.map_err(|why| refused(&why))?;
+        if recorder.len() % BLOCK == 0 {
+            recorder.close_block().map_err(|why| refused(&why))?;
+        }
+    }
+    let trace = recorder.finish().map_err(|_| at(name, &"there is no call in it, and a trace has one at least"))?;
+    trace.save(file).map_err(|why| at(file, &why))
+}
+
+fn play(name: &str) -> Result<(), String> {
+    let trace = Trace::load(path(name)).map_err(|why| match why {
+        LoadError::Trace(why) => format!("{}: refused with {}: {why}", told(name), why.number()),
+        other => format!("{}: {other}", told(name)),
+    })?;
+    print(&trace).map_err(|why| format!("standard output: {why}"))
+}
+
+fn print(trace: &Trace) -> io::Result<()> {
+    let (played, mut out) = (trace.play(), io::BufWriter::new(io::stdout().lock()));
+    for step in played.steps() {
+        writeln!(out, "{:25}   {step}", step.record)?;
+    }
+    writeln!(out, "{:25}   drops {:08x}", "(end)", played.pic().drops())?;
+    out.flush()
+}
+
+fn main() -> ExitCode {
+    let words: Vec<String> = env::args().skip(1).collect();
+    let words: Vec<&str> = words.iter().map(String::as_str).collect();
+    let done = match words[..] {
+        ["--play", file] => play(file),
+        ["--record", file] => record(file, "-"),
+        ["--record", file, lines] => record(file, lines),
+        _ => {
+            eprintln!("usage: day --play FILE | day --record FILE [LINES]");
+            return ExitCode::from(2);
+        }
+    };
+    match done {
+        Ok(()) => ExitCode::SUCCESS,
+        Err(why) => {
+            eprintln!("day: {why}");
+            ExitCode::FAILURE
+        }
+    }
+}
