@@ -3,6 +3,7 @@ use mathlib.Core.Path.{_≡_, refl, sym, ap, subst, _∙_}
 use mathlib.Core.Bool.{Bool, true, false, false≢true}
 use mathlib.Core.List.{List, [], _∷_, _++_, append-assoc}
 use Prim.Native.Nat.{ℕ, zero, suc, _+_, _-_, _*_, _/_, _<_, _≤_}
+use native.Mathlib.Nat.{zero-add}
 use native.Mathlib.Omega.{arith}
 use lib.Dec.{eqb, ltb}
 use lib.ListN.{length, take, drop, length-append}
@@ -198,3 +199,47 @@ module _ (l : List ℕ) (g : contentsGood l ≡ true) where
       (λ t. bytesOf 2 (length-bodies l n 0 t) ++ listing (listedAt (length-bodies l n 0 t)) (bodies l))
       ∙ (λ t. part-number l 0 2 c (omega (arith, some)) t ++ listing-is l c n 0 (listedAt n) (omega (arith, some)) all-standing t) ∙ part-add l 0 2 (4 * n) in
       (λ t. contents t ++ joined-all t) ∙ sym (take-add (listedAt n) (recordLength * recordCount l) l) ∙ ap (λ k. take k l) size ∙ take-all (length l) l (omega arith)
+
+-- ---- a block by its number
+
+-- it stands within the trace, and has no more records than all have together
+pub record Within (l : List ℕ) (most b : ℕ) : Type 0 where
+  pub fits : blockAt b l .offset + recordLength * blockAt b l .records ≤ length l
+  pub few : blockAt b l .records ≤ most
+
+pub within-from : (l : List ℕ) (n b at i : ℕ) → Standing l n b at → i < n → Within l (recordsIn (blocksFrom n b l)) (b + i)
+within-from l zero b at i s h = absurd (omega arith)
+within-from l (suc n) b at zero s h =
+    let z : b ≡ b + 0 = omega arith in
+    subst (Within l (recordsIn (blocksFrom (suc n) b l))) z (record { fits = omega (arith, here l n b at s, inside l n b at s); few = omega (arith, records-front l n b) })
+within-from l (suc n) b at (suc i) s h =
+    let z : suc b + i ≡ b + suc i = omega arith in
+    let w = within-from l n (suc b) (at + recordLength * blockAt b l .records) i (others l n b at s) (omega arith) in
+    subst (Within l (recordsIn (blocksFrom (suc n) b l))) z (record { fits = w .fits; few = omega (arith, w .few, records-front l n b) })
+
+module _ (l : List ℕ) (g : contentsGood l ≡ true) (b : ℕ) (h : b < blockCount l) where
+  pub within : Within l mostRecords b
+  within =
+      let w = rw zero-add at (within-from l (blockCount l) 0 (firstPlace l) b (all-standing l g) h) in
+      record { fits = w .fits; few = omega (arith, w .few, contents-have l g .most) }
+
+  -- its entry in the contents stands in the trace
+  pub entry-within : listedAt (b + 1) ≤ length l
+  entry-within = omega (arith, contents-have l g .ends)
+
+  pub its-length : length (bodyOf b l) ≡ recordLength * blockAt b l .records
+  its-length = length-part l (blockAt b l .offset) (recordLength * blockAt b l .records) (within .fits)
+
+  pub its-records : recordsOf (bodyOf b l) ≡ blockAt b l .records
+  its-records = part-records l (blockAt b l .offset) (blockAt b l .records) (within .fits)
+
+  -- the first bad record in it, found from its place on
+  pub its-bad : badIn (bodyOf b l) ≡ firstBad (λ j. isBad (recordAt (blockAt b l .offset + recordLength * j) l)) (blockAt b l .records) 0
+  its-bad = bad-in l (blockAt b l .offset) (blockAt b l .records) (within .fits)
+
+-- the next of the blocks that are left
+pub next-body : (l : List ℕ) (n b : ℕ) → b < n → bodiesFrom (n - b) b l ≡ bodyOf b l ∷ bodiesFrom (n - (b + 1)) (b + 1) l
+next-body l n b h =
+    let z : n - b ≡ suc (n - (b + 1)) = omega arith in
+    let s : suc b ≡ b + 1 = omega arith in
+    ap (λ k. bodiesFrom k b l) z ∙ bodies-front (n - (b + 1)) b l ∙ ap (λ c. bodyOf b l ∷ bodiesFrom (n - (b + 1)) c l) s
