@@ -13,10 +13,9 @@ use Rattle.traces.specs.Trace.{mostBlocks, mostRecords, recordLength, blockCoun
 use Rattle.traces.proofs.laws.Contents.{contents-have}
 use Rattle.traces.proofs.laws.Firsts.{first-found}
 use Rattle.salvages.specs.Kept.{bodyOf, bodiesFrom, bodies, recordsOf, badIn, allGood, kept, joined}
-use Rattle.salvages.proofs.laws.Chosen.{kept-none, kept-good, kept-torn, kept-or-dropped, kept-shorter, joined-none, length-joined}
-use Rattle.salvages.proofs.laws.Built.{bodies-none}
-use Rattle.salvages.proofs.laws.Taken.{Within, within, entry-within, its-length, its-records, its-bad, next-body, bodies-fit}
-use Rattle.torn.specs.Found.{Lists, BadIn, Surveyed}
+use Rattle.salvages.proofs.laws.Chosen.{kept-or-dropped, kept-shorter, joined-none, length-joined}
+use Rattle.salvages.proofs.laws.Taken.{Within, within, entry-within, its-length, its-records, its-bad, next-kept, next-torn, none-kept, all-left, bodies-fit}
+use Rattle.torn.specs.Found.{Lists, BadIn, Seen, leftOf}
 
 -- ---- a block that is listed
 
@@ -44,21 +43,21 @@ module _ (l : List ℕ) {n : ℕ} (k : Lists l n) (b : ℕ) (h : b < n) where
   bad-is p q e = e ∙ (λ t. firstBad (λ j. isBad (recordAt (p t + recordLength * j) l)) (q t) 0) ∙ sym (its-bad l (k .contents) b listed)
 
   -- no further than behind its records
-  pub few-bad : {place m r : ℕ} → place ≡ blockAt b l .offset → m ≡ blockAt b l .records → r ≡ firstBad (λ j. isBad (recordAt (place + recordLength * j) l)) m 0 → r ≤ mostRecords
-  few-bad {place} {m} p q e = omega (arith, e, first-found (λ j. isBad (recordAt (place + recordLength * j) l)) m 0 .reach, q, lies .few)
+  pub short : badIn (bodyOf b l) ≤ mostRecords
+  short = omega (arith, first-found (λ j. isBad (recordAt (recordLength * j) (bodyOf b l))) (recordsOf (bodyOf b l)) 0 .reach, records-are, lies .few)
 
-  -- it is kept where that is the number of its records, and else it is not
-  module _ (bads : List ℕ) (f : BadIn bads l n) where
-    pub is-kept : {m : ℕ} → m ≡ blockAt b l .records → getD bads b 0 ≡ m → allGood (bodyOf b l) ≡ true
-    is-kept q e = eq-eqb (badIn (bodyOf b l)) (recordsOf (bodyOf b l)) (sym (f b h) ∙ e ∙ q ∙ sym records-are)
+  -- what the survey knows of it
+  pub seen : (bads : List ℕ) → BadIn bads l n → Seen bads l b
+  seen bads f = record { entry = its-entry; few = omega (arith, few-blocks); size = records-are; bad = f b h; short = short }
 
-    pub few-found : getD bads b 0 ≤ mostRecords
-    few-found =
-        let x = bodyOf b l in
-        omega (arith, f b h, first-found (λ j. isBad (recordAt (recordLength * j) x)) (recordsOf x) 0 .reach, records-are, lies .few)
+-- ---- what is left is never more than there is
 
-    pub is-torn : {m : ℕ} → m ≡ blockAt b l .records → (getD bads b 0 ≡ m → ⊥) → allGood (bodyOf b l) ≡ false
-    is-torn q e = ne-eqb (badIn (bodyOf b l)) (recordsOf (bodyOf b l)) (λ z. e (f b h ∙ z ∙ records-are ∙ sym q))
+module _ (l : List ℕ) {n : ℕ} (k : Lists l n) where
+  pub few-left : length (leftOf n l) ≤ mostBlocks
+  few-left = omega (arith, bodies-fit l (k .contents) .few, kept-or-dropped 0 (bodies l), ap (λ m. length (leftOf m l)) (k .count))
+
+  pub few-records : length (joined (leftOf n l)) ≤ recordLength * mostRecords
+  few-records = omega (arith, bodies-fit l (k .contents) .most, kept-shorter (bodies l), ap (λ m. length (joined (leftOf m l))) (k .count))
 
 -- ---- a round of the survey
 
@@ -81,12 +80,8 @@ pub record Counted (l : List ℕ) (n b left all : ℕ) : Type 0 where
 
 pub none-counted : (l : List ℕ) (n : ℕ) → Counted l n 0 0 0
 none-counted l n =
-    let z : n - 0 ≡ n = omega arith in
-    record {
-      upto = omega arith;
-      blocks = omega (arith, ap (λ k. length (kept (bodiesFrom k 0 l))) z);
-      records = omega (arith, ap (λ k. length (joined (kept (bodiesFrom k 0 l)))) z);
-    }
+    let z = all-left l n in
+    record { upto = omega arith; blocks = omega (arith, ap (λ xs. length (kept xs)) z); records = omega (arith, ap (λ xs. length (joined (kept xs))) z) }
 
 pub as-counted : (l : List ℕ) (n b : ℕ) {left all left₂ all₂ : ℕ} → Counted l n b left all → left₂ ≡ left → all₂ ≡ all → Counted l n b left₂ all₂
 as-counted l n b c p q = record { upto = c .upto; blocks = omega (arith, c .blocks, p); records = omega (arith, c .records, q) }
@@ -94,37 +89,26 @@ as-counted l n b c p q = record { upto = c .upto; blocks = omega (arith, c .bloc
 pub all-counted : (l : List ℕ) (n b left all : ℕ) → Counted l n b left all → n ≤ b
     → (left ≡ length (kept (bodiesFrom n 0 l))) × (recordLength * all ≡ length (joined (kept (bodiesFrom n 0 l))))
 all-counted l n b left all c h =
-    let z : n - b ≡ 0 = omega arith in
-    let e : kept (bodiesFrom (n - b) b l) ≡ [] = ap (λ k. kept (bodiesFrom k b l)) z ∙ ap kept (bodies-none b l) ∙ kept-none in
+    let e = none-kept l n b h in
     (omega (arith, c .blocks, ap length e), omega (arith, c .records, ap (λ xs. length (joined xs)) e, ap length joined-none))
 
 module _ (l : List ℕ) {n : ℕ} (k : Lists l n) (b : ℕ) (h : b < n) (left all : ℕ) (c : Counted l n b left all) where
-  -- never more than there are
-  few-left : length (kept (bodiesFrom n 0 l)) ≤ mostBlocks
-  few-left = omega (arith, bodies-fit l (k .contents) .few, kept-or-dropped 0 (bodies l), ap (λ m. length (kept (bodiesFrom m 0 l))) (k .count))
-
-  few-records : length (joined (kept (bodiesFrom n 0 l))) ≤ recordLength * mostRecords
-  few-records = omega (arith, bodies-fit l (k .contents) .most, kept-shorter (bodies l), ap (λ m. length (joined (kept (bodiesFrom m 0 l)))) (k .count))
-
   pub left-below : left ≤ mostBlocks
-  left-below = omega (arith, c .blocks, few-left)
+  left-below = omega (arith, c .blocks, few-left l k)
 
   pub all-below : all ≤ mostRecords
-  all-below = omega (arith, c .records, few-records)
-
-  abbrev rest : List (List ℕ)
-  rest = bodiesFrom (n - (b + 1)) (b + 1) l
+  all-below = omega (arith, c .records, few-records l k)
 
   pub kept-counted : {m : ℕ} → m ≡ blockAt b l .records → allGood (bodyOf b l) ≡ true → Counted l n (b + 1) (left + 1) (all + m)
   kept-counted q t =
-      let e : kept (bodiesFrom (n - b) b l) ≡ bodyOf b l ∷ kept rest = ap kept (next-body l n b h) ∙ kept-good (bodyOf b l) rest t in
+      let e = next-kept l n b h t in
       record {
         upto = omega arith;
         blocks = omega (arith, c .blocks, ap length e);
-        records = omega (arith, c .records, ap (λ xs. length (joined xs)) e, length-joined (bodyOf b l) (kept rest), size l k b h, q);
+        records = omega (arith, c .records, ap (λ xs. length (joined xs)) e, length-joined (bodyOf b l) (kept (bodiesFrom (n - (b + 1)) (b + 1) l)), size l k b h, q);
       }
 
   pub torn-passed : allGood (bodyOf b l) ≡ false → Counted l n (b + 1) left all
   torn-passed t =
-      let e : kept (bodiesFrom (n - b) b l) ≡ kept rest = ap kept (next-body l n b h) ∙ kept-torn (bodyOf b l) rest t in
+      let e = next-torn l n b h t in
       record { upto = omega arith; blocks = omega (arith, c .blocks, ap length e); records = omega (arith, c .records, ap (λ xs. length (joined xs)) e) }

@@ -2,12 +2,13 @@
 use mathlib.Core.Path.{_≡_}
 use mathlib.Core.Bool.{true}
 use mathlib.Core.List.{List}
-use Prim.Native.Nat.{ℕ, _*_, _<_}
+use Prim.Native.Nat.{ℕ, _+_, _*_, _<_, _≤_}
 use lib.ListN.{length, getD}
 use Rattle.traces.specs.Trace as traces
-use Rattle.traces.specs.Trace.{recordLength, blockCount, contentsGood}
-use Rattle.salvages.specs.Kept.{bodyOf, bodiesFrom, badIn, kept, joined}
+use Rattle.traces.specs.Trace.{mostBlocks, mostRecords, recordLength, blockCount, listedAt, blockAt, contentsGood}
+use Rattle.salvages.specs.Kept.{bodyOf, bodiesFrom, recordsOf, badIn, allGood, kept, joined}
 use Rattle.torn.specs.declared.Block.{Block}
+use Rattle.torn.specs.declared.Looked.{Looked}
 use Rattle.torn.specs.declared.Left.{Left}
 
 -- a block of the contents, as the rules of traces see it
@@ -28,7 +29,26 @@ pub record Surveyed (bads l : List ℕ) (n : ℕ) : Type 0 where
   pub lists : Lists l n
   pub found : BadIn bads l n
 
--- how many blocks are left, and how many records they have together
+-- what is known of block b: its entry stands in the trace, and its first bad record in the array
+pub record Seen (bads l : List ℕ) (b : ℕ) : Type 0 where
+  pub entry : listedAt b + 4 ≤ length l
+  pub few : b < mostBlocks
+  pub size : recordsOf (bodyOf b l) ≡ blockAt b l .records
+  pub bad : getD bads b 0 ≡ badIn (bodyOf b l)
+  pub short : badIn (bodyOf b l) ≤ mostRecords
+
+-- and what is told of it
+pub record Looks (r : Looked) (l : List ℕ) (b : ℕ) : Type 0 where
+  pub place : r .place ≡ blockAt b l .offset
+  pub records : r .records ≡ blockAt b l .records
+  pub bad : r .bad ≡ badIn (bodyOf b l)
+  pub good : r .good ≡ allGood (bodyOf b l)
+
+-- the blocks that are left of n
+abbrev pub leftOf : ℕ → List ℕ → List (List ℕ)
+leftOf n l = kept (bodiesFrom n 0 l)
+
+-- how many they are, and how many records they have together
 pub record Counts (r : Left) (l : List ℕ) (n : ℕ) : Type 0 where
-  pub blocks : r .blocks ≡ length (kept (bodiesFrom n 0 l))
-  pub records : recordLength * r .records ≡ length (joined (kept (bodiesFrom n 0 l)))
+  pub blocks : r .blocks ≡ length (leftOf n l)
+  pub records : recordLength * r .records ≡ length (joined (leftOf n l))

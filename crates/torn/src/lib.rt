@@ -5,15 +5,15 @@ ghost use mathlib.Core.Path.{_≡_};
 ghost use Prim.Native.Nat.{_+_, _≤_};
 ghost use lib.ListN.{length};
 ghost use Rattle.traces.specs.Trace.{listedAt, blockAt};
-ghost use Rattle.torn.specs.Found.{blockView, Lists, BadIn, Surveyed, Counts};
+ghost use Rattle.torn.specs.Found.{blockView, Lists, BadIn, Seen, Looks, Surveyed, Counts};
 
 // A block by its entry in the contents: the place of its first byte in the trace, and how many records it has.
-pub struct Block {
+struct Block {
     pub place: usize,
     pub records: usize,
 }
 
-pub fn block_at(trace: &[u8], b: usize) -> Block
+fn block_at(trace: &[u8], b: usize) -> Block
     requires { ⌜ listedAt b + 4 ≤ length (now trace) ⌝ }
     ensures { λ r. ⌜ blockView r ≡ blockAt b (now (trace .entry)) ⌝ }
 {
@@ -39,6 +39,29 @@ pub fn survey(trace: &[u8], blocks: usize) -> [u16; 64]
     bads
 }
 
+// What is known of a block: where it stands, how many records it has, the first bad one in it, and that there is none.
+pub struct Looked {
+    pub place: usize,
+    pub records: usize,
+    pub bad: usize,
+    pub good: bool,
+}
+
+pub fn look(trace: &[u8], bads: &[u16; 64], b: usize) -> Looked
+    requires { ⌜ Seen (now bads) (now trace) b ⌝ }
+    ensures { λ r. ⌜ Looks r (now (trace .entry)) b ⌝ }
+{
+    let block = block_at(trace, b);
+    let records = block.records;
+    let bad = bads[b] as usize;
+    Looked {
+        place: block.place,
+        records,
+        bad,
+        good: bad == records,
+    }
+}
+
 // How many blocks are left, and how many records they have together.
 pub struct Left {
     pub blocks: usize,
@@ -53,9 +76,9 @@ pub fn count(trace: &[u8], blocks: usize, bads: &[u16; 64]) -> Left
     let mut all = 0;
     let mut b = 0;
     while b < blocks {
-        let block = block_at(trace, b);
+        let block = look(trace, bads, b);
         let records = block.records;
-        if bads[b] as usize == records {
+        if block.good {
             left += 1;
             all += records;
         }

@@ -17,8 +17,8 @@ use Rattle.traces.specs.Trace.{mostRecords, recordLength, blockCount, listedAt,
 use Rattle.traces.proofs.laws.Blocks.{records-none, records-front, stand-front}
 use Rattle.traces.proofs.laws.Contents.{Good, contents-have}
 use Rattle.traces.proofs.laws.Firsts.{First, first-found}
-use Rattle.salvages.specs.Kept.{bodyOf, bodiesFrom, bodies, recordsOf, badIn, allGood, twoNumbers, listing, joined, contentsFor, traceOf}
-use Rattle.salvages.proofs.laws.Chosen.{joined-none, joined-front, length-joined}
+use Rattle.salvages.specs.Kept.{bodyOf, bodiesFrom, bodies, recordsOf, badIn, allGood, kept, Dropped, droppedFrom, twoNumbers, listing, joined, contentsFor, traceOf}
+use Rattle.salvages.proofs.laws.Chosen.{kept-none, kept-good, kept-torn, dropped-none, dropped-good, dropped-torn, joined-none, joined-front, length-joined}
 use Rattle.salvages.proofs.laws.Built.{Whole, Fit, bodies-none, bodies-front}
 
 -- ---- a block
@@ -243,3 +243,42 @@ next-body l n b h =
     let z : n - b ≡ suc (n - (b + 1)) = omega arith in
     let s : suc b ≡ b + 1 = omega arith in
     ap (λ k. bodiesFrom k b l) z ∙ bodies-front (n - (b + 1)) b l ∙ ap (λ c. bodyOf b l ∷ bodiesFrom (n - (b + 1)) c l) s
+
+-- it is kept or dropped, and the others are left
+module _ (l : List ℕ) (n b : ℕ) where
+  abbrev now-left : List (List ℕ)
+  now-left = bodiesFrom (n - b) b l
+
+  abbrev then-left : List (List ℕ)
+  then-left = bodiesFrom (n - (b + 1)) (b + 1) l
+
+  dropped-then : droppedFrom (suc b) then-left ≡ droppedFrom (b + 1) then-left
+  dropped-then = let z : suc b ≡ b + 1 = omega arith in ap (λ c. droppedFrom c then-left) z
+
+  module _ (h : b < n) where
+    pub next-kept : allGood (bodyOf b l) ≡ true → kept now-left ≡ bodyOf b l ∷ kept then-left
+    next-kept t = ap kept (next-body l n b h) ∙ kept-good (bodyOf b l) then-left t
+
+    pub next-torn : allGood (bodyOf b l) ≡ false → kept now-left ≡ kept then-left
+    next-torn t = ap kept (next-body l n b h) ∙ kept-torn (bodyOf b l) then-left t
+
+    pub next-undropped : allGood (bodyOf b l) ≡ true → droppedFrom b now-left ≡ droppedFrom (b + 1) then-left
+    next-undropped t = ap (droppedFrom b) (next-body l n b h) ∙ dropped-good b (bodyOf b l) then-left t ∙ dropped-then
+
+    pub next-dropped : allGood (bodyOf b l) ≡ false → droppedFrom b now-left ≡ record { block = b; bad = badIn (bodyOf b l) } ∷ droppedFrom (b + 1) then-left
+    next-dropped t =
+        ap (droppedFrom b) (next-body l n b h) ∙ dropped-torn b (bodyOf b l) then-left t ∙ ap (λ ds. record { block = b; bad = badIn (bodyOf b l) } ∷ ds) dropped-then
+
+  module _ (h : n ≤ b) where
+    none-now : now-left ≡ []
+    none-now = let z : n - b ≡ 0 = omega arith in ap (λ k. bodiesFrom k b l) z ∙ bodies-none b l
+
+    pub none-kept : kept now-left ≡ []
+    none-kept = ap kept none-now ∙ kept-none
+
+    pub none-dropped : droppedFrom b now-left ≡ []
+    none-dropped = ap (droppedFrom b) none-now ∙ dropped-none b
+
+-- at the start all of them are left
+pub all-left : (l : List ℕ) (n : ℕ) → bodiesFrom (n - 0) 0 l ≡ bodiesFrom n 0 l
+all-left l n = let z : n - 0 ≡ n = omega arith in ap (λ k. bodiesFrom k 0 l) z

@@ -4,8 +4,7 @@ use mathlib.Core.Logic.{⊎-elim}
 use Prim.Native.Nat.{ℕ, _-_, _≤_}
 use native.Mathlib.Omega.{arith}
 use borrow.Author.Needs.{needs}
-use Rattle.traces.specs.Trace as traces
-use Rattle.torn.proofs.Rounds.{Counted, few-blocks, its-entry, lies, few-found, is-kept, is-torn, none-counted, as-counted, all-counted, left-below, all-below, kept-counted, torn-passed}
+use Rattle.torn.proofs.Rounds.{Counted, lies, seen, none-counted, as-counted, all-counted, left-below, all-below, kept-counted, torn-passed}
 use Rattle.torn.proofs.count.Statement.{statement}
 use Rattle.torn.proofs.count.Tie as tie
 
@@ -17,25 +16,23 @@ abbrev μ-loop : tie.MeasureT-loop
 
 add-all : tie.Need-add-all Inv-loop μ-loop
 add-all c =
-    let v = c .before .before in
+    let v = c .before in
     let l = v .before .before .loop in
     let s = v .before .before .before .before in
     omega (arith, all-below (s .args .trace .now) (s .pre .lists) (l .b) (omega arith) (l .left) (l .all) (l .inv),
-      lies (s .args .trace .now) (s .pre .lists) (l .b) (omega arith) .few, ap (λ (x : traces.Block). x .records) (v .block-at .ensures))
+      lies (s .args .trace .now) (s .pre .lists) (l .b) (omega arith) .few, v .look .ensures .records)
 
 loop-again : tie.Need-loop-again Inv-loop μ-loop
 loop-again c =
-    let v = c .before .before in
+    let v = c .before in
     let l = v .before .before .loop in
     let s = v .before .before .before .before in
     let t = s .args .trace .now in
-    let q = ap (λ (x : traces.Block). x .records) (v .block-at .ensures) in
     let k = s .pre .lists in
+    let e = v .look .ensures in
     ⊎-elim
-    (λ w. as-counted t (s .args .blocks) _
-      (kept-counted t k (l .b) (omega arith) (l .left) (l .all) (l .inv) q (is-kept t k (l .b) (omega arith) (s .args .bads .now) (s .pre .found) q (w .0 .taken))) (w .1) (w .2))
-    (λ w. as-counted t (s .args .blocks) _
-      (torn-passed t k (l .b) (omega arith) (l .left) (l .all) (l .inv) (is-torn t k (l .b) (omega arith) (s .args .bads .now) (s .pre .found) q (w .0 .left))) (w .1) (w .2))
+    (λ w. as-counted t (s .args .blocks) _ (kept-counted t k (l .b) (omega arith) (l .left) (l .all) (l .inv) (e .records) (sym (e .good) ∙ w .0 .taken)) (w .1) (w .2))
+    (λ w. as-counted t (s .args .blocks) _ (torn-passed t k (l .b) (omega arith) (l .left) (l .all) (l .inv) (sym (e .good) ∙ w .0 .left)) (w .1) (w .2))
     (c .if1 .came)
 
 returns : tie.Need-returns Inv-loop μ-loop
@@ -50,12 +47,8 @@ count-spec =
     tie.close
     (tie.spec Inv-loop μ-loop
     (λ c. none-counted (c .before .args .trace .now) (c .before .args .blocks))
-    (λ c κs. let s = c .before .before .before in its-entry (s .args .trace .now) (s .pre .lists) (c .before .loop .b) (omega arith))
-    (λ c. let s = c .before .before .before .before in omega (arith, few-blocks (s .args .trace .now) (s .pre .lists) (c .before .before .loop .b) (omega arith)))
-    (λ c. let s = c .before .before .before .before in omega (arith, few-blocks (s .args .trace .now) (s .pre .lists) (c .before .before .loop .b) (omega arith)))
-    (λ c. let v = c .before in let s = v .before .before .before .before in
-    omega (arith, few-found (s .args .trace .now) (s .pre .lists) (v .before .before .loop .b) (omega arith) (s .args .bads .now) (s .pre .found)))
-    (λ c. let v = c .before .before in let l = v .before .before .loop in let s = v .before .before .before .before in
+    (λ c κs. let s = c .before .before .before in seen (s .args .trace .now) (s .pre .lists) (c .before .loop .b) (omega arith) (s .args .bads .now) (s .pre .found))
+    (λ c. let v = c .before in let l = v .before .before .loop in let s = v .before .before .before .before in
     omega (arith, left-below (s .args .trace .now) (s .pre .lists) (l .b) (omega arith) (l .left) (l .all) (l .inv)))
     add-all
     (λ c. omega arith) (λ c. omega arith)

@@ -6,7 +6,7 @@ use borrow.Author.Needs.{needs}
 use lib.ListN.{length, length-set}
 use Rattle.traces.specs.Trace as traces
 use Rattle.torn.specs.Found.{BadIn}
-use Rattle.torn.proofs.Rounds.{few-blocks, its-entry, lies, bad-is, few-bad, one-found}
+use Rattle.torn.proofs.Rounds.{few-blocks, its-entry, lies, bad-is, short, one-found}
 use Rattle.torn.proofs.survey.Statement.{statement}
 use Rattle.torn.proofs.survey.Tie as tie
 
@@ -28,9 +28,12 @@ first-bad-requires c κs =
 cast-bads : tie.Need-cast-bads Inv-loop μ-loop
 cast-bads c =
     let v = c .before in
+    let l = v .before .before .loop in
     let s = v .before .before .before .before in
     let e = v .block-at .ensures in
-    omega (arith, few-bad (s .args .trace .now) (s .pre) (v .before .before .loop .b) (omega arith) (ap (λ (x : traces.Block). x .offset) e) (ap (λ (x : traces.Block). x .records) e) (c .first-bad .ensures))
+    let t = s .args .trace .now in
+    omega (arith, short t (s .pre) (l .b) (omega arith),
+      bad-is t (s .pre) (l .b) (omega arith) (ap (λ (x : traces.Block). x .offset) e) (ap (λ (x : traces.Block). x .records) e) (c .first-bad .ensures))
 
 loop-again : tie.Need-loop-again Inv-loop μ-loop
 loop-again c =
