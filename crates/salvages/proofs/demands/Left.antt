@@ -39,7 +39,7 @@ left-none (x ∷ xs) e = ap length (kept-torn x xs (e .0)) ∙ left-none xs (e .
 module _ (l ks ds : List ℕ) where
   -- ---- the tests
 
-  by-tests : {c e r : Bool} → contentsGood l ≡ c → isEmpty l ≡ e → salvageRoom l ks ds ≡ r
+  pub by-tests : {c e r : Bool} → contentsGood l ≡ c → isEmpty l ≡ e → salvageRoom l ks ds ≡ r
       → salvageTest l ks ds ≡ cond c (cond e (refused 16 none) (cond r salvages (refused 7 none))) (refused 12 none)
   unfolding salvageTest
   by-tests p q s = (λ t. cond (p t) (cond (q t) (refused 16 none) (cond (s t) salvages (refused 7 none))) (refused 12 none))
