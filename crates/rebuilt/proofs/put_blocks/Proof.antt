@@ -74,9 +74,9 @@ loop-again c =
     let q : (v .look .result .place + r) - v .look .result .place ≡ r = omega arith in
     ⊎-elim
     (λ w. as-joining t k (s .args .out .now)
-      (joining-kept t k (s .args .out .now) (omega arith) (l .inv) (sym (e .good) ∙ w .0 .taken) (p ∙ ap (λ m. 16 * m) (e .records) ∙ sym (size t k (l .b) (omega arith)))
-      (w .3 .ensures ∙ ap (λ m. part (v .look .result .place) m t) q ∙ (λ i. part (e .place i) (16 * e .records i) t)))
-      (w .6) (w .7 ∙ omega arith))
+    (joining-kept t k (s .args .out .now) (omega arith) (l .inv) (sym (e .good) ∙ w .0 .taken) (p ∙ ap (λ m. 16 * m) (e .records) ∙ sym (size t k (l .b) (omega arith)))
+    (w .3 .ensures ∙ ap (λ m. part (v .look .result .place) m t) q ∙ (λ i. part (e .place i) (16 * e .records i) t)))
+    (w .6) (w .7 ∙ omega arith))
     (λ w. as-joining t k (s .args .out .now) (joining-torn t k (s .args .out .now) (omega arith) (l .inv) (sym (e .good) ∙ w .0 .left)) (w .1) (w .2))
     (c .if1 .came)
 

@@ -149,10 +149,10 @@ bodies-good l (suc n) b at s g =
     let size = blockAt b l .records in
     let f = records-front l n b in (
       are-all-good (bodyOf b l) (λ j h. let k : j < size = omega (arith, h, records-body l n b at s) in
-      ap (λ x. isGood (recordAt (recordLength * j) x)) (body-part l n b at s) ∙ ap isGood (record-in l at size j k) ∙ g j (omega (arith, f))),
+          ap (λ x. isGood (recordAt (recordLength * j) x)) (body-part l n b at s) ∙ ap isGood (record-in l at size j k) ∙ g j (omega (arith, f))),
       bodies-good l n (suc b) (at + recordLength * size) (others l n b at s) (λ k h.
-      let z : at + recordLength * size + recordLength * k ≡ at + recordLength * (size + k) = omega arith in
-      ap (λ a. isGood (recordAt a l)) z ∙ g (size + k) (omega (arith, f, h))),
+          let z : at + recordLength * size + recordLength * k ≡ at + recordLength * (size + k) = omega arith in
+          ap (λ a. isGood (recordAt a l)) z ∙ g (size + k) (omega (arith, f, h))),
     )
 
 -- and the other way

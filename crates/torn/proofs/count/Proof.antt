@@ -19,8 +19,12 @@ add-all c =
     let v = c .before in
     let l = v .before .before .loop in
     let s = v .before .before .before .before in
-    omega (arith, all-below (s .args .trace .now) (s .pre .lists) (l .b) (omega arith) (l .left) (l .all) (l .inv),
-      lies (s .args .trace .now) (s .pre .lists) (l .b) (omega arith) .few, v .look .ensures .records)
+    omega (
+      arith,
+      all-below (s .args .trace .now) (s .pre .lists) (l .b) (omega arith) (l .left) (l .all) (l .inv),
+      lies (s .args .trace .now) (s .pre .lists) (l .b) (omega arith) .few,
+      v .look .ensures .records,
+    )
 
 loop-again : tie.Need-loop-again Inv-loop μ-loop
 loop-again c =

@@ -32,8 +32,11 @@ cast-bads c =
     let s = v .before .before .before .before in
     let e = v .block-at .ensures in
     let t = s .args .trace .now in
-    omega (arith, short t (s .pre) (l .b) (omega arith),
-      bad-is t (s .pre) (l .b) (omega arith) (ap (λ (x : traces.Block). x .offset) e) (ap (λ (x : traces.Block). x .records) e) (c .first-bad .ensures))
+    omega (
+      arith,
+      short t (s .pre) (l .b) (omega arith),
+      bad-is t (s .pre) (l .b) (omega arith) (ap (λ (x : traces.Block). x .offset) e) (ap (λ (x : traces.Block). x .records) e) (c .first-bad .ensures),
+    )
 
 loop-again : tie.Need-loop-again Inv-loop μ-loop
 loop-again c =
