@@ -9,14 +9,15 @@ use lib.ListN.{length}
 use borrow.Author.Tests.{ltb-true, ltb-false, not-true, le-ltb}
 use Rattle.basics.specs.Numbers.{Bytes}
 use Rattle.basics.proofs.laws.Bits.{test}
-use Rattle.basics.proofs.laws.Lists.{Each}
+use Rattle.basics.proofs.laws.Lists.{Each, length-part}
 use Rattle.traces.specs.Trace.{mostBlocks, mostRecords, recordLength, blockCount, listedAt, firstPlace, recordCount, contentsGood, nth, isGood, isBad, firstBad, TraceTest, good, wrongContents, foundBad, traceTest}
+use Rattle.traces.proofs.laws.Contents.{contents-have}
 use Rattle.traces.proofs.laws.Firsts.{first-found}
 use Rattle.traces.proofs.demands.Told.{AllGood, Means, test-told}
 use Rattle.salvages.specs.Kept.{bodies, allGood, kept, droppedFrom, joined, entries, traceOf, newTrace, dropList}
-use Rattle.salvages.proofs.laws.Chosen.{kept-each, kept-all-good, good-kept, good-none-dropped, kept-twice, kept-or-dropped, kept-shorter}
+use Rattle.salvages.proofs.laws.Chosen.{kept-each, kept-all-good, good-kept, good-none-dropped, kept-twice, kept-or-dropped, kept-shorter, length-entries}
 use Rattle.salvages.proofs.laws.Built.{Fit, length-trace, bodies-are, contents-good}
-use Rattle.salvages.proofs.laws.Taken.{all-standing, bodies-good, records-good, bodies-fit, trace-again}
+use Rattle.salvages.proofs.laws.Taken.{length-bodies, all-standing, joined-all, bodies-good, records-good, bodies-fit, trace-again}
 
 -- ---- all records are good
 
@@ -55,12 +56,24 @@ module _ (l : List ℕ) (g : contentsGood l ≡ true) where
   pub kept-stands : bodies (newTrace l) ≡ kept (bodies l)
   kept-stands = bodies-are (kept (bodies l)) kept-fit
 
-  -- it is no longer than the old one has to be
+  -- its length: the contents, and the blocks that are kept
   pub new-length : length (newTrace l) ≡ 2 + 4 * length (kept (bodies l)) + length (joined (kept (bodies l)))
   new-length = length-trace (kept (bodies l))
 
   pub new-fits : length (newTrace l) ≤ 65536
   new-fits = omega (arith, new-length, kept-fit .few, kept-fit .most)
+
+  -- it is no longer than the old one, so that a second buffer of that length has room
+  pub no-longer : length (newTrace l) ≤ length l
+  no-longer =
+      let g₀ = contents-have l g in
+      let old : length (joined (bodies l)) ≡ recordLength * recordCount l =
+      ap length (joined-all l g) ∙ length-part l (firstPlace l) (recordLength * recordCount l) (omega (arith, g₀ .ends)) in
+      omega (arith, new-length, kept-shorter (bodies l), kept-or-dropped 0 (bodies l), length-bodies l (blockCount l) 0, old, g₀ .ends)
+
+  -- and 63 entries have room for every list, since one block is kept
+  pub list-fits : 1 ≤ length (kept (bodies l)) → length (dropList l) ≤ 252
+  list-fits h = omega (arith, length-entries (droppedFrom 0 (bodies l)), kept-or-dropped 0 (bodies l), bodies-fit l g .few)
 
   -- where a block is left, what comes out is a good trace
   pub comes-out-good : 1 ≤ length (kept (bodies l)) → traceTest (newTrace l) ≡ good (firstPlace (newTrace l)) (recordCount (newTrace l))

@@ -179,7 +179,7 @@ module _ (l : List ℕ) (g : contentsGood l ≡ true) where
   pub all-standing : Standing l (blockCount l) 0 (firstPlace l)
   all-standing = record { stand = facts .stand; fits = omega (arith, facts .ends) }
 
-  joined-all : joined (bodies l) ≡ part (firstPlace l) (recordLength * recordCount l) l
+  pub joined-all : joined (bodies l) ≡ part (firstPlace l) (recordLength * recordCount l) l
   joined-all = joined-is l (blockCount l) 0 (firstPlace l) all-standing
 
   pub bodies-fit : Fit (bodies l)
