@@ -256,10 +256,9 @@ impl Trace {
         let len = ffi::salvage(bytes, &mut kept, &mut list)?.expect("a done salvage has a value");
         kept.truncate(len as usize);
         let blocks = |bytes: &[u8]| contents::number(&bytes[..ENTRIES]) as usize;
-        let dropped = list[..DROPPED_LEN * (blocks(bytes) - blocks(&kept))].chunks_exact(DROPPED_LEN).map(|entry| Dropped {
-            block: contents::number(&entry[..2]) as usize,
-            record: contents::number(&entry[2..]) as usize,
-        });
+        let dropped = list[..DROPPED_LEN * (blocks(bytes) - blocks(&kept))]
+            .chunks_exact(DROPPED_LEN)
+            .map(|entry| Dropped { block: contents::number(&entry[..2]) as usize, record: contents::number(&entry[2..]) as usize });
         Ok(Salvaged { dropped: dropped.collect(), trace: Trace { bytes: kept } })
     }
 

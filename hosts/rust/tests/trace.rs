@@ -362,8 +362,9 @@ fn a_day_cut_short_leaves_right_contents() {
                 };
                 assert!(calls >= 3 && salvaged.trace.blocks().eq([3, 1, 4].into_iter().take(full)));
                 assert_eq!(salvaged.trace.as_bytes()[2 + 4 * full..], bytes[14..][..16 * [0, 3, 4, 8][full]]);
-                let dropped: Vec<_> =
-                    (full..3).map(|block| Dropped { block, record: if block == 2 { (calls as usize).saturating_sub(4) } else { 0 } }).collect();
+                let dropped: Vec<_> = (full..3)
+                    .map(|block| Dropped { block, record: if block == 2 { (calls as usize).saturating_sub(4) } else { 0 } })
+                    .collect();
                 assert_eq!(salvaged.dropped, dropped);
             }
             other => panic!("{other:?}"),
@@ -399,7 +400,9 @@ fn what_is_salvaged_is_whole() {
                 bytes[body.end - 10] = 1;
                 dropped.push(Dropped { block, record });
             } else {
-                kept.extend(whole.as_bytes()[body.clone()].chunks(16).map(|record| Record::from_bytes(record.try_into().unwrap()).unwrap()));
+                kept.extend(
+                    whole.as_bytes()[body.clone()].chunks(16).map(|record| Record::from_bytes(record.try_into().unwrap()).unwrap()),
+                );
             }
             at = body.end;
         }
