@@ -3,9 +3,9 @@ use mathlib.Core.Bool.{Bool, cond}
 use mathlib.Core.List.{List, [], _∷_, _++_}
 use Prim.Native.Nat.{ℕ, zero, suc, _+_, _*_, _/_}
 use lib.Dec.{eqb}
-use lib.ListN.{length}
+use lib.ListN.{length, drop}
 use Rattle.basics.specs.Numbers.{bytesOf, part}
-use Rattle.traces.specs.Trace.{recordLength, blockCount, listedAt, blockAt, recordAt, isBad, firstBad}
+use Rattle.traces.specs.Trace.{recordLength, twoAt, blockCount, listedAt, blockAt, recordAt, isBad, firstBad}
 
 -- ---- the blocks of a trace
 
@@ -81,6 +81,11 @@ traceOf xs = contentsFor xs ++ joined xs
 unfoldable pub entries : List Dropped → List ℕ
 entries [] = []
 entries (d ∷ ds) = twoNumbers (d .block) (d .bad) ++ entries ds
+
+-- what a host reads of n such entries
+unfoldable pub entriesIn : ℕ → List ℕ → List Dropped
+entriesIn zero l = []
+entriesIn (suc n) l = record { block = twoAt 0 l; bad = twoAt 2 l } ∷ entriesIn n (drop 4 l)
 
 -- what a salvaged trace is: the trace of the blocks that are kept, and the list of those that are not
 abbrev pub newTrace : List ℕ → List ℕ

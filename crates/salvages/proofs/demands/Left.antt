@@ -2,7 +2,7 @@
 use mathlib.Core.Path.{_≡_, refl, sym, ap, subst, _∙_}
 use mathlib.Core.Bool.{Bool, true, false, cond, _&&_, and-eq-true-iff}
 use mathlib.Core.List.{List, [], _∷_}
-use Prim.Native.Nat.{ℕ, zero, suc, _+_, _*_, _^_, _<_, _≤_}
+use Prim.Native.Nat.{ℕ, zero, suc, _+_, _-_, _*_, _^_, _<_, _≤_}
 use native.Mathlib.Omega.{arith}
 use lib.Dec.{eqb, leb}
 use lib.ListN.{length, take, drop}
@@ -13,16 +13,18 @@ use Rattle.basics.specs.Numbers.{Bytes}
 use Rattle.calls.specs.Calls.{answerLength, answered, valueIn}
 use Rattle.calls.proofs.laws.Answers.{value-read}
 use Rattle.basics.proofs.laws.Bits.{test}
+use Rattle.basics.proofs.laws.Bytes.{numberOf-bytesOf}
 use Rattle.basics.proofs.laws.Lists.{Each}
 use Rattle.traces.specs.Trace.{blockCount, contentsGood, good, traceTest}
 use Rattle.traces.proofs.laws.Contents.{contents-have}
 use Rattle.traces.proofs.demands.Told.{AllGood, Means, test-told}
 use Rattle.plays.specs.Playing.{inFront}
-use Rattle.salvages.specs.Kept.{bodies, allGood, kept, newTrace, dropList}
+use Rattle.salvages.specs.Kept.{bodies, allGood, kept, droppedFrom, entriesIn, newTrace, dropList}
 use Rattle.salvages.specs.Salvaging.{SalvageTest, refused, salvages, isEmpty, salvageRoom, salvageTest, SalvageLeft, salvageLeaves, salvageEnds, salvageSettled, salvaging}
 use Rattle.salvages.proofs.laws.Computed as computed
 use Rattle.salvages.proofs.laws.Chosen.{kept-none, kept-good, kept-torn, good-kept}
 use Rattle.salvages.proofs.laws.Taken.{length-bodies}
+use Rattle.salvages.proofs.demands.Listed.{list-read-back, all-accounted}
 use Rattle.salvages.proofs.demands.Blocks.{good-blocks, new-fits, comes-out-good, again-the-same, good-unchanged, good-unlisted}
 
 -- ---- no block is left exactly where each has a bad record
@@ -147,6 +149,18 @@ module _ (l ks ds : List ℕ) where
           (λ r. absurd (let z : 7 ≡ 0 = sym (told-by true false false p q r) ∙ n in omega arith))))
           (λ p. absurd (let z : 12 ≡ 0 = sym (told-by false (isEmpty l) (salvageRoom l ks ds) p refl refl) ∙ n in omega arith))
 
+      -- 7, with room for the answer, just where a block is left and a buffer is too short
+      pub seven-left : contentsGood l ≡ true → 1 ≤ length (kept (bodies l)) → salvageRoom l ks ds ≡ false → left ≡ salvageLeaves 7 ks ds a
+      seven-left p q r = by-test roomy (by-tests p (ne-eqb (length (kept (bodies l))) 0 (λ z. omega (arith, q))) r)
+
+      pub seven-means : left .number ≡ 7 → (contentsGood l ≡ true) × (1 ≤ length (kept (bodies l))) × (salvageRoom l ks ds ≡ false)
+      seven-means n =
+          test (contentsGood l)
+          (λ p. test (isEmpty l) (λ q. absurd (let z : 16 ≡ 7 = sym (told-by true true (salvageRoom l ks ds) p q refl) ∙ n in omega arith))
+          (λ q. test (salvageRoom l ks ds) (λ r. absurd (let z : 0 ≡ 7 = sym (told-by true false true p q r) ∙ n in omega arith))
+          (λ r. (p, omega (arith, eqb-false (length (kept (bodies l))) 0 q), r))))
+          (λ p. absurd (let z : 12 ≡ 7 = sym (told-by false (isEmpty l) (salvageRoom l ks ds) p refl refl) ∙ n in omega arith))
+
       -- bytes past the new trace and past the list stay
       pub past-stay : Salvaged → (drop (length (newTrace l)) (left .second) ≡ drop (length (newTrace l)) ks) × (drop (length (dropList l)) (left .list) ≡ drop (length (dropList l)) ds)
       past-stay s = (
@@ -160,6 +174,25 @@ module _ (l ks ds : List ℕ) where
           ap (λ (x : SalvageLeft). take (valueIn (x .answer)) (x .second)) (done-left s)
           ∙ ap (λ n. take n (inFront (newTrace l) ks)) (value-read 0 a (length (newTrace l)) (omega (arith, new-fits l (s .contents))))
           ∙ take-at (newTrace l) (drop (length (newTrace l)) ks) (length (newTrace l)) refl
+
+      -- and as many entries of the list as it has blocks less than the old one are the dropped blocks
+      pub list-read : Salvaged → entriesIn (blockCount l - blockCount (left .second)) (left .list) ≡ droppedFrom 0 (bodies l)
+      list-read s =
+          let e = done-left s in
+          let size : length (kept (bodies l)) + length (droppedFrom 0 (bodies l)) ≡ blockCount l = all-accounted l in
+          let new : blockCount (inFront (newTrace l) ks) ≡ length (kept (bodies l)) =
+          numberOf-bytesOf 2 (length (kept (bodies l))) (omega (arith, size, contents-have l (s .contents) .few)) in
+          let many : blockCount l - blockCount (left .second) ≡ length (droppedFrom 0 (bodies l)) = omega (arith, size, new, ap (λ (x : SalvageLeft). blockCount (x .second)) e) in
+          (λ t. entriesIn (many t) (e t .list)) ∙ list-read-back l (s .contents) (drop (length (dropList l)) ds)
+
+-- ---- one outcome
+
+-- of two runs whose contract holds, the numbers handed back, the two buffers and the answer areas are the same
+pub one-salvage : (l ks ds a : List ℕ) {r s : ℕ} {ks₁ ks₂ ds₁ ds₂ a₁ a₂ : List ℕ} → salvageLeaves r ks₁ ds₁ a₁ ≡ salvaging l ks ds a → salvageLeaves s ks₂ ds₂ a₂ ≡ salvaging l ks ds a
+    → (r ≡ s) × (ks₁ ≡ ks₂) × (ds₁ ≡ ds₂) × (a₁ ≡ a₂)
+one-salvage l ks ds a x y =
+    let same = x ∙ sym y in
+    (ap (λ (o : SalvageLeft). o .number) same, ap (λ (o : SalvageLeft). o .second) same, ap (λ (o : SalvageLeft). o .list) same, ap (λ (o : SalvageLeft). o .answer) same)
 
 -- ---- what is not changed
 

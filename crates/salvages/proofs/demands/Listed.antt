@@ -1,18 +1,20 @@
 -- What is listed (02, C-23): in rising order the blocks that have a bad record, each with the first bad one in it; and every block is kept or listed.
 use mathlib.Core.Path.{_≡_, refl, sym, ap, _∙_}
 use mathlib.Core.Bool.{Bool, true, false, cond}
-use mathlib.Core.List.{List, [], _∷_}
+use mathlib.Core.List.{List, [], _∷_, _++_}
 use Prim.Native.Nat.{ℕ, zero, suc, _+_, _*_, _<_, _≤_}
 use native.Mathlib.Omega.{arith}
 use lib.ListN.{length}
 use borrow.Author.Tests.{eq-eqb, eqb-false, not-true, not-false}
+use Rattle.basics.proofs.laws.Bytes.{numberOf-bytesOf}
 use Rattle.basics.proofs.laws.Lists.{Each}
 use Rattle.traces.specs.Trace.{recordLength, blockCount, blockAt, blocksFrom, firstPlace, contentsGood, recordAt, isGood, isBad}
 use Rattle.traces.specs.Blocks.{placeInBlock}
+use Rattle.traces.proofs.laws.Contents.{contents-have}
 use Rattle.traces.proofs.laws.Firsts.{First, first-found}
-use Rattle.salvages.specs.Kept.{bodyOf, bodiesFrom, bodies, recordsOf, badIn, allGood, kept, Dropped, droppedFrom}
+use Rattle.salvages.specs.Kept.{bodyOf, bodiesFrom, bodies, recordsOf, badIn, allGood, kept, Dropped, droppedFrom, entries, entriesIn, dropList}
 use Rattle.salvages.proofs.laws.Chosen.{kept-or-dropped}
-use Rattle.salvages.proofs.laws.Taken.{Standing, record-in, inside, body-part, records-body, others, all-standing, length-bodies}
+use Rattle.salvages.proofs.laws.Taken.{Standing, record-in, inside, body-part, records-body, others, all-standing, length-bodies, within}
 use Rattle.salvages.proofs.laws.Taken as taken
 
 -- ---- rising
@@ -43,6 +45,17 @@ pub record Torn (l : List ℕ) (d : Dropped) : Type 0 where
   pub inIt : d .bad < blockAt (d .block) l .records
   pub bad : isGood (recordAt (placeInBlock l (d .block) (d .bad)) l) ≡ false
   pub before : (j : ℕ) → j < d .bad → isGood (recordAt (placeInBlock l (d .block) j) l) ≡ true
+
+-- ---- what is read of the list
+
+abbrev Small : Dropped → Type 0
+Small d = (d .block < 65536) × (d .bad < 65536)
+
+read-entries : (ds : List Dropped) (r : List ℕ) → Each Small ds → entriesIn (length ds) (entries ds ++ r) ≡ ds
+unfolding entries entriesIn
+read-entries [] r e = refl
+read-entries (d ∷ ds) r e =
+    (λ t. record { block = numberOf-bytesOf 2 (d .block) (e .0 .0) t; bad = numberOf-bytesOf 2 (d .bad) (e .0 .1) t } ∷ read-entries ds r (e .1) t)
 
 module _ (l : List ℕ) where
   one-torn : (n b at : ℕ) → Standing l (suc n) b at → b < blockCount l → allGood (bodyOf b l) ≡ false → Torn l (record { block = b; bad = badIn (bodyOf b l) })
@@ -79,6 +92,16 @@ module _ (l : List ℕ) where
   module _ (g : contentsGood l ≡ true) where
     pub each-torn : Each (Torn l) (droppedFrom 0 (bodies l))
     each-torn = torn-from (blockCount l) 0 (firstPlace l) (all-standing l g) (omega arith)
+
+    -- their numbers have two bytes, so that a host reads them as they were written
+    small : (ds : List Dropped) → Each (Torn l) ds → Each Small ds
+    small [] e = tt
+    small (d ∷ ds) e =
+        let t = e .0 in
+        ((omega (arith, t .listed, contents-have l g .few), omega (arith, t .inIt, within l g (d .block) (t .listed) .few)), small ds (e .1))
+
+    pub list-read-back : (r : List ℕ) → entriesIn (length (droppedFrom 0 (bodies l))) (dropList l ++ r) ≡ droppedFrom 0 (bodies l)
+    list-read-back r = read-entries (droppedFrom 0 (bodies l)) r (small (droppedFrom 0 (bodies l)) each-torn)
 
   -- so many as are not kept
   pub all-accounted : length (kept (bodies l)) + length (droppedFrom 0 (bodies l)) ≡ blockCount l
