@@ -1,5 +1,5 @@
 -- The blocks of a trace that are kept, and the trace that has them (02, C-23). A block stands here as its bytes: its records, one after another.
-use mathlib.Core.Bool.{Bool, cond}
+use mathlib.Core.Bool.{Bool, cond, not}
 use mathlib.Core.List.{List, [], _∷_, _++_}
 use Prim.Native.Nat.{ℕ, zero, suc, _+_, _*_, _/_}
 use lib.Dec.{eqb}
@@ -52,7 +52,7 @@ pub record Dropped : Type 0 where
 -- the others, in rising order, where the first block has number b
 unfoldable pub droppedFrom : ℕ → List (List ℕ) → List Dropped
 droppedFrom b [] = []
-droppedFrom b (x ∷ xs) = cond (allGood x) (droppedFrom (suc b) xs) (record { block = b; bad = badIn x } ∷ droppedFrom (suc b) xs)
+droppedFrom b (x ∷ xs) = frontIf (not (allGood x)) (record { block = b; bad = badIn x }) (droppedFrom (suc b) xs)
 
 -- ---- the bytes that are written
 

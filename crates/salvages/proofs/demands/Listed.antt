@@ -1,6 +1,6 @@
 -- What is listed (02, C-23): in rising order the blocks that have a bad record, each with the first bad one in it; and every block is kept or listed.
 use mathlib.Core.Path.{_≡_, refl, sym, ap, _∙_}
-use mathlib.Core.Bool.{Bool, true, false, cond}
+use mathlib.Core.Bool.{Bool, true, false, not}
 use mathlib.Core.List.{List, [], _∷_, _++_}
 use Prim.Native.Nat.{ℕ, zero, suc, _+_, _*_, _<_, _≤_}
 use native.Mathlib.Omega.{arith}
@@ -12,7 +12,7 @@ use Rattle.traces.specs.Trace.{recordLength, blockCount, blockAt, blocksFrom, f
 use Rattle.traces.specs.Blocks.{placeInBlock}
 use Rattle.traces.proofs.laws.Contents.{contents-have}
 use Rattle.traces.proofs.laws.Firsts.{First, first-found}
-use Rattle.salvages.specs.Kept.{bodyOf, bodiesFrom, bodies, recordsOf, badIn, allGood, kept, Dropped, droppedFrom, entries, entriesIn, dropList}
+use Rattle.salvages.specs.Kept.{bodyOf, bodiesFrom, bodies, recordsOf, badIn, allGood, frontIf, kept, Dropped, droppedFrom, entries, entriesIn, dropList}
 use Rattle.salvages.proofs.laws.Chosen.{kept-or-dropped}
 use Rattle.salvages.proofs.laws.Taken.{Standing, record-in, inside, body-part, records-body, others, all-standing, length-bodies, within}
 use Rattle.salvages.proofs.laws.Taken as taken
@@ -33,7 +33,7 @@ rising b (x ∷ xs) = go (allGood x) (rising (suc b) xs)
     lower [] r = r
     lower (d ∷ ds) r = (omega (arith, r .0), r .1)
 
-    go : (t : Bool) → Rising (suc b) (droppedFrom (suc b) xs) → Rising b (cond t (droppedFrom (suc b) xs) (record { block = b; bad = badIn x } ∷ droppedFrom (suc b) xs))
+    go : (t : Bool) → Rising (suc b) (droppedFrom (suc b) xs) → Rising b (frontIf (not t) (record { block = b; bad = badIn x }) (droppedFrom (suc b) xs))
     go true r = lower (droppedFrom (suc b) xs) r
     go false r = (omega arith, r)
 
@@ -81,7 +81,7 @@ module _ (l : List ℕ) where
       rest : List Dropped
       rest = droppedFrom (suc b) (bodiesFrom n (suc b) l)
 
-      go : (t : Bool) → allGood (bodyOf b l) ≡ t → Each (Torn l) rest → Each (Torn l) (cond t rest (record { block = b; bad = badIn (bodyOf b l) } ∷ rest))
+      go : (t : Bool) → allGood (bodyOf b l) ≡ t → Each (Torn l) rest → Each (Torn l) (frontIf (not t) (record { block = b; bad = badIn (bodyOf b l) }) rest)
       go true e r = r
       go false e r = (one-torn n b at s (omega arith) e, r)
 

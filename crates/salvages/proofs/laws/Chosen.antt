@@ -1,6 +1,6 @@
 -- The blocks that are kept and those that are dropped, of any list of blocks.
 use mathlib.Core.Path.{_≡_, refl, sym, ap, _∙_}
-use mathlib.Core.Bool.{Bool, true, false, cond}
+use mathlib.Core.Bool.{Bool, true, false, not}
 use mathlib.Core.List.{List, [], _∷_, _++_, append-assoc}
 use Prim.Native.Nat.{ℕ, zero, suc, _+_, _*_, _<_, _≤_, zero-le}
 use native.Mathlib.Omega.{arith}
@@ -8,7 +8,7 @@ use lib.ListN.{length, length-append}
 use Rattle.basics.proofs.laws.Bits.{test}
 use Rattle.basics.proofs.laws.Lists.{Each}
 use Rattle.salvages.proofs.laws.Computed as computed
-use Rattle.salvages.specs.Kept.{recordsOf, badIn, allGood, kept, Dropped, droppedFrom, listing, joined, entries}
+use Rattle.salvages.specs.Kept.{recordsOf, badIn, allGood, frontIf, kept, Dropped, droppedFrom, listing, joined, entries}
 
 -- ---- one block more
 
@@ -18,11 +18,11 @@ kept-none = refl
 
 pub kept-good : (x : List ℕ) (xs : List (List ℕ)) → allGood x ≡ true → kept (x ∷ xs) ≡ x ∷ kept xs
 unfolding kept
-kept-good x xs e = ap (λ t. cond t (x ∷ kept xs) (kept xs)) e
+kept-good x xs e = ap (λ t. frontIf t x (kept xs)) e
 
 pub kept-torn : (x : List ℕ) (xs : List (List ℕ)) → allGood x ≡ false → kept (x ∷ xs) ≡ kept xs
 unfolding kept
-kept-torn x xs e = ap (λ t. cond t (x ∷ kept xs) (kept xs)) e
+kept-torn x xs e = ap (λ t. frontIf t x (kept xs)) e
 
 pub dropped-none : (b : ℕ) → droppedFrom b [] ≡ []
 unfolding droppedFrom
@@ -30,11 +30,11 @@ dropped-none b = refl
 
 pub dropped-good : (b : ℕ) (x : List ℕ) (xs : List (List ℕ)) → allGood x ≡ true → droppedFrom b (x ∷ xs) ≡ droppedFrom (suc b) xs
 unfolding droppedFrom
-dropped-good b x xs e = ap (λ t. cond t (droppedFrom (suc b) xs) (record { block = b; bad = badIn x } ∷ droppedFrom (suc b) xs)) e
+dropped-good b x xs e = ap (λ t. frontIf (not t) (record { block = b; bad = badIn x }) (droppedFrom (suc b) xs)) e
 
 pub dropped-torn : (b : ℕ) (x : List ℕ) (xs : List (List ℕ)) → allGood x ≡ false → droppedFrom b (x ∷ xs) ≡ record { block = b; bad = badIn x } ∷ droppedFrom (suc b) xs
 unfolding droppedFrom
-dropped-torn b x xs e = ap (λ t. cond t (droppedFrom (suc b) xs) (record { block = b; bad = badIn x } ∷ droppedFrom (suc b) xs)) e
+dropped-torn b x xs e = ap (λ t. frontIf (not t) (record { block = b; bad = badIn x }) (droppedFrom (suc b) xs)) e
 
 -- ---- what is kept
 
@@ -44,7 +44,7 @@ unfolding kept
 kept-each P [] e = e
 kept-each P (x ∷ xs) e = go (allGood x) (kept-each P xs (e .1))
   where
-    go : (t : Bool) → Each P (kept xs) → Each P (cond t (x ∷ kept xs) (kept xs))
+    go : (t : Bool) → Each P (kept xs) → Each P (frontIf t x (kept xs))
     go true r = (e .0, r)
     go false r = r
 
@@ -54,7 +54,7 @@ unfolding kept
 kept-all-good [] = tt
 kept-all-good (x ∷ xs) = go (allGood x) refl (kept-all-good xs)
   where
-    go : (t : Bool) → allGood x ≡ t → Each (λ y. allGood y ≡ true) (kept xs) → Each (λ y. allGood y ≡ true) (cond t (x ∷ kept xs) (kept xs))
+    go : (t : Bool) → allGood x ≡ t → Each (λ y. allGood y ≡ true) (kept xs) → Each (λ y. allGood y ≡ true) (frontIf t x (kept xs))
     go true e r = (e, r)
     go false e r = r
 
