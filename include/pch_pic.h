@@ -39,9 +39,9 @@
  *     bytes 2..7    0
  *     bytes 8..15   the value, little end first; 0 if absent
  *
- * REFUSALS. A refused call changes no byte of the image, of the event buffer, of a conversion's target and of a play's answers. Every refusal but 7
- * writes the answer area; refusal 7 writes nothing at all, so after a 7 the answer area is not this call's. Every call ends with a number, whatever the
- * bytes, numbers and lengths are.
+ * REFUSALS. A refused call changes no byte of the image, of the event buffer, of a conversion's target, of a play's answers and of a salvage's two
+ * buffers. Every refusal but 7 writes the answer area; refusal 7 writes nothing at all, so after a 7 the answer area is not this call's. Every call ends
+ * with a number, whatever the bytes, numbers and lengths are.
  *
  * EVENTS. An event is a vector to assert or to deassert at the interrupt controller above this one. Where the host moves a line (pch_pic_level,
  * pch_pic_poll) the event is returned at once, as the value. Where the guest writes MASK or CLEAR there can be many: they wait in the image, 16
@@ -78,7 +78,8 @@
  *
  * A record is bad where its kind is another or a byte is not 0 that has to be. An input of 64 or a width of 3 is not bad: that call is refused, and its
  * answer says so. So 16 zeros are a bad record, and a recorder that lost power can be seen in its file: hosts/c/recorder.c and module trace of hosts/rust
- * record, keep a planned day in a file, load and play.
+ * record, keep a planned day in a file, load and play. A trace whose contents are right and some of whose records are bad is damaged: pch_pic_salvage makes
+ * a good trace of its blocks that have no bad record, and lists the others.
  *
  * WHAT A HOST MUST DO. hosts/c/pic.c and crate pch-pic in hosts/rust do all of this (pic_settle, pic_line, pic_resume):
  *     - After each write of the guest, drain, and pass the events on in their order. Then poll all 64 inputs, in any order, and pass on what they
@@ -101,7 +102,8 @@
  *
  * THE HOST'S DUTIES. No call can test these:
  *     - each pointer is good for as many bytes as the length beside it says; a null pointer with length 0 is an empty buffer;
- *     - the image, the answer area and the event buffer or the target of one call do not overlap, nor do the five areas of a play;
+ *     - the image, the answer area and the event buffer or the target of one call do not overlap, nor do the five areas of a play, nor the four of a
+ *       salvage;
  *     - while a call other than a read or a conversion runs on an image, no other call runs on it. Reads and conversions of one image may run side by
  *       side, each with its own answer area and target: they only load from the image. Calls on different images may always run side by side.
  */
@@ -119,9 +121,9 @@
 
 /* The version of the header and of what it says about the library. */
 #define PCH_PIC_VERSION_MAJOR 0
-#define PCH_PIC_VERSION_MINOR 9
+#define PCH_PIC_VERSION_MINOR 10
 #define PCH_PIC_VERSION_PATCH 0
-#define PCH_PIC_VERSION "0.9.0"
+#define PCH_PIC_VERSION "0.10.0"
 
 #ifdef __cplusplus
 extern "C" {
@@ -140,7 +142,9 @@ enum {
     PCH_PIC_TRACE_MAX = 65536,         /* bytes that have room for every trace */
     PCH_PIC_RECORD_LEN = 16,           /* bytes of a record */
     PCH_PIC_RECORDS_MAX = 4000,        /* records of a trace at most */
-    PCH_PIC_BLOCKS_MAX = 64            /* blocks of a trace at most */
+    PCH_PIC_BLOCKS_MAX = 64,           /* blocks of a trace at most */
+    PCH_PIC_DROPPED_LEN = 4,           /* bytes of an entry of a salvage's list */
+    PCH_PIC_DROPPED_MAX = 252          /* bytes that have room for every list: 63 blocks dropped, and one kept */
 };
 
 /* The window of the calls that a trace is played by: base 0, and so many bytes. */
@@ -197,6 +201,12 @@ enum {
     PCH_PIC_RECORD_VALUE = 8   /* in a record: the value, 8 bytes */
 };
 
+/* Places in an entry of a salvage's list. */
+enum {
+    PCH_PIC_DROPPED_BLOCK = 0, /* the number of the dropped block, 2 bytes */
+    PCH_PIC_DROPPED_RECORD = 2 /* that of the first bad record in it, 2 bytes */
+};
+
 /* The kinds of records. */
 enum {
     PCH_PIC_RAISE = 1, /* pch_pic_level with level 1 */
@@ -208,7 +218,7 @@ enum {
 };
 
 /* The numbers handed back. A call tests for them in the order 7, 4, 5, 8, 9, 10, 11, then 3, or 2 before 1, and hands back the first
- * that holds; pch_pic_play in the order 7, 4, 12, 13, 7. There is no 6 any more. */
+ * that holds; pch_pic_play in the order 7, 4, 12, 13, 7, and pch_pic_salvage 7, 12, 16, 7. There is no 6 any more. */
 enum pch_pic_number {
     PCH_PIC_DONE = 0,     /* the call was done */
     PCH_PIC_OUTSIDE = 1,  /* not all bytes of the access are inside the window; the value is the address */
@@ -216,7 +226,8 @@ enum pch_pic_number {
     PCH_PIC_INPUT = 3,    /* the input is 64 or more */
     PCH_PIC_LENGTH = 4,   /* an image, or a conversion's target, is not 290, 259 or 251 bytes long */
     PCH_PIC_CONTENTS = 5, /* the image's first bytes, 27 of 290 or else 22, are not those of the form that its length says */
-    PCH_PIC_ROOM = 7,     /* the answer area is under 16 bytes, a drain's place is past its buffer's end, or a play's answers or events are short */
+    PCH_PIC_ROOM = 7,     /* the answer area is under 16 bytes, a drain's place is past its buffer's end, or a play's answers or events or a salvage's
+                             second buffer or list are short */
     /* A rule of the form is broken; the value is the place in the image of the byte that breaks it, the first where there are several. */
     PCH_PIC_COPY = 8,     /* of form 1 alone: the copy of IRR differs from IRR; the place of its first byte */
     PCH_PIC_COUNT = 9,    /* more than 16 events wait */
@@ -224,7 +235,8 @@ enum pch_pic_number {
     PCH_PIC_UNUSED = 11,  /* a byte behind the waiting events is not 0, or then one behind their numbers */
     /* Of a trace. */
     PCH_PIC_TRACE = 12,   /* its contents are wrong, it has another length than they say, or more than 4000 records */
-    PCH_PIC_RECORD = 13   /* a record is bad; the value is the number of the first, counted from 0 over the trace */
+    PCH_PIC_RECORD = 13,  /* a record is bad; the value is the number of the first, counted from 0 over the trace */
+    PCH_PIC_EMPTY = 16    /* of a salvage: every block has a bad record, so that none is left */
 };
 
 /* A number in words. */
@@ -244,6 +256,7 @@ static inline const char *pch_pic_why(int number)
     case PCH_PIC_UNUSED: return "the image has a byte that is not 0 behind its waiting events or their numbers";
     case PCH_PIC_TRACE: return "the trace's contents or length are wrong, or it has more than 4000 records";
     case PCH_PIC_RECORD: return "the trace has a bad record";
+    case PCH_PIC_EMPTY: return "the trace has no block without a bad record";
     default: return "unknown number";
     }
 }
@@ -323,6 +336,16 @@ uint8_t pch_pic_table_write(uint8_t *image, size_t image_len, uint64_t base, uin
  * 64000 and 256000 have room for every trace. So to test a trace and play nothing, lend no answers: a 7 says that it is good. */
 uint8_t pch_pic_play(const uint8_t *trace, size_t trace_len, uint8_t *image, size_t image_len, uint8_t *answers, size_t answers_len,
                      uint8_t *events, size_t events_len, uint8_t *answer, size_t answer_len);
+
+/* Salvages a damaged trace, whose contents are right: kept gets the trace of the blocks whose records are all good, byte for byte and in their order, with
+ * contents of their own; list gets for each block that is dropped its number and that of the first bad record in it, both counted from 0, the record
+ * within its block, two bytes each, little end first, in rising order. Bytes past them stay. What comes out is a good trace, no longer than the one lent;
+ * a good trace comes out as it is, with an empty list. The value is the new trace's length. How many blocks were dropped is the number of blocks in the
+ * old contents less that in the new. Refusals: 7 (the answer area), 12 as of a play, 16 where no block is left, and then 7 where kept is too short for the
+ * new trace or list for its entries; none of them writes a byte of kept and list. As many bytes as the trace has are enough for kept, and
+ * PCH_PIC_DROPPED_MAX for every list. */
+uint8_t pch_pic_salvage(const uint8_t *trace, size_t trace_len, uint8_t *kept, size_t kept_len, uint8_t *list, size_t list_len, uint8_t *answer,
+                        size_t answer_len);
 
 /* How far one event's number is ahead of another's: later minus earlier, below 0 where it is the older. Numbers go round, so it is the one from -32768 to
  * 32767 that differs from later - earlier by a multiple of 65536: 3 is 5 ahead of 65534, and 32768 ahead reads as -32768. It refuses nothing. */

@@ -1,6 +1,7 @@
-/* A day as a trace: session lines recorded, and a trace played and printed as a session with its answers beside it.
+/* A day as a trace: session lines recorded, a trace played and printed as a session with its answers beside it, and a damaged trace salvaged.
  *     day --record FILE [LINES]   makes the trace FILE of the lines, which docs/DEVICE.md tells; - or no word is standard input
  *     day --play FILE             prints each record of the trace and what it gave, and how many events were dropped; - is standard input
+ *     day --salvage FILE TO       makes the trace TO of the blocks of FILE that have no bad record, and prints which others there are
  * It ends with 0; with 1 where something cannot be read or written, a line is no record or a trace is refused; and with 2 where its words are wrong. */
 #include "recorder.h"
 
@@ -134,6 +135,14 @@ static void record_lines(struct pic_recorder *recorder, const char *name)
     fclose(lines);
 }
 
+/* Whether a file was written. A folder says so itself; of anything else that is no plain file errno has no word. */
+static void saved(const char *file, int number)
+{
+    if (number != PCH_PIC_DONE) {
+        fail(file, number == PIC_FILE && errno == EINVAL ? "it is no plain file, and is not replaced" : pic_recorder_why(number));
+    }
+}
+
 static void record(const char *file, const char *name)
 {
     static struct pic_recorder recorder;
@@ -143,10 +152,7 @@ static void record(const char *file, const char *name)
     if (number == PIC_EMPTY) {
         fail(told(name), "there is no call in it, and a trace has one at least");
     }
-    /* A folder says so itself; of anything else that is no plain file errno has no word. */
-    if (number != PCH_PIC_DONE) {
-        fail(file, number == PIC_FILE && errno == EINVAL ? "it is no plain file, and is not replaced" : pic_recorder_why(number));
-    }
+    saved(file, number);
 }
 
 static uint64_t number_at(const uint8_t *bytes, size_t len)
@@ -205,6 +211,25 @@ static unsigned long drops_of(const uint8_t *image, size_t len)
     return pic_init(&pic, 0) == PCH_PIC_DONE && pic_take(&pic, image, len, NULL) == PCH_PIC_DONE ? pic_drops(&pic) : 0;
 }
 
+/* What a trace is refused for. */
+static void refused(const char *name, int number)
+{
+    if (number == PIC_FILE) {
+        fail(told(name), pic_why(number));
+    }
+    if (number != PCH_PIC_DONE) {
+        fprintf(stderr, "day: %s: refused with %d: %s\n", told(name), number, pic_why(number));
+        exit(1);
+    }
+}
+
+static void printed(void)
+{
+    if (fflush(stdout) != 0 || ferror(stdout)) {
+        fail("standard output", strerror(errno));
+    }
+}
+
 static void play(const char *name)
 {
     static struct pic_played played;
@@ -220,22 +245,44 @@ static void play(const char *name)
         fprintf(stderr, "day: %s: refused with %d: %s, number %" PRIu64 " from 0 on\n", told(name), number, pic_why(number), bad);
         exit(1);
     }
-    if (number == PIC_FILE) {
-        fail(told(name), pic_why(number));
-    }
-    if (number != PCH_PIC_DONE) {
-        fprintf(stderr, "day: %s: refused with %d: %s\n", told(name), number, pic_why(number));
-        exit(1);
-    }
+    refused(name, number);
     while (pic_trace_step(trace, &played, &step)) {
         print_line(step.record, line);
         printf("%-25s   ", line);
         print_answer(&step);
     }
     printf("%-25s   drops %08lx\n", "(end)", drops_of(played.image, sizeof played.image));
-    if (fflush(stdout) != 0 || ferror(stdout)) {
-        fail("standard output", strerror(errno));
+    printed();
+}
+
+static unsigned blocks_of(const uint8_t *bytes)
+{
+    return (unsigned)number_at(bytes + PCH_PIC_TRACE_BLOCKS, 2);
+}
+
+/* Behind the contents a trace has records and nothing else. */
+static unsigned records_of(const uint8_t *bytes, size_t len)
+{
+    return (unsigned)((len - PCH_PIC_TRACE_ENTRIES - PCH_PIC_BLOCK_LEN * blocks_of(bytes)) / PCH_PIC_RECORD_LEN);
+}
+
+/* The new trace is there before anything is printed, whoever reads that. */
+static void salvage(const char *name, const char *file)
+{
+    static struct pic_salvaged salvaged;
+    struct pic_dropped dropped;
+    size_t len = 0;
+    int number = pic_trace_load(opened(name), trace, &len);
+    if (number == PCH_PIC_DONE) {
+        number = pic_trace_salvage(trace, len, &salvaged);
     }
+    refused(name, number);
+    saved(file, pic_salvaged_save(&salvaged, file));
+    for (size_t place = 0; pic_trace_dropped(&salvaged, place, &dropped); place++) {
+        printf("block %u: record %u is bad\n", dropped.block, dropped.record);
+    }
+    printf("kept %u of %u blocks, %u records\n", blocks_of(salvaged.trace), blocks_of(trace), records_of(salvaged.trace, salvaged.len));
+    printed();
 }
 
 int main(int argc, char **argv)
@@ -244,8 +291,10 @@ int main(int argc, char **argv)
         play(argv[2]);
     } else if ((argc == 3 || argc == 4) && strcmp(argv[1], "--record") == 0) {
         record(argv[2], argc == 4 ? argv[3] : "-");
+    } else if (argc == 4 && strcmp(argv[1], "--salvage") == 0) {
+        salvage(argv[2], argv[3]);
     } else {
-        fprintf(stderr, "usage: day --play FILE | day --record FILE [LINES]\n");
+        fprintf(stderr, "usage: day --play FILE | day --record FILE [LINES] | day --salvage FILE TO\n");
         return 2;
     }
     return 0;

@@ -358,6 +358,34 @@ bool pic_trace_step(const uint8_t *trace, const struct pic_played *played, struc
     return true;
 }
 
+/* The number of blocks says how many were dropped: those of the old contents less those of the new. */
+int pic_trace_salvage(const uint8_t *trace, size_t len, struct pic_salvaged *salvaged)
+{
+    uint8_t answer[PCH_PIC_ANSWER_LEN];
+    int number = pch_pic_salvage(trace, len, salvaged->trace, sizeof salvaged->trace, salvaged->list, sizeof salvaged->list, answer, sizeof answer);
+    if (number == PCH_PIC_DONE) {
+        salvaged->len = (size_t)get(answer + PCH_PIC_ANSWER_VALUE, 8);
+        salvaged->dropped = (size_t)(get(trace + PCH_PIC_TRACE_BLOCKS, 2) - get(salvaged->trace + PCH_PIC_TRACE_BLOCKS, 2));
+    }
+    return number;
+}
+
+bool pic_trace_dropped(const struct pic_salvaged *salvaged, size_t place, struct pic_dropped *dropped)
+{
+    const uint8_t *entry = salvaged->list + PCH_PIC_DROPPED_LEN * place;
+    if (place >= salvaged->dropped) {
+        return false;
+    }
+    dropped->block = (unsigned)get(entry + PCH_PIC_DROPPED_BLOCK, 2);
+    dropped->record = (unsigned)get(entry + PCH_PIC_DROPPED_RECORD, 2);
+    return true;
+}
+
+int pic_salvaged_save(const struct pic_salvaged *salvaged, const char *path)
+{
+    return pic_replace(path, salvaged->trace, salvaged->len);
+}
+
 const char *pic_recorder_why(int number)
 {
     switch (number) {

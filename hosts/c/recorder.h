@@ -1,4 +1,4 @@
-/* A day of a device recorded as a trace (pch_pic.h, "Traces"), kept in a file, and played back. Copy it and change it.
+/* A day of a device recorded as a trace (pch_pic.h, "Traces"), kept in a file, played back, and salvaged where it is damaged. Copy it and change it.
  * A trace has the calls and not their answers, and playing it from a reset gives every byte again. So a recorder takes what a record can say and refuses all
  * else: what it finishes plays to the same bytes as the day. Each function that can fail hands back 0, a number of pch_pic.h or pic.h, or one of these;
  * pic_recorder_why says in words what it means. */
@@ -107,6 +107,28 @@ struct pic_step {
 
 /* Goes to the first record where the step is all zeros, and else to the next; false where there is none. */
 bool pic_trace_step(const uint8_t *trace, const struct pic_played *played, struct pic_step *step);
+
+/* What is left of a damaged trace; 64 KiB, so not for a small stack. */
+struct pic_salvaged {
+    uint8_t trace[PCH_PIC_TRACE_MAX];  /* the blocks that have no bad record, as a good trace */
+    size_t len;                        /* how many bytes it has */
+    uint8_t list[PCH_PIC_DROPPED_MAX]; /* the blocks that have one, four bytes each */
+    size_t dropped;                    /* how many these are */
+};
+
+/* Salvages a trace whose contents are right: 0, 12 where they are not, or 16 where no block is left. A refusal leaves salvaged. */
+int pic_trace_salvage(const uint8_t *trace, size_t len, struct pic_salvaged *salvaged);
+
+/* A dropped block and the first bad record in it, both counted from 0, the record within its block. */
+struct pic_dropped {
+    unsigned block, record;
+};
+
+/* The dropped block of this place in the list, which is in rising order from 0 on; false where there is none. */
+bool pic_trace_dropped(const struct pic_salvaged *salvaged, size_t place, struct pic_dropped *dropped);
+
+/* The new trace to a file, which is replaced whole or not at all. */
+int pic_salvaged_save(const struct pic_salvaged *salvaged, const char *path);
 
 const char *pic_recorder_why(int number);
 

@@ -1,4 +1,5 @@
-/* Days recorded and played back: every byte that the live calls gave comes again. Also what a recorder refuses, days that are cut short, and files.
+/* Days recorded and played back: every byte that the live calls gave comes again. Also what a recorder refuses, days that are cut short and salvaged,
+ * and files.
  *     recordings FOLDER   plays them, with its files in FOLDER; the last line is 'N passed, M failed' */
 #define _POSIX_C_SOURCE 200809L
 #include "recorder.h"
@@ -28,6 +29,7 @@ static void expect(const char *what, bool ok)
 
 static struct pic_recorder recorder;
 static struct pic_played played;
+static struct pic_salvaged salvaged;
 static uint8_t trace[PCH_PIC_TRACE_MAX], again[PCH_PIC_TRACE_MAX];
 static char path[PATH_LEN];
 
@@ -325,6 +327,31 @@ static bool cut_short(const uint16_t *blocks, size_t count, unsigned calls)
 /* The contents of a plan of 3, 1 and 4. */
 static const uint8_t contents_314[14] = {3, 0, 14, 0, 3, 0, 62, 0, 1, 0, 78, 0, 4, 0};
 
+/* What is salvaged of a day of 3, 1 and 4 that was cut short are the blocks that were full; where none was, nothing is written. */
+static void what_was_full(size_t len, unsigned calls)
+{
+    unsigned full = calls < 3 ? 0 : calls < 4 ? 1 : calls < 8 ? 2 : 3;
+    static const unsigned records[] = {0, 3, 4, 8};
+    struct pic_dropped dropped = {99, 99};
+    memset(&salvaged, 0x5a, sizeof salvaged);
+    int number = pic_trace_salvage(trace, len, &salvaged);
+    if (full == 0) {
+        expect("no full block is 16", number == PCH_PIC_EMPTY && salvaged.trace[0] == 0x5a && salvaged.list[0] == 0x5a);
+        return;
+    }
+    size_t contents = 2 + 4 * full, bytes = 16 * records[full];
+    expect("full blocks are salvaged", number == PCH_PIC_DONE && salvaged.trace[0] == full && salvaged.len == contents + bytes);
+    expect("byte for byte", memcmp(salvaged.trace + contents, trace + 14, bytes) == 0 && salvaged.trace[salvaged.len] == 0x5a);
+    expect("as a good trace", pic_trace_test(salvaged.trace, salvaged.len, NULL) == PCH_PIC_DONE);
+    for (unsigned block = full; block < 3; block++) {
+        unsigned first = block == 2 && calls > 4 ? calls - 4 : 0;
+        expect("the others are listed, with their first bad record",
+               pic_trace_dropped(&salvaged, block - full, &dropped) && dropped.block == block && dropped.record == first);
+    }
+    expect("and no more", salvaged.dropped == 3 - full && !pic_trace_dropped(&salvaged, salvaged.dropped, &dropped));
+    expect("a file cut short is 12", pic_trace_salvage(trace, len - 1, &salvaged) == PCH_PIC_TRACE);
+}
+
 static void killed_at_any_record(void)
 {
     static const uint16_t blocks[] = {3, 1, 4};
@@ -341,6 +368,7 @@ static void killed_at_any_record(void)
             there = there && trace[14 + 16 * call + 15] == (call < calls ? call + 1 : 0);
         }
         expect("those that were taken are there", there);
+        what_was_full(len, calls);
     }
 }
 
@@ -368,6 +396,11 @@ static void files(void)
     expect("and is what is finished",
            pic_recorder_finish(&recorder, again, &kept_len) == 0 && kept_len == len && memcmp(trace, again, len) == 0 && len == 14 + 5 * 16);
     expect("it plays", pic_trace_play(trace, len, &played, NULL) == PCH_PIC_DONE && played.records == 5);
+    expect("salvaged it is the same", pic_trace_salvage(trace, len, &salvaged) == 0 && salvaged.dropped == 0 && salvaged.len == len &&
+                                          memcmp(salvaged.trace, trace, len) == 0);
+    expect("and saved", pic_salvaged_save(&salvaged, path) == PCH_PIC_DONE && pic_trace_load(path, again, &kept_len) == 0 && kept_len == len &&
+                            memcmp(trace, again, len) == 0);
+    expect("but not over a folder", (errno = 0, pic_salvaged_save(&salvaged, folder)) == PIC_FILE && errno == EISDIR);
     expect("no save over a folder", pic_recorder_save(&recorder, folder) == PIC_FILE);
     rmdir(folder);
     remove(path);

@@ -502,6 +502,103 @@ static void longest(void)
     expect("13: its last record", play(ANSWER) == 13 && answers(13, 1, 3999) && nothing_played());
 }
 
+/* What is salvaged of a trace, with a guard behind each. Of both so many bytes are lent. */
+static uint8_t kept[TRACE + GUARD], list[PCH_PIC_DROPPED_MAX + GUARD];
+static size_t kept_len, list_len;
+
+static uint8_t salvage(size_t answer_len)
+{
+    guard();
+    memset(kept, 0x3c, sizeof kept);
+    memset(list, 0x96, sizeof list);
+    return pch_pic_salvage(trace, trace_len, kept, kept_len, list, list_len, answer, answer_len);
+}
+
+/* Whether the bytes behind so many of both stayed. */
+static int salvaged_only(size_t kept_written, size_t list_written)
+{
+    for (size_t i = kept_written; i < sizeof kept; i++) {
+        if (kept[i] != 0x3c) {
+            return 0;
+        }
+    }
+    for (size_t i = list_written; i < sizeof list; i++) {
+        if (list[i] != 0x96) {
+            return 0;
+        }
+    }
+    return guarded();
+}
+
+/* Four blocks of three drains each. */
+static void four_blocks(void)
+{
+    contents(4, 3);
+    for (size_t i = 0; i < 12; i++) {
+        record(i, PCH_PIC_DRAIN, 0, 0, 0);
+    }
+    kept_len = trace_len;
+    list_len = 16;
+}
+
+static void salvages(void)
+{
+    uint8_t good[TRACE];
+    four_blocks();
+    memcpy(good, trace, trace_len);
+    expect("a good trace is salvaged", salvage(ANSWER) == 0 && answers(0, 1, trace_len) && salvaged_only(trace_len, 0));
+    expect("unchanged", memcmp(kept, good, trace_len) == 0);
+    /* The second block's last two records are torn, and the fourth's first. */
+    trace[18 + 16 * 4 + 4] = 1;
+    trace[18 + 16 * 5] = 0;
+    trace[18 + 16 * 9 + 1] = 9;
+    trace[18 + 16 * 0] = PCH_PIC_RAISE;
+    trace[18 + 16 * 6 + 1] = 0;
+    trace[18 + 16 * 6] = PCH_PIC_POLL;
+    size_t len = 10 + 6 * 16;
+    kept_len = len;
+    list_len = 8;
+    expect("two blocks are kept", salvage(ANSWER) == 0 && answers(0, 1, len) && salvaged_only(len, 8));
+    expect("with contents of their own", kept[0] == 2 && kept[1] == 0 && kept[2] == 10 && kept[3] == 0 && kept[4] == 3 && kept[6] == 58 && kept[8] == 3);
+    expect("byte for byte", memcmp(kept + 10, trace + 18, 48) == 0 && memcmp(kept + 58, trace + 18 + 96, 48) == 0);
+    static const uint8_t listed[8] = {1, 0, 1, 0, 3, 0, 0, 0};
+    expect("the others are listed", memcmp(list, listed, sizeof listed) == 0);
+    kept_len = len - 1;
+    expect("7: a byte less for the new trace", salvage(ANSWER) == 7 && untouched() && salvaged_only(0, 0));
+    kept_len = len;
+    list_len = 7;
+    expect("7: a byte less for the list", salvage(ANSWER) == 7 && untouched() && salvaged_only(0, 0));
+    list_len = 8;
+    expect("7: a short answer area", salvage(ANSWER - 1) == 7 && untouched() && salvaged_only(0, 0));
+    trace[18] = trace[18 + 16 * 8] = 0;
+    kept_len = list_len = 0;
+    expect("16 before 7: no block is left", salvage(ANSWER) == 16 && answers(16, 0, 0) && salvaged_only(0, 0));
+    trace[2]++;
+    expect("12 before 16: the contents", salvage(ANSWER) == 12 && answers(12, 0, 0) && salvaged_only(0, 0));
+    trace[2]--;
+    trace_len--;
+    expect("12: a byte less", salvage(ANSWER) == 12 && answers(12, 0, 0) && salvaged_only(0, 0));
+    expect("12: no trace at all", pch_pic_salvage(NULL, 0, NULL, 0, NULL, 0, answer, ANSWER) == 12);
+}
+
+/* The longest trace with each but the last of its 64 blocks torn: 63 entries, which are all that a list can have. */
+static void longest_list(void)
+{
+    contents(64, 62);
+    trace[2 + 4 * 63 + 2] = 94;
+    trace_len = TRACE;
+    for (size_t i = 0; i < PCH_PIC_RECORDS_MAX; i++) {
+        record(i, i < 63 * 62 && i % 62 == 61 ? 9 : PCH_PIC_DRAIN, 0, 0, 0);
+    }
+    kept_len = 6 + 94 * 16;
+    list_len = PCH_PIC_DROPPED_MAX;
+    int right = salvage(ANSWER) == 0 && answers(0, 1, kept_len) && salvaged_only(kept_len, list_len);
+    for (unsigned block = 0; block < 63; block++) {
+        right = right && list[4 * block] == block && list[4 * block + 1] == 0 && list[4 * block + 2] == 61 && list[4 * block + 3] == 0;
+    }
+    expect("one block of 64 is kept", right && kept[0] == 1 && kept[2] == 6 && kept[4] == 94 && kept[6] == PCH_PIC_DRAIN);
+}
+
 static void traces(void)
 {
     played(NUMBERED, 0x20005);
@@ -511,7 +608,10 @@ static void traces(void)
     wrong_contents();
     bad_records();
     longest();
+    salvages();
+    longest_list();
     expect("12 and 13 have their texts", strcmp(pch_pic_why(12), pch_pic_why(99)) != 0 && strcmp(pch_pic_why(13), pch_pic_why(99)) != 0);
+    expect("so has 16", strcmp(pch_pic_why(16), pch_pic_why(99)) != 0);
 }
 
 int main(void)

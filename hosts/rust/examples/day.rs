@@ -1,10 +1,11 @@
-//! A day as a trace: session lines recorded, and a trace played and printed as a session with its answers beside it.
+//! A day as a trace: session lines recorded, a trace played and printed as a session with its answers beside it, and a damaged trace salvaged.
 //!
 //! `day --record FILE [LINES]` makes the trace FILE of the lines, which docs/DEVICE.md tells; - or no word is standard input. `day --play FILE` prints each
-//! record of the trace and what it gave, and how many events were dropped; - is standard input. hosts/c/day.c does the same, and `./run` by it.
+//! record of the trace and what it gave, and how many events were dropped; - is standard input. `day --salvage FILE TO` makes the trace TO of the blocks of
+//! FILE that have no bad record, and prints which others there are. hosts/c/day.c does the same, and `./run` by it.
 
 use pch_pic::trace::LoadError;
-use pch_pic::{RecordError, Recorder, Trace, Window, EVENTS};
+use pch_pic::{RecordError, Recorder, Salvaged, Trace, Window, EVENTS};
 use std::env;
 use std::fmt::Display;
 use std::io::{self, Write};
@@ -71,12 +72,33 @@ fn record(file: &str, name: &str) -> Result<(), String> {
     trace.save(file).map_err(|why| at(file, &why))
 }
 
-fn play(name: &str) -> Result<(), String> {
-    let trace = Trace::load(path(name)).map_err(|why| match why {
+/// What a trace is refused for.
+fn refused(name: &str, why: LoadError) -> String {
+    match why {
         LoadError::Trace(why) => format!("{}: refused with {}: {why}", told(name), why.number()),
         other => format!("{}: {other}", told(name)),
-    })?;
+    }
+}
+
+fn play(name: &str) -> Result<(), String> {
+    let trace = Trace::load(path(name)).map_err(|why| refused(name, why))?;
     print(&trace).map_err(|why| format!("standard output: {why}"))
+}
+
+/// The new trace is there before anything is printed, whoever reads that.
+fn salvage(name: &str, file: &str) -> Result<(), String> {
+    let salvaged = Trace::salvage_file(path(name)).map_err(|why| refused(name, why))?;
+    salvaged.trace.save(file).map_err(|why| format!("{file}: {why}"))?;
+    print_salvaged(&salvaged).map_err(|why| format!("standard output: {why}"))
+}
+
+fn print_salvaged(salvaged: &Salvaged) -> io::Result<()> {
+    let (blocks, mut out) = (salvaged.trace.blocks().len(), io::BufWriter::new(io::stdout().lock()));
+    for dropped in &salvaged.dropped {
+        writeln!(out, "{dropped}")?;
+    }
+    writeln!(out, "kept {blocks} of {} blocks, {} records", blocks + salvaged.dropped.len(), salvaged.trace.records().len())?;
+    out.flush()
 }
 
 fn print(trace: &Trace) -> io::Result<()> {
@@ -95,8 +117,9 @@ fn main() -> ExitCode {
         ["--play", file] => play(file),
         ["--record", file] => record(file, "-"),
         ["--record", file, lines] => record(file, lines),
+        ["--salvage", file, to] => salvage(file, to),
         _ => {
-            eprintln!("usage: day --play FILE | day --record FILE [LINES]");
+            eprintln!("usage: day --play FILE | day --record FILE [LINES] | day --salvage FILE TO");
             return ExitCode::from(2);
         }
     };

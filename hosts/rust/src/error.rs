@@ -26,7 +26,7 @@ pub enum Error {
     Length,
     /// 5: the image's first bytes, 27 of 290 or else 22, are not those of the form that its length says.
     Contents,
-    /// 7: the place of a drain is past the end of its buffer. (A play lends room enough.)
+    /// 7: the place of a drain is past the end of its buffer. (A play and a salvage lend room enough.)
     Room,
     /// 8: the image, of form 1, has a copy of IRR that differs from IRR; the place of its first byte.
     Copy(u64),
@@ -40,6 +40,8 @@ pub enum Error {
     Trace,
     /// 13: a record of a trace is bad; the number of the first, counted from 0 over the trace.
     Record(u64),
+    /// 16: of a trace that is salvaged every block has a bad record, so that none is left.
+    Empty,
 }
 
 impl Error {
@@ -58,6 +60,7 @@ impl Error {
             Error::Unused(_) => 11,
             Error::Trace => 12,
             Error::Record(_) => 13,
+            Error::Empty => 16,
         }
     }
 
@@ -89,6 +92,7 @@ impl Error {
             (11, Some(place)) => Some(Error::Unused(place)),
             (12, None) => Some(Error::Trace),
             (13, Some(record)) => Some(Error::Record(record)),
+            (16, None) => Some(Error::Empty),
             _ => None,
         }
     }
@@ -111,6 +115,7 @@ impl fmt::Display for Error {
             }
             Error::Trace => f.write_str("the trace's contents or length are wrong, or it has more than 4000 records"),
             Error::Record(record) => write!(f, "the trace has a bad record, number {record} from 0 on"),
+            Error::Empty => f.write_str("the trace has no block without a bad record"),
         }
     }
 }
@@ -123,8 +128,8 @@ mod tests {
 
     #[test]
     fn a_number_and_its_value_come_back() {
-        for number in [1, 2, 3, 4, 5, 7, 8, 9, 10, 11, 12, 13] {
-            let value = (number == 1 || (number >= 8 && number != 12)).then_some(0x1234);
+        for number in [1, 2, 3, 4, 5, 7, 8, 9, 10, 11, 12, 13, 16] {
+            let value = [1, 8, 9, 10, 11, 13].contains(&number).then_some(0x1234);
             let error = Error::from_answer(number, value).unwrap();
             assert_eq!((error.number(), error.value()), (number, value));
         }

@@ -80,6 +80,17 @@ extern "C" {
         answer: *mut u8,
         answer_len: usize,
     ) -> u8;
+    #[cfg(feature = "std")]
+    fn pch_pic_salvage(
+        trace: *const u8,
+        trace_len: usize,
+        kept: *mut u8,
+        kept_len: usize,
+        list: *mut u8,
+        list_len: usize,
+        answer: *mut u8,
+        answer_len: usize,
+    ) -> u8;
     fn pch_pic_difference(later: u16, earlier: u16) -> i16;
 }
 
@@ -214,6 +225,25 @@ pub fn play(trace: &[u8], image: &mut [u8], answers: &mut [u8], events: &mut [u8
     outcome(number, &answer)
 }
 
+#[cfg(feature = "std")]
+pub fn salvage(trace: &[u8], kept: &mut [u8], list: &mut [u8]) -> Outcome {
+    let mut answer: Answer = [0; ANSWER_LEN];
+    // SAFETY: the four slices are valid for their lengths and apart; the library only reads the trace.
+    let number = unsafe {
+        pch_pic_salvage(
+            trace.as_ptr(),
+            trace.len(),
+            kept.as_mut_ptr(),
+            kept.len(),
+            list.as_mut_ptr(),
+            list.len(),
+            answer.as_mut_ptr(),
+            ANSWER_LEN,
+        )
+    };
+    outcome(number, &answer)
+}
+
 pub fn difference(later: u16, earlier: u16) -> i16 {
     // SAFETY: it is lent nothing.
     unsafe { pch_pic_difference(later, earlier) }
@@ -270,6 +300,22 @@ mod tests {
         assert_eq!((image, answers, events), ([0xa5; crate::IMAGE_LEN], [0xa5; 17], [0xa5; 65]));
         assert_eq!(play(&trace, &mut image, &mut answers, &mut events), Ok(Some(1)));
         assert_eq!((image[0], answers[..2] == [0, 1], answers[16], events), (1, true, 0xa5, [0xa5; 65]));
+    }
+
+    /// Two blocks of one record, of which the second is bad.
+    #[test]
+    fn a_salvage_is_refused_in_order() {
+        let mut trace = [[2, 0, 10, 0, 1, 0, 26, 0, 1, 0].to_vec(), vec![6], vec![0; 15], vec![0; 16]].concat();
+        let (mut kept, mut list) = ([0xa5; 23], [0xa5; 5]);
+        assert_eq!(salvage(&trace[1..], &mut kept, &mut list), Err(Error::Trace));
+        trace[10] = 7;
+        assert_eq!(salvage(&trace, &mut [], &mut []), Err(Error::Empty));
+        trace[10] = 6;
+        assert_eq!(salvage(&trace, &mut kept[..21], &mut list), Err(Error::Room));
+        assert_eq!(salvage(&trace, &mut kept, &mut list[..3]), Err(Error::Room));
+        assert_eq!((kept, list), ([0xa5; 23], [0xa5; 5]));
+        assert_eq!(salvage(&trace, &mut kept, &mut list), Ok(Some(22)));
+        assert_eq!((&kept[..7], kept[22], list), (&[1, 0, 6, 0, 1, 0, 6][..], 0xa5, [1, 0, 0, 0, 0xa5]));
     }
 
     #[test]

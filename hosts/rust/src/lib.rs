@@ -51,7 +51,8 @@
 //! # A day recorded and played back
 //!
 //! A [`Trace`] has the calls of a day from a reset on, and [playing](Trace::play) it gives every byte again. [`Recorded`] is a device whose calls are recorded
-//! as they are made, and [`Recorder`] takes calls one by one. They are there with feature `std`.
+//! as they are made, and [`Recorder`] takes calls one by one. Of a damaged trace [`Trace::salvage`] keeps the blocks that are whole. They are there with
+//! feature `std`.
 
 #![cfg_attr(not(any(feature = "std", test)), no_std)]
 
@@ -82,7 +83,7 @@ pub use form::{Form, Image};
 #[cfg(feature = "std")]
 pub use recorder::{RecordError, Recorded, Recorder};
 #[cfg(feature = "std")]
-pub use trace::{Played, Record, Step, Trace};
+pub use trace::{Dropped, Played, Record, Salvaged, Step, Trace};
 pub use wires::{Change, Device, Wires};
 
 /// The bytes of a saved image of [`Form::One`].
@@ -117,6 +118,12 @@ pub const RECORDS_MAX: usize = 4_000;
 
 /// The blocks of a trace at most.
 pub const BLOCKS_MAX: usize = 64;
+
+/// The bytes of an entry of the list of dropped blocks, and of every such list at most.
+#[cfg(feature = "std")]
+pub(crate) const DROPPED_LEN: usize = 4;
+#[cfg(feature = "std")]
+pub(crate) const DROPPED_MAX: usize = DROPPED_LEN * (BLOCKS_MAX - 1);
 
 /// The bytes that have room for all events that can wait.
 pub const DRAIN_ROOM: usize = EVENTS * EVENT_LEN;

@@ -1,4 +1,4 @@
-//! A day of calls as bytes, tested and played.
+//! A day of calls as bytes, tested, played, and salvaged where it is damaged.
 //!
 //! A trace has what was asked of a device from a reset on, and not what was answered: [`Trace::play`] has the library work that out again, byte for byte.
 //! `include/pch_pic.h` tells its bytes, "Traces". A [`Recorder`](crate::Recorder) makes one, and `./run --play` prints one.
@@ -19,7 +19,9 @@
 //! # Ok::<(), Box<dyn std::error::Error>>(())
 //! ```
 
-use crate::{contents, event, ffi, file, Error, Event, Form, Image, PchPic, DRAIN_ROOM, EVENT_LEN, RECORD_LEN, TRACE_MAX};
+use crate::{
+    contents, event, ffi, file, Error, Event, Form, Image, PchPic, DRAIN_ROOM, DROPPED_LEN, DROPPED_MAX, EVENT_LEN, RECORD_LEN, TRACE_MAX,
+};
 use core::fmt;
 use std::fs::File;
 use std::io::{self, Read};
@@ -141,13 +143,13 @@ impl fmt::Display for Record {
     }
 }
 
-/// Why a trace could not be loaded from a file.
+/// Why a trace could not be loaded from a file, or salvaged.
 #[derive(Debug)]
 #[non_exhaustive]
 pub enum LoadError {
     /// The file cannot be read.
     Io(io::Error),
-    /// It is no good trace: [`Error::Trace`] or [`Error::Record`].
+    /// It is no good trace: [`Error::Trace`] or [`Error::Record`]. Of one that is salvaged: [`Error::Trace`] or [`Error::Empty`].
     Trace(Error),
 }
 
@@ -229,10 +231,44 @@ impl Trace {
     ///
     /// A [`LoadError`], where the file cannot be read or is no good trace.
     pub fn load(path: impl AsRef<Path>) -> Result<Self, LoadError> {
-        let mut bytes = Vec::new();
-        // More is asked for than a trace has, so that a longer file is seen.
-        File::open(path)?.take(TRACE_MAX as u64 + 1).read_to_end(&mut bytes)?;
-        Ok(Trace::try_from(bytes)?)
+        Ok(Trace::try_from(bytes_of(path.as_ref())?)?)
+    }
+
+    /// Of a damaged trace, whose contents are right, the blocks that have no bad record, byte for byte and in their order, and which others there were. A
+    /// good trace comes out as it is, with nothing dropped.
+    ///
+    /// ```
+    /// use pch_pic::{Dropped, Record, Trace};
+    ///
+    /// // Two blocks of one record; the second was never written.
+    /// let torn = [&[2, 0, 10, 0, 1, 0, 26, 0, 1, 0][..], &Record::Drain.to_bytes(), &[0; 16]].concat();
+    /// let salvaged = Trace::salvage(&torn)?;
+    /// assert!(salvaged.trace.records().eq([Record::Drain]));
+    /// assert_eq!(salvaged.dropped, [Dropped { block: 1, record: 0 }]);
+    /// # Ok::<(), pch_pic::Error>(())
+    /// ```
+    ///
+    /// # Errors
+    ///
+    /// [`Error::Trace`] where contents or length are wrong, [`Error::Empty`] where no block is left.
+    pub fn salvage(bytes: &[u8]) -> Result<Salvaged, Error> {
+        let (mut kept, mut list) = (vec![0; bytes.len()], [0; DROPPED_MAX]);
+        let len = ffi::salvage(bytes, &mut kept, &mut list)?.expect("a done salvage has a value");
+        kept.truncate(len as usize);
+        let blocks = |bytes: &[u8]| contents::number(&bytes[..ENTRIES]) as usize;
+        let dropped = list[..DROPPED_LEN * (blocks(bytes) - blocks(&kept))]
+            .chunks_exact(DROPPED_LEN)
+            .map(|entry| Dropped { block: contents::number(&entry[..2]) as usize, record: contents::number(&entry[2..]) as usize });
+        Ok(Salvaged { dropped: dropped.collect(), trace: Trace { bytes: kept } })
+    }
+
+    /// The same of a file.
+    ///
+    /// # Errors
+    ///
+    /// A [`LoadError`], where the file cannot be read, its contents are wrong, or no block is left.
+    pub fn salvage_file(path: impl AsRef<Path>) -> Result<Salvaged, LoadError> {
+        Ok(Trace::salvage(&bytes_of(path.as_ref())?)?)
     }
 
     /// Saves it to a file, which is replaced whole or not at all.
@@ -281,6 +317,37 @@ impl Trace {
         let drained = played.steps().map(|step| step.events.len()).sum();
         played.events.truncate(drained);
         played
+    }
+}
+
+/// The bytes of a file. More is asked for than a trace has, so that a longer file is seen.
+fn bytes_of(path: &Path) -> io::Result<Vec<u8>> {
+    let mut bytes = Vec::new();
+    File::open(path)?.take(TRACE_MAX as u64 + 1).read_to_end(&mut bytes)?;
+    Ok(bytes)
+}
+
+/// What is left of a damaged trace.
+#[derive(Clone, Debug, PartialEq, Eq)]
+pub struct Salvaged {
+    /// The blocks that have no bad record, as a good trace.
+    pub trace: Trace,
+    /// The blocks that have one, in rising order.
+    pub dropped: Vec<Dropped>,
+}
+
+/// A block that was dropped, and why.
+#[derive(Clone, Copy, Debug, PartialEq, Eq, Hash)]
+pub struct Dropped {
+    /// Its number, counted from 0.
+    pub block: usize,
+    /// The first bad record in it, counted from 0 within it.
+    pub record: usize,
+}
+
+impl fmt::Display for Dropped {
+    fn fmt(&self, f: &mut fmt::Formatter<'_>) -> fmt::Result {
+        write!(f, "block {}: record {} is bad", self.block, self.record)
     }
 }
 

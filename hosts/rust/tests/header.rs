@@ -63,6 +63,7 @@ fn refusals() {
         ("UNUSED", Error::Unused(0)),
         ("TRACE", Error::Trace),
         ("RECORD", Error::Record(0)),
+        ("EMPTY", Error::Empty),
     ] {
         assert_eq!(header[name], u64::from(error.number()), "{name}");
         // The crate's text tells the address, the place or the record too.

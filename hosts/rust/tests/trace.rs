@@ -1,10 +1,10 @@
-//! Days recorded and played back: every byte that the live calls gave comes again. Also what a recorder refuses, days that are cut short, and files.
+//! Days recorded and played back: every byte that the live calls gave comes again. Also what a recorder refuses, days that are cut short and salvaged, files.
 #![cfg(feature = "std")]
 
 use pch_pic::trace::LoadError;
 use pch_pic::{
-    reg, Error, Event, Form, PchPic, Record, RecordError, Recorded, Recorder, Returned, Trace, Width, Window, Wires, BLOCKS_MAX, EVENTS,
-    RECORDS_MAX,
+    reg, Dropped, Error, Event, Form, PchPic, Record, RecordError, Recorded, Recorder, Returned, Salvaged, Trace, Width, Window, Wires,
+    BLOCKS_MAX, EVENTS, RECORDS_MAX,
 };
 use std::fs;
 use std::path::PathBuf;
@@ -351,7 +351,69 @@ fn a_day_cut_short_leaves_right_contents() {
             Ok(trace) => assert_eq!((trace.blocks().collect::<Vec<_>>(), calls), (vec![3, 1, 4], 8)),
             other => panic!("{other:?}"),
         }
+        // What is salvaged of it are the blocks that were full.
+        match Trace::salvage_file(&path) {
+            Err(LoadError::Trace(Error::Empty)) => assert!(calls < 3),
+            Ok(salvaged) => {
+                let full = match calls {
+                    3 => 1,
+                    4..=7 => 2,
+                    _ => 3,
+                };
+                assert!(calls >= 3 && salvaged.trace.blocks().eq([3, 1, 4].into_iter().take(full)));
+                assert_eq!(salvaged.trace.as_bytes()[2 + 4 * full..], bytes[14..][..16 * [0, 3, 4, 8][full]]);
+                let dropped: Vec<_> = (full..3)
+                    .map(|block| Dropped { block, record: if block == 2 { (calls as usize).saturating_sub(4) } else { 0 } })
+                    .collect();
+                assert_eq!(salvaged.dropped, dropped);
+            }
+            other => panic!("{other:?}"),
+        }
+        // A file that is cut short has not the length that its contents say.
+        fs::write(&path, &bytes[..bytes.len() - 1]).unwrap();
+        assert!(matches!(Trace::salvage_file(&path), Err(LoadError::Trace(Error::Trace))));
     }
+}
+
+/// Every set of torn blocks of a trace of 64, by chance, and what is left of it salvaged again.
+#[test]
+fn what_is_salvaged_is_whole() {
+    let mut recorder = Recorder::new();
+    for block in 0..BLOCKS_MAX as u64 {
+        for record in 0..=block % 4 {
+            recorder.write(Window::at(0), reg::POL, 8, block << 8 | record).unwrap();
+        }
+        recorder.close_block().unwrap();
+    }
+    let whole = recorder.finish().unwrap();
+    assert_eq!(Trace::salvage(whole.as_bytes()).unwrap(), Salvaged { trace: whole.clone(), dropped: vec![] });
+    let (counts, mut chance) = (whole.blocks().collect::<Vec<_>>(), Chance(0x0123_4567_89ab_cdef));
+    let mut torn_first = 0;
+    for _ in 0..200 {
+        let (torn, mut bytes, mut at, mut kept, mut dropped) = (chance.next(), whole.as_bytes().to_vec(), 258, Vec::new(), Vec::new());
+        torn_first += torn & 1;
+        for (block, count) in counts.iter().enumerate() {
+            let body = at..at + 16 * count;
+            if torn >> block & 1 == 1 {
+                let record = chance.next() as usize % count;
+                bytes[body.start + 16 * record + 4] = 1;
+                bytes[body.end - 10] = 1;
+                dropped.push(Dropped { block, record });
+            } else {
+                kept.extend(
+                    whole.as_bytes()[body.clone()].chunks(16).map(|record| Record::from_bytes(record.try_into().unwrap()).unwrap()),
+                );
+            }
+            at = body.end;
+        }
+        let salvaged = Trace::salvage(&bytes).unwrap();
+        assert!(salvaged.trace.records().eq(kept));
+        assert_eq!((salvaged.dropped.len() + salvaged.trace.blocks().len(), &salvaged.dropped), (BLOCKS_MAX, &dropped));
+        assert!(salvaged.trace.blocks().eq(counts.iter().enumerate().filter(|(block, _)| torn >> block & 1 == 0).map(|(_, count)| *count)));
+        assert_eq!(Trace::try_from(salvaged.trace.as_bytes().to_vec()).as_ref(), Ok(&salvaged.trace));
+        assert_eq!(Trace::salvage(salvaged.trace.as_bytes()).unwrap(), Salvaged { trace: salvaged.trace, dropped: vec![] });
+    }
+    assert!(torn_first > 50);
 }
 
 #[test]

@@ -1,0 +1,26 @@
+// The call that salvages a lent trace. It requires nothing: every input has its outcome. Here is what lacks room, refusal 7, which writes no byte; the crates below test and write.
+use trace_refusals::NO_ROOM;
+ghost use mathlib.Core.Path.{_≡_};
+ghost use Rattle.salvages.specs.Salvaging.{salvageLeaves, salvaging};
+
+// The blocks whose records are all good, as a new trace; and of each dropped block the number and the first bad record in it.
+#[no_mangle]
+pub extern "C" fn pch_pic_salvage(
+    trace: &[u8],
+    kept: &mut [u8],
+    list: &mut [u8],
+    answer: &mut [u8],
+) -> u8
+    ensures { λ r. ⌜ salvageLeaves r (now (kept .exit)) (now (list .exit)) (now (answer .exit))
+        ≡ salvaging (now (trace .entry)) (now (kept .entry)) (now (list .entry)) (now (answer .entry)) ⌝ }
+{
+    if answer.len() < 16 {
+        return NO_ROOM;
+    }
+    let told = salvage::salvage(trace, kept, list);
+    let number = told.number;
+    if number == NO_ROOM {
+        return NO_ROOM;
+    }
+    answer::tell(answer, told)
+}

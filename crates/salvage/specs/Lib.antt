@@ -1,0 +1,2 @@
+-- How a salvage ends, in the terms of salvages.
+pub mod Ends

@@ -1,0 +1,2 @@
+-- What the functions of this crate find, in the terms of salvages.
+pub mod Found
