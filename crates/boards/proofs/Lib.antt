@@ -1,0 +1,2 @@
+-- What is proved of boards: laws, and the theorems.
+pub mod laws

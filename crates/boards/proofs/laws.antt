@@ -1,0 +1,2 @@
+-- Lemmas about counts, boards and the order of events, for the theorems.
+pub mod Computed
