@@ -1,2 +1,4 @@
 -- Lemmas about counts, boards and the order of events, for the theorems.
 pub mod Computed
+pub mod Counts
+pub mod Boards

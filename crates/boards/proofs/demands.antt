@@ -1,0 +1,2 @@
+-- What 02, C-20 asks of boards, as theorems.
+pub mod Kept
