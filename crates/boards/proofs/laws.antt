@@ -2,3 +2,5 @@
 pub mod Computed
 pub mod Counts
 pub mod Boards
+pub mod Heard
+pub mod Arranged
