@@ -1,14 +1,17 @@
 -- The order in which a second board hears events (02, C-20): that of making, which the numbers of events restore.
+use mathlib.Core.Path.{_≡_}
 use mathlib.Core.Bool.{cond}
 use mathlib.Core.List.{List, [], _∷_, map}
 use Prim.Native.Nat.{ℕ}
 use lib.Dec.{leb}
 use lib.ListN.{replicate}
 use Rattle.rules.specs.Ring.{Event, flag}
-use Rattle.rules.specs.Device.{Call}
+use Rattle.rules.specs.Device.{Call, reset}
 use Rattle.rules.specs.Numbering.{Numbered}
 use Rattle.rules.specs.History.{fromReset}
+use Rattle.histories.specs.Premises.{Along, Admitted}
 use Rattle.histories.specs.Demands.{asEvent}
+use Rattle.exported.specs.Exported.{Exported, Underway, carriedThrough, NoLoads, doneCalls, inImage}
 use Rattle.boards.specs.Board.{boardLength}
 use Rattle.boards.specs.Boarding.{hearing}
 
@@ -24,6 +27,13 @@ heardThrough a b (e ∷ es) = heardThrough a (hearing b (e .vector) (flag (e .as
 -- the events that calls make from reset, in the order of making
 abbrev pub inOrderOfMaking : List Call → List Event
 inOrderOfMaking cs = map asEvent (fromReset cs .made)
+
+-- exported calls after a done reset, which left the history u: no load, demand 3's premises met, everything drained and nothing dropped (02, C-20)
+pub record Complete (u : Underway) (xs : List Exported) : Type 0 where
+  pub noLoads : NoLoads u xs
+  pub admitted : Along Admitted reset (doneCalls xs)
+  pub allDrained : inImage (carriedThrough u xs) .ring .waiting ≡ []
+  pub noneDropped : inImage (carriedThrough u xs) .ring .drops ≡ 0
 
 -- a list has the elements of two others and no more, each list's in its own order
 pub data Interleaves {A : Type 0} : (one two both : List A) → Type 0 where
