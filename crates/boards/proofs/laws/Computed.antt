@@ -6,9 +6,8 @@ use Prim.Native.Nat.{ℕ}
 use lib.ListN.{set, getD, replicate}
 use Rattle.rules.specs.Core.{Core}
 use Rattle.rules.specs.Device.{reset, upFrom}
-use Rattle.rules.specs.Account.{carrying}
 use Rattle.rules.specs.Numbering.{Numbered, eventsIn}
-use Rattle.boards.specs.Board.{broughtCount, countsBy}
+use Rattle.boards.specs.Board.{broughtCount, countsBy, recount}
 use Rattle.boards.specs.Boarding.{hearing}
 use Rattle.boards.specs.Hearing.{blank, heardThrough, inserted, byNumber}
 use Rattle.calls.proofs.laws.Computing.{computing}
@@ -27,8 +26,8 @@ abbrev shared : List ℕ
 shared = set plain 9 5
 
 -- inputs 5 and 9 are in service, masked: two carry the vector 5, and none 9
-both-carry : (carrying 5 (with 0x220 shared) ≡ 2) × (carrying 9 (with 0x220 shared) ≡ 0)
-unfolding computing
+both-carry : (getD (recount (with 0x220 shared)) 5 0 ≡ 2) × (getD (recount (with 0x220 shared)) 9 0 ≡ 0)
+unfolding computing countsBy
 both-carry = (refl, refl)
 
 -- input 9 enters service, with a count of 1 before
