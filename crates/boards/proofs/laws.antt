@@ -4,3 +4,4 @@ pub mod Counts
 pub mod Boards
 pub mod Heard
 pub mod Arranged
+pub mod Fronts
