@@ -136,9 +136,8 @@ pub fn outcome(number: u8, answer: &Answer) -> Outcome {
 pub fn reset(image: &mut [u8], board: &mut [u8]) -> Outcome {
     let mut answer: Answer = [0; ANSWER_LEN];
     // SAFETY: the three slices are valid for their lengths and apart.
-    let number = unsafe {
-        pch_pic_board_reset(image.as_mut_ptr(), image.len(), board.as_mut_ptr(), board.len(), answer.as_mut_ptr(), ANSWER_LEN)
-    };
+    let number =
+        unsafe { pch_pic_board_reset(image.as_mut_ptr(), image.len(), board.as_mut_ptr(), board.len(), answer.as_mut_ptr(), ANSWER_LEN) };
     outcome(number, &answer)
 }
 
