@@ -1,26 +1,33 @@
 -- The premises of the theorems on boards can be met (02, C-20): exported calls from a reset of 290 bytes, by which two inputs that share a vector come into service and one
--- leaves it, with events returned and drained out of the order of making. By rising number a second board ends equal to the first; as they came it would not.
+-- leaves it, with events returned and drained out of the order of making. By rising number a second board ends equal to the first; as they came it would not. And a count that a
+-- call changes.
 use mathlib.Core.Path.{_≡_, refl, sym, ap, subst, _∙_}
 use mathlib.Core.Bool.{true, false}
 use mathlib.Core.List.{List, [], _∷_, _++_}
 use Prim.Native.Nat.{ℕ, _≤_}
-use lib.Dec.{lit≤}
+use native.Mathlib.Omega.{arith}
+use lib.Dec.{lit<, lit≤}
 use lib.ListN.{length, take, getD, replicate}
+use lib.Seq.{take-all}
 use Rattle.rules.specs.Access.{byte, dword}
-use Rattle.rules.specs.Device.{Device, Call, level, write, drain, reset}
+use Rattle.rules.specs.Device.{Device, Call, level, write, drain, reset, withLines}
 use Rattle.rules.specs.Numbering.{Numbered, fromZero, eventsIn}
 use Rattle.rules.specs.History.{history, fromReset}
 use Rattle.images.specs.Form.{numbered}
-use Rattle.images.specs.Image.{encodeAs}
+use Rattle.images.specs.Image.{encodeAs, decode}
 use Rattle.calls.specs.Calls.{Request}
 use Rattle.calls.specs.Calls as request
-use Rattle.exported.specs.Exported.{Exported, isDone, Underway, carriedOn, carriedThrough, NoLoads, doneCalls, inImage, afterReset}
+use Rattle.exported.specs.Exported.{Exported, leftBy, isDone, Underway, carriedOn, carriedThrough, NoLoads, doneCalls, inImage, afterReset}
 use Rattle.order.specs.Read.{returnedRead, drainedRead}
-use Rattle.boards.specs.Boarding.{boardThrough, hearing}
+use Rattle.rules.specs.Account.{carrying}
+use Rattle.boards.specs.Board.{countsBy, recount, Touching}
+use Rattle.boards.specs.Boarding.{boarding, boardBy, boardThrough, hearing}
 use Rattle.boards.specs.Hearing.{blank, heardThrough, Complete, Interleaves, neither, first, second, inserted, byNumber}
 use Rattle.calls.proofs.laws.Computing.{computing}
 use Rattle.exported.proofs.laws.Chains.{faithful-after-reset}
 use Rattle.exported.proofs.demands.FromCalls.{handed-on-is-no-load, image-holds-history}
+use Rattle.boards.proofs.laws.Counts.{counts-length}
+use Rattle.boards.proofs.demands.Kept.{only-touched-change}
 use Rattle.boards.proofs.demands.Second.{by-number-equals-first}
 use Rattle.examples.proofs.PremisesMet.{all-admitted}
 use Rattle.examples.proofs.ExportedMet.{handedOn, handed-on}
@@ -134,3 +141,25 @@ counts-one = refl
 as-collected : getD (heardThrough area blank (eventsIn collected)) 5 0 ≡ 2
 unfolding computing heardThrough hearing
 as-collected = refl
+
+-- ---- what a call changes
+
+-- input 5 is in service, and is lowered: the count of its vector changes, and so some touched input carried it
+abbrev lowering : Exported
+lowering = record { given = encodeAs numbered (withLines reset (record { mask = 0; irr = 0x20; isr = 0x20 })) (fromZero 0); asked = request.level 5 0; answer = area }
+
+abbrev kept : List ℕ
+kept = recount (decode (lowering .given) .core)
+
+one-before : getD kept 5 0 ≡ 1
+unfolding computing countsBy
+one-before = refl
+
+none-after : getD (boardBy lowering kept) 5 0 ≡ 0
+unfolding computing countsBy boarding
+none-after = refl
+
+five-touched : Touching 5 (decode (lowering .given) .core) (decode (leftBy lowering .image) .core)
+five-touched =
+    let long = counts-length (λ v. carrying v (decode (lowering .given) .core)) in
+    only-touched-change lowering kept (omega (arith, long)) (take-all 256 kept (omega (arith, long))) 5 (lit< tt) (λ same. omega (arith, sym none-after ∙ same ∙ one-before))
