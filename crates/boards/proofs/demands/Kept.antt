@@ -9,16 +9,21 @@ use native.Mathlib.Omega.{arith}
 use lib.ListN.{length, take, drop, getD}
 use lib.Seq.{getD-take}
 use Rattle.rules.specs.Core.{Core}
+use Rattle.rules.specs.Device.{Device}
 use Rattle.rules.specs.Account.{carrying}
+use Rattle.rules.specs.History.{history}
 use Rattle.images.specs.Image.{decode}
-use Rattle.calls.specs.Calls.{Outcome}
-use Rattle.exported.specs.Exported.{Exported, leftBy, isDone, isLoad, Underway, carriedOn, carriedThrough, GivenBytes, inImage, Faithful}
+use Rattle.calls.specs.Calls.{afresh, askedBy}
+use Rattle.exported.specs.Exported.{Exported, leftBy, isDone, isLoad, Underway, carriedOn, carriedThrough, GivenBytes, inImage, Faithful, afterReset}
 use Rattle.boards.specs.Board.{recount, keptOn, keptThrough, Touching}
 use Rattle.boards.specs.Boarding.{boarding, boardBy, boardThrough}
+use Rattle.boards.specs.Hearing.{blank}
 use Rattle.basics.proofs.laws.Bits.{test}
-use Rattle.exported.proofs.laws.Chains.{handed, faithful-on}
+use Rattle.exported.proofs.laws.Chains.{handed, faithful-on, faithful-after-reset, left-holds}
+use Rattle.exported.proofs.demands.FromCalls.{a-reset-begins}
 use Rattle.boards.proofs.laws.Counts.{counts-get, touching-or-same}
-use Rattle.boards.proofs.laws.Boards.{call-is, board-done, board-refused, board-past, board-length, front-recounted, done-left, refused-on, board-right, kept-right}
+use Rattle.boards.proofs.laws.Boards.{call-is, board-done, board-refused, board-past, board-length, front-recounted, done-left, board-right, kept-right}
+use Rattle.boards.proofs.laws.Heard.{blank-right}
 
 -- ---- one call
 
@@ -61,6 +66,20 @@ pub kept-is-recount : (h : Underway) → Faithful h → (b : List ℕ) → b ≡
 unfolding keptThrough carriedThrough
 kept-is-recount h f b e [] g = e
 kept-is-recount h f b e (x ∷ xs) g = kept-is-recount (carriedOn h x) (faithful-on h x f (λ l. g .0)) (keptOn h x b) (kept-right h x f b e) xs (g .1)
+
+pub both-are-one : (h : Underway) → Faithful h → (b : List ℕ) → 256 ≤ length b → take 256 b ≡ recount (inImage h .core) → (xs : List Exported) → GivenBytes xs
+    → take 256 (boardThrough b xs) ≡ keptThrough h (take 256 b) xs
+both-are-one h f b room e xs g = board-is-recount h b room e xs ∙ sym (kept-is-recount h f (take 256 b) e xs g)
+
+-- From a done reset on the kept board begins as 256 zeros.
+pub kept-from-reset : (h : Underway) (x : Exported) → askedBy (x .asked) ≡ afresh → isDone x ≡ true → (xs : List Exported) → GivenBytes xs
+    → keptThrough (carriedOn h x) blank xs ≡ recount (inImage (carriedThrough h (x ∷ xs)) .core)
+unfolding carriedThrough history
+kept-from-reset h x a t xs g =
+    let r = a-reset-begins h x a t in
+    let f = r .0 in
+    let right = blank-right ∙ ap (λ (d : Device). recount (d .core)) (sym (left-holds (afterReset f) (faithful-after-reset f))) in
+    subst (λ u. keptThrough u blank xs ≡ recount (inImage (carriedThrough u xs) .core)) (sym (r .3)) (kept-is-recount (afterReset f) (faithful-after-reset f) blank right xs g)
 
 -- ---- what a call changes
 

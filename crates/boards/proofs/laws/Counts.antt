@@ -19,7 +19,6 @@ use Rattle.basics.proofs.laws.Bits.{test}
 use Rattle.basics.proofs.laws.Inputs.{first-has}
 use Rattle.rules.proofs.laws.Counts.{split, size-ext}
 use Rattle.images.proofs.laws.Saved.{length-upFrom}
-use Rattle.laws.proofs.laws.Losses.{from-few}
 use Rattle.boards.proofs.laws.Computed as computed
 
 -- ---- a board by its counts
@@ -49,10 +48,6 @@ counts-are b f l e =
 
 pub counts-ext : (f g : ℕ → ℕ) → ((v : ℕ) → v < 256 → f v ≡ g v) → countsBy f ≡ countsBy g
 counts-ext f g e = counts-are (countsBy f) g (counts-length f) (λ v h. counts-get f v h ∙ e v h)
-
--- at most 64 inputs carry a vector
-pub carrying-few : (v : ℕ) (c : Core) → carrying v c ≤ 64
-carrying-few v c = from-few 0 64 (servedIn (carries v (c .vectors)) (c .lines))
 
 -- ---- what the touched inputs take away and add
 

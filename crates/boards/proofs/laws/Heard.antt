@@ -28,7 +28,7 @@ use Rattle.laws.proofs.laws.Losses.{from-few}
 use Rattle.histories.proofs.laws.Reach.{each-both, NotIsr, no-isr-act, LeavesVectors, lines-or-vectors}
 use Rattle.histories.proofs.laws.Folds.{fold-acts, fold-calls, still, vectors-stay}
 use Rattle.histories.proofs.demands.Account.{asserts-match-service-from, none-served}
-use Rattle.boards.proofs.laws.Counts.{counts-are, carrying-few}
+use Rattle.boards.proofs.laws.Counts.{counts-are}
 
 -- ---- the count of one vector
 
@@ -212,6 +212,10 @@ module _ (v : ℕ) where
       (λ d e f xs ys x y. driven-next (d .core) (e .core) (f .core) xs ys x y) Admitted driven-call
 
 -- ---- from reset
+
+-- no vector is on
+pub blank-right : blank ≡ recount (reset .core)
+blank-right = counts-are blank (λ v. carrying v (reset .core)) (length-replicate {A = ℕ} 256 0) (λ v h. getD-replicate 256 v 0 0 h ∙ sym (none-served v))
 
 -- a blank board that hears the events made from reset, in the order of making, has the counts of the device to which the calls come
 pub heard-from-reset : (a : List ℕ) → 16 ≤ length a → (cs : List Call) → Along Admitted reset cs → heardThrough a blank (inOrderOfMaking cs) ≡ recount (fromReset cs .after .core)
