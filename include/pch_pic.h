@@ -39,9 +39,9 @@
  *     bytes 2..7    0
  *     bytes 8..15   the value, little end first; 0 if absent
  *
- * REFUSALS. A refused call changes no byte of the image, of the event buffer, of a conversion's target, of a play's answers and of a salvage's two
- * buffers. Every refusal but 7 writes the answer area; refusal 7 writes nothing at all, so after a 7 the answer area is not this call's. Every call ends
- * with a number, whatever the bytes, numbers and lengths are.
+ * REFUSALS. A refused call changes no byte of the image, of the board, of the event buffer, of a conversion's target, of a play's answers and of a
+ * salvage's two buffers. Every refusal but 7 writes the answer area; refusal 7 writes nothing at all, so after a 7 the answer area is not this call's.
+ * Every call ends with a number, whatever the bytes, numbers and lengths are.
  *
  * EVENTS. An event is a vector to assert or to deassert at the interrupt controller above this one. Where the host moves a line (pch_pic_level,
  * pch_pic_poll) the event is returned at once, as the value. Where the guest writes MASK or CLEAR there can be many: they wait in the image, 16
@@ -61,6 +61,24 @@
  * to the newest, dropped ones counted; numbers go round, so of more it cannot tell. A number that is missing was a dropped event's, or that event waits
  * still. Numbers run on from call to call in an image of 290 bytes alone. In one of 259 or 251 each call begins with those of the waiting events, which
  * are 0, 1 and so on, and the next comes after them: there they put the events of one call in order, and no more.
+ *
+ * BOARDS. A board says which vectors are on: 256 bytes, one for each vector, which count the inputs in service that carry it, masked or not. A vector is on
+ * while its count is not 0. The host owns the board as it owns the image, and keeps one beside each image. pch_pic_board_reset, _read, _write, _level, _poll and
+ * _drain are the calls without board, in the number and in every other byte, and leave the board right for the image that they leave:
+ *     - where such a call is done the board has the fresh counts of the image after it, whatever it held before. So a board needs no start, and a load
+ *       needs nothing more: the first done call on the loaded image counts it. To count an image and change nothing, read ID from it;
+ *     - where it is refused the board stays. A board under 256 bytes is refused with 7, as is a short answer area, before anything else; bytes past the
+ *       first 256 stay;
+ *     - a call that is not lent the board leaves it behind: after pch_pic_write, pch_pic_table_write or pch_pic_convert it is right again only after the next done
+ *       call that is lent it.
+ * A call that is given the image that the last one left changes only counts of vectors that an input with a changed ISR bit or vector byte carried before
+ * or carries after.
+ * A recorder that has no image can keep a second board from the events alone: it begins as 256 zeros, and pch_pic_board_event counts one event at a
+ * time, each vector returned by a raise or a poll as an assert, by a lower as a deassert, and each drained one by its flag. At the end it is equal to
+ * the first board if it heard all events since a reset in the order in which they were made, none was dropped and none waits, no other image was
+ * lent, no write reached ISR, and no vector byte changed while its input was in service. The numbers give that order: of the events since a reset of 290
+ * bytes, while they are at most 65536, it is that of rising number, unsigned. pch_pic_difference is for a stretch of a longer day, and turns round
+ * at 32768.
  *
  * TRACES. A trace is a day of calls as bytes, from a reset on: what was asked, and not what was answered, which pch_pic_play works out again. It has at
  * most 4000 records in 1 to 64 blocks, and so at most 64258 bytes, which fit into 64 KiB. All numbers have their little end first. First come its contents:
@@ -91,10 +109,10 @@
  *     - Do not trust that each deassert had an assert. Where the guest changes the vector byte of an input in service, the deassert names the
  *       new vector, and none ever comes for the old one. Where the guest writes ISR, inputs enter or leave service and no event tells it. A count
  *       that goes up and down with the events goes wrong then, below 0 even.
- *     - So count afresh: the vectors that are on are those of the inputs in the stored ISR, and no others. Take ISR out of the image's body of kind
- *       1: a read of register 0x3a0 leaves out masked inputs, and those can be in service too, after a write of ISR or a load. This must be done
- *       when a write's value is not 0, since a dropped event is never told, and after a write to ISR or to a vector byte. It is right at any
- *       time when no event waits, so the simplest host does it after each call.
+ *     - So count afresh: the vectors that are on are those of the inputs in the stored ISR, and no others. A board beside the image has these counts after
+ *       each call. (A read of register 0x3a0 leaves out masked inputs, and those can be in service too, after a write of ISR or a load.) What it says
+ *       must be passed on when a write's value is not 0, since a dropped event is never told, and after a write to ISR or to a vector byte. It may be
+ *       passed on at any time when no event waits, so the simplest host does it after each call.
  *     - After a load, rebuild what is not in the image. Lower each input that is latched (IRR) while its line is low now, drain, count afresh
  *       against what the controller above has on, poll all 64 inputs, and raise each line that is high. The same goes for a reset while the guest
  *       runs.
@@ -102,10 +120,10 @@
  *
  * THE HOST'S DUTIES. No call can test these:
  *     - each pointer is good for as many bytes as the length beside it says; a null pointer with length 0 is an empty buffer;
- *     - the image, the answer area and the event buffer or the target of one call do not overlap, nor do the five areas of a play, nor the four of a
- *       salvage;
+ *     - the image, the board, the answer area and the event buffer or the target of one call do not overlap, nor do the five areas of a play, nor the
+ *       four of a salvage;
  *     - while a call other than a read or a conversion runs on an image, no other call runs on it. Reads and conversions of one image may run side by
- *       side, each with its own answer area and target: they only load from the image. Calls on different images may always run side by side.
+ *       side, each with its own answer area, board and target: they only load from the image. Calls on different images may always run side by side.
  */
 #ifndef PCH_PIC_H
 #define PCH_PIC_H
@@ -121,9 +139,9 @@
 
 /* The version of the header and of what it says about the library. */
 #define PCH_PIC_VERSION_MAJOR 0
-#define PCH_PIC_VERSION_MINOR 10
+#define PCH_PIC_VERSION_MINOR 11
 #define PCH_PIC_VERSION_PATCH 0
-#define PCH_PIC_VERSION "0.10.0"
+#define PCH_PIC_VERSION "0.11.0"
 
 #ifdef __cplusplus
 extern "C" {
@@ -136,6 +154,7 @@ enum {
     PCH_PIC_IMAGE2_NUMBERED_LEN = 290, /* bytes of an image of form 2 with numbers, the longest */
     PCH_PIC_ANSWER_LEN = 16,           /* bytes of an answer */
     PCH_PIC_INPUTS = 64,               /* input lines, 0 to 63 */
+    PCH_PIC_BOARD_LEN = 256,           /* bytes of a board, one for each vector */
     PCH_PIC_EVENTS = 16,               /* events that wait at most */
     PCH_PIC_EVENT_LEN = 4,             /* bytes of a drained event; of all 16 they are 64 */
     PCH_PIC_DRAIN_ROOM = 64,           /* bytes that have room for all events that can wait */
@@ -226,8 +245,8 @@ enum pch_pic_number {
     PCH_PIC_INPUT = 3,    /* the input is 64 or more */
     PCH_PIC_LENGTH = 4,   /* an image, or a conversion's target, is not 290, 259 or 251 bytes long */
     PCH_PIC_CONTENTS = 5, /* the image's first bytes, 27 of 290 or else 22, are not those of the form that its length says */
-    PCH_PIC_ROOM = 7,     /* the answer area is under 16 bytes, a drain's place is past its buffer's end, or a play's answers or events or a salvage's
-                             second buffer or list are short */
+    PCH_PIC_ROOM = 7,     /* the answer area is under 16 bytes, a board under 256, a drain's place past its buffer's end, or a play's answers or events
+                             or a salvage's second buffer or list are short */
     /* A rule of the form is broken; the value is the place in the image of the byte that breaks it, the first where there are several. */
     PCH_PIC_COPY = 8,     /* of form 1 alone: the copy of IRR differs from IRR; the place of its first byte */
     PCH_PIC_COUNT = 9,    /* more than 16 events wait */
@@ -323,6 +342,24 @@ uint8_t pch_pic_table_read(const uint8_t *image, size_t image_len, uint64_t base
                            uint8_t *answer, size_t answer_len);
 uint8_t pch_pic_table_write(uint8_t *image, size_t image_len, uint64_t base, uint64_t size, uint64_t address, uint64_t width, uint64_t value,
                             uint8_t *answer, size_t answer_len);
+
+/* As the calls without board, in the number and in every byte of image, answer area and event buffer; and where they are done the first 256 bytes of board
+ * are the fresh counts of the image after it, one for each vector. Refused, the board stays. Refusals: 7 for a board under 256 bytes too, and then as there. */
+uint8_t pch_pic_board_reset(uint8_t *image, size_t image_len, uint8_t *board, size_t board_len, uint8_t *answer, size_t answer_len);
+uint8_t pch_pic_board_read(const uint8_t *image, size_t image_len, uint8_t *board, size_t board_len, uint64_t base, uint64_t size,
+                           uint64_t address, uint64_t width, uint8_t *answer, size_t answer_len);
+uint8_t pch_pic_board_write(uint8_t *image, size_t image_len, uint8_t *board, size_t board_len, uint64_t base, uint64_t size,
+                            uint64_t address, uint64_t width, uint64_t value, uint8_t *answer, size_t answer_len);
+uint8_t pch_pic_board_level(uint8_t *image, size_t image_len, uint8_t *board, size_t board_len, uint64_t input, uint64_t level,
+                            uint8_t *answer, size_t answer_len);
+uint8_t pch_pic_board_poll(uint8_t *image, size_t image_len, uint8_t *board, size_t board_len, uint64_t input,
+                           uint8_t *answer, size_t answer_len);
+uint8_t pch_pic_board_drain(uint8_t *image, size_t image_len, uint8_t *board, size_t board_len, uint8_t *events, size_t events_len, size_t place,
+                            uint8_t *answer, size_t answer_len);
+
+/* A second board hears one event: the count of vector goes down by one, not below 0, where flag is 0, and up by one, not past 255, where it is any other.
+ * The value is the count after. Refusals: 7, for the answer area or the board. */
+uint8_t pch_pic_board_event(uint8_t *board, size_t board_len, uint8_t vector, uint8_t flag, uint8_t *answer, size_t answer_len);
 
 /* Plays a trace from a reset: makes image the device after reset in the form that its length says, whatever its bytes were, and then makes the call of
  * each record on it, one after another, with base 0 and size 65536. Every byte is what those calls leave, made one by one:

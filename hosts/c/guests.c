@@ -1,5 +1,5 @@
-/* Guests that no driver would write, and what a host makes of them: after each step the vectors that are on above are those of the inputs in
- * service. Also files that are damaged, and reads of an image that cannot be written.
+/* Guests that no driver would write, and what a host makes of them: after each step the board counts the inputs in service, and the vectors that are on
+ * above are theirs. Also a second board, files that are damaged, and reads of an image that cannot be written.
  *     guests FOLDER   plays them, with its files in FOLDER; the last line is 'N passed, M failed' */
 #define _DEFAULT_SOURCE
 #include "pic.h"
@@ -86,17 +86,32 @@ static void line(struct host *host, uint64_t input, bool high)
     }
 }
 
-/* The vectors that ought to be on, found out by calls alone: on a copy, lowering an input returns its vector if it was in service. */
-static bool in_line(const struct host *host)
+/* The counts that a board ought to have, found out by calls alone: on a copy, lowering an input returns its vector if it was in service. */
+static bool counted(const struct pic *pic, uint8_t counts[PIC_VECTORS])
 {
-    struct pic copy = host->pic;
-    bool want[PIC_VECTORS] = {0};
+    struct pic copy = *pic;
+    copy.watch = NULL;
+    memset(counts, 0, PIC_VECTORS);
     for (unsigned input = 0; input < PCH_PIC_INPUTS; input++) {
         struct pic_event event;
         if (pic_level(&copy, input, false, &event) != PCH_PIC_DONE) {
             return false;
         }
-        want[event.vector] |= event.change == PIC_DEASSERT;
+        counts[event.vector] += event.change == PIC_DEASSERT;
+    }
+    return memcmp(counts, pic->board, PIC_VECTORS) == 0;
+}
+
+/* The board has these counts, and their vectors are on above. */
+static bool in_line(const struct host *host)
+{
+    uint8_t counts[PIC_VECTORS];
+    bool want[PIC_VECTORS] = {0};
+    if (!counted(&host->pic, counts)) {
+        return false;
+    }
+    for (unsigned vector = 0; vector < PIC_VECTORS; vector++) {
+        want[vector] = counts[vector] != 0;
     }
     return memcmp(want, host->above.on, sizeof want) == 0 && memcmp(want, host->wires.on, sizeof want) == 0;
 }
@@ -457,6 +472,87 @@ static void in_order(void)
     expect("one and none are in order", none.number == 9);
 }
 
+static int by_number(const void *one, const void *two)
+{
+    return (int)((const struct pic_event *)one)->number - (int)((const struct pic_event *)two)->number;
+}
+
+/* A second board hears the events of 40,000 steps from a reset, by rising number: more than 32,768 events, so that their difference would turn round. The guest
+ * drains in time, and keeps ISR and the vectors of inputs in service as they are. */
+static void a_second_board(void)
+{
+    static struct pic_event events[65536];
+    struct pic pic;
+    uint8_t second[PCH_PIC_BOARD_LEN] = {0}, early[PCH_PIC_BOARD_LEN] = {0}, counts[PIC_VECTORS];
+    uint64_t state = 88172645463325252u, high = 0;
+    size_t count = 0, drained;
+    bool done = pic_init(&pic, BASE) == PCH_PIC_DONE, right = true;
+    for (unsigned input = 0; input < PCH_PIC_INPUTS; input++) {
+        done = done && pic_write(&pic, BASE + PCH_PIC_REG_VECTORS + input, 1, input / 3, NULL) == PCH_PIC_DONE;
+    }
+    for (int step = 0; step < 40000 && done; step++) {
+        unsigned input;
+        state ^= state << 13;
+        state ^= state >> 7;
+        state ^= state << 17;
+        input = state >> 32 & 63;
+        if (state % 16 == 0) {
+            done = pic_write(&pic, BASE + PCH_PIC_REG_MASK + (input & 4), 4, UINT64_C(1) << (input & 31), NULL) == PCH_PIC_DONE;
+        } else if (state % 16 == 1) {
+            done = pic_write(&pic, BASE + PCH_PIC_REG_CLEAR + (input & 4), 4, UINT64_C(3) << (input & 15), NULL) == PCH_PIC_DONE;
+        } else if (state % 16 == 2) {
+            done = pic_poll(&pic, input, &events[count]) == PCH_PIC_DONE;
+            count += events[count].change != PIC_NOTHING;
+        } else {
+            high ^= UINT64_C(1) << input;
+            done = pic_level(&pic, input, high >> input & 1, &events[count]) == PCH_PIC_DONE;
+            count += events[count].change != PIC_NOTHING;
+        }
+        if (step % 4 == 3) {
+            done = done && pic_drain(&pic, events + count, &drained) == PCH_PIC_DONE;
+            count += drained;
+        }
+        right = right && (step % 64 != 0 || counted(&pic, counts));
+    }
+    expect("a long day is done, and the board is right all along", done && right && pic_drops(&pic) == 0 && pic_waiting(&pic) == 0);
+    expect("it has more than 32,768 events, and at most 65,536", count > 32768 && count <= 65536 && pic_next(&pic) == count % 65536);
+    for (size_t i = 0; i < count; i++) {
+        done = done && pic_hear(early, events[i]) == PCH_PIC_DONE;
+    }
+    qsort(events, count, sizeof *events, by_number);
+    for (size_t i = 0; i < count; i++) {
+        done = done && events[i].number == (int32_t)i && pic_hear(second, events[i]) == PCH_PIC_DONE;
+    }
+    expect("heard by rising number the second board is the first", done && memcmp(second, pic.board, sizeof second) == 0);
+    expect("as they came it is not", memcmp(early, pic.board, sizeof early) != 0);
+}
+
+/* A board is right after each call, whatever the guest did: a vector changed in service, a write of ISR, the table, a reset, a load and a refusal. */
+static void a_board(void)
+{
+    struct pic pic, other;
+    struct pic_event event;
+    uint8_t counts[PIC_VECTORS], before[PIC_VECTORS];
+    bool done = pic_init(&pic, BASE) == PCH_PIC_DONE && pic_init(&other, BASE) == PCH_PIC_DONE;
+    done = done && pic_write(&pic, BASE + PCH_PIC_REG_ISR, 8, 0x8000000000000021u, NULL) == PCH_PIC_DONE;
+    expect("masked inputs in service count", done && counted(&pic, counts) && pic_on(&pic, 0) && pic_on(&pic, 5) && pic_on(&pic, 63) && !pic_on(&pic, 1));
+    done = pic_write(&pic, BASE + PCH_PIC_REG_VECTORS + 5, 1, 63, NULL) == PCH_PIC_DONE;
+    expect("a vector changed in service moves both counts", done && counted(&pic, counts) && pic.board[5] == 0 && pic.board[63] == 2);
+    done = pic_table_write(&pic, BASE + PCH_PIC_REG_VECTORS, 1, 63, NULL) == PCH_PIC_DONE;
+    expect("by the table too", done && counted(&pic, counts) && pic.board[63] == 3);
+    done = pic_level(&pic, 5, false, &event) == PCH_PIC_DONE;
+    expect("a lower takes one away", done && event.vector == 63 && counted(&pic, counts) && pic.board[63] == 2);
+    memcpy(before, pic.board, sizeof before);
+    expect("a refused call leaves it", pic_poll(&pic, 64, &event) == PCH_PIC_INPUT && pic_write(&pic, BASE - 1, 1, 0, NULL) == PCH_PIC_OUTSIDE &&
+                                           memcmp(before, pic.board, sizeof before) == 0);
+    memset(other.board, 0xee, sizeof other.board);
+    expect("a load counts anew", pic_take(&other, pic.image, sizeof pic.image, NULL) == PCH_PIC_DONE && memcmp(other.board, pic.board, sizeof pic.board) == 0);
+    memset(counts, 0, sizeof counts);
+    expect("after a reset no vector is on", pic_reset(&pic) == PCH_PIC_DONE && memcmp(pic.board, counts, sizeof counts) == 0);
+    event.change = PIC_NOTHING;
+    expect("nothing is no event", pic_hear(counts, event) == PCH_PIC_DONE && memcmp(pic.board, counts, sizeof counts) == 0);
+}
+
 /* Why reads may run side by side: on pages that cannot be written, a read that stored anything would end this program. */
 static void reads_only_load(void)
 {
@@ -468,7 +564,7 @@ static void reads_only_load(void)
         exit(2);
     }
     for (size_t form = 0; form < sizeof lens / sizeof *lens; form++) {
-        uint8_t target[IMAGE_LEN];
+        uint8_t target[IMAGE_LEN], board[PCH_PIC_BOARD_LEN];
         size_t len = lens[form];
         mprotect(page, 4096, PROT_READ | PROT_WRITE);
         pch_pic_reset(page, len, answer, sizeof answer);
@@ -476,6 +572,7 @@ static void reads_only_load(void)
         for (uint64_t address = 0; address <= PCH_PIC_WINDOW_LEN; address++) {
             for (uint64_t width = 0; width <= 8; width++) {
                 numbers |= 1 << pch_pic_table_read(page, len, 0, PCH_PIC_WINDOW_LEN, address, width, answer, sizeof answer);
+                numbers |= 1 << pch_pic_board_read(page, len, board, sizeof board, 0, PCH_PIC_WINDOW_LEN, address, width, answer, sizeof answer);
                 numbers |= 1 << pch_pic_read(page, len, 0, PCH_PIC_WINDOW_LEN, address, width, answer, sizeof answer);
             }
         }
@@ -555,6 +652,8 @@ int main(int argc, char **argv)
     files(path);
     forms(path);
     in_order();
+    a_board();
+    a_second_board();
     reads_only_load();
     by_the_table();
     what_is_no_device();

@@ -1,5 +1,5 @@
 /* A guest's day with a PCH-PIC, told in plain words: start-up as Linux's driver does it, a load sample's line up and down, the device saved to a
- * file and loaded into a fresh host, what comes after sixteen events, a guest that is unkind, and a recorder that puts events in order.
+ * file and loaded into a fresh host, what comes after sixteen events, a guest that is unkind, a recorder that puts events in order, and its own board.
  *     load_sample FILE              plays it; the device goes to FILE, with the numbers of its events
  *     load_sample --show FILE       tells what a saved device holds
  *     load_sample --form F FROM TO  saves what FROM holds to TO, in form 1, 2 or numbered: a host of before version 0.8.0 does not load numbered, and
@@ -86,7 +86,7 @@ static void guest_writes(struct host *host, uint64_t offset, uint64_t width, uin
     must(pic_write(&host->pic, BASE + offset, width, value, &dropped));
     must(pic_settle(&host->pic, &host->wires));
     if (dropped != 0) {
-        printf("Dropped: %" PRIu64 ". What no event told was counted afresh from ISR.\n", dropped);
+        printf("Dropped: %" PRIu64 ". What no event told is read from the board.\n", dropped);
     }
 }
 
@@ -209,6 +209,39 @@ static void recorded(struct host *host)
     line(host, 5, false);
 }
 
+static void print_on(const char *whose, const uint8_t board[PCH_PIC_BOARD_LEN])
+{
+    printf("%s", whose);
+    for (unsigned vector = 0; vector < PIC_VECTORS; vector++) {
+        if (board[vector] != 0) {
+            printf(" 0x%02x", vector);
+        }
+    }
+    printf("\n");
+}
+
+/* A recorder that has the events of a device since its reset, and not the device, knows which vectors are on all the same. */
+static void second_board(void)
+{
+    struct pic pic;
+    struct pic_event none, events[2 + PCH_PIC_EVENTS];
+    uint8_t heard[PCH_PIC_BOARD_LEN] = {0};
+    size_t drained;
+    printf("A fresh device: line 5 goes up, the guest unmasks everything, line 5 goes down and line 9 up. A recorder hears the events in the order of making.\n");
+    must(pic_init(&pic, BASE));
+    must(pic_level(&pic, 5, true, &none));
+    must(pic_write(&pic, BASE + PCH_PIC_REG_MASK, 4, 0, NULL));
+    must(pic_level(&pic, 5, false, &events[0]));
+    must(pic_level(&pic, 9, true, &events[1]));
+    must(pic_drain(&pic, events + 2, &drained));
+    pic_in_order(events, 2 + drained);
+    for (size_t i = 0; i < 2 + drained; i++) {
+        must(pic_hear(heard, events[i]));
+    }
+    print_on("On by the device's board:", pic.board);
+    print_on("On by the recorder's:", heard);
+}
+
 static int play(const char *path)
 {
     struct host host = new_host();
@@ -219,6 +252,7 @@ static int play(const char *path)
     after_sixteen(&host);
     unkind(&host);
     recorded(&host);
+    second_board();
     for (unsigned vector = 0; vector < PIC_VECTORS; vector++) {
         left += host.wires.on[vector];
     }

@@ -1,4 +1,4 @@
-/* The calls of pch_pic.h on a struct pic, and its wires. The image stands in the struct and the answer area on the stack, so they never overlap. */
+/* The calls of pch_pic.h on a struct pic, and its wires. Image and board stand in the struct and the answer area on the stack, so they never overlap. */
 #include "pic.h"
 
 #include <errno.h>
@@ -53,9 +53,17 @@ int pic_reset(struct pic *pic)
 {
     uint8_t answer[PCH_PIC_ANSWER_LEN];
     announce(pic, PIC_CALL_RESET, 0, 0, 0);
-    return pch_pic_reset(pic->image, sizeof pic->image, answer, sizeof answer);
+    return pch_pic_board_reset(pic->image, sizeof pic->image, pic->board, sizeof pic->board, answer, sizeof answer);
 }
 
+/* Brings the board up to date after a call that was not lent it: a read of ID changes nothing, and counts. */
+static void recount(struct pic *pic)
+{
+    uint8_t answer[PCH_PIC_ANSWER_LEN];
+    pch_pic_board_read(pic->image, sizeof pic->image, pic->board, sizeof pic->board, 0, PCH_PIC_WINDOW_LEN, PCH_PIC_REG_ID, 4, answer, sizeof answer);
+}
+
+/* A read leaves the image, and so the board. */
 int pic_read(const struct pic *pic, uint64_t address, uint64_t width, uint64_t *value)
 {
     uint8_t answer[PCH_PIC_ANSWER_LEN];
@@ -69,7 +77,8 @@ int pic_write(struct pic *pic, uint64_t address, uint64_t width, uint64_t value,
 {
     uint8_t answer[PCH_PIC_ANSWER_LEN];
     announce(pic, PCH_PIC_WRITE, width, address, value);
-    int number = pch_pic_write(pic->image, sizeof pic->image, pic->base, pic->size, address, width, value, answer, sizeof answer);
+    int number = pch_pic_board_write(pic->image, sizeof pic->image, pic->board, sizeof pic->board, pic->base, pic->size, address, width, value,
+                                     answer, sizeof answer);
     if (dropped != NULL)
         *dropped = number == PCH_PIC_DONE ? value_of(answer) : 0;
     return number;
@@ -89,6 +98,7 @@ int pic_table_write(struct pic *pic, uint64_t address, uint64_t width, uint64_t 
     uint8_t answer[PCH_PIC_ANSWER_LEN];
     announce(pic, PCH_PIC_WRITE, width, address, value);
     int number = pch_pic_table_write(pic->image, sizeof pic->image, pic->base, pic->size, address, width, value, answer, sizeof answer);
+    recount(pic);
     if (dropped != NULL)
         *dropped = number == PCH_PIC_DONE ? value_of(answer) : 0;
     return number;
@@ -98,7 +108,7 @@ int pic_level(struct pic *pic, uint64_t input, bool high, struct pic_event *even
 {
     uint8_t answer[PCH_PIC_ANSWER_LEN];
     announce(pic, high ? PCH_PIC_RAISE : PCH_PIC_LOWER, input, 0, 0);
-    int number = pch_pic_level(pic->image, sizeof pic->image, input, high, answer, sizeof answer);
+    int number = pch_pic_board_level(pic->image, sizeof pic->image, pic->board, sizeof pic->board, input, high, answer, sizeof answer);
     *event = event_of(number, answer, high ? PIC_ASSERT : PIC_DEASSERT);
     return number;
 }
@@ -107,7 +117,7 @@ int pic_poll(struct pic *pic, uint64_t input, struct pic_event *event)
 {
     uint8_t answer[PCH_PIC_ANSWER_LEN];
     announce(pic, PCH_PIC_POLL, input, 0, 0);
-    int number = pch_pic_poll(pic->image, sizeof pic->image, input, answer, sizeof answer);
+    int number = pch_pic_board_poll(pic->image, sizeof pic->image, pic->board, sizeof pic->board, input, answer, sizeof answer);
     *event = event_of(number, answer, PIC_ASSERT);
     return number;
 }
@@ -116,7 +126,7 @@ int pic_drain(struct pic *pic, struct pic_event events[PCH_PIC_EVENTS], size_t *
 {
     uint8_t answer[PCH_PIC_ANSWER_LEN], drained[PCH_PIC_EVENTS * PCH_PIC_EVENT_LEN];
     announce(pic, PCH_PIC_DRAIN, 0, 0, 0);
-    int number = pch_pic_drain(pic->image, sizeof pic->image, drained, sizeof drained, 0, answer, sizeof answer);
+    int number = pch_pic_board_drain(pic->image, sizeof pic->image, pic->board, sizeof pic->board, drained, sizeof drained, 0, answer, sizeof answer);
     *count = number == PCH_PIC_DONE ? (size_t)value_of(answer) : 0;
     for (size_t i = 0; i < *count; i++) {
         const uint8_t *event = drained + PCH_PIC_EVENT_LEN * i;
@@ -165,6 +175,7 @@ int pic_take(struct pic *pic, const uint8_t *image, size_t image_len, uint64_t *
     uint8_t answer[PCH_PIC_ANSWER_LEN];
     int number = pch_pic_convert(image, image_len, pic->image, sizeof pic->image, answer, sizeof answer);
     if (number == PCH_PIC_DONE) {
+        recount(pic);
         announce(pic, PIC_CALL_LOAD, 0, 0, 0);
     }
     if (place != NULL && number >= PCH_PIC_COPY && number <= PCH_PIC_UNUSED) {
@@ -224,15 +235,18 @@ uint16_t pic_next(const struct pic *pic)
     return (uint16_t)in_body(pic, PCH_PIC_KIND_NUMBERS, PCH_PIC_NUMBERS_NEXT, 2);
 }
 
-void pic_count(const struct pic *pic, uint8_t held[PIC_VECTORS])
+bool pic_on(const struct pic *pic, uint8_t vector)
 {
-    uint64_t service = pic_service(pic);
-    memset(held, 0, PIC_VECTORS);
-    for (unsigned input = 0; input < PCH_PIC_INPUTS; input++) {
-        if (service >> input & 1) {
-            held[pic_vector(pic, input)]++;
-        }
+    return pic->board[vector] != 0;
+}
+
+int pic_hear(uint8_t board[PCH_PIC_BOARD_LEN], struct pic_event event)
+{
+    uint8_t answer[PCH_PIC_ANSWER_LEN];
+    if (event.change == PIC_NOTHING) {
+        return PCH_PIC_DONE;
     }
+    return pch_pic_board_event(board, PCH_PIC_BOARD_LEN, event.vector, event.change == PIC_ASSERT, answer, sizeof answer);
 }
 
 static void tell(struct pic_wires *wires, uint8_t vector, bool on, int32_t number)
@@ -246,9 +260,9 @@ static void tell(struct pic_wires *wires, uint8_t vector, bool on, int32_t numbe
 
 /* An event is passed on where the device, as it stands now, agrees with it. A deassert is not where another input still carries the vector; an
  * assert is not where the input has left service since. */
-static void pass_on(struct pic_wires *wires, const uint8_t held[PIC_VECTORS], struct pic_event event)
+static void pass_on(const struct pic *pic, struct pic_wires *wires, struct pic_event event)
 {
-    bool on = held[event.vector] != 0;
+    bool on = pic_on(pic, event.vector);
     if ((event.change == PIC_ASSERT && on) || (event.change == PIC_DEASSERT && !on && wires->on[event.vector])) {
         tell(wires, event.vector, on, event.number);
     }
@@ -258,39 +272,28 @@ static void pass_on(struct pic_wires *wires, const uint8_t held[PIC_VECTORS], st
 static int catch_up(struct pic *pic, struct pic_wires *wires)
 {
     struct pic_event events[PCH_PIC_EVENTS];
-    uint8_t held[PIC_VECTORS];
-    size_t count;
-    int number = pic_drain(pic, events, &count);
+    size_t drained;
+    int number = pic_drain(pic, events, &drained);
     if (number != PCH_PIC_DONE) {
         return number;
     }
-    pic_count(pic, held);
-    for (size_t i = 0; i < count; i++) {
-        pass_on(wires, held, events[i]);
+    for (size_t i = 0; i < drained; i++) {
+        pass_on(pic, wires, events[i]);
     }
     for (unsigned vector = 0; vector < PIC_VECTORS; vector++) {
-        if (wires->on[vector] != (held[vector] != 0)) {
-            tell(wires, (uint8_t)vector, held[vector] != 0, PIC_NO_NUMBER);
+        bool on = pic_on(pic, (uint8_t)vector);
+        if (wires->on[vector] != on) {
+            tell(wires, (uint8_t)vector, on, PIC_NO_NUMBER);
         }
     }
     return PCH_PIC_DONE;
-}
-
-/* What a call on an input returned, if it returned anything. */
-static void pass_back(struct pic *pic, struct pic_wires *wires, struct pic_event event)
-{
-    uint8_t held[PIC_VECTORS];
-    if (event.change != PIC_NOTHING) {
-        pic_count(pic, held);
-        pass_on(wires, held, event);
-    }
 }
 
 static int move(struct pic *pic, struct pic_wires *wires, uint64_t input, bool high)
 {
     struct pic_event event;
     int number = pic_level(pic, input, high, &event);
-    pass_back(pic, wires, event);
+    pass_on(pic, wires, event);
     return number;
 }
 
@@ -301,7 +304,7 @@ static int sweep(struct pic *pic, struct pic_wires *wires)
     int number = PCH_PIC_DONE;
     for (unsigned input = 0; input < PCH_PIC_INPUTS && number == PCH_PIC_DONE; input++) {
         number = pic_poll(pic, input, &event);
-        pass_back(pic, wires, event);
+        pass_on(pic, wires, event);
     }
     return number;
 }

@@ -19,8 +19,8 @@ enum {
     PIC_DAMAGED = 103  /* its checksum is not that of its bytes */
 };
 
-/* The vectors of the controller above. */
-enum { PIC_VECTORS = 256 };
+/* The vectors of the controller above, and so the counts of a board. */
+enum { PIC_VECTORS = PCH_PIC_BOARD_LEN };
 
 /* The forms that a device is saved in; the last is form 2 with the numbers of events. Hosts of before version 0.8.0 do not load that one, and those of
  * before 0.6.0 load form 1 alone. The others lose the numbers and nothing else. */
@@ -36,12 +36,14 @@ struct pic_call {
     uint64_t value;   /* of a write */
 };
 
-/* The image is kept with numbers; forms matter where a device comes and goes (pic_image, pic_take, pic_save, pic_load).
+/* The image is kept with numbers; forms matter where a device comes and goes (pic_image, pic_take, pic_save, pic_load). The board is kept beside it: for each
+ * vector how many inputs in service carry it, after every call here, a load too.
  * watch, where it is not NULL, is told of each call before it is made, of those of pic_settle, pic_line and pic_resume too; of a load, once it is done.
  * recorder.h records a day by it. So a struct pic is all zeros or made by pic_init before anything is called on it. A copy of one is watched as well,
  * until its watch is set to NULL; and watched reads do not run side by side. */
 struct pic {
     uint8_t image[PCH_PIC_IMAGE2_NUMBERED_LEN];
+    uint8_t board[PCH_PIC_BOARD_LEN];
     uint64_t base, size;
     void (*watch)(void *watcher, const struct pic *pic, const struct pic_call *call);
     void *watcher;
@@ -97,8 +99,13 @@ unsigned pic_waiting(const struct pic *pic);
 uint32_t pic_drops(const struct pic *pic);
 uint16_t pic_next(const struct pic *pic);
 
-/* Counts, for each vector, the inputs in service that carry it. A vector is on while its count is not 0. */
-void pic_count(const struct pic *pic, uint8_t held[PIC_VECTORS]);
+/* Whether a vector is on: some input in service carries it. */
+bool pic_on(const struct pic *pic, uint8_t vector);
+
+/* A second board, for who has the events and not the device: it begins as zeros and hears each event that pic_level, pic_poll and pic_drain gave. It is
+ * the device's board in the end if it heard all events since a reset in the order in which they were made (pic_in_order up to 32768 of them), none was dropped or
+ * waits, nothing was loaded, no write reached ISR, and no vector byte changed while its input was in service. */
+int pic_hear(uint8_t board[PCH_PIC_BOARD_LEN], struct pic_event event);
 
 /* Brings the wires in line with the device, whatever the guest did: drains and passes on, counts afresh which vectors are on and passes on what no
  * event told, polls all 64 inputs, and raises each line again that is still high. Then every latched and unmasked input is in service. Call it after

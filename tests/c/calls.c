@@ -614,6 +614,169 @@ static void traces(void)
     expect("so has 16", strcmp(pch_pic_why(16), pch_pic_why(99)) != 0);
 }
 
+/* ---- boards */
+
+enum { BOARD = PCH_PIC_BOARD_LEN };
+
+static uint8_t board[BOARD + GUARD], plain[NUMBERED], plain_answer[ANSWER], plain_events[EVENTS];
+
+/* The image, and what a board says before the call: anything. */
+static void lend(void)
+{
+    memcpy(plain, image, image_len);
+    guard();
+    memset(board, 0xee, sizeof board);
+    memset(plain_answer, 0x5a, sizeof plain_answer);
+    memset(plain_events, 0xc3, sizeof plain_events);
+}
+
+/* The call with board left what the call without did, and the board counts the inputs in service, found by the image's contents: registers and vectors are the
+ * first and third body. */
+static int as_plain(uint8_t n, uint8_t without)
+{
+    uint8_t want[BOARD] = {0};
+    size_t registers = image[3], isr = registers + image[5] - PCH_PIC_REGISTERS_ISR_BACK, vectors = image[13];
+    for (unsigned input = 0; input < PCH_PIC_INPUTS; input++) {
+        want[image[vectors + input]] += image[isr + input / 8] >> input % 8 & 1;
+    }
+    for (int i = 0; i < GUARD; i++) {
+        if (board[BOARD + i] != 0xee) {
+            return 0;
+        }
+    }
+    return n == 0 && without == 0 && guarded() && memcmp(board, want, BOARD) == 0 && memcmp(image, plain, image_len) == 0 &&
+           memcmp(answer, plain_answer, ANSWER) == 0 && memcmp(events, plain_events, EVENTS) == 0;
+}
+
+/* Refused as the call without board: the board stays too. */
+static int board_stays(uint8_t n, uint8_t number)
+{
+    for (size_t i = 0; i < sizeof board; i++) {
+        if (board[i] != 0xee) {
+            return 0;
+        }
+    }
+    return n == number && guarded() && memcmp(image, plain, image_len) == 0 && memcmp(events, plain_events, EVENTS) == 0;
+}
+
+static uint8_t board_write(uint64_t address, uint64_t width, uint64_t value)
+{
+    lend();
+    return pch_pic_board_write(image, image_len, board, sizeof board, 0, 0x400, address, width, value, answer, ANSWER);
+}
+
+static uint8_t plain_write(uint64_t address, uint64_t width, uint64_t value)
+{
+    return pch_pic_write(plain, image_len, 0, 0x400, address, width, value, plain_answer, ANSWER);
+}
+
+static void boards_of(size_t len)
+{
+    uint8_t n, without;
+
+    image_len = len;
+    events_len = EVENTS;
+    memset(image, 0x77, sizeof image);
+    lend();
+    n = pch_pic_board_reset(image, len, board, sizeof board, answer, ANSWER);
+    without = pch_pic_reset(plain, len, plain_answer, ANSWER);
+    expect("a reset with a board: no vector is on", as_plain(n, without) && board[0] == 0 && board[255] == 0);
+    n = board_write(0x209, 1, 5);
+    without = plain_write(0x209, 1, 5);
+    expect("a write with a board", as_plain(n, without));
+    lend();
+    n = pch_pic_board_level(image, len, board, sizeof board, 5, 1, answer, ANSWER);
+    without = pch_pic_level(plain, len, 5, 1, plain_answer, ANSWER);
+    expect("a raise of a masked input", as_plain(n, without) && board[5] == 0);
+    n = board_write(0x20, 4, 0);
+    without = plain_write(0x20, 4, 0);
+    expect("an unmask: vector 5 is on", as_plain(n, without) && board[5] == 1);
+    lend();
+    n = pch_pic_board_level(image, len, board, sizeof board, 9, 1, answer, ANSWER);
+    without = pch_pic_level(plain, len, 9, 1, plain_answer, ANSWER);
+    expect("a raise of an input with the same vector", as_plain(n, without) && board[5] == 2 && board[9] == 0);
+    n = board_write(0x205, 1, 255);
+    without = plain_write(0x205, 1, 255);
+    expect("a vector changed in service moves both counts", as_plain(n, without) && board[5] == 1 && board[255] == 1);
+    n = board_write(0x3a0, 8, 0x8000000000000220u);
+    without = plain_write(0x3a0, 8, 0x8000000000000220u);
+    expect("a write of ISR: a masked input in service counts", as_plain(n, without) && board[63] == 1);
+    lend();
+    n = pch_pic_board_read(image, len, board, sizeof board, 0, 0x400, 0x3a0, 8, answer, ANSWER);
+    without = pch_pic_read(plain, len, 0, 0x400, 0x3a0, 8, plain_answer, ANSWER);
+    expect("a read counts too", as_plain(n, without) && board[63] == 1);
+    lend();
+    n = pch_pic_board_poll(image, len, board, sizeof board, 9, answer, ANSWER);
+    without = pch_pic_poll(plain, len, 9, plain_answer, ANSWER);
+    expect("a poll", as_plain(n, without));
+    lend();
+    n = pch_pic_board_level(image, len, board, sizeof board, 9, 0, answer, ANSWER);
+    without = pch_pic_level(plain, len, 9, 0, plain_answer, ANSWER);
+    expect("a lower takes its vector away", as_plain(n, without) && board[5] == 0 && answer[PCH_PIC_ANSWER_VECTOR] == 5);
+    lend();
+    n = pch_pic_board_drain(image, len, board, sizeof board, events, EVENTS, 4, answer, ANSWER);
+    without = pch_pic_drain(plain, len, plain_events, EVENTS, 4, plain_answer, ANSWER);
+    expect("a drain from a place on", as_plain(n, without) && event_at(4, 5, 1, 0));
+
+    expect("1: outside", board_stays(board_write(0x400, 1, 0), 1) && answers(1, 1, 0x400));
+    expect("2: the width", board_stays(board_write(0x400, 3, 0), 2) && answers(2, 0, 0));
+    lend();
+    n = pch_pic_board_level(image, len, board, sizeof board, 64, 1, answer, ANSWER);
+    expect("3: the input", board_stays(n, 3) && answers(3, 0, 0));
+    lend();
+    n = pch_pic_board_reset(image, len - 1, board, sizeof board, answer, ANSWER);
+    expect("4: the length", board_stays(n, 4) && answers(4, 0, 0));
+    lend();
+    n = pch_pic_board_poll(image, len, board, BOARD - 1, 64, answer, ANSWER);
+    expect("7 before 3: a board of 255 bytes, and nothing is written", board_stays(n, 7) && untouched());
+    n = pch_pic_board_reset(image, 0, board, BOARD - 1, answer, ANSWER);
+    expect("7 before 4", board_stays(n, 7) && untouched());
+    n = pch_pic_board_read(image, len, NULL, 0, 0, 0x400, 0, 3, answer, ANSWER);
+    expect("7 before 2: no board", board_stays(n, 7) && untouched());
+    n = pch_pic_board_write(image, len, board, BOARD - 1, 0, 0x400, 0x20, 4, 0, answer, ANSWER);
+    expect("7 of a write", board_stays(n, 7) && untouched());
+    n = pch_pic_board_level(image, len, board, BOARD, 5, 1, answer, ANSWER - 1);
+    expect("7: the answer area is short", board_stays(n, 7) && untouched());
+    n = pch_pic_board_drain(image, len, board, BOARD, events, 8, 9, answer, ANSWER);
+    expect("7: the place is past the end", board_stays(n, 7) && untouched());
+    n = pch_pic_board_drain(image, len, board, BOARD - 1, events, 8, 0, answer, ANSWER);
+    expect("7: a drain with a short board", board_stays(n, 7) && untouched());
+    image[0] = 9;
+    lend();
+    n = pch_pic_board_poll(image, len, board, BOARD, 64, answer, ANSWER);
+    expect("5 before 3", board_stays(n, 5) && answers(5, 0, 0));
+}
+
+/* A second board: one count goes up or down, within 0 and 255. */
+static void second_board(void)
+{
+    guard();
+    memset(board, 0, BOARD);
+    memset(board + BOARD, 0xee, GUARD);
+    expect("not below 0", pch_pic_board_event(board, sizeof board, 255, 0, answer, ANSWER) == 0 && answers(0, 1, 0) && board[255] == 0);
+    guard();
+    expect("an assert", pch_pic_board_event(board, sizeof board, 255, 1, answer, ANSWER) == 0 && answers(0, 1, 1) && board[255] == 1 && board[254] == 0);
+    guard();
+    expect("any flag but 0", pch_pic_board_event(board, sizeof board, 255, 0x80, answer, ANSWER) == 0 && answers(0, 1, 2) && board[255] == 2);
+    guard();
+    expect("a deassert", pch_pic_board_event(board, sizeof board, 255, 0, answer, ANSWER) == 0 && answers(0, 1, 1) && board[255] == 1);
+    board[0] = 255;
+    guard();
+    expect("not past 255", pch_pic_board_event(board, BOARD, 0, 1, answer, ANSWER) == 0 && answers(0, 1, 255) && board[0] == 255);
+    guard();
+    expect("7: 255 bytes", pch_pic_board_event(board, BOARD - 1, 0, 0, answer, ANSWER) == 7 && untouched() && board[0] == 255);
+    expect("7: the answer area", pch_pic_board_event(board, BOARD, 0, 0, answer, ANSWER - 1) == 7 && untouched() && board[0] == 255);
+    expect("no byte past the board is written", board[BOARD] == 0xee && board[BOARD + GUARD - 1] == 0xee);
+}
+
+static void boards(void)
+{
+    boards_of(IMAGE);
+    boards_of(IMAGE2);
+    boards_of(NUMBERED);
+    second_board();
+}
+
 int main(void)
 {
     uint8_t before[IMAGE];
@@ -740,6 +903,7 @@ int main(void)
     form_2();
     numbered();
     traces();
+    boards();
 
     printf("%d passed, %d failed\n", passed, failed);
     return failed != 0;

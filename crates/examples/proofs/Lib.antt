@@ -7,3 +7,4 @@ pub mod OrderMet
 pub mod WorkedDay
 pub mod TracePlayed
 pub mod TraceSalvaged
+pub mod BoardsMet

@@ -1,11 +1,12 @@
 //! A guest's day with a PCH-PIC, told in plain words: start-up as Linux's driver does it, a load sample's line up and down, the device saved
-//! to a file and loaded into a fresh host, what comes after sixteen events, a guest that is unkind, and a recorder that puts events in order.
+//! to a file and loaded into a fresh host, what comes after sixteen events, a guest that is unkind, a recorder that puts events in order, and its
+//! own board.
 //!
 //! `load_sample FILE` plays it, and the device goes to FILE, with the numbers of its events; `load_sample --show FILE` tells what a saved device holds;
 //! `load_sample --form F FROM TO` saves what FROM holds to TO, in form 1, 2 or numbered: a host of before version 0.8.0 does not load numbered, and one of
 //! before 0.6.0 loads form 1 alone. It prints the same as `hosts/c/load_sample.c`.
 
-use pch_pic::{file, reg, Change, Error, Event, Form, PchPic, Width, Window, Wires};
+use pch_pic::{file, reg, Board, Change, Error, Event, Form, PchPic, Width, Window, Wires};
 use std::process::ExitCode;
 
 const WINDOW: Window = Window::at(0x1000_0000);
@@ -45,7 +46,7 @@ impl Host {
         let dropped = self.pic.write(WINDOW, WINDOW.base + offset, width, value)?;
         self.wires.settle(&mut self.pic, route);
         if dropped != 0 {
-            println!("Dropped: {dropped}. What no event told was counted afresh from ISR.");
+            println!("Dropped: {dropped}. What no event told is read from the board.");
         }
         Ok(())
     }
@@ -174,6 +175,32 @@ fn recorded(host: &mut Host) -> Result<(), Error> {
     host.line(5, false)
 }
 
+fn print_on(whose: &str, board: &Board) {
+    let on: String = board.vectors_on().map(|vector| format!(" {vector:#04x}")).collect();
+    println!("{whose}{on}");
+}
+
+/// A recorder that has the events of a device since its reset, and not the device, knows which vectors are on all the same.
+fn second_board() -> Result<(), Error> {
+    println!(
+        "A fresh device: line 5 goes up, the guest unmasks everything, line 5 goes down and line 9 up. \
+         A recorder hears the events in the order of making."
+    );
+    let (mut pic, mut events, mut heard) = (PchPic::new(), Vec::new(), Board::new());
+    events.extend(pic.set_level(5, true)?);
+    pic.write(WINDOW, WINDOW.base + reg::MASK, Width::Dword, 0)?;
+    events.extend(pic.set_level(5, false)?);
+    events.extend(pic.set_level(9, true)?);
+    events.extend(pic.drain_events());
+    Event::sort(&mut events);
+    for event in events {
+        heard.hear(event);
+    }
+    print_on("On by the device's board:", pic.board());
+    print_on("On by the recorder's:", &heard);
+    Ok(())
+}
+
 fn play(path: &str) -> Result<ExitCode, Failure> {
     let mut host = Host::new(PchPic::new());
     start_up(&mut host)?;
@@ -182,6 +209,7 @@ fn play(path: &str) -> Result<ExitCode, Failure> {
     after_sixteen(&mut host)?;
     unkind(&mut host)?;
     recorded(&mut host)?;
+    second_board()?;
     let left = host.wires.vectors_on().count();
     println!("Vectors left on: {left}.");
     Ok(if left == 0 { ExitCode::SUCCESS } else { ExitCode::FAILURE })

@@ -1,15 +1,14 @@
 //! The device: an image of its own, and the calls on it.
 
 use crate::{
-    contents, event, ffi, reg, Error, Event, Events, Form, Image, Returned, Width, Window, EVENTS, EVENT_LEN, IMAGE2_NUMBERED_LEN, INPUTS,
-    VECTORS,
+    contents, event, ffi, reg, Board, Error, Event, Events, Form, Image, Returned, Width, Window, EVENTS, EVENT_LEN, IMAGE2_NUMBERED_LEN,
 };
 use core::fmt;
 
 /// A LoongArch PCH-PIC.
 ///
-/// It owns its image, so a clone is a snapshot, and devices are equal just where their images are, numbers of events and drop count included. It is `Send`
-/// and `Sync`: reads of one device may run side by side, since they only load from its image; all else takes `&mut`.
+/// It owns its image, so a clone is a snapshot, and devices are equal just where their images are, numbers of events and drop count included. Beside the image
+/// it keeps a [`Board`], which says which vectors are on. It is `Send` and `Sync`: reads of one device may run side by side, since they only load from its image; all else takes `&mut`.
 ///
 /// ```
 /// fn shared<T: Send + Sync>(_: &T) {}
@@ -19,6 +18,8 @@ use core::fmt;
 pub struct PchPic {
     /// An accepted image of form 2 with numbers: made by reset or tested by load, and every call keeps it so.
     image: [u8; IMAGE2_NUMBERED_LEN],
+    /// Which vectors are on: the counts of that image, after every call.
+    board: Board,
 }
 
 impl Default for PchPic {
@@ -53,9 +54,19 @@ impl PchPic {
     ///
     /// It is not `const`: the bytes come from the proved reset, which runs. A `static` takes a `LazyLock`.
     pub fn new() -> Self {
-        let mut image = [0; IMAGE2_NUMBERED_LEN];
-        ffi::reset(&mut image).expect("a reset takes any 290 bytes");
-        PchPic { image }
+        let mut pic = PchPic::blank();
+        ffi::reset(&mut pic.image, pic.board.bytes()).expect("a reset takes any 290 bytes");
+        pic
+    }
+
+    /// Bytes that are no device yet.
+    fn blank() -> Self {
+        PchPic { image: [0; IMAGE2_NUMBERED_LEN], board: Board::new() }
+    }
+
+    /// Brings the board up to date after a call that was not lent it.
+    fn count(&mut self) {
+        ffi::count(&self.image, self.board.bytes()).expect("a device's image is accepted");
     }
 
     /// Back to the state after reset.
@@ -99,7 +110,7 @@ impl PchPic {
     ///
     /// [`Error::Outside`] where the access is not wholly inside the window.
     pub fn write(&mut self, window: Window, address: u64, width: Width, value: u64) -> Result<u32, Error> {
-        ffi::write(&mut self.image, window, address, width.bytes(), value).map(lost)
+        ffi::write(&mut self.image, self.board.bytes(), window, address, width.bytes(), value).map(lost)
     }
 
     /// As [`PchPic::read`], decoded by the table that `./run --map` prints: the same answer, in more time.
@@ -125,7 +136,9 @@ impl PchPic {
     ///
     /// [`Error::Outside`] where the access is not wholly inside the window.
     pub fn table_write(&mut self, window: Window, address: u64, width: Width, value: u64) -> Result<u32, Error> {
-        ffi::table_write(&mut self.image, window, address, width.bytes(), value).map(lost)
+        let dropped = ffi::table_write(&mut self.image, window, address, width.bytes(), value).map(lost)?;
+        self.count();
+        Ok(dropped)
     }
 
     /// An access as a bus hands it on: as many bytes as `data` has, little end first.
@@ -161,7 +174,7 @@ impl PchPic {
             *to = *from;
         }
         let value = u64::from_le_bytes(bytes);
-        ffi::write(&mut self.image, window, address, data.len(), value).map(lost)
+        ffi::write(&mut self.image, self.board.bytes(), window, address, data.len(), value).map(lost)
     }
 
     /// An input's line goes up (`true`) or down. The event, if there is one, is to be passed on at once; it does not wait.
@@ -170,7 +183,7 @@ impl PchPic {
     ///
     /// [`Error::Input`] where the input is 64 or more.
     pub fn set_level(&mut self, input: u64, level: bool) -> Result<Returned, Error> {
-        let value = ffi::level(&mut self.image, input, level)?;
+        let value = ffi::level(&mut self.image, self.board.bytes(), input, level)?;
         Ok(Returned(value.map(|value| event::returned(value, level))))
     }
 
@@ -191,7 +204,7 @@ impl PchPic {
     ///
     /// [`Error::Input`] where the input is 64 or more.
     pub fn poll(&mut self, input: u64) -> Result<Returned, Error> {
-        let value = ffi::poll(&mut self.image, input)?;
+        let value = ffi::poll(&mut self.image, self.board.bytes(), input)?;
         Ok(Returned(value.map(|value| event::returned(value, true))))
     }
 
@@ -221,7 +234,7 @@ impl PchPic {
     ///
     /// [`Error::Room`] where `place` is past the end of `buffer`.
     pub fn drain_bytes(&mut self, buffer: &mut [u8], place: usize) -> Result<usize, Error> {
-        let count = ffi::drain(&mut self.image, buffer, place)?;
+        let count = ffi::drain(&mut self.image, self.board.bytes(), buffer, place)?;
         Ok(count.expect("a done drain has a count") as usize)
     }
 
@@ -273,25 +286,20 @@ impl PchPic {
         contents::body(&self.image, contents::VECTORS).get(input).copied()
     }
 
-    /// For each vector, how many inputs in service carry it. A vector is on while its count is not 0.
+    /// Which vectors are on: for each, how many inputs in service carry it, as it stands after the last call or the load.
     ///
     /// ```
-    /// use pch_pic::{reg, PchPic, Width, Window};
+    /// use pch_pic::{reg, Form, PchPic, Width, Window};
     ///
     /// let mut pic = PchPic::new();
     /// pic.write(Window::at(0), reg::VECTORS + 9, Width::Byte, 3)?;
-    /// pic.write(Window::at(0), reg::ISR, Width::Dword, 1 << 3 | 1 << 9)?;
-    /// assert_eq!(pic.held()[3], 2);
+    /// pic.write(Window::at(0), reg::ISR, Width::Dword, 1 << 3 | 1 << 9)?; // no event tells it
+    /// assert_eq!(pic.board().count(3), 2);
+    /// assert_eq!(PchPic::from(pic.save(Form::One)).board(), pic.board());
     /// # Ok::<(), pch_pic::Error>(())
     /// ```
-    pub fn held(&self) -> [u8; VECTORS] {
-        let mut held = [0; VECTORS];
-        let service = self.in_service();
-        let vectors = contents::body(&self.image, contents::VECTORS).iter().take(INPUTS).enumerate();
-        for (_, vector) in vectors.filter(|(input, _)| service >> input & 1 == 1) {
-            held[usize::from(*vector)] += 1;
-        }
-        held
+    pub const fn board(&self) -> &Board {
+        &self.board
     }
 
     /// The image in this form: the whole device as bytes, to be kept or sent elsewhere. Most images with one byte changed are those of another
@@ -339,8 +347,9 @@ impl TryFrom<&[u8]> for PchPic {
     /// As [`PchPic::load`], in the form that the image's length says.
     fn try_from(image: &[u8]) -> Result<Self, Error> {
         // A conversion tests the image.
-        let mut pic = PchPic { image: [0; IMAGE2_NUMBERED_LEN] };
+        let mut pic = PchPic::blank();
         ffi::convert(image, &mut pic.image)?;
+        pic.count();
         Ok(pic)
     }
 }

@@ -3,7 +3,7 @@
 //! What the library asks of its host holds by the types: a slice's length is true, and a mutable slice overlaps no other. So a call that
 //! changes an image is alone with it. Reads and conversions of one image may run side by side, and `PchPic` may be `Sync`: `pch_pic_read`,
 //! `pch_pic_table_read` and `pch_pic_convert` get the image as `const` and only load from it, write to nothing but their own answer area and target,
-//! and the library has no memory of its own.
+//! and the library has no memory of its own. The calls that move a device are made with its board.
 
 use crate::{Error, Window};
 
@@ -12,7 +12,6 @@ pub const ANSWER_LEN: usize = 16;
 pub type Answer = [u8; ANSWER_LEN];
 
 extern "C" {
-    fn pch_pic_reset(image: *mut u8, image_len: usize, answer: *mut u8, answer_len: usize) -> u8;
     fn pch_pic_read(
         image: *const u8,
         image_len: usize,
@@ -20,17 +19,6 @@ extern "C" {
         size: u64,
         address: u64,
         width: u64,
-        answer: *mut u8,
-        answer_len: usize,
-    ) -> u8;
-    fn pch_pic_write(
-        image: *mut u8,
-        image_len: usize,
-        base: u64,
-        size: u64,
-        address: u64,
-        width: u64,
-        value: u64,
         answer: *mut u8,
         answer_len: usize,
     ) -> u8;
@@ -55,17 +43,63 @@ extern "C" {
         answer: *mut u8,
         answer_len: usize,
     ) -> u8;
-    fn pch_pic_level(image: *mut u8, image_len: usize, input: u64, level: u64, answer: *mut u8, answer_len: usize) -> u8;
-    fn pch_pic_poll(image: *mut u8, image_len: usize, input: u64, answer: *mut u8, answer_len: usize) -> u8;
-    fn pch_pic_drain(
+    fn pch_pic_board_reset(image: *mut u8, image_len: usize, board: *mut u8, board_len: usize, answer: *mut u8, answer_len: usize) -> u8;
+    fn pch_pic_board_read(
+        image: *const u8,
+        image_len: usize,
+        board: *mut u8,
+        board_len: usize,
+        base: u64,
+        size: u64,
+        address: u64,
+        width: u64,
+        answer: *mut u8,
+        answer_len: usize,
+    ) -> u8;
+    fn pch_pic_board_write(
         image: *mut u8,
         image_len: usize,
+        board: *mut u8,
+        board_len: usize,
+        base: u64,
+        size: u64,
+        address: u64,
+        width: u64,
+        value: u64,
+        answer: *mut u8,
+        answer_len: usize,
+    ) -> u8;
+    fn pch_pic_board_level(
+        image: *mut u8,
+        image_len: usize,
+        board: *mut u8,
+        board_len: usize,
+        input: u64,
+        level: u64,
+        answer: *mut u8,
+        answer_len: usize,
+    ) -> u8;
+    fn pch_pic_board_poll(
+        image: *mut u8,
+        image_len: usize,
+        board: *mut u8,
+        board_len: usize,
+        input: u64,
+        answer: *mut u8,
+        answer_len: usize,
+    ) -> u8;
+    fn pch_pic_board_drain(
+        image: *mut u8,
+        image_len: usize,
+        board: *mut u8,
+        board_len: usize,
         events: *mut u8,
         events_len: usize,
         place: usize,
         answer: *mut u8,
         answer_len: usize,
     ) -> u8;
+    fn pch_pic_board_event(board: *mut u8, board_len: usize, vector: u8, flag: u8, answer: *mut u8, answer_len: usize) -> u8;
     fn pch_pic_convert(image: *const u8, image_len: usize, target: *mut u8, target_len: usize, answer: *mut u8, answer_len: usize) -> u8;
     #[cfg(feature = "std")]
     fn pch_pic_play(
@@ -110,10 +144,11 @@ pub fn outcome(number: u8, answer: &Answer) -> Outcome {
     }
 }
 
-pub fn reset(image: &mut [u8]) -> Outcome {
+pub fn reset(image: &mut [u8], board: &mut [u8]) -> Outcome {
     let mut answer: Answer = [0; ANSWER_LEN];
-    // SAFETY: both slices are valid for their lengths and apart.
-    let number = unsafe { pch_pic_reset(image.as_mut_ptr(), image.len(), answer.as_mut_ptr(), ANSWER_LEN) };
+    // SAFETY: the three slices are valid for their lengths and apart.
+    let number =
+        unsafe { pch_pic_board_reset(image.as_mut_ptr(), image.len(), board.as_mut_ptr(), board.len(), answer.as_mut_ptr(), ANSWER_LEN) };
     outcome(number, &answer)
 }
 
@@ -126,13 +161,37 @@ pub fn read(image: &[u8], window: Window, address: u64, width: usize) -> Outcome
     outcome(number, &answer)
 }
 
-pub fn write(image: &mut [u8], window: Window, address: u64, width: usize, value: u64) -> Outcome {
+/// Brings the board up to date with an image, by a read of ID, which changes nothing.
+pub fn count(image: &[u8], board: &mut [u8]) -> Outcome {
     let mut answer: Answer = [0; ANSWER_LEN];
-    // SAFETY: both slices are valid for their lengths and apart.
+    let window = Window::at(0);
+    // SAFETY: the three slices are valid for their lengths and apart; the library only reads the image.
     let number = unsafe {
-        pch_pic_write(
+        pch_pic_board_read(
+            image.as_ptr(),
+            image.len(),
+            board.as_mut_ptr(),
+            board.len(),
+            window.base,
+            window.size,
+            crate::reg::ID,
+            4,
+            answer.as_mut_ptr(),
+            ANSWER_LEN,
+        )
+    };
+    outcome(number, &answer)
+}
+
+pub fn write(image: &mut [u8], board: &mut [u8], window: Window, address: u64, width: usize, value: u64) -> Outcome {
+    let mut answer: Answer = [0; ANSWER_LEN];
+    // SAFETY: the three slices are valid for their lengths and apart.
+    let number = unsafe {
+        pch_pic_board_write(
             image.as_mut_ptr(),
             image.len(),
+            board.as_mut_ptr(),
+            board.len(),
             window.base,
             window.size,
             address,
@@ -173,26 +232,56 @@ pub fn table_write(image: &mut [u8], window: Window, address: u64, width: usize,
     outcome(number, &answer)
 }
 
-pub fn level(image: &mut [u8], input: u64, level: bool) -> Outcome {
-    let mut answer: Answer = [0; ANSWER_LEN];
-    // SAFETY: both slices are valid for their lengths and apart.
-    let number = unsafe { pch_pic_level(image.as_mut_ptr(), image.len(), input, u64::from(level), answer.as_mut_ptr(), ANSWER_LEN) };
-    outcome(number, &answer)
-}
-
-pub fn poll(image: &mut [u8], input: u64) -> Outcome {
-    let mut answer: Answer = [0; ANSWER_LEN];
-    // SAFETY: both slices are valid for their lengths and apart.
-    let number = unsafe { pch_pic_poll(image.as_mut_ptr(), image.len(), input, answer.as_mut_ptr(), ANSWER_LEN) };
-    outcome(number, &answer)
-}
-
-pub fn drain(image: &mut [u8], events: &mut [u8], place: usize) -> Outcome {
+pub fn level(image: &mut [u8], board: &mut [u8], input: u64, level: bool) -> Outcome {
     let mut answer: Answer = [0; ANSWER_LEN];
     // SAFETY: the three slices are valid for their lengths and apart.
     let number = unsafe {
-        pch_pic_drain(image.as_mut_ptr(), image.len(), events.as_mut_ptr(), events.len(), place, answer.as_mut_ptr(), ANSWER_LEN)
+        pch_pic_board_level(
+            image.as_mut_ptr(),
+            image.len(),
+            board.as_mut_ptr(),
+            board.len(),
+            input,
+            u64::from(level),
+            answer.as_mut_ptr(),
+            ANSWER_LEN,
+        )
     };
+    outcome(number, &answer)
+}
+
+pub fn poll(image: &mut [u8], board: &mut [u8], input: u64) -> Outcome {
+    let mut answer: Answer = [0; ANSWER_LEN];
+    // SAFETY: the three slices are valid for their lengths and apart.
+    let number = unsafe {
+        pch_pic_board_poll(image.as_mut_ptr(), image.len(), board.as_mut_ptr(), board.len(), input, answer.as_mut_ptr(), ANSWER_LEN)
+    };
+    outcome(number, &answer)
+}
+
+pub fn drain(image: &mut [u8], board: &mut [u8], events: &mut [u8], place: usize) -> Outcome {
+    let mut answer: Answer = [0; ANSWER_LEN];
+    // SAFETY: the four slices are valid for their lengths and apart.
+    let number = unsafe {
+        pch_pic_board_drain(
+            image.as_mut_ptr(),
+            image.len(),
+            board.as_mut_ptr(),
+            board.len(),
+            events.as_mut_ptr(),
+            events.len(),
+            place,
+            answer.as_mut_ptr(),
+            ANSWER_LEN,
+        )
+    };
+    outcome(number, &answer)
+}
+
+pub fn hear(board: &mut [u8], vector: u8, flag: u8) -> Outcome {
+    let mut answer: Answer = [0; ANSWER_LEN];
+    // SAFETY: both slices are valid for their lengths and apart.
+    let number = unsafe { pch_pic_board_event(board.as_mut_ptr(), board.len(), vector, flag, answer.as_mut_ptr(), ANSWER_LEN) };
     outcome(number, &answer)
 }
 
@@ -273,17 +362,53 @@ mod tests {
     #[test]
     fn every_call_refuses_a_short_image() {
         let window = Window::at(0);
-        let mut image = [0; crate::IMAGE_LEN - 1];
-        assert_eq!(reset(&mut image), Err(Error::Length));
+        let (mut image, mut board) = ([0; crate::IMAGE_LEN - 1], [0xa5; crate::VECTORS]);
+        assert_eq!(reset(&mut image, &mut board), Err(Error::Length));
         assert_eq!(read(&image, window, 0, 4), Err(Error::Length));
-        assert_eq!(write(&mut image, window, 0, 4, 0), Err(Error::Length));
+        assert_eq!(count(&image, &mut board), Err(Error::Length));
+        assert_eq!(write(&mut image, &mut board, window, 0, 4, 0), Err(Error::Length));
         assert_eq!(table_read(&image, window, 0, 4), Err(Error::Length));
         assert_eq!(table_write(&mut image, window, 0, 4, 0), Err(Error::Length));
-        assert_eq!(level(&mut image, 0, true), Err(Error::Length));
-        assert_eq!(poll(&mut image, 0), Err(Error::Length));
-        assert_eq!(drain(&mut image, &mut [], 0), Err(Error::Length));
+        assert_eq!(level(&mut image, &mut board, 0, true), Err(Error::Length));
+        assert_eq!(poll(&mut image, &mut board, 0), Err(Error::Length));
+        assert_eq!(drain(&mut image, &mut board, &mut [], 0), Err(Error::Length));
         assert_eq!(convert(&image, &mut [0; crate::IMAGE_LEN]), Err(Error::Length));
         assert_eq!(play(&[], &mut image, &mut [], &mut []), Err(Error::Length));
+        assert_eq!(board, [0xa5; crate::VECTORS]);
+    }
+
+    /// A board under 256 bytes is refused first, and of a longer one the bytes past them stay.
+    #[test]
+    fn a_board_has_256_bytes() {
+        let window = Window::at(0);
+        let (mut image, mut board) = ([0xa5; crate::IMAGE_LEN], [0xa5; crate::VECTORS + 1]);
+        let short = &mut board[..crate::VECTORS - 1];
+        assert_eq!(reset(&mut image[..1], short), Err(Error::Room));
+        assert_eq!(count(&image[..1], short), Err(Error::Room));
+        assert_eq!(write(&mut image[..1], short, window, 0, 3, 0), Err(Error::Room));
+        assert_eq!(level(&mut image[..1], short, 64, true), Err(Error::Room));
+        assert_eq!(poll(&mut image[..1], short, 64), Err(Error::Room));
+        assert_eq!(drain(&mut image[..1], short, &mut [], 0), Err(Error::Room));
+        assert_eq!(hear(short, 0, 0), Err(Error::Room));
+        assert_eq!((image, board), ([0xa5; crate::IMAGE_LEN], [0xa5; crate::VECTORS + 1]));
+        assert_eq!(reset(&mut image, &mut board), Ok(None));
+        assert_eq!((board[..crate::VECTORS] == [0; crate::VECTORS], board[crate::VECTORS]), (true, 0xa5));
+        assert_eq!(write(&mut image, &mut board, window, crate::reg::ISR, 4, 1 << 7), Ok(Some(0)));
+        assert_eq!((board[6], board[7], board[8]), (0, 1, 0));
+    }
+
+    /// Within 0 and 255; any flag but 0 is an assert.
+    #[test]
+    fn a_board_hears_events() {
+        let mut board = [0; crate::VECTORS];
+        assert_eq!(hear(&mut board, 255, 0), Ok(Some(0)));
+        assert_eq!(hear(&mut board, 255, 1), Ok(Some(1)));
+        assert_eq!(hear(&mut board, 255, 2), Ok(Some(2)));
+        assert_eq!(hear(&mut board, 255, 0), Ok(Some(1)));
+        board[0] = 254;
+        assert_eq!(hear(&mut board, 0, 1), Ok(Some(255)));
+        assert_eq!(hear(&mut board, 0, 0xff), Ok(Some(255)));
+        assert_eq!((board[0], board[1], board[255]), (255, 0, 1));
     }
 
     /// One block of one record, a drain of all: 16 bytes for its answer, and 64 for its events.
@@ -323,7 +448,7 @@ mod tests {
         let mut image = [0; crate::IMAGE2_NUMBERED_LEN];
         let mut target = [0xa5; crate::IMAGE_LEN + 1];
         assert_eq!(convert(&image, &mut target[..crate::IMAGE_LEN]), Err(Error::Contents));
-        assert_eq!(reset(&mut image), Ok(None));
+        assert_eq!(reset(&mut image, &mut [0; crate::VECTORS]), Ok(None));
         assert_eq!(convert(&image, &mut target), Err(Error::Length));
         assert_eq!(target, [0xa5; crate::IMAGE_LEN + 1]);
         assert_eq!(convert(&image, &mut target[..crate::IMAGE_LEN]), Ok(None));

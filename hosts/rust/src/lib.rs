@@ -43,6 +43,11 @@
 //! # Ok::<(), pch_pic::Error>(())
 //! ```
 //!
+//! # Which vectors are on
+//!
+//! Each device keeps a [`Board`]: for each vector how many inputs in service carry it, right after every call and every load. [`Wires`] passes on what it says. A
+//! recorder can keep a second one from the events alone.
+//!
 //! # The order of events
 //!
 //! A returned event is there at once, one that waits only when it is drained. Each has the [number](Event::number) that it got when it was made, and
@@ -60,6 +65,7 @@
 compile_error!("pch-pic serves 64-bit hosts only");
 
 mod access;
+mod board;
 mod contents;
 mod device;
 mod error;
@@ -76,6 +82,7 @@ pub mod trace;
 mod wires;
 
 pub use access::{Width, Window};
+pub use board::Board;
 pub use device::PchPic;
 pub use error::Error;
 pub use event::{difference, Event, Events, Returned};
@@ -98,7 +105,7 @@ pub const IMAGE2_NUMBERED_LEN: usize = 290;
 /// The input lines, 0 to 63.
 pub const INPUTS: usize = 64;
 
-/// The vectors of the controller above.
+/// The vectors of the controller above, and so the counts of a [`Board`].
 pub const VECTORS: usize = 256;
 
 /// How many events wait at most.

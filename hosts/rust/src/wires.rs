@@ -1,6 +1,6 @@
 //! The wires of a device, and what a host does with them.
 
-use crate::{event, Error, Event, PchPic, Returned, EVENTS, INPUTS, VECTORS};
+use crate::{event, Board, Error, Event, PchPic, Returned, EVENTS, INPUTS, VECTORS};
 use core::fmt;
 
 /// What [`Wires`] asks of a device: the calls of a [`PchPic`], made on it alone or recorded too.
@@ -71,7 +71,7 @@ impl fmt::Display for Change {
 
 /// The wires of a device: which of its lines are high, and which vectors are on at the controller above.
 ///
-/// Which vectors are on is worked out from the device as it stands, so nothing that a guest does can make it wrong: after each call here
+/// Which vectors are on is read from the device's [`Board`] as it stands, so nothing that a guest does can make it wrong: after each call here
 /// exactly the vectors of the inputs in service are on.
 ///
 /// Each call takes a `route`, which is called for each vector that is to be asserted or deasserted above. An assert may come for a vector
@@ -195,13 +195,14 @@ impl Wires {
     fn catch_up(&mut self, pic: &mut impl Device, route: &mut impl FnMut(Change)) {
         let mut events = [Event::default(); EVENTS];
         let count = pic.drain(&mut events);
-        let held = pic.pic().held();
+        let board = pic.pic().board();
         for event in &events[..count] {
-            self.pass_on(&held, *event, route);
+            self.pass_on(board, *event, route);
         }
-        for (vector, held) in (0..=u8::MAX).zip(held) {
-            if self.is_on(vector) != (held != 0) {
-                self.tell(Change { vector, asserted: held != 0, number: None }, route);
+        for vector in 0..=u8::MAX {
+            let asserted = board.is_on(vector);
+            if self.is_on(vector) != asserted {
+                self.tell(Change { vector, asserted, number: None }, route);
             }
         }
     }
@@ -211,21 +212,21 @@ impl Wires {
     fn sweep(&mut self, pic: &mut impl Device, route: &mut impl FnMut(Change)) {
         for input in inputs(u64::MAX) {
             for event in pic.poll(input).into_iter().flatten() {
-                self.pass_on(&pic.pic().held(), event, route);
+                self.pass_on(pic.pic().board(), event, route);
             }
         }
     }
 
     fn shift(&mut self, pic: &mut impl Device, input: u64, high: bool, route: &mut impl FnMut(Change)) {
         for event in pic.set_level(input, high).into_iter().flatten() {
-            self.pass_on(&pic.pic().held(), event, route);
+            self.pass_on(pic.pic().board(), event, route);
         }
     }
 
     /// An event is passed on where the device, as it stands now, agrees with it. A deassert is not where another input still carries the
     /// vector; an assert is not where the input has left service since.
-    fn pass_on(&mut self, held: &[u8; VECTORS], event: Event, route: &mut impl FnMut(Change)) {
-        let on = held[usize::from(event.vector)] != 0;
+    fn pass_on(&mut self, board: &Board, event: Event, route: &mut impl FnMut(Change)) {
+        let on = board.is_on(event.vector);
         if event.asserted == on && (on || self.is_on(event.vector)) {
             self.tell(event.into(), route);
         }

@@ -1,6 +1,6 @@
 //! The device through its safe type: what it answers, what it refuses, and what it keeps.
 
-use pch_pic::{difference, reg, Error, Event, Form, Image, PchPic, Returned, Width, Window, EVENTS, INPUTS};
+use pch_pic::{difference, reg, Board, Error, Event, Form, Image, PchPic, Returned, Width, Window, EVENTS, INPUTS, VECTORS};
 use std::collections::HashSet;
 use std::sync::{Arc, Mutex};
 use std::thread;
@@ -344,9 +344,10 @@ fn what_the_device_holds() {
     assert_eq!(pic.in_service(), 0x8000_0000_0000_0003);
     pic.write(WINDOW, reg::VECTORS + 63, Width::Byte, 1).unwrap();
     assert_eq!((pic.vector(0), pic.vector(63), pic.vector(64)), (Some(0), Some(1), None));
-    let held = pic.held();
-    assert_eq!((held[0], held[1], held[63]), (1, 2, 0));
-    assert_eq!(held.iter().map(|count| usize::from(*count)).sum::<usize>(), 3);
+    let board = pic.board();
+    assert_eq!((board.count(0), board.count(1), board.count(63)), (1, 2, 0));
+    assert!(board.vectors_on().eq([0, 1]));
+    assert_eq!(format!("{board:?}"), "{0: 1, 1: 2}");
     let text = format!("{pic:?}");
     for part in ["in_service: 0x8000000000000003", "latched: 0x000000000001ffff", "waiting: 16", "drops: 1", "next_number: 34"] {
         assert!(text.contains(part), "{text}");
@@ -406,4 +407,83 @@ fn by_the_table_everything_is_the_same() {
             assert_eq!(table, plain);
         }
     }
+}
+
+/// What a board has to hold, found out by calls alone: lowering an input returns its vector if it was in service.
+fn counted(pic: &PchPic) -> [u8; VECTORS] {
+    let (mut copy, mut counts) = (pic.clone(), [0; VECTORS]);
+    for input in 0..INPUTS as u64 {
+        for event in copy.set_level(input, false).unwrap() {
+            counts[usize::from(event.vector)] += 1;
+        }
+    }
+    assert!(copy.board().vectors_on().next().is_none());
+    counts
+}
+
+/// A small generator of numbers.
+fn next(state: &mut u64) -> u64 {
+    *state ^= *state << 13;
+    *state ^= *state >> 7;
+    *state ^= *state << 17;
+    *state
+}
+
+#[test]
+fn the_board_is_right_after_every_call() {
+    let (mut pic, mut state) = (PchPic::new(), 88_172_645_463_325_252);
+    for step in 0..3_000 {
+        let (word, input) = (next(&mut state), next(&mut state) % 65);
+        match word % 9 {
+            0 => drop(pic.poll(input)),
+            1 | 2 => drop(pic.set_level(input, word % 2 == 1)),
+            3 => drop(pic.write(WINDOW, reg::VECTORS + input, Width::Byte, word >> 40 & 7)),
+            4 => drop(pic.write(WINDOW, reg::ISR + (input & 4), Width::Dword, word >> 20)),
+            5 => drop(pic.table_write(WINDOW, (word >> 20) % 0x401, Width::Qword, word.rotate_left(17))),
+            6 => drop(pic.mmio_write(WINDOW, reg::MASK, &word.to_le_bytes())),
+            7 => pic = PchPic::from(pic.save(FORMS[step % FORMS.len()])),
+            _ if step % 100 == 0 => pic.reset(),
+            _ => drop(pic.drain_events().next()),
+        }
+        assert_eq!(pic.board().counts(), &counted(&pic), "step {step}");
+    }
+}
+
+/// More than 32,768 events from a reset on, so that their difference would turn round: by rising number they are in order, and the second board is the first.
+#[test]
+fn a_second_board_hears_the_events() {
+    let (mut pic, mut state, mut high) = (PchPic::new(), 88_172_645_463_325_252, 0u64);
+    for input in 0..INPUTS as u64 {
+        pic.write(WINDOW, reg::VECTORS + input, Width::Byte, input / 3).unwrap();
+    }
+    let mut events = Vec::new();
+    for step in 0..40_000 {
+        let (word, input) = (next(&mut state), next(&mut state) % 64);
+        match word % 16 {
+            0 => drop(pic.write(WINDOW, reg::MASK + (input & 4), Width::Dword, 1 << (input & 31))),
+            1 => drop(pic.write(WINDOW, reg::CLEAR + (input & 4), Width::Dword, 3 << (input & 15))),
+            2 => events.extend(pic.poll(input).unwrap()),
+            _ => {
+                high ^= 1 << input;
+                events.extend(pic.set_level(input, high >> input & 1 == 1).unwrap());
+            }
+        }
+        if step % 4 == 3 {
+            events.extend(pic.drain_events());
+        }
+    }
+    assert_eq!((pic.drops(), pic.waiting()), (0, 0));
+    assert!(events.len() > 32_768 && events.len() <= 65_536, "{}", events.len());
+    let hears = |events: &[Event]| {
+        let mut board = Board::new();
+        for event in events {
+            board.hear(*event);
+        }
+        board
+    };
+    assert_ne!(&hears(&events), pic.board());
+    events.sort_by_key(|event| event.number);
+    assert!(events.iter().zip(0..).all(|(event, number)| event.number == number));
+    assert_eq!(&hears(&events), pic.board());
+    assert_eq!(pic.board().counts(), &counted(&pic));
 }

@@ -2,7 +2,7 @@
 
 use pch_pic::{
     reg, Error, BLOCKS_MAX, DRAIN_ROOM, EVENTS, EVENT_LEN, IMAGE2_LEN, IMAGE2_NUMBERED_LEN, IMAGE_LEN, INPUTS, RECORDS_MAX, RECORD_LEN,
-    TRACE_MAX,
+    TRACE_MAX, VECTORS,
 };
 use std::collections::HashMap;
 
@@ -31,6 +31,7 @@ fn sizes() {
         ("IMAGE2_LEN", IMAGE2_LEN),
         ("IMAGE2_NUMBERED_LEN", IMAGE2_NUMBERED_LEN),
         ("INPUTS", INPUTS),
+        ("BOARD_LEN", VECTORS),
         ("EVENTS", EVENTS),
         ("EVENT_LEN", EVENT_LEN),
         ("DRAIN_ROOM", DRAIN_ROOM),

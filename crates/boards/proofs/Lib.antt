@@ -1,0 +1,3 @@
+-- What is proved of boards: laws, and the theorems.
+pub mod laws
+pub mod demands
