@@ -6,9 +6,19 @@ use lib.Dec.{eqb, leb}
 use lib.ListN.{length, drop}
 use Rattle.rules.specs.Device.{Value, none, some}
 use Rattle.images.specs.Form.{Known, unknown, known, formOf}
-use Rattle.calls.specs.Calls.{refusalNumber, refusalValue, wrongLength, noRoom, answerLength, answered}
+use Rattle.calls.specs.Calls.{refusalNumber, refusalValue, wrongLength, noRoom, answerLength, answered, Outcome}
 use Rattle.traces.specs.Trace.{Record, recordCount, TraceTest, good, wrongContents, badRecord, traceNumber, traceValue, traceTest}
-use Rattle.traces.specs.Played.{drainRoom, records, Played, played}
+use Rattle.traces.specs.Played.{drainRoom, records, Played, playedFrom, afresh, played, drainedIn}
+
+-- ---- the first records of a play
+
+-- the first n records of a trace, played from reset
+abbrev pub playedTo : List ℕ → ℕ → List ℕ → Played
+playedTo l n i = playedFrom l n 0 (afresh i)
+
+-- a play, and what one record more leaves
+abbrev pub behind : Played → Outcome → Played
+behind p o = record { image = o .image; answers = p .answers ++ o .answer; events = p .events ++ drainedIn o }
 
 -- ---- the room that a trace asks for: sixteen bytes for each record's answer, and a drain of all for each record that drains
 

@@ -18,8 +18,8 @@ use Rattle.traces.specs.Played.{drainRoom, requestOf, playedOn, drainedIn, reco
 use Rattle.basics.proofs.laws.Lists.{length-part}
 use Rattle.traces.proofs.laws.Plays.{played-none}
 use Rattle.traces.proofs.demands.Play.{sixteen-bytes, answers-from}
-use Rattle.plays.specs.Playing.{drains, drainsIn, inFront}
-use Rattle.plays.proofs.laws.Prefixes.{behind, played-last}
+use Rattle.plays.specs.Playing.{behind, drains, drainsIn, inFront}
+use Rattle.plays.proofs.laws.Prefixes.{played-last}
 use Rattle.plays.proofs.laws.Rooms.{drains-last, drains-more}
 use Rattle.plays.proofs.laws.InFront.{front-length, front-next, front-rest}
 use Rattle.plays.proofs.laws.Keeps.{keeps-accepted}

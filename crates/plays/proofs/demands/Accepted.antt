@@ -14,7 +14,8 @@ use Rattle.laws.proofs.laws.Images.{encode-as, accepted-encode, reset-well-form
 use Rattle.traces.specs.Trace.{nth}
 use Rattle.traces.specs.Played.{Played, afresh}
 use Rattle.traces.proofs.demands.Play.{plays-from-reset}
-use Rattle.plays.proofs.laws.Prefixes.{playedTo, played-more}
+use Rattle.plays.specs.Playing.{playedTo}
+use Rattle.plays.proofs.laws.Prefixes.{played-more}
 use Rattle.plays.proofs.laws.Keeps.{keeps-accepted}
 use Rattle.plays.proofs.demands.AfterEach.{none-played}
 

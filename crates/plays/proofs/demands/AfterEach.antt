@@ -10,7 +10,8 @@ use Rattle.traces.specs.Trace.{recordCount, nth}
 use Rattle.traces.specs.Played.{requestOf, playedOn, drainedIn, Played, afresh, played}
 use Rattle.traces.proofs.laws.Plays.{played-none}
 use Rattle.traces.proofs.demands.Play.{sixteen-bytes, answers-from}
-use Rattle.plays.proofs.laws.Prefixes.{behind, playedTo, played-more}
+use Rattle.plays.specs.Playing.{playedTo, behind}
+use Rattle.plays.proofs.laws.Prefixes.{played-more}
 
 -- what more records add to a play: answers and events behind those that are there
 record Adds (p q : Played) : Type 0 where

@@ -2,18 +2,23 @@
 use mathlib.Core.Path.{_≡_, refl, sym, ap, _∙_}
 use mathlib.Core.Bool.{Bool, true, false, cond}
 use mathlib.Core.List.{List, _++_}
-use Prim.Native.Nat.{ℕ, _<_, _≤_}
+use Prim.Native.Nat.{ℕ, _+_, _*_, _<_, _≤_}
 use native.Mathlib.Omega.{arith}
 use lib.Dec.{eqb, leb}
-use lib.ListN.{length, drop}
+use lib.ListN.{length, take, drop, length-append, length-take}
 use borrow.Author.Tests.{eq-eqb}
 use Rattle.rules.specs.Device.{none, some}
 use Rattle.calls.specs.Calls.{answerLength, answered}
 use Rattle.basics.proofs.laws.Bits.{test}
-use Rattle.traces.specs.Trace.{recordCount}
-use Rattle.traces.specs.Played.{played}
+use Rattle.basics.specs.Numbers.{part}
+use Rattle.images.specs.Form.{Known, unknown, known, formOf}
+use Rattle.traces.specs.Trace.{recordCount, nth, TraceTest, good, wrongContents, badRecord, traceTest}
+use Rattle.traces.specs.Played.{Played, playedOn, played}
+use Rattle.traces.proofs.demands.Play.{answers-in-all}
+use Rattle.plays.proofs.laws.InFront.{part-front}
+use Rattle.plays.proofs.demands.AfterEach.{its-answer, first-events}
 use Rattle.plays.proofs.laws.Computed as computed
-use Rattle.plays.specs.Playing.{PlayTest, refused, plays, playTest, PlayLeft, playLeaves, playEnds, playSettled, inFront, playing}
+use Rattle.plays.specs.Playing.{playedTo, playRoom, PlayTest, refused, plays, traceLeft, lengthLeft, playTest, PlayLeft, playLeaves, playEnds, playSettled, inFront, playing}
 
 module _ (l i bs es a : List ℕ) where
   abbrev left : PlayLeft
@@ -53,3 +58,67 @@ module _ (l i bs es a : List ℕ) where
   pub done-played : leb answerLength (length a) ≡ true → playTest l i bs es ≡ plays
       → left ≡ playLeaves 0 (played l i .image) (inFront (played l i .answers) bs) (inFront (played l i .events) es) (answered 0 (some (recordCount l)) a)
   done-played e f = by-test e f
+
+-- ---- after each record, in the bytes that a done call leaves
+
+-- the number that a refused play hands back
+abbrev namedBy : PlayTest → ℕ
+namedBy (refused n v) = n
+namedBy plays = 1
+
+-- it is never 0
+never-zero : (k : Known) (t : TraceTest) (b : Bool) → namedBy (lengthLeft k (traceLeft t b)) ≡ 0 → ⊥
+never-zero unknown t b e = omega (arith, e)
+never-zero (known f) (good first n) true e = omega (arith, e)
+never-zero (known f) (good first n) false e = omega (arith, e)
+never-zero (known f) wrongContents b e = omega (arith, e)
+never-zero (known f) (badRecord k) b e = omega (arith, e)
+
+module _ (l i bs es a : List ℕ) (done : playing l i bs es a .number ≡ 0) where
+  abbrev bytes : PlayLeft
+  bytes = playing l i bs es a
+
+  not-zero : namedBy (playTest l i bs es) ≡ 0 → ⊥
+  unfolding playTest
+  not-zero e = never-zero (formOf (length i)) (traceTest l) (playRoom l bs es) e
+
+  -- so a call that handed back 0 has played
+  pub has-played : bytes ≡ playLeaves 0 (played l i .image) (inFront (played l i .answers) bs) (inFront (played l i .events) es) (answered 0 (some (recordCount l)) a)
+  has-played =
+      test (leb answerLength (length a)) (λ e. go e (playTest l i bs es) refl) (λ e. absurd (let z : 7 ≡ 0 = sym (ap (λ (p : PlayLeft). p .number) (by-test l i bs es a e refl)) ∙ done in omega arith))
+    where
+      go : leb answerLength (length a) ≡ true → (t : PlayTest) → playTest l i bs es ≡ t
+          → bytes ≡ playLeaves 0 (played l i .image) (inFront (played l i .answers) bs) (inFront (played l i .events) es) (answered 0 (some (recordCount l)) a)
+      go e (refused n v) f = absurd (not-zero (ap namedBy f ∙ sym (ap (λ (p : PlayLeft). p .number) (by-test l i bs es a e f)) ∙ done))
+      go e plays f = done-played l i bs es a e f
+
+  -- record k has its sixteen bytes among the answers: those of the call that it is, on the image that the records before it left
+  pub answer-of-record : (k : ℕ) → k < recordCount l → part (16 * k) 16 (bytes .answers) ≡ playedOn (playedTo l k i .image) (nth l k) .answer
+  answer-of-record k h =
+      ap (λ (p : PlayLeft). part (16 * k) 16 (p .answers)) has-played ∙ part-front (played l i .answers) bs (16 * k) 16 (omega (arith, h, answers-in-all l i)) ∙ its-answer l i k h
+
+  -- the events of the first k records stand in front of the others
+  pub events-of-first : (k : ℕ) → k ≤ recordCount l → take (length (playedTo l k i .events)) (bytes .events) ≡ playedTo l k i .events
+  events-of-first k h =
+      let xs = playedTo l k i .events in
+      let all = played l i .events in
+      let few : length xs ≤ length all = rw (sym (first-events l i k h)) (simp length-take (omega arith)) in
+      ap (λ (p : PlayLeft). take (length xs) (p .events)) has-played ∙ part-front all es 0 (length xs) (omega (arith, few)) ∙ first-events l i k h
+
+  -- the image is that of all of them
+  pub image-of-all : bytes .image ≡ playedTo l (recordCount l) i .image
+  image-of-all = ap (λ (p : PlayLeft). p .image) has-played
+
+-- ---- one outcome
+
+-- of two runs whose contract holds, the numbers handed back, images, answers, events and answer areas are the same
+pub one-play : (l i bs es a : List ℕ) {r s : ℕ} {i₁ i₂ bs₁ bs₂ es₁ es₂ a₁ a₂ : List ℕ} → playLeaves r i₁ bs₁ es₁ a₁ ≡ playing l i bs es a → playLeaves s i₂ bs₂ es₂ a₂ ≡ playing l i bs es a
+    → (r ≡ s) × (i₁ ≡ i₂) × (bs₁ ≡ bs₂) × (es₁ ≡ es₂) × (a₁ ≡ a₂)
+one-play l i bs es a x y =
+    let same = x ∙ sym y in (
+      ap (λ (p : PlayLeft). p .number) same,
+      ap (λ (p : PlayLeft). p .image) same,
+      ap (λ (p : PlayLeft). p .answers) same,
+      ap (λ (p : PlayLeft). p .events) same,
+      ap (λ (p : PlayLeft). p .answer) same,
+    )

@@ -4,7 +4,7 @@ use mathlib.Core.List.{List, [], _++_, append-nil, append-assoc}
 use Prim.Native.Nat.{ℕ, _+_, _-_, _≤_}
 use native.Mathlib.Omega.{arith}
 use lib.ListN.{length, take, drop, length-append, length-take, length-drop, take-append-drop, drop-of-length-le}
-use lib.Seq.{take-at, drop-at, drop-drop, drop-append-le, take-all, length-take-le}
+use lib.Seq.{take-at, drop-at, drop-drop, take-append-le, drop-append-le, take-all, length-take-le}
 use borrow.Rule.Slice.PartMut.{putMid}
 use Rattle.basics.specs.Numbers.{part}
 use Rattle.plays.specs.Playing.{inFront}
@@ -43,3 +43,9 @@ module _ (ps es : List ℕ) where
       (λ t. taken t ++ ((ys ++ drop (length ys) (take-all n (drop (length ps) (inFront ps es)) long t)) ++ drop-of-length-le (drop (length ps) (inFront ps es)) long t))
       ∙ ap (λ (l : List ℕ). ps ++ l) (append-nil (ys ++ drop (length ys) (drop (length ps) (inFront ps es))))
       ∙ ap (λ (l : List ℕ). ps ++ (ys ++ drop (length ys) l)) left ∙ joined ys
+
+-- a part of what stands in front of a buffer
+pub part-front : (xs es : List ℕ) (m n : ℕ) → m + n ≤ length xs → part m n (inFront xs es) ≡ part m n xs
+part-front xs es m n h =
+    ap (take n) (drop-append-le m xs (drop (length xs) es) (omega (arith, h)))
+    ∙ take-append-le n (drop m xs) (drop (length xs) es) (simp length-drop (omega (arith, h)))

@@ -8,13 +8,11 @@ use Rattle.calls.specs.Calls.{Outcome}
 use Rattle.traces.specs.Trace.{nth}
 use Rattle.traces.specs.Played.{playedOn, drainedIn, Played, playedFrom, afresh}
 use Rattle.traces.proofs.laws.Plays.{played-none, played-next}
+use Rattle.plays.specs.Playing.{playedTo, behind}
 
--- an outcome in front of a play, and behind it
+-- an outcome in front of a play
 abbrev before : Outcome → Played → Played
 before o p = record { image = p .image; answers = o .answer ++ p .answers; events = drainedIn o ++ p .events }
-
-abbrev pub behind : Played → Outcome → Played
-behind p o = record { image = o .image; answers = p .answers ++ o .answer; events = p .events ++ drainedIn o }
 
 both : (o : Outcome) (p : Played) (q : Outcome) → before o (behind p q) ≡ behind (before o p) q
 both o p q = (λ t. record {
@@ -40,10 +38,6 @@ played-last l (suc n) k i =
     ∙ both o p (playedOn (p .image) (nth l (suc k + n)))
     ∙ ap (λ (m : ℕ). behind (before o p) (playedOn (p .image) (nth l m))) z
     ∙ ap (λ (q : Played). behind q (playedOn (q .image) (nth l (k + suc n)))) (sym (played-next l k i n))
-
--- the first n records of a trace, played from reset
-abbrev pub playedTo : List ℕ → ℕ → List ℕ → Played
-playedTo l n i = playedFrom l n 0 (afresh i)
 
 pub played-more : (l : List ℕ) (n : ℕ) (i : List ℕ) → playedTo l (suc n) i ≡ behind (playedTo l n i) (playedOn (playedTo l n i .image) (nth l n))
 played-more l n i =
