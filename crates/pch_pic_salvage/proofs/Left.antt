@@ -5,8 +5,7 @@ use Prim.Native.Nat.{ℕ, _<_, _≤_}
 use lib.ListN.{length}
 use borrow.Author.Tests.{eq-eqb, ne-eqb, le-leb, lt-leb}
 use Rattle.calls.specs.Calls.{answerLength, answered}
-use Rattle.plays.specs.Playing.{toldIn}
-use Rattle.salvages.specs.Salvaging.{SalvageEnding, salvageEnding, salvageLeaves, salvageSettled, salvaging}
+use Rattle.salvages.specs.Salvaging.{salvageEnding, salvageLeaves, salvageSettled, salvaging}
 use Rattle.answer.specs.Given.{valueView}
 use Rattle.answer.specs.declared.Told.{Told}
 use Rattle.salvage.specs.Ends.{ends}

@@ -1,4 +1,5 @@
-// The call that salvages a lent trace. It requires nothing: every input has its outcome. Here is what lacks room, refusal 7, which writes no byte; the crates below test and write.
+// The call that salvages a lent trace. It requires nothing: every input has its outcome. Here is what lacks room, refusal 7, which writes no byte; the
+// crates below test and write.
 use trace_refusals::NO_ROOM;
 ghost use mathlib.Core.Path.{_≡_};
 ghost use Rattle.salvages.specs.Salvaging.{salvageLeaves, salvaging};

@@ -1,13 +1,13 @@
 -- A block in each round of what is written: the contents, the blocks, the list.
 use mathlib.Core.Path.{_≡_, refl, sym, ap, subst, _∙_}
-use mathlib.Core.Bool.{Bool, true, false}
+use mathlib.Core.Bool.{true, false}
 use mathlib.Core.List.{List, [], _∷_, _++_}
 use Prim.Native.Nat.{ℕ, _+_, _-_, _*_, _<_, _≤_}
 use native.Mathlib.Omega.{arith}
-use lib.ListN.{length, take, drop}
+use lib.ListN.{length, drop}
 use borrow.Rule.Slice.PartMut.{putMid}
 use Rattle.basics.specs.Numbers.{bytesOf, part}
-use Rattle.traces.specs.Trace.{mostBlocks, recordLength, listedAt, blockAt}
+use Rattle.traces.specs.Trace.{recordLength, listedAt, blockAt}
 use Rattle.traces.proofs.laws.Contents.{contents-have}
 use Rattle.plays.specs.Playing.{inFront}
 use Rattle.salvages.specs.Kept.{bodyOf, bodiesFrom, recordsOf, badIn, allGood, kept, Dropped, droppedFrom, twoNumbers, listing, joined, entries}

@@ -1,7 +1,7 @@
 -- How a salvage ends, by the test that decides it: one law for each way; and the sizes that are tested.
-use mathlib.Core.Path.{_≡_, refl, sym, ap, subst, _∙_}
-use mathlib.Core.Bool.{Bool, true, false, cond, _&&_, and-false, false≢true}
-use mathlib.Core.List.{List, [], _∷_, _++_}
+use mathlib.Core.Path.{_≡_, refl, sym, ap, _∙_}
+use mathlib.Core.Bool.{Bool, true, false, cond, _&&_, and-false}
+use mathlib.Core.List.{List, [], _∷_}
 use Prim.Native.Nat.{ℕ, _+_, _-_, _*_, _<_, _≤_}
 use native.Mathlib.Omega.{arith}
 use types.Run.{OneOf}
@@ -12,12 +12,12 @@ use borrow.Author.Tests.{eq-eqb, ne-eqb, le-leb, lt-leb}
 use borrow.Rule.Slice.PartMut.{putMid}
 use Rattle.basics.specs.Numbers.{part}
 use Rattle.rules.specs.Device.{Value, none, some}
-use Rattle.traces.specs.Trace.{recordLength, blockCount, listedAt, firstPlace, recordCount, contentsGood}
+use Rattle.traces.specs.Trace.{firstPlace, recordCount, contentsGood}
 use Rattle.traces.proofs.laws.Contents.{contents-have}
 use Rattle.plays.specs.Playing.{inFront}
-use Rattle.plays.proofs.laws.InFront.{front-length, front-rest}
-use Rattle.salvages.specs.Kept.{bodiesFrom, bodies, kept, droppedFrom, joined, contentsFor, traceOf, newTrace, dropList}
-use Rattle.salvages.specs.Salvaging.{isEmpty, salvageRoom, SalvageEnding, salvageEnds, salvageEnding}
+use Rattle.plays.proofs.laws.InFront.{front-rest}
+use Rattle.salvages.specs.Kept.{bodiesFrom, bodies, kept, droppedFrom, joined, traceOf, newTrace, dropList}
+use Rattle.salvages.specs.Salvaging.{isEmpty, SalvageEnding, salvageEnds, salvageEnding}
 use Rattle.salvages.proofs.laws.Chosen.{kept-or-dropped, length-entries}
 use Rattle.salvages.proofs.laws.Built.{length-contents, length-trace}
 use Rattle.salvages.proofs.laws.Taken.{length-bodies}
@@ -29,7 +29,6 @@ use Rattle.contents.specs.declared.Contents.the-variants.{Good, Wrong}
 use Rattle.contents.proofs.Contents.{the-type}
 use Rattle.contents.specs.Found.{contentsIf, contentsAs}
 use Rattle.torn.specs.Found.{Lists, leftOf}
-use Rattle.torn.proofs.Rounds.{few-left, few-records}
 use Rattle.rebuilt.specs.Given.{newContents, newBlocks, newList}
 use Rattle.salvage.specs.Ends.{ends}
 

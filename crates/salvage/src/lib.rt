@@ -1,4 +1,5 @@
-// A damaged trace salvaged: its contents are tested, its blocks looked at, and what is left is written where there is room for all of it. What is refused changes nothing.
+// A damaged trace salvaged: its contents are tested, its blocks looked at, and what is left is written where there is room for all of it.
+// What is refused changes nothing.
 use answer::Told;
 use answer::Value;
 use answer::done;

@@ -1,8 +1,7 @@
 -- `copy_records`: the records copied so far are the source's.
-use mathlib.Core.Path.{_≡_, refl, sym, ap, _∙_}
-use Prim.Native.Nat.{ℕ, _+_, _-_, _*_, _≤_}
+use mathlib.Core.Path.{_≡_}
+use Prim.Native.Nat.{_-_, _*_, _≤_}
 use native.Mathlib.Omega.{arith}
-use borrow.Author.Needs.{needs}
 use lib.ListN.{length, take}
 use Rattle.basics.proofs.laws.Parts.{Filled, start}
 use Rattle.traces.specs.Trace.{recordLength}

@@ -1,19 +1,16 @@
 -- `put_blocks`: each block that is kept behind those before it.
-use mathlib.Core.Path.{_≡_, refl, sym, ap, _∙_}
+use mathlib.Core.Path.{_≡_, sym, ap, _∙_}
 use mathlib.Core.Logic.{⊎-elim}
 use Prim.Native.Nat.{ℕ, _+_, _-_, _*_, _≤_}
 use native.Mathlib.Omega.{arith}
-use borrow.Author.Needs.{needs}
 use mathlib.Core.List.{List}
 use lib.ListN.{length}
 use Rattle.basics.specs.Numbers.{part}
 use Rattle.basics.proofs.laws.Lists.{length-part}
-use Rattle.traces.specs.Trace.{recordLength, blockAt}
-use Rattle.salvages.specs.Kept.{bodyOf}
+use Rattle.traces.specs.Trace.{recordLength}
 use Rattle.torn.proofs.Rounds.{seen, lies, size, few-records}
-use Rattle.rebuilt.specs.Given.{newBlocks}
 use Rattle.rebuilt.proofs.Rounds.{Joining, joining-start, joining-fits, joining-kept, joining-torn, as-joining, joining-all}
-use Rattle.rebuilt.proofs.Written.{still, long}
+use Rattle.rebuilt.proofs.Written.{long}
 use Rattle.rebuilt.proofs.put_blocks.Statement.{statement}
 use Rattle.rebuilt.proofs.put_blocks.Tie as tie
 

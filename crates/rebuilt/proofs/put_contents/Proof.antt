@@ -1,9 +1,8 @@
 -- `put_contents`: the number of blocks, and an entry for each that is kept.
-use mathlib.Core.Path.{_≡_, refl, sym, ap, _∙_}
+use mathlib.Core.Path.{sym, _∙_}
 use mathlib.Core.Logic.{⊎-elim}
 use Prim.Native.Nat.{ℕ, _+_, _-_, _*_, _<_, _≤_}
 use native.Mathlib.Omega.{arith}
-use borrow.Author.Needs.{needs}
 use lib.ListN.{length}
 use Rattle.salvages.proofs.laws.Built.{length-contents}
 use Rattle.torn.specs.Found.{leftOf}

@@ -1,13 +1,12 @@
 -- `put_list`: an entry for each block that is not kept.
-use mathlib.Core.Path.{_≡_, refl, sym, ap, _∙_}
+use mathlib.Core.Path.{sym, _∙_}
 use mathlib.Core.Bool.{not}
 use mathlib.Core.Logic.{⊎-elim}
-use Prim.Native.Nat.{ℕ, _+_, _-_, _*_, _<_, _≤_}
+use Prim.Native.Nat.{ℕ, _+_, _-_, _<_, _≤_}
 use native.Mathlib.Omega.{arith}
-use borrow.Author.Needs.{needs}
 use borrow.Author.Tests.{not-true, not-false}
 use lib.ListN.{length}
-use Rattle.torn.proofs.Rounds.{seen, lies, few-blocks, short}
+use Rattle.torn.proofs.Rounds.{seen, few-blocks, short}
 use Rattle.rebuilt.proofs.Rounds.{Dropping, dropping-start, dropping-fits, dropping-kept, dropping-torn, as-dropping, dropping-all, few-dropped}
 use Rattle.rebuilt.proofs.Written.{long}
 use Rattle.rebuilt.proofs.put_list.Statement.{statement}

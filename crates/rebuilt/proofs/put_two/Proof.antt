@@ -1,5 +1,5 @@
 -- `put_two`: one number of four bytes.
-use mathlib.Core.Path.{_≡_, ap, _∙_}
+use mathlib.Core.Path.{ap, _∙_}
 use mathlib.Core.List.{_++_}
 use Prim.Native.Nat.{_+_}
 use borrow.Author.Needs.{needs}

@@ -8,10 +8,10 @@ use lib.ListN.{length}
 use Rattle.basics.proofs.laws.Lists.{length-part}
 use Rattle.traces.specs.Trace.{contentsGood}
 use Rattle.plays.proofs.laws.InFront.{front-length}
-use Rattle.salvages.specs.Kept.{joined, traceOf}
+use Rattle.salvages.specs.Kept.{traceOf}
 use Rattle.torn.specs.Found.{Lists, Surveyed, leftOf}
 use Rattle.torn.proofs.Rounds.{few-left, few-records}
-use Rattle.rebuilt.specs.Given.{newContents, newBlocks, newList}
+use Rattle.rebuilt.specs.Given.{newContents, newList}
 use Rattle.salvage.proofs.Endings.{tells, told-wrong, told-good, has-count, size-contents, size-new, size-list, left-of-all, contents-then-blocks, no-contents, no-block, no-second, no-list, salvaged}
 use Rattle.salvage.proofs.salvage.Statement.{statement}
 use Rattle.salvage.proofs.salvage.Tie as tie

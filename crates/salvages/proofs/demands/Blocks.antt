@@ -1,16 +1,16 @@
 -- What is kept (02, C-23): the blocks that are all good, byte for byte in the old order, in a trace that is good; a good trace comes out unchanged, and so does the outcome.
-use mathlib.Core.Path.{_≡_, refl, sym, ap, subst, _∙_}
-use mathlib.Core.Bool.{Bool, true, false, cond, not, false≢true}
+use mathlib.Core.Path.{_≡_, sym, ap, subst, _∙_}
+use mathlib.Core.Bool.{true, false, cond, not, false≢true}
 use mathlib.Core.List.{List, []}
-use Prim.Native.Nat.{ℕ, zero, suc, _+_, _*_, _<_, _≤_}
+use Prim.Native.Nat.{ℕ, _+_, _*_, _≤_}
 use native.Mathlib.Omega.{arith}
 use lib.Dec.{ltb}
 use lib.ListN.{length}
-use borrow.Author.Tests.{ltb-true, ltb-false, not-true, le-ltb}
+use borrow.Author.Tests.{ltb-true, not-true}
 use Rattle.basics.specs.Numbers.{Bytes}
 use Rattle.basics.proofs.laws.Bits.{test}
 use Rattle.basics.proofs.laws.Lists.{Each, length-part}
-use Rattle.traces.specs.Trace.{mostBlocks, mostRecords, recordLength, blockCount, listedAt, firstPlace, recordCount, contentsGood, nth, isGood, isBad, firstBad, TraceTest, good, wrongContents, foundBad, traceTest}
+use Rattle.traces.specs.Trace.{recordLength, blockCount, firstPlace, recordCount, contentsGood, nth, isGood, isBad, firstBad, TraceTest, good, wrongContents, foundBad, traceTest}
 use Rattle.traces.proofs.laws.Contents.{contents-have}
 use Rattle.traces.proofs.laws.Firsts.{first-found}
 use Rattle.traces.proofs.demands.Told.{AllGood, Means, test-told}

@@ -5,17 +5,16 @@ use mathlib.Core.List.{List, [], _∷_, _++_}
 use Prim.Native.Nat.{ℕ, zero, suc, _+_, _*_, _<_, _≤_}
 use native.Mathlib.Omega.{arith}
 use lib.ListN.{length}
-use borrow.Author.Tests.{eq-eqb, eqb-false, not-true, not-false}
+use borrow.Author.Tests.{eqb-false, not-true, not-false}
 use Rattle.basics.proofs.laws.Bytes.{numberOf-bytesOf}
 use Rattle.basics.proofs.laws.Lists.{Each}
-use Rattle.traces.specs.Trace.{recordLength, blockCount, blockAt, blocksFrom, firstPlace, contentsGood, recordAt, isGood, isBad}
+use Rattle.traces.specs.Trace.{recordLength, blockCount, blockAt, firstPlace, contentsGood, recordAt, isGood, isBad}
 use Rattle.traces.specs.Blocks.{placeInBlock}
 use Rattle.traces.proofs.laws.Contents.{contents-have}
-use Rattle.traces.proofs.laws.Firsts.{First, first-found}
+use Rattle.traces.proofs.laws.Firsts.{first-found}
 use Rattle.salvages.specs.Kept.{bodyOf, bodiesFrom, bodies, recordsOf, badIn, allGood, frontIf, kept, Dropped, droppedFrom, entries, entriesIn, dropList}
 use Rattle.salvages.proofs.laws.Chosen.{kept-or-dropped}
-use Rattle.salvages.proofs.laws.Taken.{Standing, record-in, inside, body-part, records-body, others, all-standing, length-bodies, within}
-use Rattle.salvages.proofs.laws.Taken as taken
+use Rattle.salvages.proofs.laws.Taken.{Standing, record-in, records-body, others, all-standing, length-bodies, within}
 
 -- ---- rising
 

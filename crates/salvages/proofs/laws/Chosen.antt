@@ -1,14 +1,14 @@
 -- The blocks that are kept and those that are dropped, of any list of blocks.
-use mathlib.Core.Path.{_≡_, refl, sym, ap, _∙_}
+use mathlib.Core.Path.{_≡_, refl, ap, _∙_}
 use mathlib.Core.Bool.{Bool, true, false, not}
-use mathlib.Core.List.{List, [], _∷_, _++_, append-assoc}
-use Prim.Native.Nat.{ℕ, zero, suc, _+_, _*_, _<_, _≤_, zero-le}
+use mathlib.Core.List.{List, [], _∷_, _++_}
+use Prim.Native.Nat.{ℕ, suc, _+_, _*_, _≤_}
 use native.Mathlib.Omega.{arith}
 use lib.ListN.{length, length-append}
 use Rattle.basics.proofs.laws.Bits.{test}
 use Rattle.basics.proofs.laws.Lists.{Each}
 use Rattle.salvages.proofs.laws.Computed as computed
-use Rattle.salvages.specs.Kept.{recordsOf, badIn, allGood, frontIf, kept, Dropped, droppedFrom, listing, joined, entries}
+use Rattle.salvages.specs.Kept.{badIn, allGood, frontIf, kept, Dropped, droppedFrom, listing, joined, entries}
 
 -- ---- one block more
 

@@ -1,10 +1,9 @@
 -- Salvaging on closed bytes: so it is seen what is kept, what is listed, and which test comes first.
 use mathlib.Core.Path.{_≡_, refl}
-use mathlib.Core.Bool.{Bool, true, false}
 use mathlib.Core.List.{List, [], _∷_, _++_}
 use Prim.Native.Nat.{ℕ}
 use lib.ListN.{set, replicate}
-use Rattle.rules.specs.Device.{none, some}
+use Rattle.rules.specs.Device.{none}
 use Rattle.calls.specs.Calls.{answered}
 use Rattle.traces.specs.Trace.{blocksFrom, recordsIn, backToBack, contentsGood, isGood, firstBad}
 use Rattle.salvages.specs.Kept.{bodiesFrom, kept, droppedFrom, listing, joined, entries, newTrace, dropList}

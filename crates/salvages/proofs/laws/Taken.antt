@@ -1,12 +1,12 @@
 -- The blocks of a trace whose contents are good: they are whole, together they are the trace again, and their records are its records.
-use mathlib.Core.Path.{_≡_, refl, sym, ap, subst, _∙_}
+use mathlib.Core.Path.{_≡_, sym, ap, subst, _∙_}
 use mathlib.Core.Bool.{Bool, true, false, false≢true}
-use mathlib.Core.List.{List, [], _∷_, _++_, append-assoc}
+use mathlib.Core.List.{List, [], _∷_, _++_}
 use Prim.Native.Nat.{ℕ, zero, suc, _+_, _-_, _*_, _/_, _<_, _≤_}
 use native.Mathlib.Nat.{zero-add}
 use native.Mathlib.Omega.{arith}
 use lib.Dec.{eqb, ltb}
-use lib.ListN.{length, take, drop, length-append}
+use lib.ListN.{length, take, drop}
 use lib.Seq.{take-all, take-add}
 use borrow.Author.Tests.{eq-eqb, eqb-true, ltb-true, ltb-false, not-false, not-true}
 use Rattle.basics.specs.Numbers.{bytesOf, part, Bytes}
@@ -16,9 +16,9 @@ use Rattle.basics.proofs.laws.Lists.{Each, length-part, part-part, part-add}
 use Rattle.traces.specs.Trace.{mostRecords, recordLength, blockCount, listedAt, blockAt, blocksFrom, recordsIn, backToBack, firstPlace, recordCount, contentsGood, recordOf, recordAt, isGood, isBad, firstBad}
 use Rattle.traces.proofs.laws.Blocks.{records-none, records-front, stand-front}
 use Rattle.traces.proofs.laws.Contents.{Good, contents-have}
-use Rattle.traces.proofs.laws.Firsts.{First, first-found}
-use Rattle.salvages.specs.Kept.{bodyOf, bodiesFrom, bodies, recordsOf, badIn, allGood, kept, Dropped, droppedFrom, twoNumbers, listing, joined, contentsFor, traceOf}
-use Rattle.salvages.proofs.laws.Chosen.{kept-none, kept-good, kept-torn, dropped-none, dropped-good, dropped-torn, joined-none, joined-front, length-joined}
+use Rattle.traces.proofs.laws.Firsts.{first-found}
+use Rattle.salvages.specs.Kept.{bodyOf, bodiesFrom, bodies, recordsOf, badIn, allGood, kept, droppedFrom, twoNumbers, listing, joined, contentsFor, traceOf}
+use Rattle.salvages.proofs.laws.Chosen.{kept-none, kept-good, kept-torn, dropped-none, dropped-good, dropped-torn, joined-none, joined-front}
 use Rattle.salvages.proofs.laws.Built.{Whole, Fit, bodies-none, bodies-front}
 
 -- ---- a block

@@ -1,9 +1,8 @@
 -- `count`: those counted so far, and those among the blocks that are left.
-use mathlib.Core.Path.{_≡_, refl, ap, sym, _∙_}
+use mathlib.Core.Path.{sym, _∙_}
 use mathlib.Core.Logic.{⊎-elim}
-use Prim.Native.Nat.{ℕ, _-_, _≤_}
+use Prim.Native.Nat.{_-_}
 use native.Mathlib.Omega.{arith}
-use borrow.Author.Needs.{needs}
 use Rattle.torn.proofs.Rounds.{Counted, lies, seen, none-counted, as-counted, all-counted, left-below, all-below, kept-counted, torn-passed}
 use Rattle.torn.proofs.count.Statement.{statement}
 use Rattle.torn.proofs.count.Tie as tie

@@ -1,7 +1,6 @@
 -- `look`: the entry of the block, and its place in the array.
-use mathlib.Core.Path.{_≡_, sym, ap, _∙_}
+use mathlib.Core.Path.{sym, ap, _∙_}
 use native.Mathlib.Omega.{arith}
-use borrow.Author.Needs.{needs}
 use lib.Dec.{eqb}
 use Rattle.traces.specs.Trace as traces
 use Rattle.torn.proofs.look.Statement.{statement}

@@ -1,6 +1,6 @@
 -- `survey`: the blocks looked at so far have their first bad records in the array.
-use mathlib.Core.Path.{_≡_, refl, subst, ap, _∙_}
-use Prim.Native.Nat.{ℕ, _-_, _≤_}
+use mathlib.Core.Path.{_≡_, refl, ap, _∙_}
+use Prim.Native.Nat.{_-_, _≤_}
 use native.Mathlib.Omega.{arith}
 use borrow.Author.Needs.{needs}
 use lib.ListN.{length, length-set}
