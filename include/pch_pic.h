@@ -69,8 +69,8 @@
  *       needs nothing more: the first done call on the loaded image counts it. To count an image and change nothing, read ID from it;
  *     - where it is refused the board stays. A board under 256 bytes is refused with 7, as is a short answer area, before anything else; bytes past the
  *       first 256 stay;
- *     - a call that is not lent the board leaves it behind: after pch_pic_write, pch_pic_table_write or pch_pic_convert it is right again only after the next done
- *       call that is lent it.
+ *     - a call that is not lent the board leaves it behind: after pch_pic_write, pch_pic_table_write, pch_pic_play or pch_pic_convert, say, it is right again
+ *       only after the next done call that is lent it.
  * A call that is given the image that the last one left changes only counts of vectors that an input with a changed ISR bit or vector byte carried before
  * or carries after.
  * A recorder that has no image can keep a second board from the events alone: it begins as 256 zeros, and pch_pic_board_event counts one event at a
@@ -370,7 +370,8 @@ uint8_t pch_pic_board_event(uint8_t *board, size_t board_len, uint8_t vector, ui
  * Bytes past them stay. The numbers of events run through the whole trace in an image of 290 bytes; in one of 259 or 251 they hold within one record.
  * The value is the number of records. A refusal comes before anything is played, and leaves image, answers and events. Refusals: 7 (the answer area), 4,
  * 12, 13 with the number of the first bad record, and then 7 where answers has under 16 bytes for each record, or events under 64 for each drain:
- * 64000 and 256000 have room for every trace. So to test a trace and play nothing, lend no answers: a 7 says that it is good. */
+ * 64000 and 256000 have room for every trace. So to test a trace and play nothing, lend an answer area and an image as ever, and no answers: a 7 then says that
+ * it is good. */
 uint8_t pch_pic_play(const uint8_t *trace, size_t trace_len, uint8_t *image, size_t image_len, uint8_t *answers, size_t answers_len,
                      uint8_t *events, size_t events_len, uint8_t *answer, size_t answer_len);
 

@@ -470,6 +470,9 @@ static void in_order(void)
     pic_in_order(&none, 1);
     pic_in_order(&none, 0);
     expect("one and none are in order", none.number == 9);
+    struct pic_event far[3] = {{.number = 40000}, {.number = 65535}, {.number = 0}};
+    pic_by_number(far, 3);
+    expect("since a reset a whole round is in order by number", far[0].number == 0 && far[1].number == 40000 && far[2].number == 65535);
 }
 
 static int by_number(const void *one, const void *two)

@@ -234,7 +234,7 @@ static void second_board(void)
     must(pic_level(&pic, 5, false, &events[0]));
     must(pic_level(&pic, 9, true, &events[1]));
     must(pic_drain(&pic, events + 2, &drained));
-    pic_in_order(events, 2 + drained);
+    pic_by_number(events, 2 + drained);
     for (size_t i = 0; i < 2 + drained; i++) {
         must(pic_hear(heard, events[i]));
     }

@@ -152,6 +152,19 @@ void pic_in_order(struct pic_event *events, size_t count)
     }
 }
 
+/* From a reset the first event has number 0, so that for one round of them the numbers themselves are the order. */
+void pic_by_number(struct pic_event *events, size_t count)
+{
+    for (size_t i = 1; i < count; i++) {
+        struct pic_event event = events[i];
+        size_t to = i;
+        for (; to > 0 && events[to - 1].number > event.number; to--) {
+            events[to] = events[to - 1];
+        }
+        events[to] = event;
+    }
+}
+
 static size_t image_len(enum pic_form form)
 {
     switch (form) {

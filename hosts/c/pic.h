@@ -90,6 +90,9 @@ int pic_drain(struct pic *pic, struct pic_event events[PCH_PIC_EVENTS], size_t *
  * comes late. At most 32768 events may have been made from the oldest of them to the newest, dropped ones counted. */
 void pic_in_order(struct pic_event *events, size_t count);
 
+/* The same of events since a reset, of which at most 65536 were made, dropped ones counted: by rising number. */
+void pic_by_number(struct pic_event *events, size_t count);
+
 /* What the image holds: the inputs that are latched and those in service, masked ones too (bit n for input n), an input's vector, how many events
  * wait, how many were dropped since reset, and the number of the next event. All are 0 where the image is none. */
 uint64_t pic_latched(const struct pic *pic);
@@ -103,7 +106,7 @@ uint16_t pic_next(const struct pic *pic);
 bool pic_on(const struct pic *pic, uint8_t vector);
 
 /* A second board, for who has the events and not the device: it begins as zeros and hears each event that pic_level, pic_poll and pic_drain gave. It is
- * the device's board in the end if it heard all events since a reset in the order in which they were made (pic_in_order up to 32768 of them), none was dropped or
+ * the device's board in the end if it heard all events since a reset in the order in which they were made (pic_by_number), none was dropped or
  * waits, nothing was loaded, no write reached ISR, and no vector byte changed while its input was in service. */
 int pic_hear(uint8_t board[PCH_PIC_BOARD_LEN], struct pic_event event);
 

@@ -192,7 +192,7 @@ fn second_board() -> Result<(), Error> {
     events.extend(pic.set_level(5, false)?);
     events.extend(pic.set_level(9, true)?);
     events.extend(pic.drain_events());
-    Event::sort(&mut events);
+    Event::sort_from_reset(&mut events);
     for event in events {
         heard.hear(event);
     }

@@ -11,7 +11,7 @@ use core::fmt;
 /// 65,536 events were made since that reset, the order is that of rising [numbers](Event::number).
 ///
 /// ```
-/// use pch_pic::{reg, Board, PchPic, Width, Window};
+/// use pch_pic::{reg, Board, Event, PchPic, Width, Window};
 ///
 /// let (mut pic, mut kept) = (PchPic::new(), Vec::new());
 /// kept.extend(pic.set_level(5, true)?); // masked: only latched
@@ -19,7 +19,7 @@ use core::fmt;
 /// kept.extend(pic.set_level(5, false)?); // its deassert is returned before that
 /// kept.extend(pic.set_level(9, true)?);
 /// kept.extend(pic.drain_events());
-/// kept.sort_by_key(|event| event.number);
+/// Event::sort_from_reset(&mut kept);
 /// let mut second = Board::new();
 /// for event in kept {
 ///     second.hear(event);

@@ -55,6 +55,11 @@ impl Event {
             events.sort_unstable_by_key(|event| event.since(one));
         }
     }
+
+    /// The same of events since a reset, of which at most 65,536 were made, dropped ones counted: by rising number, as a [`Board`](crate::Board) is to hear them.
+    pub fn sort_from_reset(events: &mut [Event]) {
+        events.sort_unstable_by_key(|event| event.number);
+    }
 }
 
 /// How far `later` is ahead of `earlier`, both numbers of events: the only difference from -32,768 to 32,767 that is congruent to `later - earlier`

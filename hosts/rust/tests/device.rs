@@ -482,7 +482,7 @@ fn a_second_board_hears_the_events() {
         board
     };
     assert_ne!(&hears(&events), pic.board());
-    events.sort_by_key(|event| event.number);
+    Event::sort_from_reset(&mut events);
     assert!(events.iter().zip(0..).all(|(event, number)| event.number == number));
     assert_eq!(&hears(&events), pic.board());
     assert_eq!(pic.board().counts(), &counted(&pic));
