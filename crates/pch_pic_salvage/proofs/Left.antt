@@ -1,11 +1,12 @@
 -- From how a salvage ends to what the call leaves: 7 writes no byte, and all else is told in the answer area.
-use mathlib.Core.Path.{_≡_, sym, ap, _∙_}
+use mathlib.Core.Path.{_≡_, ap, _∙_}
 use mathlib.Core.List.{List}
 use Prim.Native.Nat.{ℕ, _<_, _≤_}
 use lib.ListN.{length}
-use borrow.Author.Tests.{eq-eqb, ne-eqb, le-leb, lt-leb}
+use borrow.Author.Tests.{le-leb, lt-leb}
 use Rattle.calls.specs.Calls.{answerLength, answered}
 use Rattle.salvages.specs.Salvaging.{salvageEnding, salvageLeaves, salvageSettled, salvaging}
+use Rattle.plays.proofs.laws.Late.{late-seven, told-late}
 use Rattle.answer.specs.Given.{valueView}
 use Rattle.answer.specs.declared.Told.{Told}
 use Rattle.salvage.specs.Ends.{ends}
@@ -21,9 +22,7 @@ module _ (l ks ds a : List ℕ) where
     settles = ap (salvageSettled a) d ∙ rw (le-leb answerLength (length a) roomy)
 
     pub no-byte : t .number ≡ 7 → salvageLeaves 7 ks₂ ds₂ a ≡ salvaging l ks ds a
-    no-byte e =
-        (λ s. salvageLeaves (sym e s) ks₂ ds₂ a) ∙ ap (salvageLeaves (t .number) ks₂ ds₂) (rw (eq-eqb (t .number) 7 e)) ∙ settles
+    no-byte e = late-seven (λ n b. salvageLeaves n ks₂ ds₂ b) (t .number) (valueView (t .value)) a e ∙ settles
 
     pub told : (t .number ≡ 7 → ⊥) → {r : ℕ} {b : List ℕ} → (r ≡ t .number) × (b ≡ answered (t .number) (valueView (t .value)) a) → salvageLeaves r ks₂ ds₂ b ≡ salvaging l ks ds a
-    told n p =
-        (λ s. salvageLeaves (p .0 s) ks₂ ds₂ (p .1 s)) ∙ ap (salvageLeaves (t .number) ks₂ ds₂) (rw (ne-eqb (t .number) 7 n)) ∙ settles
+    told x p = told-late (λ n b. salvageLeaves n ks₂ ds₂ b) (t .number) (valueView (t .value)) a x p ∙ settles

@@ -1,11 +1,12 @@
 -- From how a play ends to what the call leaves: 7 writes no byte, and all else is told in the answer area.
-use mathlib.Core.Path.{_≡_, sym, ap, _∙_}
+use mathlib.Core.Path.{_≡_, ap, _∙_}
 use mathlib.Core.List.{List}
 use Prim.Native.Nat.{ℕ, _<_, _≤_}
 use lib.ListN.{length}
-use borrow.Author.Tests.{eq-eqb, ne-eqb, le-leb, lt-leb}
+use borrow.Author.Tests.{le-leb, lt-leb}
 use Rattle.calls.specs.Calls.{answerLength, answered}
-use Rattle.plays.specs.Playing.{PlayEnding, playEnding, playLeaves, toldIn, playSettled, playing}
+use Rattle.plays.specs.Playing.{playEnding, playLeaves, playSettled, playing}
+use Rattle.plays.proofs.laws.Late.{late-seven, told-late}
 use Rattle.answer.specs.Given.{valueView}
 use Rattle.answer.specs.declared.Told.{Told}
 use Rattle.player.specs.Plays.{ends}
@@ -21,9 +22,7 @@ module _ (l i bs es a : List ℕ) where
     settles = ap (playSettled a) d ∙ rw (le-leb answerLength (length a) roomy)
 
     pub no-byte : t .number ≡ 7 → playLeaves 7 j cs fs a ≡ playing l i bs es a
-    no-byte e =
-        (λ s. playLeaves (sym e s) j cs fs a) ∙ ap (playLeaves (t .number) j cs fs) (rw (eq-eqb (t .number) 7 e)) ∙ settles
+    no-byte e = late-seven (λ n b. playLeaves n j cs fs b) (t .number) (valueView (t .value)) a e ∙ settles
 
     pub told : (t .number ≡ 7 → ⊥) → {r : ℕ} {b : List ℕ} → (r ≡ t .number) × (b ≡ answered (t .number) (valueView (t .value)) a) → playLeaves r j cs fs b ≡ playing l i bs es a
-    told n p =
-        (λ s. playLeaves (p .0 s) j cs fs (p .1 s)) ∙ ap (playLeaves (t .number) j cs fs) (rw (ne-eqb (t .number) 7 n)) ∙ settles
+    told x p = told-late (λ n b. playLeaves n j cs fs b) (t .number) (valueView (t .value)) a x p ∙ settles

@@ -5,3 +5,4 @@ pub mod Drained
 pub mod Rooms
 pub mod InFront
 pub mod Keeps
+pub mod Late
