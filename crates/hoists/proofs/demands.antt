@@ -1,0 +1,1 @@
+-- What 02, C-22 asks, as theorems.

@@ -1,0 +1,2 @@
+-- Lemmas about the profile, for the theorems and the code.
+pub mod Computed
