@@ -1,1 +1,2 @@
 -- What 02, C-22 asks, as theorems.
+pub mod Admits

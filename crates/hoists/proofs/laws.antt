@@ -1,2 +1,3 @@
 -- Lemmas about the profile, for the theorems and the code.
 pub mod Computed
+pub mod Inputs
