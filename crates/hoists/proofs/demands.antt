@@ -1,2 +1,3 @@
 -- What 02, C-22 asks, as theorems.
 pub mod Admits
+pub mod Answers

@@ -1,3 +1,4 @@
 -- Lemmas about the profile, for the theorems and the code.
 pub mod Computed
 pub mod Inputs
+pub mod Judged
