@@ -1,3 +1,4 @@
 -- What 02, C-22 asks, as theorems.
 pub mod Admits
 pub mod Answers
+pub mod Under

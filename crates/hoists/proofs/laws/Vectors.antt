@@ -235,3 +235,10 @@ module _ (d : Device) (w : WellFormed d) (o v : ℕ) (a : 0x200 ≤ o) (b : o + 
           let e : input + (i - input) ≡ i = omega arith in
           rw e at (byte-is (i - input) (omega arith) ∙ none-found changes t (i - input) (omega arith)))
           (λ s. rw (beside i (λ p q. true≢false (sym (inside input (input + 4) i p q) ∙ s))) (and-false (inService i (d .core .lines))))
+
+-- outside them none is changed
+pub none-changed : (d : Device) (o v : ℕ) → o % 4 ≡ 0 → inVectors o ≡ false → changesServed d (write dword o v) ≡ false
+unfolding changesServed
+none-changed d o v aligned e =
+    none-there (λ n. inService n (d .core .lines) && changesVector d (write dword o v) n)
+    (λ i l. rw (eq-eqb (getD (step d (write dword o v) .after .core .vectors) i 0) (getD (d .core .vectors) i 0) (ap (λ vs. getD vs i 0) (no-vector-written d o v aligned e))) (and-false (inService i (d .core .lines))))
