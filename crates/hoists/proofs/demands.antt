@@ -2,3 +2,4 @@
 pub mod Admits
 pub mod Answers
 pub mod Under
+pub mod Handed
