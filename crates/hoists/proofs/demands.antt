@@ -3,3 +3,4 @@ pub mod Admits
 pub mod Answers
 pub mod Under
 pub mod Handed
+pub mod DemandThree
