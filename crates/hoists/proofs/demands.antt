@@ -4,3 +4,4 @@ pub mod Answers
 pub mod Under
 pub mod Handed
 pub mod DemandThree
+pub mod Phases

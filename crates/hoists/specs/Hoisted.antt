@@ -2,9 +2,11 @@
 use mathlib.Core.Bool.{Bool, true, false, cond}
 use mathlib.Core.List.{List, [], _∷_, _++_, map}
 use mathlib.Core.Path.{_≡_}
-use Prim.Native.Nat.{ℕ}
+use Prim.Native.Nat.{ℕ, _+_}
 use lib.Dec.{eqb}
 use Rattle.rules.specs.Ring.{Event}
+use Rattle.rules.specs.Device.{Device}
+use Rattle.rules.specs.Account.{carrying, assertsAmong, deassertsAmong}
 use Rattle.calls.specs.Calls.{Request, Outcome, leaves, outcome}
 use Rattle.calls.specs.Calls as request
 use Rattle.exported.specs.Exported.{Exported, returnedTo, drainedTo}
@@ -87,6 +89,14 @@ returnedUnder (x ∷ xs) = cond (isDone x) (returnedOf x (requestOf (x .asks))) 
 unfoldable pub drainedUnder : List Hoisted → List Event
 drainedUnder [] = []
 drainedUnder (x ∷ xs) = cond (isDone x) (drainedOf x (requestOf (x .asks))) [] ++ drainedUnder xs
+
+-- what a host reads of calls under the profile balances, between the device d and the device e, as `Balances` has it of exported calls (00, demand 3)
+abbrev pub BalancesUnder : ℕ → Device → List Hoisted → (lost : List Event) → Device → Type 0
+BalancesUnder v d xs lost e =
+    assertsAmong v (returnedUnder xs) + assertsAmong v (drainedUnder xs) + assertsAmong v (e .ring .waiting) + assertsAmong v lost
+    + deassertsAmong v (d .ring .waiting) + carrying v (d .core)
+    ≡ deassertsAmong v (returnedUnder xs) + deassertsAmong v (drainedUnder xs) + deassertsAmong v (e .ring .waiting) + deassertsAmong v lost
+    + assertsAmong v (d .ring .waiting) + carrying v (e .core)
 
 -- ---- handed on
 

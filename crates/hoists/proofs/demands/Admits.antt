@@ -34,12 +34,12 @@ allowed r d o v e = go (isIsr o) r (inVectors o) (changesServed d (write dword o
     go false false x y p q s t e = record { notIsr = p; notVectors = λ z. absurd (true≢false (sym z ∙ q)); stay = t ∙ e }
 
 -- a write that passes is a Dword that is not forbidden
-passed : Verdict → Bool
+unfoldable pub passed : Verdict → Bool
 passed passes = true
 passed unaligned = false
 passed unfit = false
 
-no-verdict : {A : Type 0} {x : Verdict} → x ≡ passes → passed x ≡ false → A
+pub no-verdict : {A : Type 0} {x : Verdict} → x ≡ passes → passed x ≡ false → A
 unfolding passed
 no-verdict e f = absurd (true≢false (sym (ap passed e) ∙ f))
 

@@ -22,19 +22,11 @@ use Rattle.histories.proofs.laws.Folds.{history-append, along-append}
 use Rattle.exported.proofs.laws.Chains.{faithful-after-reset}
 use Rattle.exported.proofs.demands.FromCalls.{image-holds-device}
 use Rattle.exported.proofs.demands.HandedBack.{account-under-way, account-of-calls, account-without-drops, service-of-calls, order-of-calls, drops-of-calls}
-use Rattle.hoists.specs.Hoisted.{resets, Hoisted, leftBy, isDone, requestOf, exportedAs, plainCall, plainCalls, returnedUnder, drainedUnder, HandedOn, leftAfter}
+use Rattle.hoists.specs.Hoisted.{resets, Hoisted, leftBy, isDone, requestOf, exportedAs, plainCall, plainCalls, returnedUnder, drainedUnder, BalancesUnder, HandedOn, leftAfter}
 use Rattle.hoists.proofs.demands.Under.{PlainIs, none, one, plain-is, reads-full, all-admitted}
 use Rattle.hoists.proofs.demands.Handed.{handed-on-is-no-load, left-through, a-reset-begins-under}
 
 -- ---- the account
-
--- what a host reads of calls under the profile balances, between the device d and the device e
-abbrev pub BalancesUnder : ℕ → Device → List Hoisted → (lost : List Event) → Device → Type 0
-BalancesUnder v d xs lost e =
-    assertsAmong v (returnedUnder xs) + assertsAmong v (drainedUnder xs) + assertsAmong v (e .ring .waiting) + assertsAmong v lost
-    + deassertsAmong v (d .ring .waiting) + carrying v (d .core)
-    ≡ deassertsAmong v (returnedUnder xs) + deassertsAmong v (drainedUnder xs) + deassertsAmong v (e .ring .waiting) + deassertsAmong v lost
-    + assertsAmong v (d .ring .waiting) + carrying v (e .core)
 
 -- From any history under way, so from any load too: for each vector the account is balanced. No premise but that none of the calls is a load.
 pub account-under-profile : (v : ℕ) (h : Underway) → Faithful h → (xs : List Hoisted) → NoLoads h (plainCalls xs)

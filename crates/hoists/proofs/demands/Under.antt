@@ -13,14 +13,14 @@ use Rattle.rules.specs.Device as device
 use Rattle.rules.specs.History.{history}
 use Rattle.images.specs.Form.{Known, unknown, known, formOf}
 use Rattle.images.specs.Image.{imageTest, accepted, decode}
-use Rattle.calls.specs.Calls.{pass, Request, Asked, afresh, calls, askedBy, resetAs, performed, answerLength, answered, bufferOf, written, Outcome, leaves, ended, ending, settled, outcome}
+use Rattle.calls.specs.Calls.{pass, widthTest, addressTest, Request, Asked, afresh, calls, askedBy, resetAs, performed, answerLength, answered, bufferOf, written, Outcome, leaves, ended, ending, settled, outcome}
 use Rattle.calls.specs.Calls as request
 use Rattle.histories.specs.Premises.{Along, Admitted}
 use Rattle.exported.specs.Exported.{Exported, Underway, carriedOn, carriedThrough, NoLoads, doneCall, doneCalls, current, Faithful, returnedTo, drainedTo, returnedBy, drainedBy}
 use Rattle.exported.specs.Exported as full
 use Rattle.basics.proofs.laws.Bits.{test}
 use Rattle.exported.proofs.laws.Chains.{passed, left-holds, handed, done-call, carried-on, faithful-kept}
-use Rattle.exported.proofs.laws.Readings.{input-is, asked-is}
+use Rattle.exported.proofs.laws.Readings.{access-is, input-is, asked-is}
 use Rattle.hoists.specs.Profile.{running, Verdict, passes, unaligned, unfit, verdict}
 use Rattle.hoists.specs.HoistCalls.{judged, endsBy, hoistEnding, hoistRoom, hoistRead, hoistWrite, hoistReset}
 use Rattle.hoists.specs.Hoisted.{Asks, resets, reads, writes, ends, levels, polls, drains, Hoisted, unphased, leftUnder, leftBy, isDone, requestOf, exportedAs, plainCall, plainCalls}
@@ -78,7 +78,7 @@ module _ (i p a : List ℕ) (q : Request) where
 pub done-is-full : (x : Hoisted) → isDone x ≡ true → (q : Request) → requestOf (x .asks) ≡ q ∷ [] → leftBy x ≡ full.leftBy (exportedAs x q)
 done-is-full x d q e = is-full (x .given) (x .phase) (x .answer) q (x .asks) d e
 
--- ---- and is one that demand 3 admits
+-- ---- and the profile let it through
 
 -- with its verdict decided: it passed, where the call is done
 judged-passes : (r : Bool) (q : Request) (i a : List ℕ) (b : Bool) → eqb (cond b (settled a (hoistEnding r q i)) (leaves 7 i a (bufferOf q)) .number) 0 ≡ true → judged r (askedBy q) i ≡ passes
@@ -93,26 +93,28 @@ module _ (i p a : List ℕ) (good : imageTest i ≡ accepted) (c : Call) where
   verdict-of : (r : Bool) (q : Request) → askedBy q ≡ calls (pass c) → judged r (askedBy q) i ≡ passes → verdict r (decode i) c ≡ passes
   verdict-of r q asks e = sym (then-verdict r q i (pass c) asks good c refl) ∙ e
 
-  admitted : (k : Asks) → eqb (leftUnder i p a k .number) 0 ≡ true → (q : Request) → requestOf k ≡ q ∷ [] → askedBy q ≡ calls (pass c) → Admitted (decode i) c
+  let-through : (k : Asks) → eqb (leftUnder i p a k .number) 0 ≡ true → (q : Request) → requestOf k ≡ q ∷ [] → askedBy q ≡ calls (pass c) → verdict (running p) (decode i) c ≡ passes
   unfolding hoistRead hoistWrite verdict
-  admitted resets d q e asks = absurd (let z : _≡_ {A = ℕ} 0 1 = cc in omega arith)
-  admitted (reads base size address width) d q e asks =
+  let-through resets d q e asks = absurd (let z : _≡_ {A = ℕ} 0 1 = cc in omega arith)
+  let-through (reads base size address width) d q e asks =
       let y = request.read base size address width in
-      passed-is-admitted false (decode i) c (verdict-of false y (ap askedBy (head y q e) ∙ asks) (judged-passes false y i a (leb answerLength (length a)) d))
-  admitted (writes base size address width v) d q e asks =
+      let its = ap askedBy (head y q e) ∙ asks in
+      let r = access-is (widthTest width) (addressTest base size address width) device.read c (asked-is its) in
+      ap (verdict (running p) (decode i)) (r .2) ∙ sym (ap (verdict false (decode i)) (r .2)) ∙ verdict-of false y its (judged-passes false y i a (leb answerLength (length a)) d)
+  let-through (writes base size address width v) d q e asks =
       let y = request.write base size address width v in
-      passed-is-admitted (running p) (decode i) c (verdict-of (running p) y (ap askedBy (head y q e) ∙ asks) (judged-passes (running p) y i a (hoistRoom p a) d))
-  admitted ends d q e asks = absurd (let z : _≡_ {A = ℕ} 0 1 = ap length e in omega arith)
-  admitted (levels n v) d q e asks =
+      verdict-of (running p) y (ap askedBy (head y q e) ∙ asks) (judged-passes (running p) y i a (hoistRoom p a) d)
+  let-through ends d q e asks = absurd (let z : _≡_ {A = ℕ} 0 1 = ap length e in omega arith)
+  let-through (levels n v) d q e asks =
       let y = request.level n v in
       let x = device.level n (not (eqb v 0)) in
-      passed-is-admitted false (decode i) c (ap (verdict false (decode i)) (input-is n x c (asked-is (ap askedBy (head y q e) ∙ asks)) .1))
-  admitted (polls n) d q e asks =
+      ap (verdict (running p) (decode i)) (input-is n x c (asked-is (ap askedBy (head y q e) ∙ asks)) .1)
+  let-through (polls n) d q e asks =
       let y = request.poll n in
-      passed-is-admitted false (decode i) c (ap (verdict false (decode i)) (input-is n (device.poll n) c (asked-is (ap askedBy (head y q e) ∙ asks)) .1))
-  admitted (drains events place) d q e asks =
+      ap (verdict (running p) (decode i)) (input-is n (device.poll n) c (asked-is (ap askedBy (head y q e) ∙ asks)) .1)
+  let-through (drains events place) d q e asks =
       let y = request.drain events place in
-      passed-is-admitted false (decode i) c (ap (verdict false (decode i)) (sym (passed (asked-is (ap askedBy (head y q e) ∙ asks)))))
+      ap (verdict (running p) (decode i)) (sym (passed (asked-is (ap askedBy (head y q e) ∙ asks))))
 
 -- ---- calls, one after another
 
@@ -188,33 +190,45 @@ unfolding plainCalls returnedUnder drainedUnder returnedBy drainedBy
 reads-full [] = record { returned = refl; drained = refl }
 reads-full (x ∷ xs) = reads-more x xs (reads-full xs) (plain-is x)
 
--- ---- all of them are admitted
+-- ---- what the profile sees to holds along the calls
 
-module _ (h : Underway) (f : Faithful h) (x : Hoisted) (q : Request) (e : requestOf (x .asks) ≡ q ∷ []) (d : isDone x ≡ true) (n : full.isLoad (h .left) (exportedAs x q) ≡ false) where
-  abbrev its : Exported
-  its = exportedAs x q
+-- each call of a list has Q
+abbrev pub EachCall : (Hoisted → Type 0) → List Hoisted → Type 0
+EachCall Q [] = Unit {0}
+EachCall Q (x ∷ xs) = Q x × EachCall Q xs
 
-  one-admitted : (cs : List Call) → Along Admitted (current (carriedOn h its)) cs → Along Admitted (current h) (doneCall its ++ cs)
-  unfolding Along history
-  one-admitted cs along =
-      let t = plain-done x q e d in
-      let m = handed h its f t n in
-      let is : doneCall its ≡ m .call ∷ [] = (λ i. cond (t i) (full.callOf (m .passes i)) []) in
-      let good = done-call h its t (ap full.isReset (m .passes)) .accepted in
-      let met = ap decode (m .given) ∙ left-holds h f in
-      let here = subst (λ k. Admitted k (m .call)) met (admitted (x .given) (x .phase) (x .answer) good (m .call) (x .asks) d q e (m .passes)) in
-      let after = carried-on h its f n .current ∙ ap (λ cs. history (current h) cs .after) is in
-      rw is (here, subst (λ k. Along Admitted k cs) after along)
+-- where P holds of each call of the device that the profile lets through in the phase of a call that has Q
+module _ (P : Device → Call → Type 0) (Q : Hoisted → Type 0) (holds : (x : Hoisted) → Q x → (d : Device) (c : Call) → verdict (running (x .phase)) d c ≡ passes → P d c) where
+  module _ (h : Underway) (f : Faithful h) (x : Hoisted) (has : Q x) (q : Request) (e : requestOf (x .asks) ≡ q ∷ []) (d : isDone x ≡ true) (n : full.isLoad (h .left) (exportedAs x q) ≡ false) where
+    one-along : (cs : List Call) → Along P (current (carriedOn h (exportedAs x q))) cs → Along P (current h) (doneCall (exportedAs x q) ++ cs)
+    unfolding Along history
+    one-along cs along =
+        let its = exportedAs x q in
+        let t = plain-done x q e d in
+        let m = handed h its f t n in
+        let is : doneCall its ≡ m .call ∷ [] = (λ i. cond (t i) (full.callOf (m .passes i)) []) in
+        let good = done-call h its t (ap full.isReset (m .passes)) .accepted in
+        let met = ap decode (m .given) ∙ left-holds h f in
+        let here = subst (λ k. P k (m .call)) met (holds x has (decode (x .given)) (m .call) (let-through (x .given) (x .phase) (x .answer) good (m .call) (x .asks) d q e (m .passes))) in
+        let after = carried-on h its f n .current ∙ ap (λ cs. history (current h) cs .after) is in
+        rw is (here, subst (λ k. Along P k cs) after along)
+
+  pub along-under : (h : Underway) → Faithful h → (xs : List Hoisted) → EachCall Q xs → NoLoads h (plainCalls xs) → Along P (current h) (doneCalls (plainCalls xs))
+  unfolding plainCalls NoLoads doneCalls Along
+  along-under h f [] has n = tt
+  along-under h f (x ∷ xs) has n = go (plain-is x) (λ k g. along-under k g xs (has .1))
+    where
+      go : PlainIs x → ((k : Underway) → Faithful k → NoLoads k (plainCalls xs) → Along P (current k) (doneCalls (plainCalls xs)))
+          → Along P (current h) (doneCalls (plainCall x ++ plainCalls xs))
+      go (none e) later = rw e (later h f (rw e at n))
+      go (one q e d g) later =
+          let m : NoLoads h (exportedAs x q ∷ plainCalls xs) = rw g at n in
+          rw g (one-along h f x (has .0) q e d (m .0) (doneCalls (plainCalls xs)) (later (carriedOn h (exportedAs x q)) (faithful-kept h (exportedAs x q) f (m .0)) (m .1)))
 
 -- Over calls under the profile of which none is a load, whatever phases they are given, each call of the full device that is made is one that demand 3 admits.
 pub all-admitted : (h : Underway) → Faithful h → (xs : List Hoisted) → NoLoads h (plainCalls xs) → Along Admitted (current h) (doneCalls (plainCalls xs))
-unfolding plainCalls NoLoads doneCalls Along
-all-admitted h f [] n = tt
-all-admitted h f (x ∷ xs) n = go (plain-is x) (λ k g. all-admitted k g xs)
+all-admitted h f xs n = along-under Admitted (λ x. Unit {0}) (λ x u d c e. passed-is-admitted (running (x .phase)) d c e) h f xs (each xs) n
   where
-    go : PlainIs x → ((k : Underway) → Faithful k → NoLoads k (plainCalls xs) → Along Admitted (current k) (doneCalls (plainCalls xs)))
-        → Along Admitted (current h) (doneCalls (plainCall x ++ plainCalls xs))
-    go (none e) later = rw e (later h f (rw e at n))
-    go (one q e d g) later =
-        let m : NoLoads h (exportedAs x q ∷ plainCalls xs) = rw g at n in
-        rw g (one-admitted h f x q e d (m .0) (doneCalls (plainCalls xs)) (later (carriedOn h (exportedAs x q)) (faithful-kept h (exportedAs x q) f (m .0)) (m .1)))
+    each : (xs : List Hoisted) → EachCall (λ x. Unit {0}) xs
+    each [] = tt
+    each (x ∷ xs) = (tt, each xs)
