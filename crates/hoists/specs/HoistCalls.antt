@@ -74,8 +74,8 @@ unfoldable pub hoistReset : (image phase answer : List ℕ) → PhaseLeft
 hoistReset i p a = cond (hoistRoom p a) (phaseSettled p a (inStartUp p) (ending request.reset i)) (phaseLeaves (refusalNumber noRoom) i p a)
 
 -- start-up cannot end while an input is in service, nor twice (02, C-22)
-abbrev pub cannotEnd : (phase : List ℕ) → Device → Bool
-cannotEnd p d = running p || anyServed d
+abbrev pub cannotEnd : (running : Bool) → Device → Bool
+cannotEnd r d = r || anyServed d
 
 -- 4, 5, 8 to 11, then 15; there is no value, and the image stays
 abbrev pub endTold : ImageTest → (refused : Bool) → List ℕ → Ending
@@ -84,9 +84,9 @@ endTold image.wrongLength r i = record { number = imageNumber image.wrongLength;
 endTold image.wrongContents r i = record { number = imageNumber image.wrongContents; value = imageValue image.wrongContents; image = i; events = [] }
 endTold (image.broken k a) r i = record { number = imageNumber (image.broken k a); value = imageValue (image.broken k a); image = i; events = [] }
 
-abbrev pub endEnding : (image phase : List ℕ) → Ending
-endEnding i p = endTold (imageTest i) (cannotEnd p (decode i)) i
+abbrev pub endEnding : (running : Bool) → List ℕ → Ending
+endEnding r i = endTold (imageTest i) (cannotEnd r (decode i)) i
 
 -- the end of start-up (02, C-22)
 unfoldable pub endStartup : (image phase answer : List ℕ) → PhaseLeft
-endStartup i p a = cond (hoistRoom p a) (phaseSettled p a (afterStartUp p) (endEnding i p)) (phaseLeaves (refusalNumber noRoom) i p a)
+endStartup i p a = cond (hoistRoom p a) (phaseSettled p a (afterStartUp p) (endEnding (running p) i)) (phaseLeaves (refusalNumber noRoom) i p a)

@@ -22,6 +22,7 @@ use Rattle.basics.proofs.laws.Lists.{equal-same}
 use Rattle.calls.proofs.demands.Refused.{refused-changes-nothing}
 use Rattle.exported.proofs.laws.Chains.{left-last}
 use Rattle.exported.proofs.demands.FromCalls.{a-reset-begins}
+use Rattle.hoists.specs.Profile.{running}
 use Rattle.hoists.specs.HoistCalls.{hoistRoom, cannotEnd, endTold, hoistReset, endStartup}
 use Rattle.hoists.specs.Hoisted.{Asks, resets, reads, writes, ends, levels, polls, drains, Hoisted, leftUnder, leftBy, isDone, requestOf, exportedAs, plainCall, plainCalls}
 use Rattle.hoists.specs.Hoisted.{isReset, HandedOn, leftAfter}
@@ -35,7 +36,7 @@ pub end-keeps-image : (i p a : List ℕ) → endStartup i p a .image ≡ i
 unfolding endStartup
 end-keeps-image i p a = test (hoistRoom p a) (λ t. rw t (go (imageTest i))) (λ t. rw t)
   where
-    go : (k : ImageTest) → endTold k (cannotEnd p (decode i)) i .image ≡ i
+    go : (k : ImageTest) → endTold k (cannotEnd (running p) (decode i)) i .image ≡ i
     go image.accepted = refl
     go image.wrongLength = refl
     go image.wrongContents = refl

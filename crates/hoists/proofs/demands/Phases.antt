@@ -35,10 +35,10 @@ module _ (i p a : List ℕ) where
 
   -- With room and an accepted image: 15, or it is done and the second phase begins.
   pub end-is : answerLength ≤ length a → 1 ≤ length p → imageTest i ≡ image.accepted
-      → end ≡ cond (cannotEnd p (decode i)) (phaseLeaves 15 i p (answered 15 none a)) (phaseLeaves 0 i (afterStartUp p) (answered 0 none a))
+      → end ≡ cond (cannotEnd (running p) (decode i)) (phaseLeaves 15 i p (answered 15 none a)) (phaseLeaves 0 i (afterStartUp p) (answered 0 none a))
   unfolding endStartup
   end-is r l e =
-      rw (le-leb answerLength (length a) r, le-leb 1 (length p) l, e) (test (cannotEnd p (decode i)) (λ t. rw t) (λ t. rw t))
+      rw (le-leb answerLength (length a) r, le-leb 1 (length p) l, e) (test (cannotEnd (running p) (decode i)) (λ t. rw t) (λ t. rw t))
 
   -- done, the image was accepted, it was start-up, and no input was in service
   pub record Ended : Type 0 where
@@ -50,7 +50,7 @@ module _ (i p a : List ℕ) where
 
   pub done-end : end .number ≡ 0 → Ended
   unfolding endStartup
-  done-end d = test (hoistRoom p a) (λ t. go t (imageTest i) refl (cannotEnd p (decode i)) refl (rw t at d)) (λ t. absurd (let z : _≡_ {A = ℕ} 7 0 = rw t at d in omega arith))
+  done-end d = test (hoistRoom p a) (λ t. go t (imageTest i) refl (cannotEnd (running p) (decode i)) refl (rw t at d)) (λ t. absurd (let z : _≡_ {A = ℕ} 7 0 = rw t at d in omega arith))
     where
       neither : (x y : Bool) → (x || y) ≡ false → (x ≡ false) × (y ≡ false)
       neither true y e = absurd (true≢false e)
@@ -62,7 +62,7 @@ module _ (i p a : List ℕ) where
       faults image.badFlag e = omega arith
       faults image.unusedSet e = omega arith
 
-      go : hoistRoom p a ≡ true → (k : ImageTest) → imageTest i ≡ k → (b : Bool) → cannotEnd p (decode i) ≡ b → endEnding i p .number ≡ 0 → Ended
+      go : hoistRoom p a ≡ true → (k : ImageTest) → imageTest i ≡ k → (b : Bool) → cannotEnd (running p) (decode i) ≡ b → endEnding (running p) i .number ≡ 0 → Ended
       go t image.accepted e true c z = absurd (let y : _≡_ {A = ℕ} 15 0 = rw (e, c) at z in omega arith)
       go t image.accepted e false c z =
           let l = leb-true 1 (length p) (and-eq-true-iff (leb answerLength (length a)) (leb 1 (length p)) .0 t .1) in
@@ -75,10 +75,10 @@ module _ (i p a : List ℕ) where
   -- refused, no byte changes but the answer area's, and with 7 not even that
   pub refused-end-keeps : (end .number ≡ 0 → ⊥) → end .phase ≡ p
   unfolding endStartup
-  refused-end-keeps n = test (hoistRoom p a) (λ t. rw t (kept (eqb (endEnding i p .number) 0) refl (λ z. n (rw t z)))) (λ t. rw t)
+  refused-end-keeps n = test (hoistRoom p a) (λ t. rw t (kept (eqb (endEnding (running p) i .number) 0) refl (λ z. n (rw t z)))) (λ t. rw t)
     where
-      kept : (b : Bool) → eqb (endEnding i p .number) 0 ≡ b → (endEnding i p .number ≡ 0 → ⊥) → cond (eqb (endEnding i p .number) 0) (afterStartUp p) p ≡ p
-      kept true e m = absurd (m (eqb-true (endEnding i p .number) 0 e))
+      kept : (b : Bool) → eqb (endEnding (running p) i .number) 0 ≡ b → (endEnding (running p) i .number ≡ 0 → ⊥) → cond (eqb (endEnding (running p) i .number) 0) (afterStartUp p) p ≡ p
+      kept true e m = absurd (m (eqb-true (endEnding (running p) i .number) 0 e))
       kept false e m = rw e
 
 -- Once it has ended it does not end again, whatever the image: the phase that a done call leaves is refused by the next.
