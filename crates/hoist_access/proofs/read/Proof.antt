@@ -1,112 +1,51 @@
+-- `read`: no such width, then outside the window, then no aligned Dword; done, the image stays and what the registers read is told.
+use mathlib.Core.Path.{_≡_, refl, sym, ap, _∙_}
+use mathlib.Core.Bool.{Bool, true, false}
+use mathlib.Core.List.{List}
+use Prim.Native.Nat.{ℕ}
 use borrow.Author.Needs.{needs}
+use Rattle.rules.specs.Access.{readAt}
+use Rattle.rules.specs.Device as device
+use Rattle.images.specs.Image.{decode}
+use Rattle.calls.specs.Calls as asked
+use Rattle.map.specs.Views.{widthView}
+use Rattle.inplace.proofs.Passing.{long}
+use Rattle.refusals.proofs.Ends.{tells}
+use Rattle.accepted_access.proofs.Aims.{no-width, no-place, read-done}
+use Rattle.profile.specs.Tests.{alignedView}
+use Rattle.hoist_access.proofs.Ends.{aligned-dword, read-unaligned, read-passes, width-first, place-first, judged-as}
 use Rattle.hoist_access.proofs.read.Statement.{statement}
 use Rattle.hoist_access.proofs.read.Tie as tie
-use Rattle.hoist_access.proofs.read.Reads as reads
-use Rattle.hoist_access.proofs.read.Lts as lts
-use Rattle.answer.proofs.done.Reads as done-reads
-use Rattle.cells.proofs.read_dword.Reads as read-dword-reads
-use Rattle.profile.proofs.test_aligned.Reads as test-aligned-reads
-use Rattle.profile.proofs.unaligned.Reads as unaligned-reads
-use Rattle.refusals.proofs.no_width.Reads as no-width-reads
-use Rattle.refusals.proofs.outside.Reads as outside-reads
-use Rattle.window.proofs.locate.Reads as locate-reads
-use Rattle.window.proofs.width_of.Reads as width-of-reads
-
--- src/lib.rt:77:28
-width-of-requires : tie.Need-width-of-requires
-width-of-requires c κs = search needs
-
--- src/lib.rt:77:19
-enum-known-known : tie.Need-enum-known-known
-enum-known-known c = search needs
-
--- src/lib.rt:78:9
-enum-told : tie.Need-enum-told
-enum-told c = search needs
-
--- src/lib.rt:78:9
-no-width-requires : tie.Need-no-width-requires
-no-width-requires c κs = search needs
-
--- src/lib.rt:78:9
-returns : tie.Need-returns
-returns c = ?
-
--- src/lib.rt:80:31
-locate-requires : tie.Need-locate-requires
-locate-requires c κs = search needs
-
--- src/lib.rt:80:21
-enum-known-offset : tie.Need-enum-known-offset
-enum-known-offset c = search needs
-
--- src/lib.rt:81:9
-enum-told-2 : tie.Need-enum-told-2
-enum-told-2 c = search needs
-
--- src/lib.rt:81:9
-outside-requires : tie.Need-outside-requires
-outside-requires c κs = search needs
-
--- src/lib.rt:81:9
-returns-2 : tie.Need-returns-2
-returns-2 c = ?
-
--- src/lib.rt:83:26
-test-aligned-requires : tie.Need-test-aligned-requires
-test-aligned-requires c κs = search needs
-
-enum-told-3 : tie.Need-enum-told-3
-enum-told-3 c = search needs
-
--- src/lib.rt:84:9
-enum-told-4 : tie.Need-enum-told-4
-enum-told-4 c = search needs
-
--- src/lib.rt:84:9
-unaligned-requires : tie.Need-unaligned-requires
-unaligned-requires c κs = search needs
-
--- src/lib.rt:84:9
-returns-3 : tie.Need-returns-3
-returns-3 c = ?
-
--- src/lib.rt:86:25
-read-dword-requires : tie.Need-read-dword-requires
-read-dword-requires c κs = ?
-
--- src/lib.rt:86:25
-cast-t13 : tie.Need-cast-t13
-cast-t13 c = search needs
-
--- src/lib.rt:86:5
-done-requires : tie.Need-done-requires
-done-requires c κs = search needs
-
--- src/lib.rt:73:1
-returns-4 : tie.Need-returns-4
-returns-4 c = ?
 
 pub read-spec : {M : Type 1} → statement M
+unfolding readAt
 read-spec =
     tie.close
     (tie.spec
-    width-of-requires
-    enum-known-known
-    enum-told
-    no-width-requires
-    returns
-    locate-requires
-    enum-known-offset
-    enum-told-2
-    outside-requires
-    returns-2
-    test-aligned-requires
-    enum-told-3
-    enum-told-4
-    unaligned-requires
-    returns-3
-    read-dword-requires
-    cast-t13
-    done-requires
-    returns-4)
+    (λ c κs. search needs) (λ c. search needs) (λ c. search needs) (λ c κs. search needs)
+    (λ c. let u = c .before in let w = u .before .before in let s = w .before .before in let a = s .args in
+    let q = asked.read (a .base) (a .size) (a .address) (a .width) in
+    tells (c .no-width .result) (c .no-width .ensures)
+    (no-width (s .pre) (a .base) (a .size) (a .address) (a .width) (w .width-of .ensures) q device.read refl (u .enum-told .given .1)
+    ∙ width-first (s .pre) false (a .base) (a .size) (a .address) (a .width) (w .width-of .ensures) q device.read refl (u .enum-told .given .1)))
+    (λ c κs. search needs) (λ c. search needs) (λ c. search needs) (λ c κs. search needs)
+    (λ c. let u = c .before in let l = u .before .before in let e = l .before .before in let w = e .before .before in let s = w .before .before in let a = s .args in
+    let q = asked.read (a .base) (a .size) (a .address) (a .width) in
+    tells (c .outside .result) (c .outside .ensures)
+    (no-place (s .pre) (a .base) (a .size) (a .address) (a .width) (w .width-of .ensures) q device.read refl (e .known .given .1) (l .locate .ensures .0) (u .enum-told2 .given .1)
+    ∙ place-first (s .pre) false (a .base) (a .size) (a .address) (a .width) (w .width-of .ensures) q device.read refl (e .known .given .1) (l .locate .ensures .0) (u .enum-told2 .given .1)))
+    (λ c κs. search needs) (λ c. search needs) (λ c. search needs) (λ c κs. search needs)
+    (λ c. let u = c .before in let t = u .before .before in let o = t .before .before in let l = o .before .before in let e = l .before .before in let w = e .before .before in let s = w .before .before in
+    let a = s .args in let f = sym (t .test-aligned .ensures) ∙ ap alignedView (u .enum-told4 .given .1) in
+    tells (c .unaligned .result) (c .unaligned .ensures)
+    (judged-as (s .pre) false (a .base) (a .size) (a .address) (a .width) (w .width-of .ensures) (asked.read (a .base) (a .size) (a .address) (a .width)) device.read refl (e .known .given .1) (l .locate .ensures .0)
+    (o .offset .given .1) (read-unaligned false (decode (a .image .now)) (widthView (e .known .given .0 .0)) (o .offset .given .0 .0) f)))
+    (λ c κs. let t = c .before .before in let o = t .before .before in let l = o .before .before in let e = l .before .before in let w = e .before .before in long (w .before .before .pre))
+    (λ c. search needs)
+    (λ c κs. search needs)
+    (λ c. let r = c .before in let u = r .before in let t = u .before .before in let o = t .before .before in let l = o .before .before in let e = l .before .before in let w = e .before .before in let s = w .before .before in
+    let a = s .args in let f = sym (t .test-aligned .ensures) ∙ ap alignedView (u .enum-told3 .given .1) in let d = aligned-dword (widthView (e .known .given .0 .0)) (o .offset .given .0 .0) f in
+    tells (c .done .result) (c .done .ensures)
+    (read-done (s .pre) (a .base) (a .size) (a .address) (a .width) (w .width-of .ensures) (e .known .given .1) (l .locate .ensures .0) (o .offset .given .1) (r .read-dword .result) (rw (d .0) (r .read-dword .ensures))
+    ∙ judged-as (s .pre) false (a .base) (a .size) (a .address) (a .width) (w .width-of .ensures) (asked.read (a .base) (a .size) (a .address) (a .width)) device.read refl (e .known .given .1) (l .locate .ensures .0)
+    (o .offset .given .1) (read-passes false (decode (a .image .now)) (widthView (e .known .given .0 .0)) (o .offset .given .0 .0) f))))
