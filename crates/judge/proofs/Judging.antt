@@ -1,9 +1,10 @@
--- Whether a write is forbidden, by what the tests by value say of the image.
+-- Whether a write is forbidden, and whether start-up cannot end, by what the tests by value say of the image.
 use mathlib.Core.Path.{_≡_, refl, sym, ap, _∙_}
-use mathlib.Core.Bool.{Bool, true, false, _&&_, _||_, and-false}
+use mathlib.Core.Bool.{Bool, true, false, not, _&&_, _||_, and-false}
 use mathlib.Core.List.{List}
 use Prim.Native.Nat.{ℕ, _+_, _-_, _%_, _≤_}
 use native.Mathlib.Omega.{arith}
+use lib.Dec.{eqb}
 use Rattle.basics.specs.Inputs.{half}
 use Rattle.rules.specs.Map.{inVectors}
 use Rattle.rules.specs.Access.{dword, readDword}
@@ -12,7 +13,9 @@ use Rattle.laws.proofs.laws.Maps.{inside-from}
 use Rattle.histories.specs.Premises.{isIsr}
 use Rattle.inplace.specs.Held.{Reads}
 use Rattle.hoists.specs.Profile.{changesServed, forbidden}
+use Rattle.hoists.specs.HoistCalls.{cannotEnd}
 use Rattle.hoists.specs.Four.{changesFour}
+use Rattle.hoists.proofs.laws.Inputs.{served-is}
 use Rattle.hoists.proofs.laws.Vectors.{served-four, none-changed}
 
 -- an aligned Dword that begins among the vector bytes lies there whole
@@ -43,3 +46,12 @@ module _ (i : List ℕ) (o v : ℕ) where
       pub vectors-judged : running ≡ false → {b : Bool} → Reads i b (λ d. changesServed d (write dword o v)) → Reads i b (λ d. forbidden running d o v)
       unfolding forbidden
       vectors-judged r p d s h = p d s h ∙ rw (no, r)
+
+-- ---- the end of start-up
+
+module _ (i : List ℕ) (running : Bool) where
+  pub ended-before : running ≡ true → Reads i true (λ d. cannotEnd running d)
+  ended-before e d s h = rw e
+
+  pub served-judged : running ≡ false → {isr : ℕ} → Reads i isr (λ d. d .core .lines .isr) → {b : Bool} → b ≡ not (eqb isr 0) → Reads i b (λ d. cannotEnd running d)
+  served-judged e p f d s h = f ∙ ap (λ x. not (eqb x 0)) (p d s h) ∙ sym (served-is d (h .well .isr)) ∙ sym (rw e)

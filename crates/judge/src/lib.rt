@@ -1,4 +1,4 @@
-// Whether an aligned Dword that is written is for a hoist guest, on an image that is accepted (02, C-22: 15).
+// What 15 is given for, on an image that is accepted (02, C-22): an aligned Dword that is written and is not for a hoist guest, and a start-up that cannot end.
 use cells::read_dword;
 use image::form::Form;
 use profile::changes_served;
@@ -13,9 +13,10 @@ ghost use Rattle.images.specs.Form.{formLength};
 ghost use Rattle.image.specs.Shown.{formView};
 ghost use Rattle.inplace.specs.Held.{Reads};
 ghost use Rattle.hoists.specs.Profile.{changesServed, forbidden};
+ghost use Rattle.hoists.specs.HoistCalls.{cannotEnd};
 ghost use Rattle.judge.specs.Judged.{refuses};
 
-// Whether an aligned write is for this guest.
+// Whether it is for this guest.
 pub enum Fit {
     Passes,
     Refused,
@@ -50,4 +51,19 @@ pub fn judge(image: &[u8], form: Form, running: bool, offset: usize, value: u64)
         return Fit::Refused;
     }
     judge_vectors(image, form, offset, value)
+}
+
+// Start-up can end once, and while no input is in service, masked or not.
+pub fn judge_end(image: &[u8], form: Form, running: bool) -> Fit
+    requires { ⌜ length (now image) ≡ formLength (formView form) ⌝ }
+    ensures { λ r. ⌜ Reads (now (image .entry)) (refuses r) (λ d. cannotEnd running d) ⌝ }
+{
+    if running {
+        return Fit::Refused;
+    }
+    if words::isr(image, form) != 0 {
+        Fit::Refused
+    } else {
+        Fit::Passes
+    }
 }
