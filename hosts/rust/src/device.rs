@@ -18,7 +18,7 @@ use core::fmt;
 #[derive(Clone, PartialEq, Eq, Hash)]
 pub struct PchPic {
     /// An accepted image of form 2 with numbers: made by reset or tested by load, and every call keeps it so.
-    image: [u8; IMAGE2_NUMBERED_LEN],
+    pub(crate) image: [u8; IMAGE2_NUMBERED_LEN],
 }
 
 impl Default for PchPic {
@@ -353,6 +353,6 @@ impl From<Image> for PchPic {
 }
 
 /// How many events a done write dropped; the library always tells it.
-fn lost(value: Option<u64>) -> u32 {
+pub(crate) fn lost(value: Option<u64>) -> u32 {
     u32::try_from(value.expect("a done write has a value")).expect("a write drops few events")
 }

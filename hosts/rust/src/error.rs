@@ -40,6 +40,10 @@ pub enum Error {
     Trace,
     /// 13: a record of a trace is bad; the number of the first, counted from 0 over the trace.
     Record(u64),
+    /// 14: an access under the hoist profile is no Dword at an offset that 4 divides.
+    Align,
+    /// 15: a write that the hoist profile does not allow, or a start-up that cannot end.
+    Profile,
 }
 
 impl Error {
@@ -58,6 +62,8 @@ impl Error {
             Error::Unused(_) => 11,
             Error::Trace => 12,
             Error::Record(_) => 13,
+            Error::Align => 14,
+            Error::Profile => 15,
         }
     }
 
@@ -89,6 +95,8 @@ impl Error {
             (11, Some(place)) => Some(Error::Unused(place)),
             (12, None) => Some(Error::Trace),
             (13, Some(record)) => Some(Error::Record(record)),
+            (14, None) => Some(Error::Align),
+            (15, None) => Some(Error::Profile),
             _ => None,
         }
     }
@@ -111,6 +119,8 @@ impl fmt::Display for Error {
             }
             Error::Trace => f.write_str("the trace's contents or length are wrong, or it has more than 4000 records"),
             Error::Record(record) => write!(f, "the trace has a bad record, number {record} from 0 on"),
+            Error::Align => f.write_str("the access is no aligned Dword"),
+            Error::Profile => f.write_str("the profile does not allow the write, or start-up cannot end"),
         }
     }
 }
@@ -123,8 +133,8 @@ mod tests {
 
     #[test]
     fn a_number_and_its_value_come_back() {
-        for number in [1, 2, 3, 4, 5, 7, 8, 9, 10, 11, 12, 13] {
-            let value = (number == 1 || (number >= 8 && number != 12)).then_some(0x1234);
+        for number in [1, 2, 3, 4, 5, 7, 8, 9, 10, 11, 12, 13, 14, 15] {
+            let value = matches!(number, 1 | 8..=11 | 13).then_some(0x1234);
             let error = Error::from_answer(number, value).unwrap();
             assert_eq!((error.number(), error.value()), (number, value));
         }

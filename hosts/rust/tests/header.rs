@@ -63,6 +63,8 @@ fn refusals() {
         ("UNUSED", Error::Unused(0)),
         ("TRACE", Error::Trace),
         ("RECORD", Error::Record(0)),
+        ("ALIGN", Error::Align),
+        ("PROFILE", Error::Profile),
     ] {
         assert_eq!(header[name], u64::from(error.number()), "{name}");
         // The crate's text tells the address, the place or the record too.
