@@ -92,7 +92,7 @@
  * What passes is the plain call in its number and in every byte; 14 and 15 are given only where the plain call would be done, and change nothing but the
  * answer area. What a guest gains by it: of its calls since a reset, with no other image lent in between, each vector is asserted as often as it is
  * deasserted and inputs in service carry it, dropped events counted; an input that is latched and unmasked, and then not lowered, cleared or masked, is in service from
- * the first poll or raise on; and no vector changes under an input in service, so that no deassert ever names another vector than its assert did.
+ * the first poll or raise on; and no vector byte changes while its input is in service, nor any once start-up has ended.
  *
  * WHAT A HOST MUST DO. hosts/c/pic.c and crate pch-pic in hosts/rust do all of this (pic_settle, pic_line, pic_resume):
  *     - After each write of the guest, drain, and pass the events on in their order. Then poll all 64 inputs, in any order, and pass on what they
