@@ -1,23 +1,9 @@
 // The calls of the hoist profile, for a host, over a lent image, the phase's byte beside it, numbers and a lent answer area. None requires anything: every input has its outcome.
-// Here is what lacks room, refusal 7, and where the phase is read and stored; the crates below make the call, and what it tells goes into the answer area.
+// Here is what lacks room, refusal 7; the crates below make the call and store the phase, and what is told goes into the answer area.
 ghost use mathlib.Core.Path.{_≡_};
-ghost use mathlib.Core.Bool.{cond};
 ghost use mathlib.Core.List.{[]};
-ghost use Prim.Native.Nat.{_≤_};
-ghost use lib.Dec.{eqb};
-ghost use lib.ListN.{length, set};
 ghost use Rattle.calls.specs.Calls.{leaves};
 ghost use Rattle.hoists.specs.HoistCalls.{hoistRead, hoistWrite, phaseLeaves, hoistReset, endStartup};
-
-// A call that is done stores the phase.
-fn store_phase(phase: &mut [u8], number: u8, byte: u8)
-    requires { ⌜ 1 ≤ length (now phase) ⌝ }
-    ensures { λ _. ⌜ now (phase .exit) ≡ cond (eqb number 0) (set (now (phase .entry)) 0 byte) (now (phase .entry)) ⌝ }
-{
-    if number == 0 {
-        phase[0] = byte;
-    }
-}
 
 // Starts the first phase.
 #[no_mangle]
@@ -33,7 +19,7 @@ pub extern "C" fn pch_pic_hoist_reset(image: &mut [u8], phase: &mut [u8], answer
     }
     let told = whole::reset(image);
     let number = told.number;
-    store_phase(phase, number, 0);
+    phases::begin_startup(phase, number);
     answer::tell(answer, told)
 }
 
@@ -76,7 +62,7 @@ pub extern "C" fn pch_pic_hoist_write(
     if phase.len() < 1 {
         return 7;
     }
-    let running = phase[0] != 0;
+    let running = phases::is_running(phase);
     let told = hoist_calls::write(image, running, base, size, address, width, value);
     answer::tell(answer, told)
 }
@@ -93,9 +79,9 @@ pub extern "C" fn pch_pic_hoist_end_startup(image: &[u8], phase: &mut [u8], answ
     if phase.len() < 1 {
         return 7;
     }
-    let running = phase[0] != 0;
+    let running = phases::is_running(phase);
     let told = hoist_calls::end_startup(image, running);
     let number = told.number;
-    store_phase(phase, number, 1);
+    phases::end_startup(phase, number);
     answer::tell(answer, told)
 }

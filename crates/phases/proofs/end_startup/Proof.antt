@@ -1,11 +1,11 @@
--- `store_phase`: done, the byte is stored, and else nothing.
+-- `end_startup`: done, the byte is stored, and else nothing.
 use borrow.Author.Needs.{needs}
 use borrow.Author.Tests.{eq-eqb, ne-eqb}
-use Rattle.pch_pic_hoist.proofs.store_phase.Statement.{statement}
-use Rattle.pch_pic_hoist.proofs.store_phase.Tie as tie
+use Rattle.phases.proofs.end_startup.Statement.{statement}
+use Rattle.phases.proofs.end_startup.Tie as tie
 
-pub store-phase-spec : {M : Type 1} → statement M
-store-phase-spec =
+pub end-startup-spec : {M : Type 1} → statement M
+end-startup-spec =
     tie.close
     (tie.spec
     (λ c. search needs) (λ c. search needs)
