@@ -4,19 +4,25 @@ use mathlib.Core.Path.{_≡_, refl, sym, ap, _∙_}
 use mathlib.Core.Bool.{Bool, true, false, not, _&&_, and-eq-true-iff}
 use mathlib.Core.List.{List, [], _∷_, map}
 use Prim.Native.Nat.{ℕ, _+_}
-use lib.ListN.{replicate}
+use lib.Dec.{lit<}
+use lib.ListN.{take, drop, getD, replicate}
 use borrow.Author.Tests.{not-true}
 use Rattle.rules.specs.Ring.{dropped}
 use Rattle.rules.specs.Access.{dword}
-use Rattle.rules.specs.Device.{Call, level, write, drain, reset}
+use Rattle.rules.specs.Device.{Call, level, poll, write, drain, reset}
 use Rattle.rules.specs.Account.{carrying, assertsAmong, deassertsAmong}
+use Rattle.images.specs.Form.{two}
 use Rattle.images.specs.Image.{decode}
-use Rattle.histories.specs.Demands.{ringActs}
-use Rattle.exported.specs.Exported.{doneCalls}
+use Rattle.histories.specs.Demands.{inService, ringActs}
+use Rattle.exported.specs.Exported.{Underway, carriedThrough, doneCalls, inImage, atLoad}
+use Rattle.exported.proofs.laws.Chains.{faithful-at-load}
 use Rattle.hoists.specs.HoistCalls.{hoistReset, endStartup}
 use Rattle.hoists.specs.Hoisted.{Asks, resets, reads, writes, ends, levels, polls, drains, Hoisted, leftBy, isDone, plainCalls, returnedUnder, drainedUnder, isReset, HandedOn, leftAfter}
 use Rattle.hoists.proofs.laws.Computed.{hoisting}
-use Rattle.hoists.proofs.demands.DemandThree.{account-of-a-guest}
+use Rattle.hoists.proofs.demands.DemandThree.{account-of-a-guest, service-under-profile}
+use Rattle.hoists.proofs.demands.Handed.{handed-on-is-no-load}
+use Rattle.examples.proofs.PremisesMet.{all-spared, begun}
+use Rattle.examples.proofs.ExportedMet.{imageOf, left-bytes, left-accepted}
 
 -- ---- calls, one after another
 
@@ -105,3 +111,30 @@ guest-account : (v : ℕ)
     ≡ deassertsAmong v (returnedUnder guest) + deassertsAmong v (drainedUnder guest) + deassertsAmong v (left .ring .waiting) + deassertsAmong v [] + carrying v (left .core)
 guest-account v = account-of-a-guest v begins refl reset-done guest (handed-on (leftBy begins .image) (0 ∷ []) asked refl) []
     (sym (ap (λ cs. dropped (reset .ring) (ringActs reset cs)) guest-calls ∙ none-dropped))
+
+-- ---- service
+
+-- in the image of begun 3 is in service, and 5 is latched and unmasked: ISR written empty, refused; 3 lowered; 5 polled; 3 cleared
+abbrev polling : List Asks
+polling = writes 0 0x400 0x3a0 4 0 ∷ levels 3 0 ∷ polls 5 ∷ writes 0 0x400 0x080 4 0x8 ∷ []
+
+abbrev pollingCalls : List Hoisted
+pollingCalls = handedOn (imageOf two begun) (0 ∷ []) polling
+
+abbrev fromBegun : Underway
+fromBegun = atLoad (imageOf two begun)
+
+abbrev thePoll : Hoisted
+thePoll = getD pollingCalls 2 begins
+
+refused-isr : leftBy (getD pollingCalls 0 begins) .number ≡ 15
+unfolding hoisting
+refused-isr = refl
+
+-- it is in service in the image left last; nothing was asked of what the guest writes
+five-served : inService 5 (inImage (carriedThrough fromBegun (plainCalls pollingCalls)) .core .lines) ≡ true
+unfolding hoisting doneCalls plainCalls
+five-served =
+    service-under-profile fromBegun (faithful-at-load (imageOf two begun) (left-bytes two begun) (left-accepted two begun)) 5 (lit< tt) (record { latched = refl; unmasked = refl })
+    (take 2 pollingCalls) thePoll (drop 3 pollingCalls) (poll 5) refl refl
+    (handed-on-is-no-load fromBegun pollingCalls (handed-on (imageOf two begun) (0 ∷ []) polling refl)) (all-spared 5 (inImage fromBegun) (doneCalls (plainCalls pollingCalls)) refl)
