@@ -1,4 +1,5 @@
-// The hoist profile's reads and writes, and the end of start-up, on the image alone: what they tell is handed back. The image is tested here, 4, 5, 8 to 11; what comes after is `hoist_access`.
+// The hoist profile's reads and writes, and the end of start-up, on the image alone: what they tell is handed back. The image is tested here, 4, 5, 8 to 11; what
+// comes after is `hoist_access`.
 use answer::Told;
 use answer::Value;
 use answer::done;

@@ -1,4 +1,5 @@
-// The hoist profile's tests by value: which accesses are aligned Dwords, which offsets are ISR's or the vectors', and whether a Dword would change a vector byte whose input is in service. And its two refusals.
+// The hoist profile's tests by value: which accesses are aligned Dwords, which offsets are ISR's or the vectors', and whether a Dword would change a vector byte
+// whose input is in service. And its two refusals.
 use answer::Told;
 use answer::Value;
 use map::Width;
