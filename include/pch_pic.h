@@ -39,8 +39,8 @@
  *     bytes 2..7    0
  *     bytes 8..15   the value, little end first; 0 if absent
  *
- * REFUSALS. A refused call changes no byte of the image, of the board, of the event buffer, of a conversion's target, of a play's answers and of a
- * salvage's two buffers. Every refusal but 7 writes the answer area; refusal 7 writes nothing at all, so after a 7 the answer area is not this call's.
+ * REFUSALS. A refused call changes no byte of the image, of the board, of the phase, of the event buffer, of a conversion's target, of a play's answers and of
+ * a salvage's two buffers. Every refusal but 7 writes the answer area; refusal 7 writes nothing at all, so after a 7 the answer area is not this call's.
  * Every call ends with a number, whatever the bytes, numbers and lengths are.
  *
  * EVENTS. An event is a vector to assert or to deassert at the interrupt controller above this one. Where the host moves a line (pch_pic_level,
@@ -69,8 +69,8 @@
  *       needs nothing more: the first done call on the loaded image counts it. To count an image and change nothing, read ID from it;
  *     - where it is refused the board stays. A board under 256 bytes is refused with 7, as is a short answer area, before anything else; bytes past the
  *       first 256 stay;
- *     - a call that is not lent the board leaves it behind: after pch_pic_write, pch_pic_table_write, pch_pic_play or pch_pic_convert, say, it is right again
- *       only after the next done call that is lent it.
+ *     - a call that is not lent the board leaves it behind: after pch_pic_write, a call by the table or of the hoist profile, a play or a conversion it is
+ *       right again only after the next done call that is lent it.
  * A call that is given the image that the last one left changes only counts of vectors that an input with a changed ISR bit or vector byte carried before
  * or carries after.
  * A recorder that has no image can keep a second board from the events alone: it begins as 256 zeros, and pch_pic_board_event counts one event at a
@@ -99,6 +99,20 @@
  * record, keep a planned day in a file, load and play. A trace whose contents are right and some of whose records are bad is damaged: pch_pic_salvage makes
  * a good trace of its blocks that have no bad record, and lists the others.
  *
+ * THE HOIST PROFILE. A guest whose driver uses aligned Dwords alone, and touches neither ISR nor the vectors once it runs, can be held to that: the host
+ * makes its accesses by pch_pic_hoist_read and pch_pic_hoist_write, and all else, lines, polls and drains, by the plain calls on the same image. There are
+ * two phases. The phase is a byte that the host keeps beside the image and lends with it, 0 in start-up and any other value after it; it is not in the
+ * image, so who saves a device saves it too.
+ *     - pch_pic_hoist_reset starts the first phase; a plain pch_pic_reset leaves the phase as it is. In both phases a Dword at an offset that 4 divides
+ *       passes, and no other access (14), and ISR is not written, whatever the value (15). In the first the vectors are written, but not where a byte
+ *       would change whose input is in service, masked or not (15); a byte that is written as it stands does not change.
+ *     - pch_pic_hoist_end_startup starts the second, in which the vectors are not written at all, not even as they stand (15). It is refused while an input is in
+ *       service, and when start-up has ended (15).
+ * What passes is the plain call in its number and in every byte; 14 and 15 are given only where the plain call would be done, and change nothing but the
+ * answer area. What a guest gains by it: of its calls since a reset, with no other image lent in between, the asserts of each vector are as many as its
+ * deasserts and the inputs in service that carry it, dropped events counted; an input that is latched and unmasked, and then not lowered, cleared or masked, is in service from
+ * the first poll or raise on; and no vector byte changes while its input is in service, nor any once start-up has ended.
+ *
  * WHAT A HOST MUST DO. hosts/c/pic.c and crate pch-pic in hosts/rust do all of this (pic_settle, pic_line, pic_resume):
  *     - After each write of the guest, drain, and pass the events on in their order. Then poll all 64 inputs, in any order, and pass on what they
  *       return: an unmask announces only the lowest input that waits, and this sweep wakes the others. Once each input is polled, with no MASK, CLEAR
@@ -120,8 +134,8 @@
  *
  * THE HOST'S DUTIES. No call can test these:
  *     - each pointer is good for as many bytes as the length beside it says; a null pointer with length 0 is an empty buffer;
- *     - the image, the board, the answer area and the event buffer or the target of one call do not overlap, nor do the five areas of a play, nor the
- *       four of a salvage;
+ *     - the image, the board, the phase, the answer area and the event buffer or the target of one call do not overlap, nor do the five areas of a play, nor
+ *       the four of a salvage;
  *     - while a call other than a read or a conversion runs on an image, no other call runs on it. Reads and conversions of one image may run side by
  *       side, each with its own answer area, board and target: they only load from the image. Calls on different images may always run side by side.
  */
@@ -139,9 +153,9 @@
 
 /* The version of the header and of what it says about the library. */
 #define PCH_PIC_VERSION_MAJOR 0
-#define PCH_PIC_VERSION_MINOR 11
+#define PCH_PIC_VERSION_MINOR 12
 #define PCH_PIC_VERSION_PATCH 0
-#define PCH_PIC_VERSION "0.11.0"
+#define PCH_PIC_VERSION "0.12.0"
 
 #ifdef __cplusplus
 extern "C" {
@@ -237,7 +251,8 @@ enum {
 };
 
 /* The numbers handed back. A call tests for them in the order 7, 4, 5, 8, 9, 10, 11, then 3, or 2 before 1, and hands back the first
- * that holds; pch_pic_play in the order 7, 4, 12, 13, 7, and pch_pic_salvage 7, 12, 16, 7. There is no 6 any more. */
+ * that holds; pch_pic_play in the order 7, 4, 12, 13, 7, and pch_pic_salvage 7, 12, 16, 7; the calls of the hoist profile end with 14 before 15. There
+ * is no 6 any more. */
 enum pch_pic_number {
     PCH_PIC_DONE = 0,     /* the call was done */
     PCH_PIC_OUTSIDE = 1,  /* not all bytes of the access are inside the window; the value is the address */
@@ -245,8 +260,8 @@ enum pch_pic_number {
     PCH_PIC_INPUT = 3,    /* the input is 64 or more */
     PCH_PIC_LENGTH = 4,   /* an image, or a conversion's target, is not 290, 259 or 251 bytes long */
     PCH_PIC_CONTENTS = 5, /* the image's first bytes, 27 of 290 or else 22, are not those of the form that its length says */
-    PCH_PIC_ROOM = 7,     /* the answer area is under 16 bytes, a board under 256, a drain's place past its buffer's end, or a play's answers or events
-                             or a salvage's second buffer or list are short */
+    PCH_PIC_ROOM = 7,     /* the answer area is under 16 bytes, a board under 256, no phase is lent, a drain's place is past its buffer's end, or a play's
+                             answers or events or a salvage's second buffer or list are short */
     /* A rule of the form is broken; the value is the place in the image of the byte that breaks it, the first where there are several. */
     PCH_PIC_COPY = 8,     /* of form 1 alone: the copy of IRR differs from IRR; the place of its first byte */
     PCH_PIC_COUNT = 9,    /* more than 16 events wait */
@@ -255,6 +270,9 @@ enum pch_pic_number {
     /* Of a trace. */
     PCH_PIC_TRACE = 12,   /* its contents are wrong, it has another length than they say, or more than 4000 records */
     PCH_PIC_RECORD = 13,  /* a record is bad; the value is the number of the first, counted from 0 over the trace */
+    /* Of the hoist profile. */
+    PCH_PIC_ALIGN = 14,   /* the access is no Dword at an offset that 4 divides */
+    PCH_PIC_PROFILE = 15, /* the write is not for this guest, or start-up cannot end */
     PCH_PIC_EMPTY = 16    /* of a salvage: every block has a bad record, so that none is left */
 };
 
@@ -275,6 +293,8 @@ static inline const char *pch_pic_why(int number)
     case PCH_PIC_UNUSED: return "the image has a byte that is not 0 behind its waiting events or their numbers";
     case PCH_PIC_TRACE: return "the trace's contents or length are wrong, or it has more than 4000 records";
     case PCH_PIC_RECORD: return "the trace has a bad record";
+    case PCH_PIC_ALIGN: return "the access is no aligned Dword";
+    case PCH_PIC_PROFILE: return "the profile does not allow the write, or start-up cannot end";
     case PCH_PIC_EMPTY: return "the trace has no block without a bad record";
     default: return "unknown number";
     }
@@ -384,6 +404,25 @@ uint8_t pch_pic_play(const uint8_t *trace, size_t trace_len, uint8_t *image, siz
  * PCH_PIC_DROPPED_MAX for every list. */
 uint8_t pch_pic_salvage(const uint8_t *trace, size_t trace_len, uint8_t *kept, size_t kept_len, uint8_t *list, size_t list_len, uint8_t *answer,
                         size_t answer_len);
+
+/* The hoist profile's calls. Each is a plain call on the same image, or is refused with 14 or 15, as said above under THE HOIST PROFILE. phase is one byte,
+ * longer areas are taken by their first byte, and none lent gets 7. Lines, polls and drains are the plain calls.
+ *
+ * As pch_pic_reset, and start-up begins: the phase becomes 0. No value. A refusal leaves the phase. Refusals: 7, 4. */
+uint8_t pch_pic_hoist_reset(uint8_t *image, size_t image_len, uint8_t *phase, size_t phase_len, uint8_t *answer, size_t answer_len);
+
+/* As pch_pic_read, of an aligned Dword alone; it needs no phase. Refusals: 7, 4, 5, 8 to 11, 2, 1, 14. */
+uint8_t pch_pic_hoist_read(const uint8_t *image, size_t image_len, uint64_t base, uint64_t size, uint64_t address, uint64_t width,
+                           uint8_t *answer, size_t answer_len);
+
+/* As pch_pic_write, of an aligned Dword alone, not to ISR, and to the vectors in start-up alone, where no byte changes whose input is in service. 2 and 1
+ * are tested with the access's own width, and it is the offset that 4 has to divide, not the address. Refusals: 7, 4, 5, 8 to 11, 2, 1, 14, 15. */
+uint8_t pch_pic_hoist_write(uint8_t *image, size_t image_len, const uint8_t *phase, size_t phase_len, uint64_t base, uint64_t size, uint64_t address,
+                            uint64_t width, uint64_t value, uint8_t *answer, size_t answer_len);
+
+/* Ends start-up: the phase becomes 1. No value; the image is only read. Refused with 15 while an input is in service, and where the phase is not 0. A refusal
+ * leaves the phase. Refusals: 7, 4, 5, 8 to 11, 15. */
+uint8_t pch_pic_hoist_end_startup(const uint8_t *image, size_t image_len, uint8_t *phase, size_t phase_len, uint8_t *answer, size_t answer_len);
 
 /* How far one event's number is ahead of another's: later minus earlier, below 0 where it is the older. Numbers go round, so it is the one from -32768 to
  * 32767 that differs from later - earlier by a multiple of 65536: 3 is 5 ahead of 65534, and 32768 ahead reads as -32768. It refuses nothing. */

@@ -2,6 +2,7 @@
  * and files.
  *     recordings FOLDER   plays them, with its files in FOLDER; the last line is 'N passed, M failed' */
 #define _POSIX_C_SOURCE 200809L
+#include "hoist.h"
 #include "recorder.h"
 
 #include <errno.h>
@@ -460,6 +461,27 @@ static void a_watched_device(void)
     expect("plays to the same device", memcmp(played.image, pic.image, IMAGE_LEN) == 0);
 }
 
+/* A hoist guest's day is recorded as the full device's calls that it is: what the profile refuses is no call, and leaves no record. */
+static void a_watched_hoist(void)
+{
+    static struct hoist hoist;
+    uint64_t value, dropped = 9;
+    size_t len;
+    expect("a device for a hoist guest", hoist_init(&hoist, BASE) == PCH_PIC_DONE && !hoist_running(&hoist));
+    pic_recorder_begin(&recorder);
+    pic_recorder_watch(&recorder, &hoist.pic);
+    expect("vectors are written in start-up", hoist_write(&hoist, BASE + PCH_PIC_REG_VECTORS, 4, 0x43424140, &dropped) == PCH_PIC_DONE && dropped == 0);
+    expect("no Byte is read", hoist_read(&hoist, BASE + PCH_PIC_REG_ID, 1, &value) == PCH_PIC_ALIGN && value == 0);
+    expect("an aligned Dword is", hoist_read(&hoist, BASE + PCH_PIC_REG_ID, 4, &value) == PCH_PIC_DONE && value == 0x07000000);
+    expect("start-up ends", hoist_end_startup(&hoist) == PCH_PIC_DONE && hoist_running(&hoist));
+    expect("no vector is written after it", hoist_write(&hoist, BASE + PCH_PIC_REG_VECTORS, 4, 0x43424140, &dropped) == PCH_PIC_PROFILE);
+    expect("nor ISR", hoist_write(&hoist, BASE + PCH_PIC_REG_ISR, 4, 0, NULL) == PCH_PIC_PROFILE);
+    expect("MASK is", hoist_write(&hoist, BASE + PCH_PIC_REG_MASK, 4, 0, NULL) == PCH_PIC_DONE);
+    bool kept = pic_recorder_finish(&recorder, trace, &len) == PCH_PIC_DONE && pic_trace_play(trace, len, &played, NULL) == PCH_PIC_DONE;
+    expect("three records play to its image", kept && played.records == 3 && memcmp(played.image, hoist.pic.image, IMAGE_LEN) == 0);
+    expect("a reset starts over", hoist_reset(&hoist) == PCH_PIC_DONE && !hoist_running(&hoist));
+}
+
 /* What cannot be recorded ends the recording, and the device goes on. */
 static void a_recording_that_stops(void)
 {
@@ -515,6 +537,7 @@ int main(int argc, char **argv)
     files();
     a_full_disk();
     a_watched_device();
+    a_watched_hoist();
     a_recording_that_stops();
     texts();
     printf("%d passed, %d failed\n", passed, failed);

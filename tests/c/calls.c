@@ -777,6 +777,106 @@ static void boards(void)
     second_board();
 }
 
+/* The hoist profile, in the form of the image's length, with window 0x400 at base 0x1002, which 4 does not divide: the offset has to be aligned, not the
+ * address. The phase has two bytes, of which the second stays. */
+static uint8_t phase[2];
+
+static uint8_t hoist_write(size_t len, uint64_t offset, uint64_t width, uint64_t value)
+{
+    guard();
+    return pch_pic_hoist_write(image, len, phase, sizeof phase, 0x1002, 0x400, 0x1002 + offset, width, value, answer, ANSWER);
+}
+
+static uint8_t hoist_read(size_t len, uint64_t offset, uint64_t width)
+{
+    guard();
+    return pch_pic_hoist_read(image, len, 0x1002, 0x400, 0x1002 + offset, width, answer, ANSWER);
+}
+
+static uint8_t end_startup(size_t len)
+{
+    guard();
+    return pch_pic_hoist_end_startup(image, len, phase, sizeof phase, answer, ANSWER);
+}
+
+/* What a refusal leaves, but for the answer area. */
+static uint8_t hoist_before[NUMBERED];
+
+static int hoist_kept(size_t len, uint8_t of)
+{
+    return memcmp(hoist_before, image, len) == 0 && phase[0] == of && phase[1] == 0x99;
+}
+
+static void hoist_start(size_t len)
+{
+    image_len = NUMBERED;
+    memset(image, 0x77, sizeof image);
+    phase[0] = 7;
+    phase[1] = 0x99;
+    guard();
+    expect("hoist: a reset starts the first phase",
+           pch_pic_hoist_reset(image, len, phase, sizeof phase, answer, ANSWER) == 0 && answers(0, 0, 0) && phase[0] == 0 && phase[1] == 0x99);
+    expect("hoist: an aligned Dword is read", hoist_read(len, 0x20, 4) == 0 && answers(0, 1, 0xffffffff));
+    expect("hoist: and written", hoist_write(len, 0x20, 4, 0xffffffdf) == 0 && answers(0, 1, 0));
+    expect("hoist: vectors are written in start-up", hoist_write(len, 0x204, 4, 0x47464544) == 0 && answers(0, 1, 0));
+    guard();
+    expect("hoist: the vector that was written is asserted", pch_pic_level(image, len, 5, 1, answer, ANSWER) == 0 && answers(0, 1, 0x45));
+}
+
+static void hoist_refusals(size_t len)
+{
+    memcpy(hoist_before, image, len);
+    expect("14: a Byte", hoist_write(len, 0x40, 1, 1) == 14 && answers(14, 0, 0) && hoist_kept(len, 0));
+    expect("14: a Word", hoist_read(len, 0x40, 2) == 14 && answers(14, 0, 0));
+    expect("14: a Qword", hoist_read(len, 0x3f0, 8) == 14 && answers(14, 0, 0));
+    expect("14: offset 2", hoist_write(len, 0x22, 4, 0) == 14 && answers(14, 0, 0) && hoist_kept(len, 0));
+    expect("14 before 15: a Byte of ISR", hoist_write(len, 0x3a0, 1, 0) == 14 && answers(14, 0, 0) && hoist_kept(len, 0));
+    expect("1 before 14: over the window's end", hoist_read(len, 0x3fc, 8) == 1 && answers(1, 1, 0x1002 + 0x3fc));
+    expect("2 before 14: no such width", hoist_write(len, 0x41, 3, 0) == 2 && answers(2, 0, 0) && hoist_kept(len, 0));
+    expect("15: ISR, as it stands", hoist_write(len, 0x3a0, 4, 0x20) == 15 && answers(15, 0, 0) && hoist_kept(len, 0));
+    expect("15: ISR's high half", hoist_write(len, 0x3a4, 4, 0) == 15 && answers(15, 0, 0) && hoist_kept(len, 0));
+    expect("15: the vector of an input in service", hoist_write(len, 0x204, 4, 0x47469944) == 15 && answers(15, 0, 0) && hoist_kept(len, 0));
+    expect("15: start-up does not end while an input is in service", end_startup(len) == 15 && answers(15, 0, 0) && hoist_kept(len, 0));
+    expect("4 before 14", hoist_write(len - 1, 0x41, 1, 0) == 4 && answers(4, 0, 0) && hoist_kept(len, 0));
+    expect("4 of the end of start-up", end_startup(0) == 4 && answers(4, 0, 0) && hoist_kept(len, 0));
+    guard();
+    expect("7: no phase is lent to a write", pch_pic_hoist_write(image, len, NULL, 0, 0, 0x400, 0x20, 4, 0, answer, ANSWER) == 7 && untouched());
+    expect("7: nor to a reset", pch_pic_hoist_reset(image, len, NULL, 0, answer, ANSWER) == 7 && untouched());
+    expect("7: nor to the end of start-up", pch_pic_hoist_end_startup(image, len, NULL, 0, answer, ANSWER) == 7 && untouched());
+    expect("7: the answer area of a read is short", pch_pic_hoist_read(image, len, 0, 0x400, 0x20, 4, answer, ANSWER - 1) == 7 && untouched());
+    expect("7: that of a reset is", pch_pic_hoist_reset(image, len, phase, 1, answer, ANSWER - 1) == 7 && untouched() && hoist_kept(len, 0));
+    guard();
+    expect("4: a refused reset leaves the phase", pch_pic_hoist_reset(image, len - 1, phase, 1, answer, ANSWER) == 4 && answers(4, 0, 0) && hoist_kept(len, 0));
+}
+
+static void hoist_runs(size_t len)
+{
+    expect("hoist: the vector of an input in service, as it stands", hoist_write(len, 0x204, 4, 0x99994599) == 0 && answers(0, 1, 0));
+    guard();
+    expect("hoist: it is deasserted", pch_pic_level(image, len, 5, 0, answer, ANSWER) == 0 && answer[1] == 1 && answer[8] == 0x45);
+    memcpy(hoist_before, image, len);
+    expect("hoist: start-up ends", end_startup(len) == 0 && answers(0, 0, 0) && hoist_kept(len, 1));
+    expect("15: and not again", end_startup(len) == 15 && answers(15, 0, 0) && hoist_kept(len, 1));
+    expect("15: no vector is written after it, as it stands neither", hoist_write(len, 0x23c, 4, 0x3f3e3d3c) == 15 && answers(15, 0, 0) && hoist_kept(len, 1));
+    expect("hoist: routes are", hoist_write(len, 0x13c, 4, 0) == 0 && answers(0, 1, 0));
+    phase[0] = 0xff;
+    memcpy(hoist_before, image, len);
+    expect("15: any byte but 0 is after start-up", hoist_write(len, 0x200, 4, 0x03020100) == 15 && answers(15, 0, 0) && hoist_kept(len, 0xff));
+    guard();
+    expect("hoist: a reset starts over", pch_pic_hoist_reset(image, len, phase, 1, answer, ANSWER) == 0 && answers(0, 0, 0) && phase[0] == 0 && phase[1] == 0x99);
+}
+
+static void hoists(void)
+{
+    static const size_t lengths[] = {IMAGE, IMAGE2, NUMBERED};
+    for (int i = 0; i < 3; i++) {
+        hoist_start(lengths[i]);
+        hoist_refusals(lengths[i]);
+        hoist_runs(lengths[i]);
+    }
+    image_len = IMAGE;
+}
+
 int main(void)
 {
     uint8_t before[IMAGE];
@@ -904,6 +1004,7 @@ int main(void)
     numbered();
     traces();
     boards();
+    hoists();
 
     printf("%d passed, %d failed\n", passed, failed);
     return failed != 0;

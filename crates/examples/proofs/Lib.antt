@@ -8,3 +8,4 @@ pub mod WorkedDay
 pub mod TracePlayed
 pub mod TraceSalvaged
 pub mod BoardsMet
+pub mod HoistMet

@@ -17,7 +17,7 @@ use core::fmt;
 #[derive(Clone, PartialEq, Eq, Hash)]
 pub struct PchPic {
     /// An accepted image of form 2 with numbers: made by reset or tested by load, and every call keeps it so.
-    image: [u8; IMAGE2_NUMBERED_LEN],
+    pub(crate) image: [u8; IMAGE2_NUMBERED_LEN],
     /// Which vectors are on: the counts of that image, after every call.
     board: Board,
 }
@@ -65,7 +65,7 @@ impl PchPic {
     }
 
     /// Brings the board up to date after a call that was not lent it.
-    fn count(&mut self) {
+    pub(crate) fn count(&mut self) {
         ffi::count(&self.image, self.board.bytes()).expect("a device's image is accepted");
     }
 
@@ -362,6 +362,6 @@ impl From<Image> for PchPic {
 }
 
 /// How many events a done write dropped; the library always tells it.
-fn lost(value: Option<u64>) -> u32 {
+pub(crate) fn lost(value: Option<u64>) -> u32 {
     u32::try_from(value.expect("a done write has a value")).expect("a write drops few events")
 }

@@ -40,6 +40,10 @@ pub enum Error {
     Trace,
     /// 13: a record of a trace is bad; the number of the first, counted from 0 over the trace.
     Record(u64),
+    /// 14: an access under the hoist profile is no Dword at an offset that 4 divides.
+    Align,
+    /// 15: a write that the hoist profile does not allow, or a start-up that cannot end.
+    Profile,
     /// 16: of a trace that is salvaged every block has a bad record, so that none is left.
     Empty,
 }
@@ -60,6 +64,8 @@ impl Error {
             Error::Unused(_) => 11,
             Error::Trace => 12,
             Error::Record(_) => 13,
+            Error::Align => 14,
+            Error::Profile => 15,
             Error::Empty => 16,
         }
     }
@@ -92,6 +98,8 @@ impl Error {
             (11, Some(place)) => Some(Error::Unused(place)),
             (12, None) => Some(Error::Trace),
             (13, Some(record)) => Some(Error::Record(record)),
+            (14, None) => Some(Error::Align),
+            (15, None) => Some(Error::Profile),
             (16, None) => Some(Error::Empty),
             _ => None,
         }
@@ -115,6 +123,8 @@ impl fmt::Display for Error {
             }
             Error::Trace => f.write_str("the trace's contents or length are wrong, or it has more than 4000 records"),
             Error::Record(record) => write!(f, "the trace has a bad record, number {record} from 0 on"),
+            Error::Align => f.write_str("the access is no aligned Dword"),
+            Error::Profile => f.write_str("the profile does not allow the write, or start-up cannot end"),
             Error::Empty => f.write_str("the trace has no block without a bad record"),
         }
     }
@@ -128,7 +138,7 @@ mod tests {
 
     #[test]
     fn a_number_and_its_value_come_back() {
-        for number in [1, 2, 3, 4, 5, 7, 8, 9, 10, 11, 12, 13, 16] {
+        for number in [1, 2, 3, 4, 5, 7, 8, 9, 10, 11, 12, 13, 14, 15, 16] {
             let value = [1, 8, 9, 10, 11, 13].contains(&number).then_some(0x1234);
             let error = Error::from_answer(number, value).unwrap();
             assert_eq!((error.number(), error.value()), (number, value));

@@ -2,8 +2,8 @@
 //!
 //! What the library asks of its host holds by the types: a slice's length is true, and a mutable slice overlaps no other. So a call that
 //! changes an image is alone with it. Reads and conversions of one image may run side by side, and `PchPic` may be `Sync`: `pch_pic_read`,
-//! `pch_pic_table_read` and `pch_pic_convert` get the image as `const` and only load from it, write to nothing but their own answer area and target,
-//! and the library has no memory of its own. The calls that move a device are made with its board.
+//! `pch_pic_table_read`, `pch_pic_hoist_read` and `pch_pic_convert` get the image as `const` and only load from it, write to nothing but their own answer
+//! area and target, and the library has no memory of its own. The calls that move a device are made with its board, but for those of the hoist profile.
 
 use crate::{Error, Window};
 
@@ -122,6 +122,38 @@ extern "C" {
         kept_len: usize,
         list: *mut u8,
         list_len: usize,
+        answer: *mut u8,
+        answer_len: usize,
+    ) -> u8;
+    fn pch_pic_hoist_reset(image: *mut u8, image_len: usize, phase: *mut u8, phase_len: usize, answer: *mut u8, answer_len: usize) -> u8;
+    fn pch_pic_hoist_read(
+        image: *const u8,
+        image_len: usize,
+        base: u64,
+        size: u64,
+        address: u64,
+        width: u64,
+        answer: *mut u8,
+        answer_len: usize,
+    ) -> u8;
+    fn pch_pic_hoist_write(
+        image: *mut u8,
+        image_len: usize,
+        phase: *const u8,
+        phase_len: usize,
+        base: u64,
+        size: u64,
+        address: u64,
+        width: u64,
+        value: u64,
+        answer: *mut u8,
+        answer_len: usize,
+    ) -> u8;
+    fn pch_pic_hoist_end_startup(
+        image: *const u8,
+        image_len: usize,
+        phase: *mut u8,
+        phase_len: usize,
         answer: *mut u8,
         answer_len: usize,
     ) -> u8;
@@ -333,6 +365,50 @@ pub fn salvage(trace: &[u8], kept: &mut [u8], list: &mut [u8]) -> Outcome {
     outcome(number, &answer)
 }
 
+pub fn hoist_reset(image: &mut [u8], phase: &mut u8) -> Outcome {
+    let mut answer: Answer = [0; ANSWER_LEN];
+    // SAFETY: the slices and the phase's one byte are valid for their lengths and apart.
+    let number = unsafe { pch_pic_hoist_reset(image.as_mut_ptr(), image.len(), phase, 1, answer.as_mut_ptr(), ANSWER_LEN) };
+    outcome(number, &answer)
+}
+
+pub fn hoist_read(image: &[u8], window: Window, address: u64, width: usize) -> Outcome {
+    let mut answer: Answer = [0; ANSWER_LEN];
+    // SAFETY: both slices are valid for their lengths and apart; the library only reads the image.
+    let number = unsafe {
+        pch_pic_hoist_read(image.as_ptr(), image.len(), window.base, window.size, address, width as u64, answer.as_mut_ptr(), ANSWER_LEN)
+    };
+    outcome(number, &answer)
+}
+
+pub fn hoist_write(image: &mut [u8], phase: &u8, window: Window, address: u64, width: usize, value: u64) -> Outcome {
+    let mut answer: Answer = [0; ANSWER_LEN];
+    // SAFETY: the slices and the phase's one byte are valid for their lengths and apart; the library only reads the phase.
+    let number = unsafe {
+        pch_pic_hoist_write(
+            image.as_mut_ptr(),
+            image.len(),
+            phase,
+            1,
+            window.base,
+            window.size,
+            address,
+            width as u64,
+            value,
+            answer.as_mut_ptr(),
+            ANSWER_LEN,
+        )
+    };
+    outcome(number, &answer)
+}
+
+pub fn hoist_end_startup(image: &[u8], phase: &mut u8) -> Outcome {
+    let mut answer: Answer = [0; ANSWER_LEN];
+    // SAFETY: the slices and the phase's one byte are valid for their lengths and apart; the library only reads the image.
+    let number = unsafe { pch_pic_hoist_end_startup(image.as_ptr(), image.len(), phase, 1, answer.as_mut_ptr(), ANSWER_LEN) };
+    outcome(number, &answer)
+}
+
 pub fn difference(later: u16, earlier: u16) -> i16 {
     // SAFETY: it is lent nothing.
     unsafe { pch_pic_difference(later, earlier) }
@@ -375,6 +451,12 @@ mod tests {
         assert_eq!(convert(&image, &mut [0; crate::IMAGE_LEN]), Err(Error::Length));
         assert_eq!(play(&[], &mut image, &mut [], &mut []), Err(Error::Length));
         assert_eq!(board, [0xa5; crate::VECTORS]);
+        let mut phase = 9;
+        assert_eq!(hoist_reset(&mut image, &mut phase), Err(Error::Length));
+        assert_eq!(hoist_read(&image, window, 0, 4), Err(Error::Length));
+        assert_eq!(hoist_write(&mut image, &phase, window, 0, 4, 0), Err(Error::Length));
+        assert_eq!(hoist_end_startup(&image, &mut phase), Err(Error::Length));
+        assert_eq!(phase, 9);
     }
 
     /// A board under 256 bytes is refused first, and of a longer one the bytes past them stay.

@@ -53,6 +53,11 @@
 //! A returned event is there at once, one that waits only when it is drained. Each has the [number](Event::number) that it got when it was made, and
 //! [`Event::sort`] puts them in that order again.
 //!
+//! # A hoist guest
+//!
+//! A guest whose driver uses aligned Dwords alone, and leaves ISR and, once it runs, the vectors alone, is held to that by [`Hoist`]: what it lets through
+//! is the same device in every byte, and nothing that the guest does can then part a vector's asserts from its deasserts.
+//!
 //! # A day recorded and played back
 //!
 //! A [`Trace`] has the calls of a day from a reset on, and [playing](Trace::play) it gives every byte again. [`Recorded`] is a device whose calls are recorded
@@ -74,6 +79,7 @@ mod ffi;
 #[cfg(feature = "std")]
 pub mod file;
 mod form;
+mod hoist;
 #[cfg(feature = "std")]
 mod recorder;
 pub mod reg;
@@ -87,6 +93,7 @@ pub use device::PchPic;
 pub use error::Error;
 pub use event::{difference, Event, Events, Returned};
 pub use form::{Form, Image};
+pub use hoist::{Hoist, Phase};
 #[cfg(feature = "std")]
 pub use recorder::{RecordError, Recorded, Recorder};
 #[cfg(feature = "std")]

@@ -64,6 +64,8 @@ fn refusals() {
         ("UNUSED", Error::Unused(0)),
         ("TRACE", Error::Trace),
         ("RECORD", Error::Record(0)),
+        ("ALIGN", Error::Align),
+        ("PROFILE", Error::Profile),
         ("EMPTY", Error::Empty),
     ] {
         assert_eq!(header[name], u64::from(error.number()), "{name}");

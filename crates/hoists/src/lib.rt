@@ -1,0 +1,1 @@
+// The hoist profile has no code here: see specs/, and proofs/ for what is proved of it.

@@ -1,0 +1,2 @@
+-- What a write is judged to be.
+pub mod Judged

@@ -1,0 +1,2 @@
+-- The tests' answers as the rules see them.
+pub mod Tests
