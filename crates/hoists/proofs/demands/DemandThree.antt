@@ -9,7 +9,7 @@ use lib.ListN.{length, getD}
 use Rattle.basics.specs.Inputs.{on}
 use Rattle.rules.specs.Lines.{Made}
 use Rattle.rules.specs.Ring.{Event, dropped}
-use Rattle.rules.specs.Device.{Device, Call, step, reset}
+use Rattle.rules.specs.Device.{Device, Call, level, step, reset}
 use Rattle.rules.specs.History.{history}
 use Rattle.rules.specs.Account.{carrying, assertsAmong, deassertsAmong}
 use Rattle.images.specs.Form.{Form}
@@ -21,7 +21,7 @@ use Rattle.exported.specs.Exported.{Exported, Underway, carriedThrough, NoLoads
 use Rattle.histories.proofs.laws.Folds.{history-append, along-append}
 use Rattle.exported.proofs.laws.Chains.{faithful-after-reset}
 use Rattle.exported.proofs.demands.FromCalls.{image-holds-device}
-use Rattle.exported.proofs.demands.HandedBack.{account-under-way, account-of-calls, account-without-drops, service-of-calls, order-of-calls, drops-of-calls}
+use Rattle.exported.proofs.demands.HandedBack.{account-under-way, account-of-calls, account-without-drops, service-of-calls, service-once-raised, order-of-calls, drops-of-calls}
 use Rattle.hoists.specs.Hoisted.{resets, Hoisted, leftBy, isDone, requestOf, exportedAs, plainCall, plainCalls, returnedUnder, drainedUnder, BalancesUnder, HandedOn, leftAfter}
 use Rattle.hoists.proofs.demands.Under.{PlainIs, none, one, plain-is, reads-full, all-admitted}
 use Rattle.hoists.proofs.demands.Handed.{handed-on-is-no-load, left-through, a-reset-begins-under}
@@ -129,6 +129,21 @@ module _ (h : Underway) (f : Faithful h) where
       let left-alone = rw (whole, calls) at (undisturbed i d (doneCalls (plainCalls (before ++ (x ∷ later)))) admitted p) in
       let first = along-append (Spared i) d (doneCalls bs) (c ∷ []) (along-append (Spared i) d (doneCalls bs ++ (c ∷ [])) (doneCalls ls) spared .0) .0 in
       rw whole (service-of-calls h f i b r bs (y .call) ls c (rw whole at n) first (y .makes) a (along-append (Undisturbed i) d (doneCalls bs ++ (c ∷ [])) (doneCalls ls) left-alone .1))
+
+  -- The same where the raise is what latches it: in the image left at first i is unmasked, and x is done and raises it.
+  pub raised-under-profile : (i : ℕ) → i < 64 → on (inImage h .core .lines .mask) i ≡ false → (x : Hoisted) (later : List Hoisted)
+      → NoLoads h (plainCalls (x ∷ later)) → doneCalls (plainCall x) ≡ level i true ∷ [] → Along (Spared i) (step (inImage h) (level i true) .after) (doneCalls (plainCalls later))
+      → inService i (inImage (carriedThrough h (plainCalls (x ∷ later))) .core .lines) ≡ true
+  unfolding plainCalls doneCalls Along
+  raised-under-profile i b m x later n is p =
+      let y = its x (level i true) is in
+      let d = inImage h in
+      let ls = plainCalls later in
+      let whole : plainCalls (x ∷ later) ≡ y .call ∷ ls = ap (λ zs. zs ++ ls) (y .plain) in
+      let calls : doneCalls (y .call ∷ ls) ≡ level i true ∷ doneCalls ls = ap (λ cs. cs ++ doneCalls ls) (y .makes) in
+      let admitted = subst (λ e. Along Admitted e (doneCalls (plainCalls (x ∷ later)))) (sym (image-holds-device h f)) (all-admitted h f (x ∷ later) n) in
+      let after : Along Admitted d (level i true ∷ doneCalls ls) = rw (whole, calls) at admitted in
+      rw whole (service-once-raised h f i b m (y .call) ls (rw whole at n) (y .makes) (undisturbed i (step d (level i true) .after) (doneCalls ls) (after .1) p))
 
   -- ---- order
 
