@@ -33,6 +33,7 @@ low-four v = four (v / 2 ^ 32) (v % 2 ^ 32) v (omega arith)
   where
     next : (q r v m : ℕ) → v ≡ q * 2 ^ m * 256 + r → (r % 256 ≡ v % 256) × (v / 256 ≡ q * 2 ^ m + r / 256)
     next q r v m e = let z : q * 2 ^ m * 256 ≡ 256 * (q * 2 ^ m) = omega arith in (omega (arith, e), omega (arith, e))
+
     four : (q r v : ℕ) → v ≡ q * 2 ^ 24 * 256 + r → bytesOf 4 r ≡ bytesOf 4 v
     four q r v e =
         let a = next q r v 24 e in
@@ -88,3 +89,7 @@ module _ {l : List ℕ} {f : Grid} {rest : List ℕ} (h : Holds l f rest) (n c :
       small = small-put;
       past = behind l ys (cellPlace n c) 4 sheetLength cell-inside four (omega arith) ∙ h .past;
     }
+
+-- numbers that four bytes do not tell apart
+pub put-same : (f : Grid) (n c v w : ℕ) → v % 2 ^ 32 ≡ w % 2 ^ 32 → put f n c v ≡ put f n c w
+put-same f n c v w e i m b = cond (eqb b c && eqb m n) (e i) (f m b)
