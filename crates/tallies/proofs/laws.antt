@@ -2,3 +2,4 @@
 pub mod Grids
 pub mod Taking
 pub mod Turning
+pub mod Quiet

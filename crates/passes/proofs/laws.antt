@@ -1,0 +1,2 @@
+-- Marks, one input at a time.
+pub mod Marking
