@@ -1,2 +1,3 @@
 -- Marks, one input at a time.
 pub mod Marking
+pub mod Acting
