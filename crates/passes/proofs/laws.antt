@@ -1,3 +1,4 @@
 -- Marks, one input at a time.
 pub mod Marking
 pub mod Acting
+pub mod Recording

@@ -257,7 +257,7 @@ module _ (n : ℕ) (below : n < 64) (k : ℕ) where
   over-back : (s : Slot) → s .since ≡ 0 → takeBack s ≡ s
   over-back s z = rw (eq-eqb (s .since) 0 z)
 
-  over-step : (a t : Bool) (s : Slot) → s .since ≡ 0 → s ≡ step false a t s
+  pub over-step : (a t : Bool) (s : Slot) → s .since ≡ 0 → s ≡ step false a t s
   unfolding step
   over-step true t s z = sym (over-settle s z)
   over-step false true s z = sym (over-back s z)
@@ -270,7 +270,7 @@ module _ (n : ℕ) (below : n < 64) (k : ℕ) where
   back-over s = test (eqb (s .since) 0) (λ t. rw t (eqb-true (s .since) 0 t)) (λ t. rw t refl)
 
   -- nothing happened, and it is latched as before
-  kept-step : (s : Slot) (l : Lines) → Latched s l → s ≡ step false false (not (on (l .irr) n)) s
+  pub kept-step : (s : Slot) (l : Lines) → Latched s l → s ≡ step false false (not (on (l .irr) n)) s
   unfolding step
   kept-step s l h =
       test (eqb (s .since) 0) (λ t. over-step false (not (on (l .irr) n)) s (eqb-true (s .since) 0 t))
