@@ -2,3 +2,5 @@
 pub mod Marking
 pub mod Acting
 pub mod Recording
+pub mod Counting
+pub mod Finishing

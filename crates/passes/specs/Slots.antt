@@ -5,8 +5,16 @@ use mathlib.Core.Path.{_≡_}
 use Prim.Native.Nat.{ℕ, _+_, _-_, _%_, _^_, _<_, max}
 use lib.Dec.{eqb}
 use Rattle.plain.specs.Events.{Note}
+use Rattle.plain.specs.Sequence.{Item, call, load, refused}
 use Rattle.tallies.specs.Grid.{Grid}
 use Rattle.tallies.specs.Marks.{Mark, raised, lowered, began, takenBack, happened}
+
+-- no record is a load
+abbrev pub NoLoad : List Item → Type 0
+NoLoad [] = Unit {0}
+NoLoad (call c ∷ xs) = NoLoad xs
+NoLoad (load d ∷ xs) = ⊥
+NoLoad (refused ∷ xs) = NoLoad xs
 
 pub record Slot : Type 0 where
   pub greatest : ℕ

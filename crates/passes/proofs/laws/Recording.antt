@@ -29,7 +29,7 @@ use Rattle.plain.proofs.laws.Following.{stepped, countedRun, like-call, sized, 
 use Rattle.sheets.specs.Day.{Moment, after, number, made, moments}
 use Rattle.sheets.specs.Waits.{movesLevel, isLevel, raises, isIdle, begins, assertOf, asserts, takesBack, End, answered, withdrawn, stillOpen, endFrom, waits, isWithdrawn, isOpen, lasted, greatest}
 use Rattle.tallies.specs.Marks.{Mark, idleIn, actMarks, marksOf, itemMarks, itemAfter, dayMarks}
-use Rattle.passes.specs.Slots.{Slot, settle, takeBack, startAt, slotAll, notesIn}
+use Rattle.passes.specs.Slots.{NoLoad, Slot, settle, takeBack, startAt, slotAll, notesIn}
 use Rattle.passes.proofs.laws.Acting.{slot-append, notes-of-acts, NotRaise, step, Latched, Some, Gone, kept-step, over-step, acts-step, raise-step}
 
 module _ (n : ℕ) (below : n < 64) where
@@ -154,13 +154,6 @@ module _ (n : ℕ) (below : n < 64) where
       closed-now (number m) (λ j. endFrom n j ms) (waits n ms) (begins n m) (asserts n m) (takesBack n m) s t h (subst (λ (y : Slot). Closed y t (endsFrom y ms)) e c)
 
   -- ---- a day
-
-  -- no record is a load
-  abbrev pub NoLoad : List Item → Type 0
-  NoLoad [] = Unit {0}
-  NoLoad (call c ∷ xs) = NoLoad xs
-  NoLoad (load d ∷ xs) = ⊥
-  NoLoad (refused ∷ xs) = NoLoad xs
 
   module _ (e : Engine) (r : Run) (x : Same e r) where
     abbrev lines : Lines

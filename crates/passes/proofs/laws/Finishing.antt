@@ -1,0 +1,140 @@
+-- The grid before the first record, and after the last: which number stands where.
+use mathlib.Core.Path.{_≡_, refl, sym, ap, subst, _∙_}
+use mathlib.Core.Bool.{Bool, true, false, cond, _&&_}
+use mathlib.Core.List.{List, [], _∷_, _++_, append-assoc}
+use Prim.Native.Nat.{ℕ, zero, suc, _+_, _*_, _%_, _^_, _<_, _≤_, max}
+use native.Mathlib.Nat.{mod-lt}
+use native.Mathlib.Omega.{arith}
+use lib.Dec.{eqb, ltb}
+use lib.ListN.{length, take, drop}
+use borrow.Author.Tests.{eqb-true, eqb-false, eq-eqb, ne-eqb, lt-ltb, le-ltb}
+use Rattle.basics.specs.Numbers.{bytesOf, part}
+use Rattle.basics.proofs.laws.Bits.{test}
+use Rattle.basics.proofs.laws.Lists.{part-add}
+use Rattle.tallies.specs.Grid.{Grid, cellPlace, put, Holds}
+use Rattle.passes.specs.Finish.{columnCleared, cleared, totalCleared, isOn, shut, joined, rowJoined, finished}
+
+-- ---- one number put
+
+put-here : (f : Grid) (n c v : ℕ) → put f n c v n c ≡ v % 2 ^ 32
+put-here f n c v = rw (eq-eqb c c refl, eq-eqb n n refl)
+
+put-row : (f : Grid) (n c v m b : ℕ) → (m ≡ n → ⊥) → put f n c v m b ≡ f m b
+put-row f n c v m b h = test (eqb b c) (λ t. rw (t, ne-eqb m n h)) (λ t. rw t)
+
+put-column : (f : Grid) (n c v m b : ℕ) → (b ≡ c → ⊥) → put f n c v m b ≡ f m b
+put-column f n c v m b h = rw (ne-eqb b c h)
+
+-- ---- zeros
+
+column-cleared : (f : Grid) (c k n : ℕ) → n < k → columnCleared f c k n c ≡ 0
+unfolding columnCleared
+column-cleared f c zero n h = omega arith
+column-cleared f c (suc k) n h =
+    test (eqb n k)
+    (λ t. ap (λ m. put (columnCleared f c k) k c 0 m c) (eqb-true n k t) ∙ put-here (columnCleared f c k) k c 0)
+    (λ t. let d = eqb-false n k t in put-row (columnCleared f c k) k c 0 n c d ∙ column-cleared f c k n (nearer n k d h))
+  where
+    nearer : (n k : ℕ) → (n ≡ k → ⊥) → n < suc k → n < k
+    nearer n k d h = omega (arith, d, h)
+
+column-kept : (f : Grid) (c k n b : ℕ) → (b ≡ c → ⊥) → columnCleared f c k n b ≡ f n b
+unfolding columnCleared
+column-kept f c zero n b h = refl
+column-kept f c (suc k) n b h = put-column (columnCleared f c k) k c 0 n b h ∙ column-kept f c k n b h
+
+pub all-cleared : (f : Grid) (k n c : ℕ) → n < 64 → c < k → cleared f k n c ≡ 0
+unfolding cleared
+all-cleared f zero n c p q = omega arith
+all-cleared f (suc k) n c p q =
+    test (eqb c k)
+    (λ t. ap (λ b. columnCleared (cleared f k) k 64 n b) (eqb-true c k t) ∙ column-cleared (cleared f k) k 64 n p)
+    (λ t. let d = eqb-false c k t in column-kept (cleared f k) k 64 n c d ∙ all-cleared f k n c p (nearer c k d q))
+  where
+    nearer : (n k : ℕ) → (n ≡ k → ⊥) → n < suc k → n < k
+    nearer n k d h = omega (arith, d, h)
+
+total-zero : (f : Grid) (k c : ℕ) → c < k → totalCleared f k 64 c ≡ 0
+unfolding totalCleared
+total-zero f zero c q = omega arith
+total-zero f (suc k) c q =
+    test (eqb c k)
+    (λ t. ap (λ b. put (totalCleared f k) 64 k 0 64 b) (eqb-true c k t) ∙ put-here (totalCleared f k) 64 k 0)
+    (λ t. let d = eqb-false c k t in put-column (totalCleared f k) 64 k 0 64 c d ∙ total-zero f k c (nearer c k d q))
+  where
+    nearer : (n k : ℕ) → (n ≡ k → ⊥) → n < suc k → n < k
+    nearer n k d h = omega (arith, d, h)
+
+total-kept : (f : Grid) (k n c : ℕ) → n < 64 → totalCleared f k n c ≡ f n c
+unfolding totalCleared
+total-kept f zero n c p = refl
+total-kept f (suc k) n c p = put-row (totalCleared f k) 64 k 0 n c (λ e. omega (arith, e)) ∙ total-kept f k n c p
+
+-- ---- a row joined to the total
+
+joined-row : (f : Grid) (n k m c : ℕ) → m < 64 → rowJoined f n k m c ≡ f m c
+unfolding rowJoined
+joined-row f n zero m c p = refl
+joined-row f n (suc k) m c p = put-row (rowJoined f n k) 64 k _ m c (λ e. omega (arith, e)) ∙ joined-row f n k m c p
+
+joined-later : (f : Grid) (n k c : ℕ) → k ≤ c → rowJoined f n k 64 c ≡ f 64 c
+unfolding rowJoined
+joined-later f n zero c h = refl
+joined-later f n (suc k) c h = put-column (rowJoined f n k) 64 k _ 64 c (λ e. omega (arith, e)) ∙ joined-later f n k c (omega arith)
+
+joined-total : (f : Grid) (n k c : ℕ) → n < 64 → c < k → rowJoined f n k 64 c ≡ joined c (f 64 c) (f n c) % 2 ^ 32
+unfolding rowJoined
+joined-total f n zero c p h = omega arith
+joined-total f n (suc k) c p h =
+    test (eqb c k)
+    (λ t. let e = eqb-true c k t in
+    ap (λ b. put (rowJoined f n k) 64 k (joined k (rowJoined f n k 64 k) (rowJoined f n k n k)) 64 b) e ∙ put-here (rowJoined f n k) 64 k _
+    ∙ (λ i. joined k (joined-later f n k k (omega arith) i) (joined-row f n k n k p i) % 2 ^ 32) ∙ ap (λ b. joined b (f 64 b) (f n b) % 2 ^ 32) (sym e))
+    (λ t. let d = eqb-false c k t in put-column (rowJoined f n k) 64 k _ 64 c d ∙ joined-total f n k c p (nearer c k d h))
+  where
+    nearer : (n k : ℕ) → (n ≡ k → ⊥) → n < suc k → n < k
+    nearer n k d h = omega (arith, d, h)
+
+-- ---- all rows
+
+-- a row once it is shut
+abbrev pub shutRow : Grid → ℕ → ℕ → ℕ
+shutRow f n c = cond (eqb c 9) (isOn (f n 9)) (f n c)
+
+-- the total of the first k rows, as four bytes hold it
+unfoldable pub totalOf : Grid → ℕ → ℕ → ℕ
+totalOf f zero c = 0
+totalOf f (suc k) c = joined c (totalOf f k c) (shutRow f k c) % 2 ^ 32
+
+isOn-small : (x : ℕ) → isOn x % 2 ^ 32 ≡ isOn x
+isOn-small x = test (eqb x 0) (λ t. rw t) (λ t. rw t)
+
+shut-at : (f : Grid) (n c : ℕ) → shut f n n c ≡ shutRow f n c
+shut-at f n c = test (eqb c 9) (λ t. rw (t, eq-eqb n n refl) (isOn-small (f n 9))) (λ t. rw t)
+
+module _ (f : Grid) (none : (c : ℕ) → c < 10 → f 64 c ≡ 0) where
+  pub record Finished (k : ℕ) : Type 0 where
+    pub before : (n c : ℕ) → n < k → finished f k n c ≡ shutRow f n c
+    pub behind : (n c : ℕ) → k ≤ n → n < 64 → finished f k n c ≡ f n c
+    pub total : (c : ℕ) → c < 10 → finished f k 64 c ≡ totalOf f k c
+
+  pub finishes : (k : ℕ) → k ≤ 64 → Finished k
+  unfolding finished totalOf
+  finishes zero h = record { before = λ n c p. absurd (omega (arith, p)); behind = λ n c p q. refl; total = none }
+  finishes (suc k) h =
+      let i = finishes k (omega arith) in
+      let g = finished f k in
+      let other : (n c : ℕ) → n < 64 → (n ≡ k → ⊥) → rowJoined (shut g k) k 10 n c ≡ g n c = λ n c p d. joined-row (shut g k) k 10 n c p ∙ put-row g k 9 (isOn (g k 9)) n c d in
+      let row : (c : ℕ) → shut g k k c ≡ shutRow f k c = λ c. shut-at g k c ∙ (λ t. cond (eqb c 9) (isOn (i .behind k 9 (omega arith) (omega arith) t)) (i .behind k c (omega arith) (omega arith) t)) in
+      record {
+        before = λ n c p. test (eqb n k)
+            (λ t. let e = eqb-true n k t in ap (λ m. rowJoined (shut g k) k 10 m c) e ∙ joined-row (shut g k) k 10 k c (omega arith) ∙ row c ∙ ap (λ m. shutRow f m c) (sym e))
+            (λ t. let d = eqb-false n k t in other n c (omega (arith, p)) d ∙ i .before n c (nearer n k d p));
+        behind = λ n c p q. other n c q (λ e. omega (arith, e, p)) ∙ i .behind n c (omega (arith, p)) q;
+        total = λ c q.
+            joined-total (shut g k) k 10 c (omega arith) q
+            ∙ (λ t. joined c ((put-row g k 9 (isOn (g k 9)) 64 c (λ e. omega (arith, e)) ∙ i .total c q) t) (row c t) % 2 ^ 32);
+      }
+    where
+      nearer : (n k : ℕ) → (n ≡ k → ⊥) → n < suc k → n < k
+      nearer n k d h = omega (arith, d, h)
