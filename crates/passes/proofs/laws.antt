@@ -4,3 +4,5 @@ pub mod Acting
 pub mod Recording
 pub mod Counting
 pub mod Finishing
+pub mod Bytes
+pub mod Passing

@@ -14,6 +14,9 @@ use Rattle.basics.proofs.laws.Lists.{part-add}
 use Rattle.tallies.specs.Grid.{Grid, cellPlace, put, Holds}
 use Rattle.passes.specs.Finish.{columnCleared, cleared, totalCleared, isOn, shut, joined, rowJoined, finished}
 
+nearer : (n k : ℕ) → (n ≡ k → ⊥) → n < suc k → n < k
+nearer n k d h = omega (arith, d, h)
+
 -- ---- one number put
 
 put-here : (f : Grid) (n c v : ℕ) → put f n c v n c ≡ v % 2 ^ 32
@@ -34,9 +37,6 @@ column-cleared f c (suc k) n h =
     test (eqb n k)
     (λ t. ap (λ m. put (columnCleared f c k) k c 0 m c) (eqb-true n k t) ∙ put-here (columnCleared f c k) k c 0)
     (λ t. let d = eqb-false n k t in put-row (columnCleared f c k) k c 0 n c d ∙ column-cleared f c k n (nearer n k d h))
-  where
-    nearer : (n k : ℕ) → (n ≡ k → ⊥) → n < suc k → n < k
-    nearer n k d h = omega (arith, d, h)
 
 column-kept : (f : Grid) (c k n b : ℕ) → (b ≡ c → ⊥) → columnCleared f c k n b ≡ f n b
 unfolding columnCleared
@@ -50,22 +50,16 @@ all-cleared f (suc k) n c p q =
     test (eqb c k)
     (λ t. ap (λ b. columnCleared (cleared f k) k 64 n b) (eqb-true c k t) ∙ column-cleared (cleared f k) k 64 n p)
     (λ t. let d = eqb-false c k t in column-kept (cleared f k) k 64 n c d ∙ all-cleared f k n c p (nearer c k d q))
-  where
-    nearer : (n k : ℕ) → (n ≡ k → ⊥) → n < suc k → n < k
-    nearer n k d h = omega (arith, d, h)
 
-total-zero : (f : Grid) (k c : ℕ) → c < k → totalCleared f k 64 c ≡ 0
+pub total-zero : (f : Grid) (k c : ℕ) → c < k → totalCleared f k 64 c ≡ 0
 unfolding totalCleared
 total-zero f zero c q = omega arith
 total-zero f (suc k) c q =
     test (eqb c k)
     (λ t. ap (λ b. put (totalCleared f k) 64 k 0 64 b) (eqb-true c k t) ∙ put-here (totalCleared f k) 64 k 0)
     (λ t. let d = eqb-false c k t in put-column (totalCleared f k) 64 k 0 64 c d ∙ total-zero f k c (nearer c k d q))
-  where
-    nearer : (n k : ℕ) → (n ≡ k → ⊥) → n < suc k → n < k
-    nearer n k d h = omega (arith, d, h)
 
-total-kept : (f : Grid) (k n c : ℕ) → n < 64 → totalCleared f k n c ≡ f n c
+pub total-kept : (f : Grid) (k n c : ℕ) → n < 64 → totalCleared f k n c ≡ f n c
 unfolding totalCleared
 total-kept f zero n c p = refl
 total-kept f (suc k) n c p = put-row (totalCleared f k) 64 k 0 n c (λ e. omega (arith, e)) ∙ total-kept f k n c p
@@ -91,9 +85,6 @@ joined-total f n (suc k) c p h =
     ap (λ b. put (rowJoined f n k) 64 k (joined k (rowJoined f n k 64 k) (rowJoined f n k n k)) 64 b) e ∙ put-here (rowJoined f n k) 64 k _
     ∙ (λ i. joined k (joined-later f n k k (omega arith) i) (joined-row f n k n k p i) % 2 ^ 32) ∙ ap (λ b. joined b (f 64 b) (f n b) % 2 ^ 32) (sym e))
     (λ t. let d = eqb-false c k t in put-column (rowJoined f n k) 64 k _ 64 c d ∙ joined-total f n k c p (nearer c k d h))
-  where
-    nearer : (n k : ℕ) → (n ≡ k → ⊥) → n < suc k → n < k
-    nearer n k d h = omega (arith, d, h)
 
 -- ---- all rows
 
@@ -135,6 +126,3 @@ module _ (f : Grid) (none : (c : ℕ) → c < 10 → f 64 c ≡ 0) where
             joined-total (shut g k) k 10 c (omega arith) q
             ∙ (λ t. joined c ((put-row g k 9 (isOn (g k 9)) 64 c (λ e. omega (arith, e)) ∙ i .total c q) t) (row c t) % 2 ^ 32);
       }
-    where
-      nearer : (n k : ℕ) → (n ≡ k → ⊥) → n < suc k → n < k
-      nearer n k d h = omega (arith, d, h)
