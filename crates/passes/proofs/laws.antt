@@ -6,3 +6,4 @@ pub mod Counting
 pub mod Finishing
 pub mod Bytes
 pub mod Passing
+pub mod Days

@@ -76,7 +76,7 @@ fn elapsed(k: u64, since: u64) -> u64
     if since <= k { k + 1 - since } else { 0 }
 }
 
-fn greater(a: u64, b: u64) -> u64
+pub fn greater(a: u64, b: u64) -> u64
     ensures { λ r. ⌜ r ≡ max a b ⌝ }
 {
     if a < b { b } else { a }

@@ -206,6 +206,7 @@ module _ (xs : List Item) (l : NoLoad xs) where
       where
         held-max : (a b : ℕ) → a < 2 ^ 32 → b < 2 ^ 32 → max (a % 2 ^ 32) (b % 2 ^ 32) % 2 ^ 32 ≡ max a b % 2 ^ 32
         held-max a b p q = let x : a % 2 ^ 32 ≡ a = omega arith in let y : b % 2 ^ 32 ≡ b = omega arith in (λ i. max (x i) (y i) % 2 ^ 32)
+
         held-sum : (a b : ℕ) → (a % 2 ^ 32 + b % 2 ^ 32) % 2 ^ 32 ≡ (a + b) % 2 ^ 32
         held-sum a b = omega arith
 
