@@ -3,6 +3,7 @@ use mathlib.Core.Bool.{cond}
 use mathlib.Core.List.{List, [], _∷_}
 use Prim.Native.Nat.{ℕ, zero, suc, _+_, max}
 use lib.Dec.{eqb}
+use Rattle.basics.specs.Inputs.{on, inputs}
 use Rattle.rules.specs.Device.{Device}
 use Rattle.plain.specs.Sequence.{Item}
 use Rattle.tallies.specs.Grid.{Grid, put}
@@ -13,14 +14,17 @@ unfoldable pub afterItems : Device → List Item → Device
 afterItems d [] = d
 afterItems d (x ∷ xs) = afterItems (itemAfter d x) xs
 
--- a column is zero in the rows below n; the columns below c are, in 64 rows
-unfoldable pub columnCleared : Grid → ℕ → ℕ → Grid
-columnCleared f c zero = f
-columnCleared f c (suc n) = put (columnCleared f c n) n c 0
+-- a column is zero in these rows; the columns below c are, in the rows of all inputs
+unfoldable pub columnCleared : Grid → ℕ → List ℕ → Grid
+columnCleared f c [] = f
+columnCleared f c (n ∷ ns) = columnCleared (put f n c 0) c ns
+
+abbrev pub allInputs : List ℕ
+allInputs = inputs (on 0xffff_ffff_ffff_ffff)
 
 unfoldable pub cleared : Grid → ℕ → Grid
 cleared f zero = f
-cleared f (suc c) = columnCleared (cleared f c) c 64
+cleared f (suc c) = columnCleared (cleared f c) c allInputs
 
 -- the total's columns below c are zero
 unfoldable pub totalCleared : Grid → ℕ → Grid

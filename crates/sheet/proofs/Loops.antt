@@ -1,7 +1,7 @@
 -- The loops over rows and columns: one round more.
 use mathlib.Core.Path.{_≡_, refl, sym, ap, subst, _∙_}
 use mathlib.Core.Bool.{true, false, cond}
-use mathlib.Core.List.{List}
+use mathlib.Core.List.{List, [], _∷_, _++_}
 use Prim.Native.Nat.{ℕ, suc, _+_, _%_, _^_, _<_, _≤_, max}
 use native.Mathlib.Nat.{mod-lt}
 use native.Mathlib.Omega.{arith}
@@ -12,7 +12,8 @@ use Rattle.basics.proofs.laws.Bytes.{part-number}
 use Rattle.sheets.specs.Sheet.{sheetLength}
 use Rattle.tallies.specs.Grid.{Grid, cellPlace, put, Holds, Reads, Becomes}
 use Rattle.tallies.proofs.laws.Grids.{low-four, put-same}
-use Rattle.passes.specs.Finish.{columnCleared, cleared, totalCleared, isOn, shut, joined, rowJoined, finished}
+use Rattle.passes.proofs.laws.Finishing.{column-more}
+use Rattle.passes.specs.Finish.{columnCleared, allInputs, cleared, totalCleared, isOn, shut, joined, rowJoined, finished}
 
 -- before the first round
 pub none-done : (b : List ℕ) → Becomes b b (λ f. f)
@@ -23,11 +24,10 @@ pub next-done : {b c a : List ℕ} (g : Grid → ℕ → Grid) (n : ℕ) → Bec
 next-done {a} g n s t f rest h = let z : suc n ≡ n + 1 = omega arith in subst (λ k. Holds a (g f k) rest) z (t f rest (s f rest h))
 
 module _ {b c a : List ℕ} where
-  pub column-next : (k n : ℕ) → Becomes b c (λ f. columnCleared f k n) → Becomes c a (λ f. put f n k 0) → Becomes b a (λ f. columnCleared f k (n + 1))
-  unfolding columnCleared
-  column-next k n s t = next-done (λ f i. columnCleared f k i) n s (λ f rest h. t _ rest h)
+  pub column-next : (k : ℕ) (ns : List ℕ) (n : ℕ) → Becomes b c (λ f. columnCleared f k ns) → Becomes c a (λ f. put f n k 0) → Becomes b a (λ f. columnCleared f k (ns ++ (n ∷ [])))
+  column-next k ns n s t f rest h = subst (λ (g : Grid). Holds a g rest) (column-more f k ns n) (t _ rest (s f rest h))
 
-  pub cleared-next : (k : ℕ) → Becomes b c (λ f. cleared f k) → Becomes c a (λ f. columnCleared f k 64) → Becomes b a (λ f. cleared f (k + 1))
+  pub cleared-next : (k : ℕ) → Becomes b c (λ f. cleared f k) → Becomes c a (λ f. columnCleared f k allInputs) → Becomes b a (λ f. cleared f (k + 1))
   unfolding cleared
   cleared-next k s t = next-done cleared k s (λ f rest h. t _ rest h)
 
@@ -45,7 +45,7 @@ module _ {b c a : List ℕ} where
 
 -- before the first round of each
 module _ (b : List ℕ) where
-  pub column-none : (k : ℕ) → Becomes b b (λ f. columnCleared f k 0)
+  pub column-none : (k : ℕ) → Becomes b b (λ f. columnCleared f k [])
   unfolding columnCleared
   column-none k = none-done b
 

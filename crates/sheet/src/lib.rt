@@ -1,5 +1,5 @@
 // The sheet of a trace, made in one pass: zeros, then record by record, then the column of open waits and the total. All of it stands in the bytes lent for the sheet.
-// Zeros are stored column by column: row by row the compiler would call memset for them.
+// Zeros are stored column by column, and in each for the inputs of a set: of rows one after another the compiler makes a call of memset.
 use answer::Told;
 use answer::Value;
 use answer::done;
@@ -24,10 +24,13 @@ ghost use Rattle.sheets.specs.Sheet.{sheetLength};
 ghost use Rattle.tallies.specs.Grid.{Becomes, put};
 ghost use Rattle.tallies.specs.Marks.{dayMarks};
 ghost use Rattle.tallies.specs.Following.{Takes};
-ghost use Rattle.passes.specs.Finish.{columnCleared, cleared, totalCleared, isOn, shut, joined, rowJoined, finished};
+ghost use Rattle.passes.specs.Finish.{columnCleared, allInputs, cleared, totalCleared, isOn, shut, joined, rowJoined, finished};
 ghost use Rattle.sheet.specs.Made.{Reaches, told, madeOf};
 
 const INPUTS: usize = 64;
+
+// The set of all inputs.
+const ALL: u64 = 0xffff_ffff_ffff_ffff;
 
 const COLUMNS: usize = 10;
 
@@ -40,12 +43,13 @@ const TOTAL: usize = 64;
 
 fn zero_column(sheet: &mut [u8], column: usize)
     requires { ⌜ (sheetLength ≤ length (now sheet)) × (column < 10) ⌝ }
-    ensures { λ _. ⌜ Becomes (now (sheet .entry)) (now (sheet .exit)) (λ f. columnCleared f column 64) ⌝ }
+    ensures { λ _. ⌜ Becomes (now (sheet .entry)) (now (sheet .exit)) (λ f. columnCleared f column allInputs) ⌝ }
 {
-    let mut n = 0;
-    while n < INPUTS {
+    let mut left = ALL;
+    while left != 0 {
+        let n = u64::trailing_zeros(left) as usize;
         put_cell(sheet, n, column, 0);
-        n += 1;
+        left &= left - 1;
     }
 }
 

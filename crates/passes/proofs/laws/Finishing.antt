@@ -1,6 +1,6 @@
 -- The grid before the first record, and after the last: which number stands where.
 use mathlib.Core.Path.{_≡_, refl, sym, ap, subst, _∙_}
-use mathlib.Core.Bool.{Bool, true, false, cond, _&&_}
+use mathlib.Core.Bool.{Bool, true, false, cond, not, _&&_}
 use mathlib.Core.List.{List, [], _∷_, _++_, append-assoc}
 use Prim.Native.Nat.{ℕ, zero, suc, _+_, _*_, _%_, _^_, _<_, _≤_, max}
 use native.Mathlib.Nat.{mod-lt}
@@ -9,10 +9,11 @@ use lib.Dec.{eqb, ltb}
 use lib.ListN.{length, take, drop}
 use borrow.Author.Tests.{eqb-true, eqb-false, eq-eqb, ne-eqb, lt-ltb, le-ltb}
 use Rattle.basics.specs.Numbers.{bytesOf, part}
-use Rattle.basics.proofs.laws.Bits.{test}
+use Rattle.basics.specs.Inputs.{on, from}
+use Rattle.basics.proofs.laws.Bits.{test, on-not, on-none}
 use Rattle.basics.proofs.laws.Lists.{part-add}
 use Rattle.tallies.specs.Grid.{Grid, cellPlace, put, Holds}
-use Rattle.passes.specs.Finish.{columnCleared, cleared, totalCleared, isOn, shut, joined, rowJoined, finished}
+use Rattle.passes.specs.Finish.{columnCleared, allInputs, cleared, totalCleared, isOn, shut, joined, rowJoined, finished}
 
 nearer : (n k : ℕ) → (n ≡ k → ⊥) → n < suc k → n < k
 nearer n k d h = omega (arith, d, h)
@@ -30,26 +31,47 @@ put-column f n c v m b h = rw (ne-eqb b c h)
 
 -- ---- zeros
 
-column-cleared : (f : Grid) (c k n : ℕ) → n < k → columnCleared f c k n c ≡ 0
+zero-stays : (f : Grid) (c : ℕ) (ns : List ℕ) (n : ℕ) → f n c ≡ 0 → columnCleared f c ns n c ≡ 0
 unfolding columnCleared
-column-cleared f c zero n h = omega arith
-column-cleared f c (suc k) n h =
-    test (eqb n k)
-    (λ t. ap (λ m. put (columnCleared f c k) k c 0 m c) (eqb-true n k t) ∙ put-here (columnCleared f c k) k c 0)
-    (λ t. let d = eqb-false n k t in put-row (columnCleared f c k) k c 0 n c d ∙ column-cleared f c k n (nearer n k d h))
+zero-stays f c [] n h = h
+zero-stays f c (m ∷ ns) n h = zero-stays (put f m c 0) c ns n (test (eqb c c && eqb n m) (λ t. rw t refl) (λ t. rw t h))
 
-column-kept : (f : Grid) (c k n b : ℕ) → (b ≡ c → ⊥) → columnCleared f c k n b ≡ f n b
+column-from : (f : Grid) (c : ℕ) (g : ℕ → Bool) (j k n : ℕ) → j ≤ n → n < j + k → g n ≡ true → columnCleared f c (from j k g) n c ≡ 0
+unfolding columnCleared from
+column-from f c g j zero n p q t = absurd (omega arith)
+column-from f c g j (suc k) n p q t =
+    test (eqb j n)
+    (λ u. let e = eqb-true j n u in
+    rw (ap g e ∙ t) (zero-stays (put f j c 0) c (from (suc j) k g) n (ap (λ m. put f m c 0 n c) e ∙ put-here f n c 0)))
+    (λ u. let h = later j n p (eqb-false j n u) in
+    test (g j) (λ v. rw v (column-from (put f j c 0) c g (suc j) k n h (omega arith) t)) (λ v. rw v (column-from f c g (suc j) k n h (omega arith) t)))
+  where
+    later : (j n : ℕ) → j ≤ n → (j ≡ n → ⊥) → suc j ≤ n
+    later j n h d = omega (arith, h, d)
+
+all-on : (n : ℕ) → n < 64 → on 0xffff_ffff_ffff_ffff n ≡ true
+all-on n p = on-not 64 0 n (omega arith) p ∙ ap not (on-none n)
+
+column-cleared : (f : Grid) (c n : ℕ) → n < 64 → columnCleared f c allInputs n c ≡ 0
+column-cleared f c n p = column-from f c (on 0xffff_ffff_ffff_ffff) 0 64 n (omega arith) (omega arith) (all-on n p)
+
+column-kept : (f : Grid) (c : ℕ) (ns : List ℕ) (n b : ℕ) → (b ≡ c → ⊥) → columnCleared f c ns n b ≡ f n b
 unfolding columnCleared
-column-kept f c zero n b h = refl
-column-kept f c (suc k) n b h = put-column (columnCleared f c k) k c 0 n b h ∙ column-kept f c k n b h
+column-kept f c [] n b h = refl
+column-kept f c (m ∷ ns) n b h = column-kept (put f m c 0) c ns n b h ∙ put-column f m c 0 n b h
+
+pub column-more : (f : Grid) (c : ℕ) (ns : List ℕ) (n : ℕ) → put (columnCleared f c ns) n c 0 ≡ columnCleared f c (ns ++ (n ∷ []))
+unfolding columnCleared
+column-more f c [] n = refl
+column-more f c (m ∷ ns) n = column-more (put f m c 0) c ns n
 
 pub all-cleared : (f : Grid) (k n c : ℕ) → n < 64 → c < k → cleared f k n c ≡ 0
 unfolding cleared
 all-cleared f zero n c p q = omega arith
 all-cleared f (suc k) n c p q =
     test (eqb c k)
-    (λ t. ap (λ b. columnCleared (cleared f k) k 64 n b) (eqb-true c k t) ∙ column-cleared (cleared f k) k 64 n p)
-    (λ t. let d = eqb-false c k t in column-kept (cleared f k) k 64 n c d ∙ all-cleared f k n c p (nearer c k d q))
+    (λ t. ap (λ b. columnCleared (cleared f k) k allInputs n b) (eqb-true c k t) ∙ column-cleared (cleared f k) k n p)
+    (λ t. let d = eqb-false c k t in column-kept (cleared f k) k allInputs n c d ∙ all-cleared f k n c p (nearer c k d q))
 
 pub total-zero : (f : Grid) (k c : ℕ) → c < k → totalCleared f k 64 c ≡ 0
 unfolding totalCleared
