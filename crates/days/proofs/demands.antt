@@ -1,5 +1,5 @@
 -- What 02, C-21 asks of a sheet.
 pub mod Waits
+pub mod Service
 
--- pub mod Service
 -- pub mod Drained

@@ -97,7 +97,7 @@ below-ten P a b c d e f g h i j (suc (suc (suc (suc (suc (suc (suc (suc zero))))
 below-ten P a b c d e f g h i j (suc (suc (suc (suc (suc (suc (suc (suc (suc zero))))))))) q = j
 below-ten P a b c d e f g h i j (suc (suc (suc (suc (suc (suc (suc (suc (suc (suc k)))))))))) q = absurd (omega (arith, q))
 
-no-load-well : (xs : List Item) → NoLoad xs → WellLoaded xs
+pub no-load-well : (xs : List Item) → NoLoad xs → WellLoaded xs
 unfolding WellLoaded
 no-load-well [] l = tt
 no-load-well (call c ∷ xs) l = no-load-well xs l
@@ -106,7 +106,7 @@ no-load-well (refused ∷ xs) l = no-load-well xs l
 
 -- ---- a day from reset
 
-same-begun : Same begun (loadedRun reset)
+pub same-begun : Same begun (loadedRun reset)
 unfolding begun loadOf
 same-begun = same-load begun reset reset-well-formed
 
