@@ -1,0 +1,4 @@
+-- What 02, C-21 asks of a sheet.
+pub mod Waits
+pub mod Service
+pub mod Drained

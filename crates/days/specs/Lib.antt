@@ -1,0 +1,2 @@
+-- What the theorems about a sheet speak of.
+pub mod Accounts

@@ -1,0 +1,2 @@
+-- That the marks of a day come to its sheet.
+pub mod laws

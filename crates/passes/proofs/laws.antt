@@ -1,0 +1,9 @@
+-- Marks, one input at a time.
+pub mod Marking
+pub mod Acting
+pub mod Recording
+pub mod Counting
+pub mod Finishing
+pub mod Bytes
+pub mod Passing
+pub mod Days

@@ -1,0 +1,232 @@
+-- What the marks of a day add to the columns that are counted.
+use mathlib.Core.Path.{_≡_, refl, sym, ap, subst, _∙_}
+use mathlib.Core.Bool.{Bool, true, false, cond, not, _&&_}
+use mathlib.Core.List.{List, [], _∷_, _++_, map, append-nil, append-assoc}
+use Prim.Native.Nat.{ℕ, _+_, _<_}
+use native.Mathlib.Omega.{arith}
+use lib.Dec.{eqb}
+use borrow.Author.Tests.{ne-eqb}
+use Rattle.basics.specs.Inputs.{on, inputs}
+use Rattle.basics.proofs.laws.Bits.{test}
+use Rattle.rules.specs.Lines.{Lines}
+use Rattle.rules.specs.Core.{Act, move, raise, lower, poll, clear, setMask, setIsr, store, setVector, turn}
+use Rattle.rules.specs.Account.{tally}
+use Rattle.rules.specs.Device.{Device, Call, actsOf, acted}
+use Rattle.rules.specs.Device as device
+use Rattle.histories.specs.Demands.{Each, done, also}
+use Rattle.histories.proofs.laws.Reach.{ReturnsNone, write-returns-none}
+use Rattle.plain.specs.Events.{Note, Fate, returned, kept, dropped}
+use Rattle.plain.specs.Plain.{Engine}
+use Rattle.plain.specs.Sequence.{Item, call, load, refused, takes, notesOf, Ported, portedFollows, portedAfter}
+use Rattle.sheets.specs.Day.{Moment, moments}
+use Rattle.sheets.specs.Waits.{movesLevel, isLevel, raises, lowers, assertOf, deassertOf}
+use Rattle.sheets.specs.Sheet.{isReturned, isDropped, returnedOf, offeredOf, droppedOf}
+use Rattle.tallies.specs.Marks.{Mark, raised, lowered, began, takenBack, happened, kindColumn, fateColumns, idleIn, besides, actMarks, marksOf, itemMarks, itemAfter, dayMarks}
+use Rattle.passes.specs.Slots.{NoLoad, notesIn}
+use Rattle.passes.proofs.laws.Marking.{addedBy, addedIn, added-append}
+use Rattle.passes.proofs.laws.Acting.{notes-in-append, notes-of-acts}
+
+cond-none : (b : Bool) → _≡_ {A = ℕ} (cond b 0 0) 0
+cond-none true = refl
+cond-none false = refl
+
+-- ---- events
+
+module _ (n c : ℕ) (q : Note → Bool) (zeroth : eqb c 0 ≡ false) (first : eqb c 1 ≡ false) (each : (x : Note) → addedBy n c (happened x) ≡ cond (q x) 1 0) where
+  pub events-added : (ms : List Mark) → addedIn n c ms ≡ tally q (notesIn ms)
+  unfolding addedIn tally
+  events-added [] = refl
+  events-added (raised m ∷ ms) = rw (zeroth, cond-none (eqb m n)) (omega (arith, events-added ms))
+  events-added (lowered m ∷ ms) = rw (first, cond-none (eqb m n)) (omega (arith, events-added ms))
+  events-added (began m k ∷ ms) = rw (cond-none (eqb m n)) (omega (arith, events-added ms))
+  events-added (takenBack m ∷ ms) = rw (cond-none (eqb m n)) (omega (arith, events-added ms))
+  events-added (happened x ∷ ms) = omega (arith, each x, events-added ms)
+
+both : (b : Bool) (u : ℕ) (v : Bool) → u ≡ cond v 1 0 → cond b u 0 ≡ cond (v && b) 1 0
+both true u true e = e
+both true u false e = e
+both false u true e = refl
+both false u false e = refl
+
+module _ (n : ℕ) where
+  asserts-each : (x : Note) → addedBy n 2 (happened x) ≡ cond (assertOf n x) 1 0
+  unfolding tally
+  asserts-each x = both (eqb (x .input) n) _ (x .asserted) (go (x .asserted) (x .fate))
+    where
+      go : (a : Bool) (f : Fate) → tally (eqb 2) (kindColumn a ∷ fateColumns f) ≡ cond a 1 0
+      go true returned = refl
+      go true kept = refl
+      go true dropped = refl
+      go false returned = refl
+      go false kept = refl
+      go false dropped = refl
+
+  deasserts-each : (x : Note) → addedBy n 3 (happened x) ≡ cond (deassertOf n x) 1 0
+  unfolding tally
+  deasserts-each x = both (eqb (x .input) n) _ (not (x .asserted)) (go (x .asserted) (x .fate))
+    where
+      go : (a : Bool) (f : Fate) → tally (eqb 3) (kindColumn a ∷ fateColumns f) ≡ cond (not a) 1 0
+      go true returned = refl
+      go true kept = refl
+      go true dropped = refl
+      go false returned = refl
+      go false kept = refl
+      go false dropped = refl
+
+  returned-each : (x : Note) → addedBy n 4 (happened x) ≡ cond (returnedOf n x) 1 0
+  unfolding tally
+  returned-each x = both (eqb (x .input) n) _ (isReturned (x .fate)) (go (x .asserted) (x .fate))
+    where
+      go : (a : Bool) (f : Fate) → tally (eqb 4) (kindColumn a ∷ fateColumns f) ≡ cond (isReturned f) 1 0
+      go true returned = refl
+      go true kept = refl
+      go true dropped = refl
+      go false returned = refl
+      go false kept = refl
+      go false dropped = refl
+
+  offered-each : (x : Note) → addedBy n 5 (happened x) ≡ cond (offeredOf n x) 1 0
+  unfolding tally
+  offered-each x = both (eqb (x .input) n) _ (not (isReturned (x .fate))) (go (x .asserted) (x .fate))
+    where
+      go : (a : Bool) (f : Fate) → tally (eqb 5) (kindColumn a ∷ fateColumns f) ≡ cond (not (isReturned f)) 1 0
+      go true returned = refl
+      go true kept = refl
+      go true dropped = refl
+      go false returned = refl
+      go false kept = refl
+      go false dropped = refl
+
+  dropped-each : (x : Note) → addedBy n 6 (happened x) ≡ cond (droppedOf n x) 1 0
+  unfolding tally
+  dropped-each x = both (eqb (x .input) n) _ (isDropped (x .fate)) (go (x .asserted) (x .fate))
+    where
+      go : (a : Bool) (f : Fate) → tally (eqb 6) (kindColumn a ∷ fateColumns f) ≡ cond (isDropped f) 1 0
+      go true returned = refl
+      go true kept = refl
+      go true dropped = refl
+      go false returned = refl
+      go false kept = refl
+      go false dropped = refl
+
+  pub asserts-added : (ms : List Mark) → addedIn n 2 ms ≡ tally (assertOf n) (notesIn ms)
+  asserts-added = events-added n 2 (assertOf n) refl refl asserts-each
+
+  pub deasserts-added : (ms : List Mark) → addedIn n 3 ms ≡ tally (deassertOf n) (notesIn ms)
+  deasserts-added = events-added n 3 (deassertOf n) refl refl deasserts-each
+
+  pub returned-added : (ms : List Mark) → addedIn n 4 ms ≡ tally (returnedOf n) (notesIn ms)
+  returned-added = events-added n 4 (returnedOf n) refl refl returned-each
+
+  pub offered-added : (ms : List Mark) → addedIn n 5 ms ≡ tally (offeredOf n) (notesIn ms)
+  offered-added = events-added n 5 (offeredOf n) refl refl offered-each
+
+  pub dropped-added : (ms : List Mark) → addedIn n 6 ms ≡ tally (droppedOf n) (notesIn ms)
+  dropped-added = events-added n 6 (droppedOf n) refl refl dropped-each
+
+-- the events of a day are those that its history has more
+pub history-is : (xs : List Item) (p : Ported) → NoLoad xs → portedAfter p xs .history ≡ p .history ++ notesIn (dayMarks (p .call) (p .device) xs)
+unfolding portedAfter dayMarks device.step
+history-is [] p l = sym (append-nil (p .history))
+history-is (call c ∷ xs) p l =
+    let new = notesOf (p .call) (p .device .ring) (device.step (p .device) c .made) in
+    let ms = marksOf (p .call) (p .device) (actsOf (p .device .core) c) in
+    let rest = dayMarks (p .call + 1) (device.step (p .device) c .after) xs in
+    history-is xs (portedFollows p (call c)) l ∙ append-assoc (p .history) new (notesIn rest)
+    ∙ ap (λ (ys : List Note). p .history ++ ys) (ap (λ (ys : List Note). ys ++ notesIn rest) (sym (notes-of-acts (p .call) (p .device) (actsOf (p .device .core) c))) ∙ sym (notes-in-append ms rest))
+history-is (load d ∷ xs) p l = absurd l
+history-is (refused ∷ xs) p l = history-is xs (portedFollows p refused) l
+
+-- ---- raises and lowerings
+
+-- column 0 for raises (true), 1 for lowerings
+abbrev levelColumn : Bool → ℕ
+levelColumn true = 0
+levelColumn false = 1
+
+module _ (n : ℕ) (b : Bool) where
+  abbrev c : ℕ
+  c = levelColumn b
+
+  event-none : (x : Note) → addedBy n c (happened x) ≡ 0
+  unfolding tally
+  event-none x = ap (λ u. cond (eqb (x .input) n) u 0) (go b (x .asserted) (x .fate)) ∙ cond-none (eqb (x .input) n)
+    where
+      go : (b a : Bool) (f : Fate) → tally (eqb (levelColumn b)) (kindColumn a ∷ fateColumns f) ≡ 0
+      go true true returned = refl
+      go true true kept = refl
+      go true true dropped = refl
+      go true false returned = refl
+      go true false kept = refl
+      go true false dropped = refl
+      go false true returned = refl
+      go false true kept = refl
+      go false true dropped = refl
+      go false false returned = refl
+      go false false kept = refl
+      go false false dropped = refl
+
+  notes-none : (xs : List Note) → addedIn n c (map happened xs) ≡ 0
+  unfolding addedIn
+  notes-none [] = refl
+  notes-none (x ∷ xs) = omega (arith, event-none x, notes-none xs)
+
+  back-none : (ns : List ℕ) → addedIn n c (map takenBack ns) ≡ 0
+  unfolding addedIn tally
+  back-none [] = refl
+  back-none (m ∷ ns) = rw (cond-none (eqb m n)) (omega (arith, back-none ns))
+
+  act-adds : (k : ℕ) (d : Device) (a : Act) → addedIn n c (actMarks k d a) ≡ addedIn n c (besides k (d .core .lines) a)
+  act-adds k d a = omega (arith, added-append n c (besides k (d .core .lines) a) (map happened (notesOf k (d .ring) (turn (d .core) a .made))), notes-none (notesOf k (d .ring) (turn (d .core) a .made)))
+
+  -- a write neither raises nor lowers
+  write-none : (k : ℕ) (d : Device) (xs : List Act) → Each ReturnsNone xs → addedIn n c (marksOf k d xs) ≡ 0
+  unfolding marksOf addedIn
+  write-none k d [] done = refl
+  write-none k d (a ∷ xs) (also t ts) =
+      omega (arith, added-append n c (actMarks k d a) (marksOf k (acted d (a ∷ [])) xs), act-adds k d a, quiet a t, write-none k (acted d (a ∷ [])) xs ts)
+    where
+      quiet : (a : Act) → ReturnsNone a → addedIn n c (besides k (d .core .lines) a) ≡ 0
+      quiet (move (poll m)) t = absurd t
+      quiet (move (raise m)) t = absurd t
+      quiet (move (lower m)) t = absurd t
+      quiet (move (clear x)) t = back-none (inputs (on x))
+      quiet (move (setMask h v)) t = refl
+      quiet (setIsr h v) t = refl
+      quiet (store x) t = refl
+      quiet (setVector m v) t = refl
+
+  one-act : (k : ℕ) (d : Device) (a : Act) → addedIn n c (marksOf k d (a ∷ [])) ≡ addedIn n c (besides k (d .core .lines) a)
+  unfolding marksOf
+  one-act k d a = ap (addedIn n c) (append-nil (actMarks k d a)) ∙ act-adds k d a
+
+  call-adds : (k : ℕ) (d : Device) (x : Call) → addedIn n c (marksOf k d (actsOf (d .core) x)) ≡ cond (movesLevel n b x) 1 0
+  unfolding actsOf marksOf addedIn tally
+  call-adds k d (device.level m true) = one-act k d (move (raise m)) ∙ go b
+    where
+      go : (b : Bool) → addedIn n (levelColumn b) (besides k (d .core .lines) (move (raise m))) ≡ cond (b && eqb m n) 1 0
+      go true = test (idleIn (d .core .lines) m) (λ t. rw t (test (eqb m n) (λ u. rw u refl) (λ u. rw u refl))) (λ t. rw t (test (eqb m n) (λ u. rw u refl) (λ u. rw u refl)))
+      go false = test (idleIn (d .core .lines) m) (λ t. rw t (test (eqb m n) (λ u. rw u refl) (λ u. rw u refl))) (λ t. rw t (test (eqb m n) (λ u. rw u refl) (λ u. rw u refl)))
+  call-adds k d (device.level m false) = one-act k d (move (lower m)) ∙ go b
+    where
+      go : (b : Bool) → addedIn n (levelColumn b) (besides k (d .core .lines) (move (lower m))) ≡ cond (not b && eqb m n) 1 0
+      go true = test (eqb m n) (λ u. rw u refl) (λ u. rw u refl)
+      go false = test (eqb m n) (λ u. rw u refl) (λ u. rw u refl)
+  call-adds k d (device.poll m) = one-act k d (move (poll m))
+  call-adds k d (device.read w o) = refl
+  call-adds k d (device.write w o v) = write-none k d (actsOf (d .core) (device.write w o v)) (write-returns-none (d .core) w o v)
+  call-adds k d (device.drain j) = refl
+
+  pub levels-added : (xs : List Item) (k : ℕ) (d : Device) → NoLoad xs → addedIn n c (dayMarks k d xs) ≡ tally (isLevel n b) xs
+  unfolding dayMarks addedIn tally
+  levels-added [] k d l = refl
+  levels-added (call x ∷ xs) k d l =
+      omega (arith, added-append n c (marksOf k d (actsOf (d .core) x)) (dayMarks (k + 1) (device.step d x .after) xs), call-adds k d x, levels-added xs (k + 1) (device.step d x .after) l)
+  levels-added (load f ∷ xs) k d l = absurd l
+  levels-added (refused ∷ xs) k d l = omega (arith, levels-added xs (k + 1) d l)
+
+  -- the records of a day are its items
+  pub moments-level : (xs : List Item) (e : Engine) → tally (λ (m : Moment). isLevel n b (m .item)) (moments e xs) ≡ tally (isLevel n b) xs
+  unfolding moments tally
+  moments-level [] e = refl
+  moments-level (x ∷ xs) e = ap (λ j. cond (isLevel n b x) 1 0 + j) (moments-level xs (takes e x .after))

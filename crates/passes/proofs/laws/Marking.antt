@@ -1,0 +1,173 @@
+-- A mark, as the row of one input takes it.
+use mathlib.Core.Path.{_≡_, refl, sym, ap, subst, _∙_}
+use mathlib.Core.Bool.{Bool, true, false, cond, _&&_, and-eq-true-iff}
+use mathlib.Core.List.{List, [], _∷_, _++_}
+use Prim.Native.Nat.{ℕ, zero, suc, _+_, _-_, _%_, _^_, _<_, max}
+use native.Mathlib.Nat.{mod-lt}
+use native.Mathlib.Omega.{arith}
+use lib.Dec.{eqb}
+use borrow.Author.Tests.{eqb-true, eqb-false, eq-eqb, ne-eqb}
+use Rattle.basics.proofs.laws.Bits.{test}
+use Rattle.rules.specs.Account.{tally}
+use Rattle.plain.specs.Events.{Note, Fate, returned, kept, dropped}
+use Rattle.tallies.specs.Grid.{Grid, put, bump}
+use Rattle.tallies.specs.Marks.{Mark, raised, lowered, began, takenBack, happened, inputOf, kindColumn, fateColumns, grown, bumped, settled, withdrawn, waited, marked, allMarked}
+use Rattle.passes.specs.Slots.{Slot, settle, takeBack, startAt, slotAfter, slotAll, notesIn, Rows}
+
+pub eqb-sym : (a b : ℕ) → eqb a b ≡ eqb b a
+eqb-sym a b = test (eqb a b) (λ t. t ∙ sym (eq-eqb b a (sym (eqb-true a b t)))) (λ t. t ∙ sym (ne-eqb b a (λ e. eqb-false a b t (sym e))))
+
+-- ---- the columns that are counted
+
+-- how much a mark adds to column c of row n
+abbrev pub addedBy : ℕ → ℕ → Mark → ℕ
+addedBy n c m = cond (eqb (inputOf m) n) (tally (eqb c) (grown m)) 0
+
+unfoldable pub addedIn : ℕ → ℕ → List Mark → ℕ
+addedIn n c [] = 0
+addedIn n c (m ∷ ms) = addedBy n c m + addedIn n c ms
+
+pub added-append : (n c : ℕ) (ms ns : List Mark) → addedIn n c (ms ++ ns) ≡ addedIn n c ms + addedIn n c ns
+unfolding addedIn
+added-append n c [] ns = omega arith
+added-append n c (m ∷ ms) ns = omega (arith, added-append n c ms ns)
+
+small-cond : (b : Bool) (x y : ℕ) → x < 2 ^ 32 → y < 2 ^ 32 → cond b x y < 2 ^ 32
+small-cond true x y h k = h
+small-cond false x y h k = k
+
+bump-at : (f : Grid) (m x n c : ℕ) → f n c < 2 ^ 32 → bump f m x n c ≡ (f n c + cond (eqb m n) (cond (eqb c x) 1 0) 0) % 2 ^ 32
+bump-at f m x n c h =
+    test (eqb c x)
+    (λ t. test (eqb m n)
+    (λ u. rw (t, u, eqb-sym n m ∙ u) (let e = eqb-true m n u in let z = eqb-true c x t in (λ i. (f (e i) (sym z i) + 1) % 2 ^ 32)))
+    (λ u. rw (t, u, eqb-sym n m ∙ u) (omega arith)))
+    (λ t. rw t (test (eqb m n) (λ u. rw u (omega arith)) (λ u. rw u (omega arith))))
+
+bumped-at : (f : Grid) (m : ℕ) (xs : List ℕ) (n c : ℕ) → f n c < 2 ^ 32 → bumped f m xs n c ≡ (f n c + cond (eqb m n) (tally (eqb c) xs) 0) % 2 ^ 32
+unfolding bumped tally
+bumped-at f m [] n c h = test (eqb m n) (λ u. rw u (omega arith)) (λ u. rw u (omega arith))
+bumped-at f m (x ∷ xs) n c h =
+    let one = bump-at f m x n c h in
+    let lt : bump f m x n c < 2 ^ 32 = subst (λ y. y < 2 ^ 32) (sym one) (mod-lt _ (omega arith)) in
+    let rest = bumped-at (bump f m x) m xs n c lt in
+    test (eqb m n)
+    (λ u. let o = (rw u at one) in let r = (rw u at rest) in rw u (r ∙ omega (arith, o)))
+    (λ u. let o = (rw u at one) in let r = (rw u at rest) in rw u (r ∙ omega (arith, o)))
+
+-- the waits touch no counted column
+waited-at : (f : Grid) (m : Mark) (n c : ℕ) → c < 7 → waited f m n c ≡ f n c
+waited-at f (raised m) n c h = refl
+waited-at f (lowered m) n c h = refl
+waited-at f (began m k) n c h = rw (ne-eqb c 9 (λ e. omega (arith, e)))
+waited-at f (takenBack m) n c h = test (eqb (f m 9) 0) (λ t. rw t) (λ t. rw (t, ne-eqb c 9 (λ e. omega (arith, e)), ne-eqb c 8 (λ e. omega (arith, e))))
+waited-at f (happened x) n c h =
+    test (x .asserted)
+    (λ a. rw a (test (eqb (f (x .input) 9) 0) (λ t. rw t) (λ t. rw (t, ne-eqb c 9 (λ e. omega (arith, e)), ne-eqb c 7 (λ e. omega (arith, e))))))
+    (λ a. rw a)
+
+pub marked-at : (f : Grid) (m : Mark) (n c : ℕ) → c < 7 → f n c < 2 ^ 32 → marked f m n c ≡ (f n c + addedBy n c m) % 2 ^ 32
+marked-at f m n c h k = waited-at (bumped f (inputOf m) (grown m)) m n c h ∙ bumped-at f (inputOf m) (grown m) n c k
+
+-- all marks: a counted column has what they add, as four bytes hold it
+pub all-marked-at : (f : Grid) (ms : List Mark) (n c : ℕ) → c < 7 → f n c < 2 ^ 32 → allMarked f ms n c ≡ (f n c + addedIn n c ms) % 2 ^ 32
+unfolding allMarked addedIn
+all-marked-at f [] n c h k = omega arith
+all-marked-at f (m ∷ ms) n c h k =
+    let one = marked-at f m n c h k in
+    let lt : marked f m n c < 2 ^ 32 = subst (λ y. y < 2 ^ 32) (sym one) (mod-lt _ (omega arith)) in
+    all-marked-at (marked f m) ms n c h lt ∙ omega (arith, one)
+
+-- ---- the columns of the waits
+
+-- a mark of the record k, with room for its number
+abbrev pub Soon : Mark → Type 0
+Soon (raised m) = Unit {0}
+Soon (lowered m) = Unit {0}
+Soon (began m k) = k < 4000
+Soon (takenBack m) = Unit {0}
+Soon (happened x) = x .call < 4000
+
+-- counting touches no column of the waits
+grown-few : (m : Mark) (f : Grid) (n : ℕ) (s : Slot) → Rows f n s → Rows (bumped f (inputOf m) (grown m)) n s
+unfolding bumped
+grown-few (raised m) f n s r = record { greatest = r .greatest; withdrawn = r .withdrawn; since = r .since; great = r .great; late = r .late }
+grown-few (lowered m) f n s r = record { greatest = r .greatest; withdrawn = r .withdrawn; since = r .since; great = r .great; late = r .late }
+grown-few (began m k) f n s r = r
+grown-few (takenBack m) f n s r = r
+grown-few (happened x) f n s r = go (x .asserted) (x .fate)
+  where
+    go : (a : Bool) (z : Fate) → Rows (bumped f (x .input) (kindColumn a ∷ fateColumns z)) n s
+    go true returned = record { greatest = r .greatest; withdrawn = r .withdrawn; since = r .since; great = r .great; late = r .late }
+    go true kept = record { greatest = r .greatest; withdrawn = r .withdrawn; since = r .since; great = r .great; late = r .late }
+    go true dropped = record { greatest = r .greatest; withdrawn = r .withdrawn; since = r .since; great = r .great; late = r .late }
+    go false returned = record { greatest = r .greatest; withdrawn = r .withdrawn; since = r .since; great = r .great; late = r .late }
+    go false kept = record { greatest = r .greatest; withdrawn = r .withdrawn; since = r .since; great = r .great; late = r .late }
+    go false dropped = record { greatest = r .greatest; withdrawn = r .withdrawn; since = r .since; great = r .great; late = r .late }
+
+-- ---- the three things that a mark can do to a wait
+
+module _ (f : Grid) (n : ℕ) (s : Slot) (r : Rows f n s) where
+  began-other : (m v : ℕ) → eqb n m ≡ false → Rows (put f m 9 v) n s
+  began-other m v u = record { greatest = r .greatest; withdrawn = r .withdrawn; since = rw u (r .since); great = r .great; late = r .late }
+
+  began-here : (m k : ℕ) → eqb n m ≡ true → k < 4000 → Rows (put f m 9 (k + 1)) n (startAt k s)
+  began-here m k u h = record { greatest = r .greatest; withdrawn = r .withdrawn; since = rw u (omega arith); great = r .great; late = omega arith }
+
+  back-other : (m : ℕ) → eqb n m ≡ false → Rows (withdrawn f m) n s
+  back-other m u =
+      test (eqb (f m 9) 0) (λ t. rw t r)
+      (λ t. rw t (record { greatest = r .greatest; withdrawn = rw u (r .withdrawn); since = rw u (r .since); great = r .great; late = r .late }))
+
+  zero-here : (m : ℕ) → eqb n m ≡ true → eqb (f m 9) 0 ≡ eqb (s .since) 0
+  zero-here m u = let e = eqb-true n m u in ap (λ y. eqb y 0) (ap (λ i. f i 9) (sym e) ∙ r .since)
+
+  back-here : (m : ℕ) → eqb n m ≡ true → Rows (withdrawn f m) n (takeBack s)
+  back-here m u =
+      let z = zero-here m u in
+      let w : f m 8 ≡ s .withdrawn % 2 ^ 32 = ap (λ i. f i 8) (sym (eqb-true n m u)) ∙ r .withdrawn in
+      test (eqb (s .since) 0) (λ t. rw (z, t) r)
+      (λ t. rw (z, t) (record { greatest = r .greatest; withdrawn = rw u (omega (arith, w)); since = rw u refl; great = r .great; late = omega arith }))
+
+  settle-other : (m k : ℕ) → eqb n m ≡ false → Rows (settled f m k) n s
+  settle-other m k u =
+      test (eqb (f m 9) 0) (λ t. rw t r)
+      (λ t. rw t (record { greatest = rw u (r .greatest); withdrawn = r .withdrawn; since = rw u (r .since); great = r .great; late = r .late }))
+
+  settle-here : (m k : ℕ) → eqb n m ≡ true → k < 4000 → Rows (settled f m k) n (settle k s)
+  settle-here m k u h =
+      let z = zero-here m u in
+      let e = eqb-true n m u in
+      let g : f m 7 ≡ s .greatest = ap (λ i. f i 7) (sym e) ∙ r .greatest in
+      let c : f m 9 ≡ s .since = ap (λ i. f i 9) (sym e) ∙ r .since in
+      let v : max (f m 7) (k + 1 - f m 9) ≡ max (s .greatest) (k + 1 - s .since) = (λ i. max (g i) (k + 1 - c i)) in
+      let lt : max (s .greatest) (k + 1 - s .since) < 2 ^ 32 = omega (arith, r .great) in
+      test (eqb (s .since) 0) (λ t. rw (z, t) r)
+      (λ t. rw (z, t) (record { greatest = rw u (omega (arith, v, lt)); withdrawn = r .withdrawn; since = rw u refl; great = lt; late = omega arith }))
+
+pub row-marked : (f : Grid) (n : ℕ) (s : Slot) (m : Mark) → Soon m → Rows f n s → Rows (marked f m) n (slotAfter n s m)
+row-marked f n s (raised m) h r = grown-few (raised m) f n s r
+row-marked f n s (lowered m) h r = grown-few (lowered m) f n s r
+row-marked f n s (began m k) h r =
+    let q = grown-few (began m k) f n s r in
+    test (eqb n m) (λ u. rw u (began-here _ n s q m k u h)) (λ u. rw u (began-other _ n s q m (k + 1) u))
+row-marked f n s (takenBack m) h r =
+    let q = grown-few (takenBack m) f n s r in
+    test (eqb n m) (λ u. rw u (back-here _ n s q m u)) (λ u. rw u (back-other _ n s q m u))
+row-marked f n s (happened x) h r = go (x .asserted) refl
+  where
+    go : (a : Bool) → x .asserted ≡ a → Rows (marked f (happened x)) n (slotAfter n s (happened x))
+    go true a =
+        let q = grown-few (happened x) f n s r in
+        test (eqb n (x .input)) (λ u. rw (a, u) (rw a at (settle-here _ n s q (x .input) (x .call) u h))) (λ u. rw (a, u) (rw a at (settle-other _ n s q (x .input) (x .call) u)))
+    go false a = rw a (rw a at (grown-few (happened x) f n s r))
+
+-- one after another
+abbrev pub AllSoon : List Mark → Type 0
+AllSoon [] = Unit {0}
+AllSoon (m ∷ ms) = Soon m × AllSoon ms
+
+pub rows-marked : (f : Grid) (n : ℕ) (s : Slot) (ms : List Mark) → AllSoon ms → Rows f n s → Rows (allMarked f ms) n (slotAll n s ms)
+unfolding allMarked slotAll
+rows-marked f n s [] h r = r
+rows-marked f n s (m ∷ ms) h r = rows-marked (marked f m) n (slotAfter n s m) ms (h .1) (row-marked f n s m (h .0) r)

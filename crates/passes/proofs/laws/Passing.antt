@@ -1,0 +1,234 @@
+-- The grid that the marks of a day leave, finished, is the day's sheet.
+use mathlib.Core.Path.{_≡_, refl, sym, ap, subst, _∙_}
+use mathlib.Core.Bool.{Bool, true, false, cond}
+use mathlib.Core.List.{List, [], _∷_, _++_, map}
+use Prim.Native.Nat.{ℕ, zero, suc, _+_, _%_, _^_, _<_, _≤_, max}
+use native.Mathlib.Nat.{mod-lt}
+use native.Mathlib.Omega.{arith}
+use lib.Dec.{eqb}
+use lib.ListN.{length}
+use borrow.Author.Tests.{eqb-true, eqb-false}
+use Rattle.basics.specs.Numbers.{bytesOf}
+use Rattle.basics.specs.Inputs.{on, inputs}
+use Rattle.basics.proofs.laws.Bits.{test}
+use Rattle.rules.specs.Lines.{Lines, Made}
+use Rattle.rules.specs.Ring.{Ring}
+use Rattle.rules.specs.Core.{Act, move, raise, lower, poll, clear, setMask, setIsr, store, setVector, turn}
+use Rattle.rules.specs.Account.{tally}
+use Rattle.rules.specs.Device.{Device, reset, actsOf, acted}
+use Rattle.rules.specs.Device as device
+use Rattle.laws.proofs.laws.Images.{reset-well-formed}
+use Rattle.plain.specs.Events.{Note}
+use Rattle.plain.specs.Sequence.{Item, call, load, refused, loadOf, WellLoaded, plainAfter, noteOf, fateIn, ringWith, notesOf}
+use Rattle.plain.proofs.laws.Same.{Same}
+use Rattle.plain.proofs.laws.Following.{loadedRun, same-load}
+use Rattle.plain.proofs.demands.History.{same-history}
+use Rattle.sheets.specs.Day.{begun, moments, Day, dayFrom}
+use Rattle.sheets.specs.Waits.{assertOf, deassertOf, waits, greatest, isOpen}
+use Rattle.sheets.specs.Sheet.{Row, returnedOf, offeredOf, droppedOf, rowOf, emptyRow, together, totalBelow, sheetBytes}
+use Rattle.tallies.specs.Grid.{Grid, Holds}
+use Rattle.tallies.specs.Marks.{Mark, happened, takenBack, idleIn, allMarked, besides, actMarks, marksOf, itemMarks, itemAfter, dayMarks}
+use Rattle.tallies.proofs.laws.Grids.{low-four}
+use Rattle.passes.specs.Slots.{NoLoad, Slot, slotAll, notesIn, Rows}
+use Rattle.passes.specs.Finish.{cleared, totalCleared, isOn, joined, finished}
+use Rattle.passes.proofs.laws.Marking.{addedIn, all-marked-at, AllSoon, rows-marked}
+use Rattle.passes.proofs.laws.Recording.{Closed, day-closes}
+use Rattle.passes.proofs.laws.Counting.{history-is, levels-added, moments-level, asserts-added, deasserts-added, returned-added, offered-added, dropped-added}
+use Rattle.passes.proofs.laws.Finishing.{all-cleared, total-zero, total-kept, shutRow, totalOf, finishes}
+use Rattle.passes.proofs.laws.Bytes.{columnOf, sheet-is}
+
+-- ---- the numbers of records are small
+
+soon-append : (ms ns : List Mark) → AllSoon ms → AllSoon ns → AllSoon (ms ++ ns)
+soon-append [] ns h g = g
+soon-append (m ∷ ms) ns h g = (h .0, soon-append ms ns (h .1) g)
+
+soon-notes : (k : ℕ) → k < 4000 → (r : Ring) (ms : List Made) → AllSoon (map happened (notesOf k r ms))
+unfolding notesOf
+soon-notes k h r [] = tt
+soon-notes k h r (m ∷ ms) = (h, soon-notes k h (ringWith r m) ms)
+
+soon-back : (ns : List ℕ) → AllSoon (map takenBack ns)
+soon-back [] = tt
+soon-back (n ∷ ns) = (tt, soon-back ns)
+
+soon-besides : (k : ℕ) → k < 4000 → (l : Lines) (a : Act) → AllSoon (besides k l a)
+soon-besides k h l (move (poll m)) = tt
+soon-besides k h l (move (raise m)) = test (idleIn l m) (λ t. rw t (tt, (h, tt))) (λ t. rw t (tt, tt))
+soon-besides k h l (move (lower m)) = (tt, (tt, tt))
+soon-besides k h l (move (clear b)) = soon-back (inputs (on b))
+soon-besides k h l (move (setMask g v)) = tt
+soon-besides k h l (setIsr g v) = tt
+soon-besides k h l (store x) = tt
+soon-besides k h l (setVector m v) = tt
+
+soon-acts : (k : ℕ) → k < 4000 → (d : Device) (xs : List Act) → AllSoon (marksOf k d xs)
+unfolding marksOf
+soon-acts k h d [] = tt
+soon-acts k h d (a ∷ xs) =
+    soon-append (actMarks k d a) (marksOf k (acted d (a ∷ [])) xs)
+    (soon-append (besides k (d .core .lines) a) _ (soon-besides k h (d .core .lines) a) (soon-notes k h (d .ring) (turn (d .core) a .made)))
+    (soon-acts k h (acted d (a ∷ [])) xs)
+
+soon-day : (xs : List Item) (k : ℕ) (d : Device) → k + length xs ≤ 4000 → AllSoon (dayMarks k d xs)
+unfolding dayMarks
+soon-day [] k d h = tt
+soon-day (call c ∷ xs) k d h =
+    soon-append (marksOf k d (actsOf (d .core) c)) (dayMarks (k + 1) (device.step d c .after) xs) (soon-acts k (omega arith) d (actsOf (d .core) c)) (soon-day xs (k + 1) (device.step d c .after) (omega arith))
+soon-day (load f ∷ xs) k d h = soon-day xs (k + 1) f (omega arith)
+soon-day (refused ∷ xs) k d h = soon-day xs (k + 1) d (omega arith)
+
+one-at-most : (b : Bool) → cond b 0 1 ≤ 1
+one-at-most true = omega arith
+one-at-most false = omega arith
+
+-- ---- ten columns
+
+below-ten : (P : ℕ → Type 0) → P 0 → P 1 → P 2 → P 3 → P 4 → P 5 → P 6 → P 7 → P 8 → P 9 → (c : ℕ) → c < 10 → P c
+below-ten P a b c d e f g h i j zero q = a
+below-ten P a b c d e f g h i j (suc zero) q = b
+below-ten P a b c d e f g h i j (suc (suc zero)) q = c
+below-ten P a b c d e f g h i j (suc (suc (suc zero))) q = d
+below-ten P a b c d e f g h i j (suc (suc (suc (suc zero)))) q = e
+below-ten P a b c d e f g h i j (suc (suc (suc (suc (suc zero))))) q = f
+below-ten P a b c d e f g h i j (suc (suc (suc (suc (suc (suc zero)))))) q = g
+below-ten P a b c d e f g h i j (suc (suc (suc (suc (suc (suc (suc zero))))))) q = h
+below-ten P a b c d e f g h i j (suc (suc (suc (suc (suc (suc (suc (suc zero)))))))) q = i
+below-ten P a b c d e f g h i j (suc (suc (suc (suc (suc (suc (suc (suc (suc zero))))))))) q = j
+below-ten P a b c d e f g h i j (suc (suc (suc (suc (suc (suc (suc (suc (suc (suc k)))))))))) q = absurd (omega (arith, q))
+
+pub no-load-well : (xs : List Item) → NoLoad xs → WellLoaded xs
+unfolding WellLoaded
+no-load-well [] l = tt
+no-load-well (call c ∷ xs) l = no-load-well xs l
+no-load-well (load d ∷ xs) l = absurd l
+no-load-well (refused ∷ xs) l = no-load-well xs l
+
+-- ---- a day from reset
+
+pub same-begun : Same begun (loadedRun reset)
+unfolding begun loadOf
+same-begun = same-load begun reset reset-well-formed
+
+module _ (xs : List Item) (l : NoLoad xs) where
+  abbrev marks : List Mark
+  marks = dayMarks 0 reset xs
+
+  abbrev day : Day
+  day = dayFrom begun xs
+
+  pub history-notes : plainAfter begun xs .history ≡ notesIn marks
+  unfolding begun loadOf
+  history-notes = same-history begun reset reset-well-formed xs (no-load-well xs l) ∙ history-is xs (record { device = reset; call = 0; history = [] }) l
+
+  module _ (few : length xs ≤ 4000) (f : Grid) where
+    abbrev start : Grid
+    start = cleared f 10
+
+    abbrev after : Grid
+    after = allMarked start marks
+
+    module _ (n : ℕ) (p : n < 64) where
+      zero-at : (c : ℕ) → c < 10 → start n c ≡ 0
+      zero-at c q = all-cleared f 10 n c p q
+
+      counted : (c : ℕ) → c < 7 → {v : ℕ} → addedIn n c marks ≡ v → after n c ≡ v % 2 ^ 32
+      counted c q {v} e =
+          let z = zero-at c (omega arith) in
+          all-marked-at start marks n c q (omega (arith, z)) ∙ (λ i. (z i + e i) % 2 ^ 32) ∙ ap (λ (y : ℕ). y % 2 ^ 32) (zero-plus v)
+        where
+          zero-plus : (v : ℕ) → 0 + v ≡ v
+          zero-plus v = omega arith
+
+      abbrev none : Slot
+      none = record { greatest = 0; withdrawn = 0; since = 0 }
+
+      row-starts : Rows start n none
+      row-starts = record { greatest = zero-at 7 (omega arith); withdrawn = zero-at 8 (omega arith); since = zero-at 9 (omega arith); great = omega arith; late = omega arith }
+
+      row-ends : Rows after n (slotAll n none marks)
+      row-ends = rows-marked start n none marks (soon-day xs 0 reset (omega arith)) row-starts
+
+      closes : Closed n p none (slotAll n none marks) (waits n (moments begun xs))
+      closes = day-closes n p xs begun (loadedRun reset) same-begun reset-well-formed l none (λ q. absurd (q refl))
+
+      notes : {A : Type 0} → (g : List Note → A) → g (notesIn marks) ≡ g (day .history)
+      notes g = ap g (sym history-notes)
+
+      great : after n 7 ≡ greatest (waits n (moments begun xs))
+      great = row-ends .greatest ∙ closes .greatest ∙ omega arith
+
+      pub great-small : rowOf day n .greatest < 2 ^ 32
+      unfolding rowOf
+      great-small = let e = great in let h = row-ends .great in omega (arith, e, row-ends .greatest, h)
+
+      open-small : tally isOpen (waits n (moments begun xs)) ≡ tally isOpen (waits n (moments begun xs)) % 2 ^ 32
+      open-small = let e = closes .lasts in let h = one-at-most (eqb (slotAll n none marks .since) 0) in omega (arith, e, h)
+
+      cells : (c : ℕ) → c < 10 → shutRow after n c ≡ columnOf (rowOf day n) c % 2 ^ 32
+      unfolding rowOf
+      cells =
+          below-ten (λ c. shutRow after n c ≡ columnOf (rowOf day n) c % 2 ^ 32)
+          (counted 0 (omega arith) (levels-added n true xs 0 reset l ∙ sym (moments-level n true xs begun)))
+          (counted 1 (omega arith) (levels-added n false xs 0 reset l ∙ sym (moments-level n false xs begun)))
+          (counted 2 (omega arith) (asserts-added n marks ∙ notes (tally (assertOf n))))
+          (counted 3 (omega arith) (deasserts-added n marks ∙ notes (tally (deassertOf n))))
+          (counted 4 (omega arith) (returned-added n marks ∙ notes (tally (returnedOf n))))
+          (counted 5 (omega arith) (offered-added n marks ∙ notes (tally (offeredOf n))))
+          (counted 6 (omega arith) (dropped-added n marks ∙ notes (tally (droppedOf n))))
+          (let e = great in let h = row-ends .great in omega (arith, e, row-ends .greatest, h))
+          (row-ends .withdrawn ∙ ap (λ (y : ℕ). y % 2 ^ 32) (closes .withdrawn ∙ omega arith))
+          (ap isOn (row-ends .since) ∙ closes .lasts ∙ open-small)
+
+    -- ---- the total
+
+    abbrev rows : ℕ → Row
+    rows n = rowOf day n
+
+    together-column : (x y : Row) (c : ℕ) → c < 10 → columnOf (together x y) c ≡ joined c (columnOf x c) (columnOf y c)
+    together-column x y = below-ten (λ c. columnOf (together x y) c ≡ joined c (columnOf x c) (columnOf y c)) refl refl refl refl refl refl refl refl refl refl
+
+    empty-column : (c : ℕ) → c < 10 → columnOf emptyRow c ≡ 0
+    empty-column = below-ten (λ c. columnOf emptyRow c ≡ 0) refl refl refl refl refl refl refl refl refl refl
+
+    great-total : (k : ℕ) → k ≤ 64 → totalBelow k rows .greatest < 2 ^ 32
+    unfolding totalBelow
+    great-total zero h = omega arith
+    great-total (suc k) h = max-small _ _ (great-total k (omega arith)) (great-small k (omega arith))
+      where
+        max-small : (a b : ℕ) → a < 2 ^ 32 → b < 2 ^ 32 → max a b < 2 ^ 32
+        max-small a b p q = omega arith
+
+    -- joined as four bytes hold it
+    joined-held : (c a b : ℕ) → (c ≡ 7 → (a < 2 ^ 32) × (b < 2 ^ 32)) → joined c (a % 2 ^ 32) (b % 2 ^ 32) % 2 ^ 32 ≡ joined c a b % 2 ^ 32
+    joined-held c a b h =
+        test (eqb c 7) (λ t. let q = h (eqb-true c 7 t) in rw t (held-max a b (q .0) (q .1))) (λ t. rw t (held-sum a b))
+      where
+        held-max : (a b : ℕ) → a < 2 ^ 32 → b < 2 ^ 32 → max (a % 2 ^ 32) (b % 2 ^ 32) % 2 ^ 32 ≡ max a b % 2 ^ 32
+        held-max a b p q = let x : a % 2 ^ 32 ≡ a = omega arith in let y : b % 2 ^ 32 ≡ b = omega arith in (λ i. max (x i) (y i) % 2 ^ 32)
+
+        held-sum : (a b : ℕ) → (a % 2 ^ 32 + b % 2 ^ 32) % 2 ^ 32 ≡ (a + b) % 2 ^ 32
+        held-sum a b = omega arith
+
+    abbrev last : Grid
+    last = totalCleared after 10
+
+    last-row : (n : ℕ) → n < 64 → (c : ℕ) → c < 10 → shutRow last n c ≡ columnOf (rows n) c % 2 ^ 32
+    last-row n p c q = (λ i. cond (eqb c 9) (isOn (total-kept after 10 n 9 p i)) (total-kept after 10 n c p i)) ∙ cells n p c q
+
+    totals : (k : ℕ) → k ≤ 64 → (c : ℕ) → c < 10 → totalOf last k c ≡ columnOf (totalBelow k rows) c % 2 ^ 32
+    unfolding totalOf totalBelow
+    totals zero h c q = ap (λ (y : ℕ). y % 2 ^ 32) (sym (empty-column c q))
+    totals (suc k) h c q =
+        (λ i. joined c (totals k (omega arith) c q i) (last-row k (omega arith) c q i) % 2 ^ 32)
+        ∙ joined-held c (columnOf (totalBelow k rows) c) (columnOf (rows k) c)
+        (λ e. (subst (λ (b : ℕ). columnOf (totalBelow k rows) b < 2 ^ 32) (sym e) (great-total k (omega arith)), subst (λ (b : ℕ). columnOf (rows k) b < 2 ^ 32) (sym e) (great-small k (omega arith))))
+        ∙ ap (λ (y : ℕ). y % 2 ^ 32) (sym (together-column (totalBelow k rows) (rows k) c q))
+
+    -- The grid after the pass, finished, is held by the bytes of the day's sheet.
+    pub pass-sheet : (b rest : List ℕ) → Holds b (finished last 64) rest → b ≡ sheetBytes rows ++ rest
+    pass-sheet b rest h =
+        let done = finishes last (λ c q. total-zero after 10 c q) 64 (omega arith) in
+        sheet-is b rest (finished last 64) rows h
+        (λ n c p q. ap (bytesOf 4) (done .before n c p ∙ last-row n p c q) ∙ low-four (columnOf (rows n) c))
+        (λ c q. ap (bytesOf 4) (done .total c q ∙ totals 64 (omega arith) c q) ∙ low-four (columnOf (totalBelow 64 rows) c))

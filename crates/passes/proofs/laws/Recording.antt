@@ -1,0 +1,224 @@
+-- A call as the wait of one input takes it, and a day's waits by its marks.
+use mathlib.Core.Path.{_≡_, refl, sym, ap, subst, _∙_}
+use mathlib.Core.Bool.{Bool, true, false, cond, not, _&&_, true≢false}
+use mathlib.Core.List.{List, [], _∷_, _++_, append-nil}
+use Prim.Native.Nat.{ℕ, suc, _+_, _-_, _<_, _≤_, max}
+use native.Mathlib.Omega.{arith}
+use lib.Dec.{eqb, ltb}
+use lib.ListN.{length, drop, drop-of-length-le}
+use lib.Seq.{drop-at}
+use borrow.Author.Tests.{eqb-true, eqb-false, eq-eqb, ne-eqb}
+use Rattle.basics.specs.Inputs.{on}
+use Rattle.basics.proofs.laws.Bits.{test}
+use Rattle.rules.specs.Lines.{Lines}
+use Rattle.rules.specs.Core.{Act, move, raise, lower, poll, clear, setMask, setIsr, store, setVector, turn, turns}
+use Rattle.rules.specs.Account.{tally}
+use Rattle.rules.specs.Device.{Device, WellFormed, Call, actsOf, acted}
+use Rattle.rules.specs.Device as device
+use Rattle.rules.proofs.laws.Counts.{tally-append, tally-nil}
+use Rattle.rules.proofs.laws.Steps.{acted-one, turns-one}
+use Rattle.histories.specs.Demands.{Each, done, also}
+use Rattle.histories.proofs.laws.Reach.{each-so, ReturnsNone, write-returns-none}
+use Rattle.histories.proofs.laws.WellFormed.{step-well}
+use Rattle.plain.specs.Events.{Note}
+use Rattle.plain.specs.Machine.{Machine}
+use Rattle.plain.specs.Plain.{Engine}
+use Rattle.plain.specs.Sequence.{Item, call, load, refused, notesOf, takes}
+use Rattle.plain.proofs.laws.Same.{Run, Same}
+use Rattle.plain.proofs.laws.Following.{stepped, countedRun, like-call, sized, same-counted}
+use Rattle.sheets.specs.Day.{Moment, after, number, made, moments}
+use Rattle.sheets.specs.Waits.{movesLevel, isLevel, raises, isIdle, begins, assertOf, asserts, takesBack, End, answered, withdrawn, stillOpen, endFrom, waits, isWithdrawn, isOpen, lasted, greatest}
+use Rattle.tallies.specs.Marks.{Mark, idleIn, actMarks, marksOf, itemMarks, itemAfter, dayMarks}
+use Rattle.passes.specs.Slots.{NoLoad, Slot, settle, takeBack, startAt, slotAll, notesIn}
+use Rattle.passes.proofs.laws.Acting.{slot-append, notes-of-acts, NotRaise, step, Latched, Some, Gone, kept-step, over-step, acts-step, raise-step}
+
+module _ (n : ℕ) (below : n < 64) where
+  not-raise : (k : ℕ) (a : Act) → ReturnsNone a → NotRaise n below k a
+  not-raise k (move (poll m)) t = tt
+  not-raise k (move (raise m)) t = t
+  not-raise k (move (lower m)) t = tt
+  not-raise k (move (clear b)) t = tt
+  not-raise k (move (setMask h v)) t = tt
+  not-raise k (setIsr h v) t = tt
+  not-raise k (store x) t = tt
+  not-raise k (setVector m v) t = tt
+
+  -- ---- one call
+
+  abbrev CallSteps : ℕ → Device → Call → Slot → Type 0
+  CallSteps k d c s =
+      let ms = marksOf k d (actsOf (d .core) c) in
+      slotAll n s ms ≡ step n below k (movesLevel n true c && idleIn (d .core .lines) n) (Some n below k ms) (Gone n below k (device.step d c .after .core .lines)) s
+
+  call-steps : (k : ℕ) (d : Device) (c : Call) (s : Slot) → Latched n below k s (d .core .lines) → CallSteps k d c s
+  unfolding actsOf device.step marksOf
+  call-steps k d (device.level m true) s h =
+      let a = move (raise m) in
+      subst (λ (ms : List Mark). slotAll n s ms ≡ step n below k (eqb m n && idleIn (d .core .lines) n) (Some n below k ms) (Gone n below k (acted d (a ∷ []) .core .lines)) s) (sym (append-nil (actMarks k d a)))
+      (raise-step n below k d m s h ∙ ap (λ (e : Device). step n below k (eqb m n && idleIn (d .core .lines) n) (Some n below k (actMarks k d a)) (Gone n below k (e .core .lines)) s) (sym (acted-one d a)))
+  call-steps k d (device.level m false) s h = acts-step n below k d (move (lower m) ∷ []) (also tt done) s h
+  call-steps k d (device.poll m) s h = acts-step n below k d (move (poll m) ∷ []) (also tt done) s h
+  call-steps k d (device.read w o) s h = acts-step n below k d [] done s h
+  call-steps k d (device.write w o v) s h = acts-step n below k d (actsOf (d .core) (device.write w o v)) (each-so (not-raise k) (write-returns-none (d .core) w o v)) s h
+  call-steps k d (device.drain j) s h = acts-step n below k d [] done s h
+
+  -- a wait that is not over after a record has its input latched
+  step-latched : (k : ℕ) (b a t : Bool) (s : Slot) → (step n below k b a t s .since ≡ 0 → ⊥) → t ≡ false
+  unfolding step
+  step-latched k b true t s x = absurd (x (over-settle (cond b (startAt k s) s)))
+    where
+      over-settle : (z : Slot) → settle k z .since ≡ 0
+      over-settle z = test (eqb (z .since) 0) (λ t. rw t (eqb-true (z .since) 0 t)) (λ t. rw t refl)
+  step-latched k b false true s x = absurd (x (over-back (cond b (startAt k s) s)))
+    where
+      over-back : (z : Slot) → takeBack z .since ≡ 0
+      over-back z = test (eqb (z .since) 0) (λ t. rw t (eqb-true (z .since) 0 t)) (λ t. rw t refl)
+  step-latched k b false false s x = refl
+
+  -- ---- the ends of waits
+
+  -- the wait that is not over, and those that begin
+  abbrev pub endsFrom : Slot → List Moment → List End
+  endsFrom s ms = cond (eqb (s .since) 0) [] (endFrom n (s .since - 1) ms ∷ []) ++ waits n ms
+
+  pub record Closed (s t : Slot) (ws : List End) : Type 0 where
+    pub greatest : t .greatest ≡ max (s .greatest) (greatest ws)
+    pub withdrawn : t .withdrawn ≡ s .withdrawn + tally isWithdrawn ws
+    pub lasts : cond (eqb (t .since) 0) 0 1 ≡ tally isOpen ws
+
+  closed-none : (s : Slot) → Closed s s (endsFrom s [])
+  unfolding endFrom waits greatest tally
+  closed-none s =
+      test (eqb (s .since) 0)
+      (λ t. rw t (record { greatest = omega arith; withdrawn = omega arith; lasts = rw t refl }))
+      (λ t. rw t (record { greatest = omega arith; withdrawn = omega arith; lasts = rw t refl }))
+
+  -- one record more in front: whether a wait begins there, whether an assert was made, whether the latch is gone
+  module _ (k : ℕ) (e : ℕ → End) (ws : List End) where
+    ended : (a u : Bool) → ℕ → End
+    ended a u j = cond a (answered (k - j)) (cond u withdrawn (e j))
+
+    abbrev Later : Slot → Slot → Type 0
+    Later z t = Closed z t (cond (eqb (z .since) 0) [] (e (z .since - 1) ∷ []) ++ ws)
+
+    abbrev Now : (b a u : Bool) → Slot → Slot → Type 0
+    Now b a u s t = Closed s t (cond (eqb (s .since) 0) [] (ended a u (s .since - 1) ∷ []) ++ (cond b (ended a u k ∷ []) [] ++ ws))
+
+    over-now : (b a u : Bool) (s t : Slot) → s .since ≡ 0 → Closed s t (cond b (ended a u k ∷ []) [] ++ ws) → Now b a u s t
+    over-now b a u s t z c = rw (eq-eqb (s .since) 0 z) c
+
+    -- a wait begins here
+    begun-now : (a u : Bool) (s t : Slot) → s .since ≡ 0 → Later (step n below k true a u s) t → Now true a u s t
+    unfolding step ended greatest tally
+    begun-now true u s t z c =
+        let c₁ = (rw (ne-eqb (k + 1) 0 (λ q. omega (arith, q))) at c) in
+        over-now true true u s t z (record { greatest = omega (arith, c₁ .greatest); withdrawn = omega (arith, c₁ .withdrawn); lasts = omega (arith, c₁ .lasts) })
+    begun-now false true s t z c =
+        let c₁ = (rw (ne-eqb (k + 1) 0 (λ q. omega (arith, q))) at c) in
+        over-now true false true s t z (record { greatest = omega (arith, c₁ .greatest); withdrawn = omega (arith, c₁ .withdrawn); lasts = omega (arith, c₁ .lasts) })
+    begun-now false false s t z c =
+        let j : k + 1 - 1 ≡ k = omega arith in
+        let c₁ = (rw (ne-eqb (k + 1) 0 (λ q. omega (arith, q)), j) at c) in
+        over-now true false false s t z (record { greatest = c₁ .greatest; withdrawn = c₁ .withdrawn; lasts = c₁ .lasts })
+
+    earlier : (j : ℕ) → (j ≡ 0 → ⊥) → k + 1 - j ≡ k - (j - 1)
+    earlier j h = omega (arith, h)
+
+    max-both : (a b c : ℕ) → max (max a b) c ≡ max a (max b c)
+    max-both a b c = omega arith
+
+    -- one that began before
+    lasting-now : (a u : Bool) (s t : Slot) → eqb (s .since) 0 ≡ false → Later (step n below k false a u s) t → Now false a u s t
+    unfolding step ended greatest tally
+    lasting-now true u s t z c =
+        let c₁ = (rw z at c) in
+        let same = earlier (s .since) (eqb-false (s .since) 0 z) in
+        rw z (record { greatest = c₁ .greatest ∙ max-both (s .greatest) (k + 1 - s .since) (greatest ws) ∙ ap (λ j. max (s .greatest) (max j (greatest ws))) same; withdrawn = omega (arith, c₁ .withdrawn); lasts = omega (arith, c₁ .lasts) })
+    lasting-now false true s t z c =
+        let c₁ = (rw z at c) in
+        rw z (record { greatest = omega (arith, c₁ .greatest); withdrawn = omega (arith, c₁ .withdrawn); lasts = omega (arith, c₁ .lasts) })
+    lasting-now false false s t z c = c
+
+    closed-now : (b a u : Bool) (s t : Slot) → ((s .since ≡ 0 → ⊥) → b ≡ false) → Later (step n below k b a u s) t → Now b a u s t
+    closed-now true a u s t h c =
+        test (eqb (s .since) 0) (λ z. begun-now a u s t (eqb-true (s .since) 0 z) c) (λ z. absurd (true≢false (h (eqb-false (s .since) 0 z))))
+    closed-now false a u s t h c =
+        test (eqb (s .since) 0)
+        (λ z. let o = eqb-true (s .since) 0 z in over-now false a u s t o (rw z at (subst (λ (y : Slot). Later y t) (sym (over-step n below k a u s o)) c)))
+        (λ z. lasting-now a u s t z c)
+
+  closed-next : (m : Moment) (ms : List Moment) (s t : Slot) → ((s .since ≡ 0 → ⊥) → begins n m ≡ false) → {z : Slot} → z ≡ step n below (number m) (begins n m) (asserts n m) (takesBack n m) s
+      → Closed z t (endsFrom z ms) → Closed s t (endsFrom s (m ∷ ms))
+  unfolding endFrom waits ended
+  closed-next m ms s t h e c =
+      closed-now (number m) (λ j. endFrom n j ms) (waits n ms) (begins n m) (asserts n m) (takesBack n m) s t h (subst (λ (y : Slot). Closed y t (endsFrom y ms)) e c)
+
+  -- ---- a day
+
+  module _ (e : Engine) (r : Run) (x : Same e r) where
+    abbrev lines : Lines
+    lines = r .device .core .lines
+
+    idle-same : isIdle n e ≡ idleIn lines n
+    idle-same = ap (λ (y : Machine). not (y .latched) && not (y .inService)) (x .machine n below)
+
+    -- the events that a call made
+    made-call : (c : Call) → Same (takes e (call c) .after) (stepped r c) → made (record { before = e; item = call c }) ≡ notesIn (marksOf (r .call) (r .device) (actsOf (r .device .core) c))
+    unfolding device.step
+    made-call c y =
+        let new = notesOf (r .call) (r .device .ring) (device.step (r .device) c .made) in
+        ap (drop (length (e .history))) (y .tail .notes) ∙ (λ i. drop (length (x .tail .notes i)) (r .notes ++ new)) ∙ drop-at (r .notes) new (length (r .notes)) refl
+        ∙ sym (notes-of-acts (r .call) (r .device) (actsOf (r .device .core) c))
+
+    made-none : made (record { before = e; item = refused }) ≡ []
+    made-none = let h : length (e .history) ≤ length (e .history) = omega arith in drop-of-length-le (e .history) h
+
+    gone-same : (f : Engine) (q : Run) → Same f q → not (f .machines n .latched) ≡ Gone n below (r .call) (q .device .core .lines)
+    gone-same f q y = ap (λ (z : Machine). not (z .latched)) (y .machine n below)
+
+    -- a call, and a refused record, as steps of the wait
+    call-moment : (c : Call) (y : Same (takes e (call c) .after) (stepped r c)) (s : Slot) → Latched n below (r .call) s lines
+        → slotAll n s (itemMarks (r .call) (r .device) (call c)) ≡ (let m : Moment = record { before = e; item = call c } in step n below (number m) (begins n m) (asserts n m) (takesBack n m) s)
+    call-moment c y s h =
+        call-steps (r .call) (r .device) c s h
+        ∙ (λ i. step n below (sym (x .call) i) (movesLevel n true c && sym idle-same i) (ltb 0 (tally (assertOf n) (sym (made-call c y) i))) (sym (gone-same _ (stepped r c) y) i) s)
+
+    refused-moment : (s : Slot) → Latched n below (r .call) s lines → s ≡ (let m : Moment = record { before = e; item = refused } in step n below (number m) (begins n m) (asserts n m) (takesBack n m) s)
+    unfolding tally
+    refused-moment s h =
+        kept-step n below (r .call) s lines h
+        ∙ (λ i. step n below (sym (x .call) i) false (ltb 0 (tally (assertOf n) (sym made-none i))) (sym (gone-same e r x) i) s)
+
+    -- a wait that is not over: no other begins
+    begins-none : (c : Call) (s : Slot) → Latched n below (r .call) s lines → (s .since ≡ 0 → ⊥) → begins n (record { before = e; item = call c }) ≡ false
+    begins-none c s h z = ap (λ b. movesLevel n true c && b) (idle-same ∙ ap (λ b. not b && not (on (lines .isr) n)) (h z)) ∙ and-none (movesLevel n true c)
+      where
+        and-none : (a : Bool) → (a && false) ≡ false
+        and-none true = refl
+        and-none false = refl
+
+  pub day-closes : (xs : List Item) (e : Engine) (r : Run) → Same e r → WellFormed (r .device) → NoLoad xs → (s : Slot) → Latched n below (r .call) s (r .device .core .lines)
+      → Closed s (slotAll n s (dayMarks (r .call) (r .device) xs)) (endsFrom s (moments e xs))
+  unfolding dayMarks moments slotAll
+  day-closes [] e r x w l s h = closed-none s
+  day-closes (call c ∷ xs) e r x w l s h =
+      let y = like-call e r x (sized w) c .after in
+      let z = slotAll n s (itemMarks (r .call) (r .device) (call c)) in
+      let is = call-moment e r x c y s h in
+      let m : Moment = record { before = e; item = call c } in
+      let latched : Latched n below (r .call + 1) z (stepped r c .device .core .lines) =
+      λ q. not-not (on (stepped r c .device .core .lines .irr) n) (sym (gone-same e r x _ (stepped r c) y) ∙ step-latched (number m) (begins n m) (asserts n m) (takesBack n m) s (λ o. q (ap (λ (v : Slot). v .since) is ∙ o)))
+      in
+      let rest = day-closes xs (takes e (call c) .after) (stepped r c) y (step-well (r .device) c w) l z latched in
+      let whole : slotAll n z (dayMarks (r .call + 1) (device.step (r .device) c .after) xs) ≡ slotAll n s (itemMarks (r .call) (r .device) (call c) ++ dayMarks (r .call + 1) (device.step (r .device) c .after) xs) =
+      sym (slot-append n s (itemMarks (r .call) (r .device) (call c)) (dayMarks (r .call + 1) (device.step (r .device) c .after) xs))
+      in
+      closed-next m (moments (takes e (call c) .after) xs) s _ (begins-none e r x c s h) is (subst (λ (v : Slot). Closed z v (endsFrom z (moments (takes e (call c) .after) xs))) whole rest)
+    where
+      not-not : (b : Bool) → not b ≡ false → b ≡ true
+      not-not true e = refl
+      not-not false e = absurd (true≢false e)
+  day-closes (load d ∷ xs) e r x w l s h = absurd l
+  day-closes (refused ∷ xs) e r x w l s h =
+      let rest = day-closes xs (takes e refused .after) (countedRun r) (same-counted e r x) w l s h in
+      closed-next (record { before = e; item = refused }) (moments (takes e refused .after) xs) s _ (λ q. refl) (refused-moment e r x s h) rest

@@ -1,0 +1,52 @@
+-- The pass as it goes over the grid: rows of zeros before it, the marks of the records, and then the column of open waits and the total.
+use mathlib.Core.Bool.{cond}
+use mathlib.Core.List.{List, [], _∷_}
+use Prim.Native.Nat.{ℕ, zero, suc, _+_, max}
+use lib.Dec.{eqb}
+use Rattle.basics.specs.Inputs.{on, inputs}
+use Rattle.rules.specs.Device.{Device}
+use Rattle.plain.specs.Sequence.{Item}
+use Rattle.tallies.specs.Grid.{Grid, put}
+use Rattle.tallies.specs.Marks.{itemAfter}
+
+-- the device after some records
+unfoldable pub afterItems : Device → List Item → Device
+afterItems d [] = d
+afterItems d (x ∷ xs) = afterItems (itemAfter d x) xs
+
+-- a column is zero in these rows; the columns below c are, in the rows of all inputs
+unfoldable pub columnCleared : Grid → ℕ → List ℕ → Grid
+columnCleared f c [] = f
+columnCleared f c (n ∷ ns) = columnCleared (put f n c 0) c ns
+
+abbrev pub allInputs : List ℕ
+allInputs = inputs (on 0xffff_ffff_ffff_ffff)
+
+unfoldable pub cleared : Grid → ℕ → Grid
+cleared f zero = f
+cleared f (suc c) = columnCleared (cleared f c) c allInputs
+
+-- the total's columns below c are zero
+unfoldable pub totalCleared : Grid → ℕ → Grid
+totalCleared f zero = f
+totalCleared f (suc c) = put (totalCleared f c) 64 c 0
+
+-- a wait that is not over is open
+abbrev pub isOn : ℕ → ℕ
+isOn x = cond (eqb x 0) 0 1
+
+abbrev pub shut : Grid → ℕ → Grid
+shut f n = put f n 9 (isOn (f n 9))
+
+-- a number joined to the total: the greater wait, and of all else the sum
+abbrev pub joined : ℕ → ℕ → ℕ → ℕ
+joined c t x = cond (eqb c 7) (max t x) (t + x)
+
+-- the columns below c of row n joined to the total, and the rows below n
+unfoldable pub rowJoined : Grid → ℕ → ℕ → Grid
+rowJoined f n zero = f
+rowJoined f n (suc c) = let g = rowJoined f n c in put g 64 c (joined c (g 64 c) (g n c))
+
+unfoldable pub finished : Grid → ℕ → Grid
+finished f zero = f
+finished f (suc n) = rowJoined (shut (finished f n) n) n 10

@@ -1,0 +1,1 @@
+// That the marks of a day come to its sheet has no code: see proofs/.

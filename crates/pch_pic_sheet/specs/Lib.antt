@@ -1,0 +1,1 @@
+-- The contract cites the definitions of sheets alone.

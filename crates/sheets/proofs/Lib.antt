@@ -1,0 +1,2 @@
+-- What is proved of the sheet: laws, and the theorems.
+pub mod laws

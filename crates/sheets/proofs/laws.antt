@@ -1,0 +1,2 @@
+-- Lemmas about days and waits, for the theorems.
+pub mod Computed

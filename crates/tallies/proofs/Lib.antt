@@ -1,0 +1,2 @@
+-- What is proved of the pass, before any code.
+pub mod laws

@@ -1,0 +1,2 @@
+-- What becomes of an event, as the plain engine notes it.
+pub mod Fates

@@ -1,0 +1,2 @@
+-- What is kept of the device, as the rules see it.
+pub mod Kept

@@ -1,0 +1,106 @@
+// One record of a trace as a pass takes it: the call that it is, with base 0 and size 65,536. A refused call does nothing.
+use map::Width;
+use view::Record;
+use watch::Watched;
+use watch_write::write_byte;
+use watch_write::write_dword;
+use watch_write::write_qword;
+use watch_write::write_word;
+use window::Known;
+use window::Located;
+ghost use mathlib.Core.Bool.{true, false};
+ghost use Prim.Native.Nat.{_<_, _≤_};
+ghost use lib.ListN.{length};
+ghost use Rattle.rules.specs.Device as device;
+ghost use Rattle.calls.specs.Calls.{calls, inputCall, askedBy};
+ghost use Rattle.calls.specs.Calls as asked;
+ghost use Rattle.sheets.specs.Day.{asItem, itemOf};
+ghost use Rattle.sheets.specs.Sheet.{sheetLength};
+ghost use Rattle.tallies.specs.Following.{FollowsItem};
+ghost use Rattle.view.specs.Shown.{recordView};
+ghost use Rattle.watch.specs.Kept.{linesOf};
+
+const INPUTS: u64 = 64;
+
+const SIZE: u64 = 0x1_0000;
+
+// ---- the calls on an input
+
+fn raise(sheet: &mut [u8], w: Watched, k: u64, n: u64) -> Watched
+    requires { ⌜ (sheetLength ≤ length (now sheet)) × (k < 4000) ⌝ }
+    ensures { λ r. ⌜ FollowsItem (linesOf w) (w .waiting) (linesOf r) (r .waiting) (now (sheet .entry)) (now (sheet .exit)) k
+        (asItem (calls (inputCall n (device.level n true)))) ⌝ }
+{
+    if n < INPUTS {
+        return watch::raise(sheet, w, n as usize, k);
+    }
+    w
+}
+
+fn lower(sheet: &mut [u8], w: Watched, k: u64, n: u64) -> Watched
+    requires { ⌜ (sheetLength ≤ length (now sheet)) × (k < 4000) ⌝ }
+    ensures { λ r. ⌜ FollowsItem (linesOf w) (w .waiting) (linesOf r) (r .waiting) (now (sheet .entry)) (now (sheet .exit)) k
+        (asItem (calls (inputCall n (device.level n false)))) ⌝ }
+{
+    if n < INPUTS {
+        return watch::lower(sheet, w, n as usize, k);
+    }
+    w
+}
+
+fn poll(sheet: &mut [u8], w: Watched, k: u64, n: u64) -> Watched
+    requires { ⌜ (sheetLength ≤ length (now sheet)) × (k < 4000) ⌝ }
+    ensures { λ r. ⌜ FollowsItem (linesOf w) (w .waiting) (linesOf r) (r .waiting) (now (sheet .entry)) (now (sheet .exit)) k
+        (asItem (calls (inputCall n (device.poll n)))) ⌝ }
+{
+    if n < INPUTS {
+        return watch::poll(sheet, w, n as usize, k);
+    }
+    w
+}
+
+// ---- a write
+
+fn write(sheet: &mut [u8], w: Watched, k: u64, address: u64, width: u64, value: u64) -> Watched
+    requires { ⌜ (sheetLength ≤ length (now sheet)) × (k < 4000) ⌝ }
+    ensures { λ r. ⌜ FollowsItem (linesOf w) (w .waiting) (linesOf r) (r .waiting) (now (sheet .entry)) (now (sheet .exit)) k
+        (asItem (askedBy (asked.write 0 65536 address width value))) ⌝ }
+{
+    let Known::As(known) = window::width_of(width) else {
+        return w;
+    };
+    let Located::At(offset) = window::locate(0, SIZE, address, width) else {
+        return w;
+    };
+    let low = bits::half(value, false);
+    match known {
+        Width::Byte => write_byte(sheet, w, k, offset, bits::byte_of(low, 0)),
+        Width::Word => write_word(sheet, w, k, offset, low),
+        Width::Dword => write_dword(sheet, w, k, offset, low),
+        Width::Qword => write_qword(sheet, w, k, offset, value),
+    }
+}
+
+// ---- a record
+
+// A read changes nothing that is kept; after a drain of all nothing waits.
+pub fn step(sheet: &mut [u8], w: Watched, k: u64, r: Record) -> Watched
+    requires { ⌜ (sheetLength ≤ length (now sheet)) × (k < 4000) ⌝ }
+    ensures { λ v. ⌜ FollowsItem (linesOf w) (w .waiting) (linesOf v) (v .waiting) (now (sheet .entry)) (now (sheet .exit)) k (itemOf (recordView r)) ⌝ }
+{
+    let kind = r.kind;
+    let byte = r.byte as u64;
+    match kind {
+        1 => raise(sheet, w, k, byte),
+        2 => lower(sheet, w, k, byte),
+        3 => poll(sheet, w, k, byte),
+        4 => w,
+        5 => write(sheet, w, k, r.offset as u64, byte, r.value),
+        _ => Watched {
+            mask: w.mask,
+            irr: w.irr,
+            isr: w.isr,
+            waiting: 0,
+        },
+    }
+}
