@@ -1,7 +1,8 @@
-//! A day as a trace: session lines recorded, and a trace played and printed as a session with its answers beside it.
+//! A day as a trace: session lines recorded; a trace played and printed as a session with its answers beside it; and its numbers.
 //!
 //! `day --record FILE [LINES]` makes the trace FILE of the lines, which docs/DEVICE.md tells; - or no word is standard input. `day --play FILE` prints each
-//! record of the trace and what it gave, and how many events were dropped; - is standard input. hosts/c/day.c does the same, and `./run` by it.
+//! record of the trace and what it gave, and how many events were dropped; - is standard input. `day --sheet FILE` prints the day's numbers, input by input, as
+//! a table, and `day --csv FILE` for a program. hosts/c/day.c does the same, and `./run` by it.
 
 use pch_pic::trace::LoadError;
 use pch_pic::{RecordError, Recorder, Trace, Window, EVENTS};
@@ -71,15 +72,24 @@ fn record(file: &str, name: &str) -> Result<(), String> {
     trace.save(file).map_err(|why| at(file, &why))
 }
 
-fn play(name: &str) -> Result<(), String> {
-    let trace = Trace::load(path(name)).map_err(|why| match why {
+fn load(name: &str) -> Result<Trace, String> {
+    Trace::load(path(name)).map_err(|why| match why {
         LoadError::Trace(why) => format!("{}: refused with {}: {why}", told(name), why.number()),
         other => format!("{}: {other}", told(name)),
-    })?;
-    print(&trace).map_err(|why| format!("standard output: {why}"))
+    })
 }
 
-fn print(trace: &Trace) -> io::Result<()> {
+fn written(done: io::Result<()>) -> Result<(), String> {
+    done.map_err(|why| format!("standard output: {why}"))
+}
+
+fn print(text: String) -> io::Result<()> {
+    let mut out = io::stdout().lock();
+    out.write_all(text.as_bytes())?;
+    out.flush()
+}
+
+fn play(trace: &Trace) -> io::Result<()> {
     let (played, mut out) = (trace.play(), io::BufWriter::new(io::stdout().lock()));
     for step in played.steps() {
         writeln!(out, "{:25}   {step}", step.record)?;
@@ -92,11 +102,13 @@ fn main() -> ExitCode {
     let words: Vec<String> = env::args().skip(1).collect();
     let words: Vec<&str> = words.iter().map(String::as_str).collect();
     let done = match words[..] {
-        ["--play", file] => play(file),
+        ["--play", file] => load(file).and_then(|trace| written(play(&trace))),
+        ["--sheet", file] => load(file).and_then(|trace| written(print(format!("{}\n", trace.sheet())))),
+        ["--csv", file] => load(file).and_then(|trace| written(print(trace.sheet().csv()))),
         ["--record", file] => record(file, "-"),
         ["--record", file, lines] => record(file, lines),
         _ => {
-            eprintln!("usage: day --play FILE | day --record FILE [LINES]");
+            eprintln!("usage: day --play FILE | day --sheet FILE | day --csv FILE | day --record FILE [LINES]");
             return ExitCode::from(2);
         }
     };

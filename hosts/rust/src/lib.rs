@@ -51,7 +51,8 @@
 //! # A day recorded and played back
 //!
 //! A [`Trace`] has the calls of a day from a reset on, and [playing](Trace::play) it gives every byte again. [`Recorded`] is a device whose calls are recorded
-//! as they are made, and [`Recorder`] takes calls one by one. They are there with feature `std`.
+//! as they are made, and [`Recorder`] takes calls one by one. [`Trace::sheet`] counts the day in ten exact numbers for each input, and [`Trace::history`] tells
+//! where in the day they come from. They are there with feature `std`.
 
 #![cfg_attr(not(any(feature = "std", test)), no_std)]
 
@@ -68,8 +69,12 @@ mod ffi;
 pub mod file;
 mod form;
 #[cfg(feature = "std")]
+pub mod history;
+#[cfg(feature = "std")]
 mod recorder;
 pub mod reg;
+#[cfg(feature = "std")]
+pub mod sheet;
 #[cfg(feature = "std")]
 pub mod trace;
 mod wires;
@@ -81,6 +86,8 @@ pub use event::{difference, Event, Events, Returned};
 pub use form::{Form, Image};
 #[cfg(feature = "std")]
 pub use recorder::{RecordError, Recorded, Recorder};
+#[cfg(feature = "std")]
+pub use sheet::Sheet;
 #[cfg(feature = "std")]
 pub use trace::{Played, Record, Step, Trace};
 pub use wires::{Change, Device, Wires};
@@ -117,6 +124,13 @@ pub const RECORDS_MAX: usize = 4_000;
 
 /// The blocks of a trace at most.
 pub const BLOCKS_MAX: usize = 64;
+
+/// The bytes of the sheet of a day.
+pub const SHEET_LEN: usize = 2_600;
+
+/// The window that a trace is played in.
+#[cfg(feature = "std")]
+const PLAYED: Window = Window::new(0, 0x1_0000);
 
 /// The bytes that have room for all events that can wait.
 pub const DRAIN_ROOM: usize = EVENTS * EVENT_LEN;
