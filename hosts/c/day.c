@@ -251,7 +251,8 @@ static void play(const char *name)
     char line[LINE_LEN];
     uint64_t bad = 0;
     size_t len = load(name);
-    taken(name, pic_trace_play(trace, len, &played, &bad), bad);
+    int number = pic_trace_play(trace, len, &played, &bad);
+    taken(name, number, bad);
     while (pic_trace_step(trace, &played, &step)) {
         print_line(step.record, line);
         printf("%-25s   ", line);
@@ -266,7 +267,8 @@ static void sheet(const char *name, void print(const struct pic_sheet *sheet, FI
     static struct pic_sheet sheet;
     uint64_t bad = 0;
     size_t len = load(name);
-    taken(name, pic_trace_sheet(trace, len, &sheet, &bad), bad);
+    int number = pic_trace_sheet(trace, len, &sheet, &bad);
+    taken(name, number, bad);
     print(&sheet, stdout);
     written();
 }

@@ -111,7 +111,7 @@
     link.addEventListener("click", (event) => {
       const record = Number(link.dataset.record), index = lanes.findIndex((lane) => lane.dataset.input === link.dataset.input);
       event.preventDefault();
-      document.getElementById("n" + link.dataset.input).scrollIntoView({ block: "center" });
+      document.getElementById("n" + link.dataset.input).scrollIntoView({ block: "nearest" });
       show(record);
       pinned = true;
       tell(record, index);

@@ -332,12 +332,12 @@ fn write_picture(out: &mut String, asked: &Asked, day: &Day) {
     let _ = writeln!(out, "<svg width=\"100%\" height=\"{height}\" viewBox=\"0 0 {} {height}\" preserveAspectRatio=\"none\">", day.records);
     let full = AXIS + RING - 4 - 40;
     let _ = writeln!(out, "<path class=\"ring\" d=\"{}\"/>\n<path class=\"full\" d=\"M0 {full}H{}\"/>", ring(day), day.records);
+    path(out, "block", &day.block_starts().map(|at| format!("M{at} {AXIS}V{height}")).collect::<String>());
     for (at, lane) in day.lanes.iter().enumerate() {
         write_lane(out, asked, day, lane, top(at));
     }
     let rules: String = (0..=day.lanes.len()).map(|at| format!("M0 {}H{}", top(at), day.records)).collect();
     path(out, "rule", &rules);
-    path(out, "block", &day.block_starts().map(|at| format!("M{at} {AXIS}V{height}")).collect::<String>());
     for (at, lane) in day.lanes.iter().enumerate() {
         // A piece of no length with round ends is a dot, whatever the width of the day.
         let middle = top(at) + BAND.0 + BAND.1 / 2;
