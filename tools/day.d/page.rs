@@ -214,7 +214,7 @@ const LEGEND: &str = r##"<ul class="legend">
 <li><svg class="key"><rect class="served" x="1" y="2" width="30" height="12"/></svg>in service</li>
 <li><svg class="key"><rect class="latched" x="1" y="7" width="30" height="4"/></svg>latched</li>
 <li><svg class="key"><rect class="masked" width="32" height="16"/></svg>masked</li>
-<li><svg class="key"><rect class="wait" x="1" y="2" width="30" height="12"/><path class="stripes" d="M2 8h28"/></svg>waits for its assert; the number is the longest of that input, in records</li>
+<li><svg class="key"><rect class="wait" x="1" y="2" width="30" height="12"/><path class="stripes" d="M2 8h28"/></svg>waits for its assert; the number is its longest wait, in records</li>
 <li class="limit"><svg class="key"><rect class="over" x="1" y="2" width="30" height="12"/><path class="stripes" d="M2 8h28"/></svg>over the limit</li>
 <li><svg class="key"><rect class="gone" x="1" y="2" width="22" height="12"/><use href="#gone" x="23" y="8"/></svg>withdrawn</li>
 <li><svg class="key"><rect class="open" x="1" y="2" width="22" height="12"/><use href="#open" x="24" y="8"/></svg>open at the end</li>
@@ -436,7 +436,7 @@ pub fn page(asked: &Asked, day: &Day) -> String {
         "<section class=\"day\">\n<div class=\"bar\">{LEGEND}<div class=\"zoom\"><button type=\"button\" data-by=\"0.5\" title=\"narrower\">\u{2212}</button><output>whole day</output><button type=\"button\" data-by=\"2\" title=\"wider\">+</button></div></div>\n<div class=\"board\">\n"
     );
     write_names(&mut out, asked, day);
-    out.push_str("<div class=\"lanes\" tabindex=\"0\">\n");
+    out.push_str("<div class=\"lanes\" tabindex=\"0\" aria-label=\"The day; the arrow keys go from record to record\">\n");
     write_picture(&mut out, asked, day);
     out.push_str("</div>\n");
     write_sheet(&mut out, day);
