@@ -1,9 +1,13 @@
 //! The program of tools/day: a trace as one page with a picture of its day.
 //!
-//! `lanes.rs` goes through the day and finds what is to be drawn, `words.rs` tells a record in words, `page.rs` writes the page, with `page.css` and `page.js` in it.
+//! `lanes.rs` goes through the day and finds what is to be drawn, `findings.rs` what stands out; `words.rs` tells a record in words; `picture.rs` draws, and
+//! `page.rs` fills in page.html, with page.css and page.js in it.
 
+mod findings;
 mod lanes;
 mod page;
+mod picture;
+mod text;
 mod words;
 
 use lanes::Day;
@@ -52,7 +56,7 @@ fn page(words: &[String]) -> Result<String, String> {
     let day = Day::new(&trace);
     day.holds()?;
     let title = if file == "-" { "standard input".into() } else { Path::new(file).file_name().unwrap_or_default().to_string_lossy() };
-    Ok(page::page(&page::Asked { title: &title, names: &named, limit }, &day))
+    Ok(page::page(&text::Asked { title: &title, names: &named, limit }, &day))
 }
 
 fn main() -> ExitCode {
