@@ -32,6 +32,13 @@
     const has = (name, yes, no) => (at(lane, name, record) ? yes : no);
     return [has("latched", "latched", "not latched"), has("masked", "masked", "unmasked"), has("served", "in service", "not in service")].join(", ");
   }
+  // How many events wait after a record, by the height of the top lane there.
+  function ringed(record) {
+    const path = picture.querySelector("path.ring"), foot = Number(path.dataset.foot), unit = Number(path.dataset.unit);
+    let count = 0;
+    for (const m of path.getAttribute("d").matchAll(/H(\d+)V([\d.]+)/g)) if (Number(m[1]) <= record) count = Math.round((foot - Number(m[2])) / unit);
+    return count + (count === 1 ? " event waits" : " events wait") + " in the ring after it, of 16 at most.";
+  }
   function name(input) {
     const label = document.querySelector('.name[data-input="' + input + '"]');
     return "Input " + label.textContent.replace(/^(\d+) (.+)/, "$1, $2");
@@ -54,6 +61,9 @@
     if (lane) {
       lit(lane.dataset.input);
       parts.push(name(lane.dataset.input) + " after it: " + state(lane, record) + ".", waited(lane, record));
+    } else {
+      lit(-1);
+      parts.push(ringed(record));
     }
     tip.append("\n" + parts.filter(Boolean).join("\n"));
     tip.hidden = false;

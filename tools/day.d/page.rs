@@ -25,8 +25,12 @@ fn tiles(asked: &Asked, day: &Day) -> String {
         (total.open, "open", "open at the end", ""),
     ];
     let plain = [(total.raises, "raises"), (total.lowers, "lowers"), (total.asserts, "asserts"), (total.deasserts, "deasserts")];
+    let over = day.lanes.iter().flat_map(|lane| &lane.waits).filter(|wait| asked.too_long(wait)).count() as u32;
+    let limit = asked
+        .limit
+        .map_or(String::new(), |limit| tile(if over > 0 { "over" } else { "none" }, over, &format!("waits over {}", counted(limit)), ""));
     let trouble = trouble.map(|(number, class, name, more)| tile(if number > 0 { class } else { "none" }, number, name, more));
-    trouble.concat() + &plain.map(|(number, name)| tile("plain", number, name, "")).concat()
+    limit + &trouble.concat() + &plain.map(|(number, name)| tile("plain", number, name, "")).concat()
 }
 
 fn names(asked: &Asked, day: &Day) -> String {

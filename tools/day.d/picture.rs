@@ -5,6 +5,7 @@
 
 use crate::lanes::{Day, Lane, Run, ends};
 use crate::text::{Asked, counted};
+use pch_pic::EVENTS;
 use pch_pic::history::{End, Wait};
 use std::fmt::Write;
 
@@ -93,19 +94,22 @@ fn write_axis(out: &mut String, day: &Day) {
     }
 }
 
-/// How many events wait, 0 to 16, as steps from the left to the right.
-fn ring(day: &Day) -> String {
-    let (foot, unit) = (AXIS + RING - 4, 2.5);
-    let mut d = format!("M0 {foot}");
-    let mut last = 0;
-    for moment in day.history.moments() {
+/// Where the ring's lane has its foot, and how high an event is in it.
+const FOOT: usize = AXIS + RING - 4;
+const UNIT: f64 = 2.5;
+
+/// How many events wait, 0 to 16, as steps from the left to the right; and the line at 16.
+fn write_ring(out: &mut String, day: &Day) {
+    let high = |waiting: usize| FOOT as f64 - UNIT * waiting as f64;
+    let (mut d, mut last) = (format!("M0 {FOOT}"), 0);
+    for moment in day.history.moments().iter() {
         if moment.waiting != last {
-            let _ = write!(d, "H{}V{}", moment.number, foot as f64 - unit * moment.waiting as f64);
             last = moment.waiting;
+            let _ = write!(d, "H{}V{}", moment.number, high(last));
         }
     }
-    let _ = write!(d, "H{}V{foot}z", day.records);
-    d
+    let _ = writeln!(out, "<path class=\"ring\" data-foot=\"{FOOT}\" data-unit=\"{UNIT}\" d=\"{d}H{}V{FOOT}z\"/>", day.records);
+    path(out, "full", &format!("M0 {}H{}", high(EVENTS), day.records));
 }
 
 /// Dropped events: a piece of no length with round ends is a dot, whatever the width of the day.
@@ -130,8 +134,7 @@ pub fn picture(asked: &Asked, day: &Day) -> String {
         top(0)
     );
     let _ = writeln!(out, "<svg width=\"100%\" height=\"{height}\" viewBox=\"0 0 {} {height}\" preserveAspectRatio=\"none\">", day.records);
-    let full = AXIS + RING - 4 - 40;
-    let _ = writeln!(out, "<path class=\"ring\" d=\"{}\"/>\n<path class=\"full\" d=\"M0 {full}H{}\"/>", ring(day), day.records);
+    write_ring(&mut out, day);
     path(&mut out, "block", &day.block_starts().map(|at| format!("M{at} {AXIS}V{height}")).collect::<String>());
     for (at, lane) in day.lanes.iter().enumerate() {
         write_lane(&mut out, asked, day, lane, top(at));

@@ -20,7 +20,7 @@ pub fn counted(number: usize) -> String {
     let digits = number.to_string();
     let mut text = String::new();
     for (at, digit) in digits.chars().enumerate() {
-        if at > 0 && (digits.len() - at) % 3 == 0 {
+        if at > 0 && digits.len() % 3 == at % 3 {
             text.push(',');
         }
         text.push(digit);

@@ -52,6 +52,13 @@
     const at = { clientX: x(record + 0.5), clientY: box.top + top + height * index + height / 2, bubbles: true };
     picture.dispatchEvent(new PointerEvent("pointermove", at));
   }
+  // Above the lanes it tells how many events wait: 16 where one was dropped, and none before the first record that makes any.
+  function ringed(record) {
+    picture.dispatchEvent(new PointerEvent("pointermove", { clientX: x(record + 0.5), clientY: box.top + top - 10, bubbles: true }));
+    return Number(tip.innerText.match(/(\d+) events? waits? in the ring/)[1]);
+  }
+  const lost = all("path.drop[data-input]").flatMap((path) => Array.from(path.getAttribute("d").matchAll(/M(\d+)\.5/g), (m) => Number(m[1])));
+  say("ring", ringed(0) === 0 && lost.every((record) => ringed(record) === 16));
   const press = (key) => picture.parentNode.dispatchEvent(new KeyboardEvent("keydown", { key: key, bubbles: true }));
   for (const [index, lane] of lanes.entries()) {
     const [first, length] = longest(lane);
