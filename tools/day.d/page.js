@@ -110,6 +110,7 @@
     tell(Math.max(0, Math.min(records - 1, now.record + move[0])), Math.max(0, Math.min(lanes.length - 1, now.lane + move[1])));
   });
   document.addEventListener("keydown", (event) => event.key === "Escape" && hide());
+  document.addEventListener("click", (event) => event.target.closest("#picture, .findings, .zoom") || hide());
   for (const button of document.querySelectorAll(".zoom button")) {
     button.addEventListener("click", () => {
       const middle = ((scroller.scrollLeft + scroller.clientWidth / 2) / scroller.scrollWidth) * records;

@@ -73,6 +73,12 @@
     say("keys", tip.innerText.startsWith(records > 1 ? "Record 1 " : "Record 0 "));
     press("Escape");
     say("escape", tip.hidden);
+    const at = { clientX: x(0.5), clientY: box.top + top + 3, bubbles: true };
+    picture.dispatchEvent(new MouseEvent("click", at));
+    picture.dispatchEvent(new PointerEvent("pointerleave"));
+    const stays = !tip.hidden;
+    document.querySelector("h1").click();
+    say("pinned", stays && tip.hidden);
     const width = picture.getBoundingClientRect().width;
     all(".zoom button")[1].click();
     say("wider", records < 500 || Math.abs(picture.getBoundingClientRect().width - 2 * width) < 20);
