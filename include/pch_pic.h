@@ -39,9 +39,9 @@
  *     bytes 2..7    0
  *     bytes 8..15   the value, little end first; 0 if absent
  *
- * REFUSALS. A refused call changes no byte of the image, of the board, of the phase, of the event buffer, of a conversion's target, of a play's answers and of
- * a salvage's two buffers. Every refusal but 7 writes the answer area; refusal 7 writes nothing at all, so after a 7 the answer area is not this call's.
- * Every call ends with a number, whatever the bytes, numbers and lengths are.
+ * REFUSALS. A refused call changes no byte of the image, of the board, of the phase, of the event buffer, of a conversion's target, of a play's answers, of
+ * a salvage's two buffers and of a sheet. Every refusal but 7 writes the answer area; refusal 7 writes nothing at all, so after a 7 the answer area is not
+ * this call's. Every call ends with a number, whatever the bytes, numbers and lengths are.
  *
  * EVENTS. An event is a vector to assert or to deassert at the interrupt controller above this one. Where the host moves a line (pch_pic_level,
  * pch_pic_poll) the event is returned at once, as the value. Where the guest writes MASK or CLEAR there can be many: they wait in the image, 16
@@ -113,6 +113,21 @@
  * deasserts and the inputs in service that carry it, dropped events counted; an input that is latched and unmasked, and then not lowered, cleared or masked, is in service from
  * the first poll or raise on; and no vector byte changes while its input is in service, nor any once start-up has ended.
  *
+ * THE SHEET. pch_pic_sheet counts a trace's day: 65 rows of ten numbers, those of inputs 0 to 63 and the total, each a u32 with its little end first, 2600
+ * bytes in all. Refused records count as none, and keep their number. Columns 0 to 9:
+ *
+ *     0, 1          raises and lowers of the input that were done
+ *     2, 3          asserts and deasserts made, whatever became of them
+ *     4, 5          how many of both together were returned by a raise, a lower or a poll, and how many a write offered to the ring
+ *     6             how many of the offered found 16 waiting, and were dropped
+ *     7             the greatest wait
+ *     8, 9          waits that were withdrawn, and those still open at the end
+ *
+ * A wait begins at a raise that finds the input neither latched nor in service, and ends at the next assert of that input, returned, kept or dropped: it is the
+ * number of that record less the number of the raise, and 0 where the raise itself made the assert. A lowering, or a write to CLEAR that has a 1 for the
+ * input, withdraws it. Masking does not end it, nor does a write to ISR, which makes no event. The total has the sum of each column, and of the waits
+ * the greatest. hosts/c/sheet.c and Trace::sheet of hosts/rust name the columns, './run --sheet FILE' prints them, and tools/day draws the day.
+ *
  * WHAT A HOST MUST DO. hosts/c/pic.c and crate pch-pic in hosts/rust do all of this (pic_settle, pic_line, pic_resume):
  *     - After each write of the guest, drain, and pass the events on in their order. Then poll all 64 inputs, in any order, and pass on what they
  *       return: an unmask announces only the lowest input that waits, and this sweep wakes the others. Once each input is polled, with no MASK, CLEAR
@@ -135,7 +150,7 @@
  * THE HOST'S DUTIES. No call can test these:
  *     - each pointer is good for as many bytes as the length beside it says; a null pointer with length 0 is an empty buffer;
  *     - the image, the board, the phase, the answer area and the event buffer or the target of one call do not overlap, nor do the five areas of a play, nor
- *       the four of a salvage;
+ *       the four of a salvage, nor the three of a sheet;
  *     - while a call other than a read or a conversion runs on an image, no other call runs on it. Reads and conversions of one image may run side by
  *       side, each with its own answer area, board and target: they only load from the image. Calls on different images may always run side by side.
  */
@@ -153,9 +168,9 @@
 
 /* The version of the header and of what it says about the library. */
 #define PCH_PIC_VERSION_MAJOR 0
-#define PCH_PIC_VERSION_MINOR 12
+#define PCH_PIC_VERSION_MINOR 13
 #define PCH_PIC_VERSION_PATCH 0
-#define PCH_PIC_VERSION "0.12.0"
+#define PCH_PIC_VERSION "0.13.0"
 
 #ifdef __cplusplus
 extern "C" {
@@ -177,7 +192,10 @@ enum {
     PCH_PIC_RECORDS_MAX = 4000,        /* records of a trace at most */
     PCH_PIC_BLOCKS_MAX = 64,           /* blocks of a trace at most */
     PCH_PIC_DROPPED_LEN = 4,           /* bytes of an entry of a salvage's list */
-    PCH_PIC_DROPPED_MAX = 252          /* bytes that have room for every list: 63 blocks dropped, and one kept */
+    PCH_PIC_DROPPED_MAX = 252,         /* bytes that have room for every list: 63 blocks dropped, and one kept */
+    PCH_PIC_SHEET_LEN = 2600,          /* bytes of a sheet */
+    PCH_PIC_SHEET_ROWS = 65,           /* rows of a sheet: inputs 0 to 63, and the total */
+    PCH_PIC_SHEET_ROW_LEN = 40         /* bytes of a row: ten numbers of four bytes */
 };
 
 /* The window of the calls that a trace is played by: base 0, and so many bytes. */
@@ -250,9 +268,25 @@ enum {
     PCH_PIC_DRAIN = 6  /* pch_pic_drain with room for all */
 };
 
+/* The rows of a sheet are the inputs, and then the total; its columns are these: number c of row r stands at byte PCH_PIC_SHEET_ROW_LEN * r + 4 * c. */
+enum {
+    PCH_PIC_SHEET_TOTAL = 64,    /* the row of the total */
+    PCH_PIC_SHEET_RAISES = 0,    /* raises done */
+    PCH_PIC_SHEET_LOWERS = 1,    /* lowers done */
+    PCH_PIC_SHEET_ASSERTS = 2,   /* asserts made */
+    PCH_PIC_SHEET_DEASSERTS = 3, /* deasserts made */
+    PCH_PIC_SHEET_RETURNED = 4,  /* of both: returned */
+    PCH_PIC_SHEET_OFFERED = 5,   /* of both: offered, the dropped among them */
+    PCH_PIC_SHEET_DROPPED = 6,   /* of both: dropped */
+    PCH_PIC_SHEET_WAIT = 7,      /* the greatest wait, in records */
+    PCH_PIC_SHEET_WITHDRAWN = 8, /* waits withdrawn */
+    PCH_PIC_SHEET_OPEN = 9,      /* waits open at the end */
+    PCH_PIC_SHEET_COLUMNS = 10   /* how many columns there are */
+};
+
 /* The numbers handed back. A call tests for them in the order 7, 4, 5, 8, 9, 10, 11, then 3, or 2 before 1, and hands back the first
- * that holds; pch_pic_play in the order 7, 4, 12, 13, 7, and pch_pic_salvage 7, 12, 16, 7; the calls of the hoist profile end with 14 before 15. There
- * is no 6 any more. */
+ * that holds; pch_pic_play in the order 7, 4, 12, 13, 7, pch_pic_salvage 7, 12, 16, 7, and pch_pic_sheet 7, 12, 13; the calls of the hoist profile end
+ * with 14 before 15. There is no 6 any more. */
 enum pch_pic_number {
     PCH_PIC_DONE = 0,     /* the call was done */
     PCH_PIC_OUTSIDE = 1,  /* not all bytes of the access are inside the window; the value is the address */
@@ -260,8 +294,8 @@ enum pch_pic_number {
     PCH_PIC_INPUT = 3,    /* the input is 64 or more */
     PCH_PIC_LENGTH = 4,   /* an image, or a conversion's target, is not 290, 259 or 251 bytes long */
     PCH_PIC_CONTENTS = 5, /* the image's first bytes, 27 of 290 or else 22, are not those of the form that its length says */
-    PCH_PIC_ROOM = 7,     /* the answer area is under 16 bytes, a board under 256, no phase is lent, a drain's place is past its buffer's end, or a play's
-                             answers or events or a salvage's second buffer or list are short */
+    PCH_PIC_ROOM = 7,     /* the answer area is under 16 bytes, a board under 256, a sheet under 2600, no phase is lent, a drain's place is past its
+                             buffer's end, or a play's answers or events or a salvage's second buffer or list are short */
     /* A rule of the form is broken; the value is the place in the image of the byte that breaks it, the first where there are several. */
     PCH_PIC_COPY = 8,     /* of form 1 alone: the copy of IRR differs from IRR; the place of its first byte */
     PCH_PIC_COUNT = 9,    /* more than 16 events wait */
@@ -423,6 +457,11 @@ uint8_t pch_pic_hoist_write(uint8_t *image, size_t image_len, const uint8_t *pha
 /* Ends start-up: the phase becomes 1. No value; the image is only read. Refused with 15 while an input is in service, and where the phase is not 0. A refusal
  * leaves the phase. Refusals: 7, 4, 5, 8 to 11, 15. */
 uint8_t pch_pic_hoist_end_startup(const uint8_t *image, size_t image_len, uint8_t *phase, size_t phase_len, uint8_t *answer, size_t answer_len);
+
+/* Counts the day of a trace into a sheet, as told above: what a play of it from a reset makes, and nothing is played for the host. The first 2600 bytes of
+ * sheet are written, and those past them stay. The value is the number of records. A refusal leaves the sheet. Refusals: 7 (the answer area, or a sheet
+ * under 2600 bytes), 12, 13 with the number of the first bad record. */
+uint8_t pch_pic_sheet(const uint8_t *trace, size_t trace_len, uint8_t *sheet, size_t sheet_len, uint8_t *answer, size_t answer_len);
 
 /* How far one event's number is ahead of another's: later minus earlier, below 0 where it is the older. Numbers go round, so it is the one from -32768 to
  * 32767 that differs from later - earlier by a multiple of 65536: 3 is 5 ahead of 65534, and 32768 ahead reads as -32768. It refuses nothing. */

@@ -1,9 +1,12 @@
-/* A day as a trace: session lines recorded, a trace played and printed as a session with its answers beside it, and a damaged trace salvaged.
+/* A day as a trace: session lines recorded; a trace played and printed as a session with its answers beside it; its numbers; a damaged trace salvaged.
  *     day --record FILE [LINES]   makes the trace FILE of the lines, which docs/DEVICE.md tells; - or no word is standard input
  *     day --play FILE             prints each record of the trace and what it gave, and how many events were dropped; - is standard input
+ *     day --sheet FILE            prints the day's numbers, input by input, as a table
+ *     day --csv FILE              the same for a program, with commas
  *     day --salvage FILE TO       makes the trace TO of the blocks of FILE that have no bad record, and prints which others there are
  * It ends with 0; with 1 where something cannot be read or written, a line is no record or a trace is refused; and with 2 where its words are wrong. */
 #include "recorder.h"
+#include "sheet.h"
 
 #include <errno.h>
 #include <inttypes.h>
@@ -211,7 +214,7 @@ static unsigned long drops_of(const uint8_t *image, size_t len)
     return pic_init(&pic, 0) == PCH_PIC_DONE && pic_take(&pic, image, len, NULL) == PCH_PIC_DONE ? pic_drops(&pic) : 0;
 }
 
-/* What a trace is refused for. */
+/* Ends where a trace is refused, or its file cannot be read. */
 static void refused(const char *name, int number)
 {
     if (number == PIC_FILE) {
@@ -223,7 +226,26 @@ static void refused(const char *name, int number)
     }
 }
 
-static void printed(void)
+/* The length of the trace in a file. */
+static size_t load(const char *name)
+{
+    size_t len = 0;
+    refused(name, pic_trace_load(opened(name), trace, &len));
+    return len;
+}
+
+/* Ends where the library has refused the trace. */
+static void taken(const char *name, int number, uint64_t bad)
+{
+    if (number == PCH_PIC_RECORD) {
+        fprintf(stderr, "day: %s: refused with %d: %s, number %" PRIu64 " from 0 on\n", told(name), number, pic_why(number), bad);
+        exit(1);
+    }
+    refused(name, number);
+}
+
+/* All of standard output is written, or it is told. */
+static void written(void)
 {
     if (fflush(stdout) != 0 || ferror(stdout)) {
         fail("standard output", strerror(errno));
@@ -235,24 +257,28 @@ static void play(const char *name)
     static struct pic_played played;
     struct pic_step step = {0};
     char line[LINE_LEN];
-    size_t len = 0;
     uint64_t bad = 0;
-    int number = pic_trace_load(opened(name), trace, &len);
-    if (number == PCH_PIC_DONE) {
-        number = pic_trace_play(trace, len, &played, &bad);
-    }
-    if (number == PCH_PIC_RECORD) {
-        fprintf(stderr, "day: %s: refused with %d: %s, number %" PRIu64 " from 0 on\n", told(name), number, pic_why(number), bad);
-        exit(1);
-    }
-    refused(name, number);
+    size_t len = load(name);
+    int number = pic_trace_play(trace, len, &played, &bad);
+    taken(name, number, bad);
     while (pic_trace_step(trace, &played, &step)) {
         print_line(step.record, line);
         printf("%-25s   ", line);
         print_answer(&step);
     }
     printf("%-25s   drops %08lx\n", "(end)", drops_of(played.image, sizeof played.image));
-    printed();
+    written();
+}
+
+static void sheet(const char *name, void print(const struct pic_sheet *sheet, FILE *out))
+{
+    static struct pic_sheet sheet;
+    uint64_t bad = 0;
+    size_t len = load(name);
+    int number = pic_trace_sheet(trace, len, &sheet, &bad);
+    taken(name, number, bad);
+    print(&sheet, stdout);
+    written();
 }
 
 static unsigned blocks_of(const uint8_t *bytes)
@@ -271,30 +297,30 @@ static void salvage(const char *name, const char *file)
 {
     static struct pic_salvaged salvaged;
     struct pic_dropped dropped;
-    size_t len = 0;
-    int number = pic_trace_load(opened(name), trace, &len);
-    if (number == PCH_PIC_DONE) {
-        number = pic_trace_salvage(trace, len, &salvaged);
-    }
-    refused(name, number);
+    size_t len = load(name);
+    refused(name, pic_trace_salvage(trace, len, &salvaged));
     saved(file, pic_salvaged_save(&salvaged, file));
     for (size_t place = 0; pic_trace_dropped(&salvaged, place, &dropped); place++) {
         printf("block %u: record %u is bad\n", dropped.block, dropped.record);
     }
     printf("kept %u of %u blocks, %u records\n", blocks_of(salvaged.trace), blocks_of(trace), records_of(salvaged.trace, salvaged.len));
-    printed();
+    written();
 }
 
 int main(int argc, char **argv)
 {
     if (argc == 3 && strcmp(argv[1], "--play") == 0) {
         play(argv[2]);
+    } else if (argc == 3 && strcmp(argv[1], "--sheet") == 0) {
+        sheet(argv[2], pic_sheet_print);
+    } else if (argc == 3 && strcmp(argv[1], "--csv") == 0) {
+        sheet(argv[2], pic_sheet_csv);
     } else if ((argc == 3 || argc == 4) && strcmp(argv[1], "--record") == 0) {
         record(argv[2], argc == 4 ? argv[3] : "-");
     } else if (argc == 4 && strcmp(argv[1], "--salvage") == 0) {
         salvage(argv[2], argv[3]);
     } else {
-        fprintf(stderr, "usage: day --play FILE | day --record FILE [LINES] | day --salvage FILE TO\n");
+        fprintf(stderr, "usage: day --play FILE | day --sheet FILE | day --csv FILE | day --record FILE [LINES] | day --salvage FILE TO\n");
         return 2;
     }
     return 0;

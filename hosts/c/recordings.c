@@ -4,6 +4,7 @@
 #define _POSIX_C_SOURCE 200809L
 #include "hoist.h"
 #include "recorder.h"
+#include "sheet.h"
 
 #include <errno.h>
 #include <signal.h>
@@ -512,6 +513,33 @@ static void a_recording_that_stops(void)
     }
 }
 
+/* The numbers of a recorded day: one input that waits for its unmask and one that is lowered before. */
+static void a_sheet(void)
+{
+    static struct pic_sheet sheet, kept;
+    size_t len = 0;
+    uint64_t bad = 0;
+    start_live();
+    pic_recorder_begin(&recorder);
+    does(PCH_PIC_RAISE, 5, 0, 0);
+    does(PCH_PIC_RAISE, 40, 0, 0);
+    does(PCH_PIC_LOWER, 40, 0, 0);
+    does(PCH_PIC_WRITE, 8, PCH_PIC_REG_MASK, 0);
+    does(PCH_PIC_RAISE, 64, 0, 0);
+    expect("a day to count", pic_recorder_finish(&recorder, trace, &len) == PCH_PIC_DONE);
+    expect("is counted", pic_trace_sheet(trace, len, &sheet, &bad) == PCH_PIC_DONE && sheet.records == 5);
+    expect("a wait of 3", sheet.of[5][PCH_PIC_SHEET_WAIT] == 3 && sheet.of[5][PCH_PIC_SHEET_OFFERED] == 1 && sheet.of[5][PCH_PIC_SHEET_RAISES] == 1);
+    expect("one withdrawn", sheet.of[40][PCH_PIC_SHEET_WITHDRAWN] == 1 && sheet.of[40][PCH_PIC_SHEET_ASSERTS] == 0);
+    expect("the total", sheet.of[PCH_PIC_SHEET_TOTAL][PCH_PIC_SHEET_RAISES] == 2 && sheet.of[PCH_PIC_SHEET_TOTAL][PCH_PIC_SHEET_WAIT] == 3);
+    expect("who did nothing", pic_sheet_idle(&sheet, 4) && !pic_sheet_idle(&sheet, 5) && !pic_sheet_idle(&sheet, PCH_PIC_SHEET_TOTAL));
+    kept = sheet;
+    trace[6 + 16 * 3 + 5] = 1;
+    expect("a bad record is told", pic_trace_sheet(trace, len, &sheet, &bad) == PCH_PIC_RECORD && bad == 3);
+    expect("or is not asked for", pic_trace_sheet(trace, len, &sheet, NULL) == PCH_PIC_RECORD);
+    expect("as are wrong contents", pic_trace_sheet(trace, len - 1, &sheet, &bad) == PCH_PIC_TRACE);
+    expect("and the sheet stays", memcmp(&sheet, &kept, sizeof sheet) == 0);
+}
+
 static void texts(void)
 {
     for (int number = PIC_FULL; number <= PIC_STARTED; number++) {
@@ -539,6 +567,7 @@ int main(int argc, char **argv)
     a_watched_device();
     a_watched_hoist();
     a_recording_that_stops();
+    a_sheet();
     texts();
     printf("%d passed, %d failed\n", passed, failed);
     return failed != 0;

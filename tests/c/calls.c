@@ -599,6 +599,108 @@ static void longest_list(void)
     expect("one block of 64 is kept", right && kept[0] == 1 && kept[2] == 6 && kept[4] == 94 && kept[6] == PCH_PIC_DRAIN);
 }
 
+/* A sheet with a guard behind it: this much of it is lent. */
+static uint8_t sheet[PCH_PIC_SHEET_LEN + GUARD];
+static size_t sheet_len;
+
+static uint8_t count(size_t answer_len)
+{
+    guard();
+    memset(sheet, 0x69, sizeof sheet);
+    return pch_pic_sheet(trace, trace_len, sheet, sheet_len, answer, answer_len);
+}
+
+/* Whether the bytes of the sheet from here on stayed. */
+static int stays(size_t from)
+{
+    for (size_t i = from; i < sizeof sheet; i++) {
+        if (sheet[i] != 0x69) {
+            return 0;
+        }
+    }
+    return 1;
+}
+
+/* Whether a row has these numbers. */
+static int row_is(size_t row, const uint32_t numbers[PCH_PIC_SHEET_COLUMNS])
+{
+    for (size_t i = 0; i < PCH_PIC_SHEET_ROW_LEN; i++) {
+        if (sheet[PCH_PIC_SHEET_ROW_LEN * row + i] != (uint8_t)(numbers[i / 4] >> (8 * (i % 4)))) {
+            return 0;
+        }
+    }
+    return 1;
+}
+
+/* The small day: input 5 is raised, waits for the unmask, is lowered, and raised again. */
+static void counted(void)
+{
+    static const uint32_t five[PCH_PIC_SHEET_COLUMNS] = {2, 1, 2, 1, 2, 1, 0, 1, 0, 0}, idle[PCH_PIC_SHEET_COLUMNS] = {0};
+    int right = 1;
+    small_day();
+    sheet_len = PCH_PIC_SHEET_LEN;
+    expect("a day is counted", count(ANSWER) == 0 && answers(0, 1, 10) && stays(PCH_PIC_SHEET_LEN));
+    expect("input 5 and the total", row_is(5, five) && row_is(PCH_PIC_SHEET_TOTAL, five));
+    for (size_t row = 0; row < PCH_PIC_INPUTS; row++) {
+        right = right && (row == 5 || row_is(row, idle));
+    }
+    expect("the other inputs did nothing", right);
+    sheet_len = PCH_PIC_SHEET_LEN + GUARD;
+    expect("bytes past 2,600 stay", count(ANSWER + GUARD) == 0 && answers(0, 1, 10) && stays(PCH_PIC_SHEET_LEN));
+}
+
+/* One wait withdrawn by a lowering, one by CLEAR, one open; and a wait of 1,000 records, which takes two bytes. */
+static void counted_waits(void)
+{
+    static const uint32_t one[PCH_PIC_SHEET_COLUMNS] = {1, 1, 0, 0, 0, 0, 0, 0, 1, 0}, two[PCH_PIC_SHEET_COLUMNS] = {2, 0, 0, 0, 0, 0, 0, 0, 1, 1};
+    static const uint32_t last[PCH_PIC_SHEET_COLUMNS] = {1, 0, 1, 0, 1, 0, 0, 1000, 0, 0};
+    static const uint32_t total[PCH_PIC_SHEET_COLUMNS] = {4, 1, 1, 0, 1, 0, 0, 1000, 2, 1};
+    contents(1, 1007);
+    record(0, PCH_PIC_RAISE, 1, 0, 0);
+    record(1, PCH_PIC_LOWER, 1, 0, 0);
+    record(2, PCH_PIC_RAISE, 2, 0, 0);
+    record(3, PCH_PIC_WRITE, 1, PCH_PIC_REG_CLEAR, 4);
+    record(4, PCH_PIC_RAISE, 2, 0, 0);
+    record(5, PCH_PIC_RAISE, 63, 0, 0);
+    for (size_t i = 6; i < 1007; i++) {
+        record(i, PCH_PIC_DRAIN, 0, 0, 0);
+    }
+    /* An ISR bit keeps the unmask from announcing 63; without it the poll does. */
+    record(6, PCH_PIC_WRITE, 4, PCH_PIC_REG_ISR + 4, 0x80000000);
+    record(7, PCH_PIC_WRITE, 4, PCH_PIC_REG_MASK + 4, 0x7fffffff);
+    record(8, PCH_PIC_WRITE, 4, PCH_PIC_REG_ISR + 4, 0);
+    record(1005, PCH_PIC_POLL, 63, 0, 0);
+    expect("waits are counted", count(ANSWER) == 0 && answers(0, 1, 1007));
+    expect("one withdrawn by a lowering", row_is(1, one));
+    expect("one by CLEAR, and one open", row_is(2, two));
+    expect("one of 1,000 records", row_is(63, last));
+    expect("their total", row_is(PCH_PIC_SHEET_TOTAL, total));
+}
+
+/* Refusals in their order: each stands before those behind it, which hold too. */
+static void sheet_refusals(void)
+{
+    small_day();
+    trace[0] = 3;
+    trace[10 + 16 * 4] = 7;
+    sheet_len = PCH_PIC_SHEET_LEN;
+    expect("7: a short answer area, before 12", count(ANSWER - 1) == 7 && untouched() && stays(0));
+    sheet_len = PCH_PIC_SHEET_LEN - 1;
+    expect("7: a short sheet, before 12", count(ANSWER) == 7 && untouched() && stays(0));
+    expect("7: no sheet", pch_pic_sheet(trace, trace_len, NULL, 0, answer, ANSWER) == 7 && untouched());
+    sheet_len = PCH_PIC_SHEET_LEN;
+    expect("12: contents, before 13", count(ANSWER) == 12 && answers(12, 0, 0) && stays(0));
+    trace[0] = 2;
+    expect("13: the fifth record", count(ANSWER) == 13 && answers(13, 1, 4) && stays(0));
+    trace[10 + 16 * 2 + 15] = 1;
+    expect("13: the first bad one", count(ANSWER) == 13 && answers(13, 1, 2) && stays(0));
+    guard();
+    expect("12: no trace at all", pch_pic_sheet(NULL, 0, sheet, sheet_len, answer, ANSWER) == 12 && answers(12, 0, 0));
+    longest();
+    record(PCH_PIC_RECORDS_MAX - 1, PCH_PIC_RAISE, 0, 0, 0);
+    expect("the longest trace is counted", count(ANSWER) == 0 && answers(0, 1, 4000) && sheet[0] == 1 && sheet[36] == 1);
+}
+
 static void traces(void)
 {
     played(NUMBERED, 0x20005);
@@ -610,6 +712,9 @@ static void traces(void)
     longest();
     salvages();
     longest_list();
+    counted();
+    counted_waits();
+    sheet_refusals();
     expect("12 and 13 have their texts", strcmp(pch_pic_why(12), pch_pic_why(99)) != 0 && strcmp(pch_pic_why(13), pch_pic_why(99)) != 0);
     expect("so has 16", strcmp(pch_pic_why(16), pch_pic_why(99)) != 0);
 }

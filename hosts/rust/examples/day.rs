@@ -1,8 +1,9 @@
-//! A day as a trace: session lines recorded, a trace played and printed as a session with its answers beside it, and a damaged trace salvaged.
+//! A day as a trace: session lines recorded; a trace played and printed as a session with its answers beside it; its numbers; a damaged trace salvaged.
 //!
 //! `day --record FILE [LINES]` makes the trace FILE of the lines, which docs/DEVICE.md tells; - or no word is standard input. `day --play FILE` prints each
-//! record of the trace and what it gave, and how many events were dropped; - is standard input. `day --salvage FILE TO` makes the trace TO of the blocks of
-//! FILE that have no bad record, and prints which others there are. hosts/c/day.c does the same, and `./run` by it.
+//! record of the trace and what it gave, and how many events were dropped; - is standard input. `day --sheet FILE` prints the day's numbers, input by input, as
+//! a table, and `day --csv FILE` for a program. `day --salvage FILE TO` makes the trace TO of the blocks of FILE that have no bad record, and prints which
+//! others there are. hosts/c/day.c does the same, and `./run` by it.
 
 use pch_pic::trace::LoadError;
 use pch_pic::{RecordError, Recorder, Salvaged, Trace, Window, EVENTS};
@@ -80,16 +81,25 @@ fn refused(name: &str, why: LoadError) -> String {
     }
 }
 
-fn play(name: &str) -> Result<(), String> {
-    let trace = Trace::load(path(name)).map_err(|why| refused(name, why))?;
-    print(&trace).map_err(|why| format!("standard output: {why}"))
+fn load(name: &str) -> Result<Trace, String> {
+    Trace::load(path(name)).map_err(|why| refused(name, why))
+}
+
+fn written(done: io::Result<()>) -> Result<(), String> {
+    done.map_err(|why| format!("standard output: {why}"))
+}
+
+fn print(text: String) -> io::Result<()> {
+    let mut out = io::stdout().lock();
+    out.write_all(text.as_bytes())?;
+    out.flush()
 }
 
 /// The new trace is there before anything is printed, whoever reads that.
 fn salvage(name: &str, file: &str) -> Result<(), String> {
     let salvaged = Trace::salvage_file(path(name)).map_err(|why| refused(name, why))?;
     salvaged.trace.save(file).map_err(|why| format!("{file}: {why}"))?;
-    print_salvaged(&salvaged).map_err(|why| format!("standard output: {why}"))
+    written(print_salvaged(&salvaged))
 }
 
 fn print_salvaged(salvaged: &Salvaged) -> io::Result<()> {
@@ -101,7 +111,7 @@ fn print_salvaged(salvaged: &Salvaged) -> io::Result<()> {
     out.flush()
 }
 
-fn print(trace: &Trace) -> io::Result<()> {
+fn play(trace: &Trace) -> io::Result<()> {
     let (played, mut out) = (trace.play(), io::BufWriter::new(io::stdout().lock()));
     for step in played.steps() {
         writeln!(out, "{:25}   {step}", step.record)?;
@@ -114,12 +124,14 @@ fn main() -> ExitCode {
     let words: Vec<String> = env::args().skip(1).collect();
     let words: Vec<&str> = words.iter().map(String::as_str).collect();
     let done = match words[..] {
-        ["--play", file] => play(file),
+        ["--play", file] => load(file).and_then(|trace| written(play(&trace))),
+        ["--sheet", file] => load(file).and_then(|trace| written(print(format!("{}\n", trace.sheet())))),
+        ["--csv", file] => load(file).and_then(|trace| written(print(trace.sheet().csv()))),
         ["--record", file] => record(file, "-"),
         ["--record", file, lines] => record(file, lines),
         ["--salvage", file, to] => salvage(file, to),
         _ => {
-            eprintln!("usage: day --play FILE | day --record FILE [LINES] | day --salvage FILE TO");
+            eprintln!("usage: day --play FILE | day --sheet FILE | day --csv FILE | day --record FILE [LINES] | day --salvage FILE TO");
             return ExitCode::from(2);
         }
     };

@@ -157,6 +157,8 @@ extern "C" {
         answer: *mut u8,
         answer_len: usize,
     ) -> u8;
+    #[cfg(feature = "std")]
+    fn pch_pic_sheet(trace: *const u8, trace_len: usize, sheet: *mut u8, sheet_len: usize, answer: *mut u8, answer_len: usize) -> u8;
     fn pch_pic_difference(later: u16, earlier: u16) -> i16;
 }
 
@@ -406,6 +408,14 @@ pub fn hoist_end_startup(image: &[u8], phase: &mut u8) -> Outcome {
     let mut answer: Answer = [0; ANSWER_LEN];
     // SAFETY: the slices and the phase's one byte are valid for their lengths and apart; the library only reads the image.
     let number = unsafe { pch_pic_hoist_end_startup(image.as_ptr(), image.len(), phase, 1, answer.as_mut_ptr(), ANSWER_LEN) };
+    outcome(number, &answer)
+}
+
+#[cfg(feature = "std")]
+pub fn sheet(trace: &[u8], sheet: &mut [u8]) -> Outcome {
+    let mut answer: Answer = [0; ANSWER_LEN];
+    // SAFETY: the three slices are valid for their lengths and apart; the library only reads the trace.
+    let number = unsafe { pch_pic_sheet(trace.as_ptr(), trace.len(), sheet.as_mut_ptr(), sheet.len(), answer.as_mut_ptr(), ANSWER_LEN) };
     outcome(number, &answer)
 }
 

@@ -61,8 +61,8 @@
 //! # A day recorded and played back
 //!
 //! A [`Trace`] has the calls of a day from a reset on, and [playing](Trace::play) it gives every byte again. [`Recorded`] is a device whose calls are recorded
-//! as they are made, and [`Recorder`] takes calls one by one. Of a damaged trace [`Trace::salvage`] keeps the blocks that are whole. They are there with
-//! feature `std`.
+//! as they are made, and [`Recorder`] takes calls one by one. Of a damaged trace [`Trace::salvage`] keeps the blocks that are whole. [`Trace::sheet`] counts the
+//! day in ten exact numbers for each input, and [`Trace::history`] tells where in the day they come from. They are there with feature `std`.
 
 #![cfg_attr(not(any(feature = "std", test)), no_std)]
 
@@ -81,8 +81,12 @@ pub mod file;
 mod form;
 mod hoist;
 #[cfg(feature = "std")]
+pub mod history;
+#[cfg(feature = "std")]
 mod recorder;
 pub mod reg;
+#[cfg(feature = "std")]
+pub mod sheet;
 #[cfg(feature = "std")]
 pub mod trace;
 mod wires;
@@ -96,6 +100,8 @@ pub use form::{Form, Image};
 pub use hoist::{Hoist, Phase};
 #[cfg(feature = "std")]
 pub use recorder::{RecordError, Recorded, Recorder};
+#[cfg(feature = "std")]
+pub use sheet::Sheet;
 #[cfg(feature = "std")]
 pub use trace::{Dropped, Played, Record, Salvaged, Step, Trace};
 pub use wires::{Change, Device, Wires};
@@ -138,6 +144,13 @@ pub const BLOCKS_MAX: usize = 64;
 pub(crate) const DROPPED_LEN: usize = 4;
 #[cfg(feature = "std")]
 pub(crate) const DROPPED_MAX: usize = DROPPED_LEN * (BLOCKS_MAX - 1);
+
+/// The bytes of the sheet of a day.
+pub const SHEET_LEN: usize = 2_600;
+
+/// The window that a trace is played in.
+#[cfg(feature = "std")]
+const PLAYED: Window = Window::new(0, 0x1_0000);
 
 /// The bytes that have room for all events that can wait.
 pub const DRAIN_ROOM: usize = EVENTS * EVENT_LEN;

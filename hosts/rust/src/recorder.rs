@@ -2,16 +2,14 @@
 
 use crate::trace::{contents_len, contents_of};
 use crate::{
-    file, Device, Error, Event, PchPic, Record, Returned, Trace, Width, Window, BLOCKS_MAX, EVENTS, RECORDS_MAX, RECORD_LEN, TRACE_MAX,
+    file, Device, Error, Event, PchPic, Record, Returned, Trace, Width, Window, BLOCKS_MAX, EVENTS, PLAYED, RECORDS_MAX, RECORD_LEN,
+    TRACE_MAX,
 };
 use core::fmt;
 use std::fs::{File, OpenOptions};
 use std::io;
 use std::os::unix::fs::FileExt;
 use std::path::Path;
-
-/// The window that a trace is played in.
-const PLAYED: Window = Window::new(0, 0x1_0000);
 
 /// Why a recorder takes no more, or not this. It is left as it was.
 ///

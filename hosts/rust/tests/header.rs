@@ -2,7 +2,7 @@
 
 use pch_pic::{
     reg, Error, BLOCKS_MAX, DRAIN_ROOM, EVENTS, EVENT_LEN, IMAGE2_LEN, IMAGE2_NUMBERED_LEN, IMAGE_LEN, INPUTS, RECORDS_MAX, RECORD_LEN,
-    TRACE_MAX, VECTORS,
+    SHEET_LEN, TRACE_MAX, VECTORS,
 };
 use std::collections::HashMap;
 
@@ -39,6 +39,9 @@ fn sizes() {
         ("RECORD_LEN", RECORD_LEN),
         ("RECORDS_MAX", RECORDS_MAX),
         ("BLOCKS_MAX", BLOCKS_MAX),
+        ("SHEET_LEN", SHEET_LEN),
+        ("SHEET_ROWS", INPUTS + 1),
+        ("SHEET_TOTAL", INPUTS),
     ] {
         assert_eq!(header[name], value as u64, "{name}");
     }
@@ -94,6 +97,20 @@ fn records() {
     for place in ["RECORD_BYTE", "RECORD_OFFSET", "RECORD_VALUE"] {
         assert_eq!(bytes[header[place] as usize], 1, "{place}");
     }
+}
+
+/// The columns of a sheet have their places, and one name in both hosts.
+#[cfg(feature = "std")]
+#[test]
+fn columns() {
+    use pch_pic::sheet::COLUMNS;
+    let (header, source) = (header(), include_str!("../../c/sheet.c"));
+    let places = ["RAISES", "LOWERS", "ASSERTS", "DEASSERTS", "RETURNED", "OFFERED", "DROPPED", "WAIT", "WITHDRAWN", "OPEN"];
+    for (column, (place, name)) in places.iter().zip(COLUMNS).enumerate() {
+        assert_eq!(header[&format!("SHEET_{place}")], column as u64, "{place}");
+        assert!(source.contains(&format!("[PCH_PIC_SHEET_{place}] = \"{name}\",")), "{place}");
+    }
+    assert_eq!((header["SHEET_COLUMNS"], header["SHEET_ROW_LEN"]), (COLUMNS.len() as u64, 4 * COLUMNS.len() as u64));
 }
 
 /// What a recorder refuses has one text in both hosts.

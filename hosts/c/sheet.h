@@ -1,0 +1,38 @@
+/* The sheet of a day (pch_pic.h, "The sheet"): ten numbers for each input and the total, counted by the library from a trace, and printed. Copy it and
+ * change it. */
+#ifndef SHEET_H
+#define SHEET_H
+
+#include "pic.h"
+
+#include <stdio.h>
+
+#ifdef __cplusplus
+extern "C" {
+#endif
+
+struct pic_sheet {
+    size_t records;                                        /* how many the day has */
+    uint32_t of[PCH_PIC_SHEET_ROWS][PCH_PIC_SHEET_COLUMNS]; /* of[5][PCH_PIC_SHEET_WAIT] is the greatest wait of input 5 */
+};
+
+/* Counts the day of a trace: 0, 12, or 13 with the number of the first bad record, where bad is not NULL. A refusal leaves the sheet. */
+int pic_trace_sheet(const uint8_t *trace, size_t len, struct pic_sheet *sheet, uint64_t *bad);
+
+/* Whether a row is all zeros: the input did nothing. */
+bool pic_sheet_idle(const struct pic_sheet *sheet, size_t row);
+
+/* A column as the table names it. */
+const char *pic_sheet_column(size_t column);
+
+/* A table for people: inputs that did nothing are left out, and the total comes last. */
+void pic_sheet_print(const struct pic_sheet *sheet, FILE *out);
+
+/* Lines for a program, with commas between: names first, then every input and the total. */
+void pic_sheet_csv(const struct pic_sheet *sheet, FILE *out);
+
+#ifdef __cplusplus
+}
+#endif
+
+#endif

@@ -1,0 +1,218 @@
+//! A day counted: a row of ten numbers for each input, and the total.
+//!
+//! ```
+//! use pch_pic::{reg, Recorded, Width, Window};
+//!
+//! let mut day = Recorded::new();
+//! let _ = day.set_level(5, true)?; // record 0: masked, so it waits
+//! day.write(Window::at(0), reg::MASK, Width::Dword, 0)?; // record 1: its assert is offered
+//! let sheet = day.recorder().finish()?.sheet();
+//! assert_eq!((sheet.input(5).raises, sheet.input(5).offered, sheet.input(5).greatest_wait), (1, 1, 1));
+//! println!("{sheet}");
+//! # Ok::<(), Box<dyn std::error::Error>>(())
+//! ```
+
+use crate::{contents, ffi, Trace, INPUTS, SHEET_LEN};
+use core::fmt;
+
+/// The columns of a sheet, in its order, as its table names them.
+pub const COLUMNS: [&str; 10] =
+    ["raises", "lowers", "asserts", "deasserts", "returned", "offered", "dropped", "greatest wait", "withdrawn", "open"];
+
+const ROW_LEN: usize = 4 * COLUMNS.len();
+
+/// The numbers of one input, or the total: sums, and of the waits the greatest. Refused records count as none, and keep their number.
+#[derive(Clone, Copy, Debug, Default, PartialEq, Eq, Hash)]
+pub struct Row {
+    /// Raises done.
+    pub raises: u32,
+    /// Lowers done.
+    pub lowers: u32,
+    /// Asserts made.
+    pub asserts: u32,
+    /// Deasserts made.
+    pub deasserts: u32,
+    /// How many of both were returned by a raise, a lower or a poll.
+    pub returned: u32,
+    /// How many of both a write offered, the dropped among them.
+    pub offered: u32,
+    /// How many of the offered were dropped, since 16 waited.
+    pub dropped: u32,
+    /// The greatest difference of record numbers between a raise that found the input neither latched nor in service and the assert that followed.
+    pub greatest_wait: u32,
+    /// Waits that a lowering or a CLEAR ended.
+    pub withdrawn: u32,
+    /// Waits that the end of the trace found, 0 or 1 of an input.
+    pub open: u32,
+}
+
+impl Row {
+    fn from_bytes(bytes: &[u8]) -> Self {
+        let mut numbers = bytes.chunks_exact(4).map(|bytes| contents::number(bytes) as u32);
+        let mut next = || numbers.next().expect("a row has ten numbers");
+        Row {
+            raises: next(),
+            lowers: next(),
+            asserts: next(),
+            deasserts: next(),
+            returned: next(),
+            offered: next(),
+            dropped: next(),
+            greatest_wait: next(),
+            withdrawn: next(),
+            open: next(),
+        }
+    }
+
+    /// The ten numbers, in the order of [`COLUMNS`].
+    pub const fn numbers(&self) -> [u32; COLUMNS.len()] {
+        [
+            self.raises,
+            self.lowers,
+            self.asserts,
+            self.deasserts,
+            self.returned,
+            self.offered,
+            self.dropped,
+            self.greatest_wait,
+            self.withdrawn,
+            self.open,
+        ]
+    }
+
+    /// Whether all of them are 0: the input did nothing.
+    pub fn is_idle(&self) -> bool {
+        *self == Row::default()
+    }
+}
+
+/// The sheet of a day. [`Trace::sheet`] makes it.
+#[derive(Clone, Debug, PartialEq, Eq, Hash)]
+pub struct Sheet {
+    records: usize,
+    inputs: [Row; INPUTS],
+    total: Row,
+}
+
+impl Trace {
+    /// Counts the day: the library goes through the trace from a reset on and fills in the sheet.
+    pub fn sheet(&self) -> Sheet {
+        let mut bytes = [0; SHEET_LEN];
+        let records = ffi::sheet(self.as_bytes(), &mut bytes).expect("a good trace has a sheet");
+        let row = |number: usize| Row::from_bytes(&bytes[ROW_LEN * number..][..ROW_LEN]);
+        Sheet { records: records.expect("a done sheet has a value") as usize, inputs: core::array::from_fn(row), total: row(INPUTS) }
+    }
+}
+
+impl Sheet {
+    /// How many records the day has.
+    pub fn records(&self) -> usize {
+        self.records
+    }
+
+    /// The row of an input.
+    ///
+    /// # Panics
+    ///
+    /// Where the input is 64 or more.
+    pub fn input(&self, input: usize) -> &Row {
+        &self.inputs[input]
+    }
+
+    /// The rows of inputs 0 to 63.
+    pub fn inputs(&self) -> &[Row; INPUTS] {
+        &self.inputs
+    }
+
+    /// The last row.
+    pub fn total(&self) -> &Row {
+        &self.total
+    }
+
+    /// The sheet for a program: a line of names, and a line for each input and the total, with commas between.
+    pub fn csv(&self) -> String {
+        let names = COLUMNS.map(|name| name.replace(' ', "_"));
+        let mut text = format!("input,{}\n", names.join(","));
+        let labels = (0..INPUTS).map(|input| input.to_string()).chain(["total".to_string()]);
+        for (label, row) in labels.zip(self.inputs.iter().chain([&self.total])) {
+            let numbers = row.numbers().map(|number| number.to_string());
+            text += &format!("{label},{}\n", numbers.join(","));
+        }
+        text
+    }
+}
+
+/// Each column is as wide as its name, and at least so wide.
+const LEAST: usize = 6;
+
+fn line(f: &mut fmt::Formatter<'_>, label: &str, cells: impl Iterator<Item = String>) -> fmt::Result {
+    write!(f, "{label:>5}")?;
+    for (name, cell) in COLUMNS.iter().zip(cells) {
+        write!(f, "  {cell:>0$}", name.len().max(LEAST))?;
+    }
+    writeln!(f)
+}
+
+impl fmt::Display for Sheet {
+    /// A table for people: inputs that did nothing are left out, and the total comes last.
+    fn fmt(&self, f: &mut fmt::Formatter<'_>) -> fmt::Result {
+        line(f, "input", COLUMNS.iter().map(|name| name.to_string()))?;
+        for (input, row) in self.inputs.iter().enumerate().filter(|(_, row)| !row.is_idle()) {
+            line(f, &input.to_string(), row.numbers().iter().map(u32::to_string))?;
+        }
+        line(f, "total", self.total.numbers().iter().map(u32::to_string))?;
+        let idle = self.inputs.iter().filter(|row| row.is_idle()).count();
+        write!(f, "records: {}; inputs that did nothing and are left out: {idle}", self.records)
+    }
+}
+
+#[cfg(test)]
+mod tests {
+    use super::*;
+
+    /// One block of one record, a raise of input 5, which is masked.
+    const RAISED: [u8; 22] = [1, 0, 6, 0, 1, 0, 1, 5, 0, 0, 0, 0, 0, 0, 0, 0, 0, 0, 0, 0, 0, 0];
+
+    #[test]
+    fn a_sheet_is_refused_in_order() {
+        let (mut trace, mut sheet) = (RAISED, [0xa5; SHEET_LEN + 1]);
+        trace[0] = 2;
+        trace[7 + 1] = 1;
+        assert_eq!(ffi::sheet(&trace, &mut sheet[..SHEET_LEN - 1]), Err(crate::Error::Room));
+        assert_eq!(ffi::sheet(&trace, &mut sheet), Err(crate::Error::Trace));
+        trace[0] = 1;
+        assert_eq!(ffi::sheet(&trace, &mut sheet), Err(crate::Error::Record(0)));
+        assert_eq!(sheet, [0xa5; SHEET_LEN + 1]);
+        assert_eq!(ffi::sheet(&RAISED, &mut sheet), Ok(Some(1)));
+        let wanted = |at: usize| match at {
+            SHEET_LEN => 0xa5,
+            // A raise, and an open wait, of input 5 and of the total.
+            _ => u8::from([ROW_LEN * 5, ROW_LEN * 5 + 36, ROW_LEN * 64, ROW_LEN * 64 + 36].contains(&at)),
+        };
+        assert!(sheet.iter().enumerate().all(|(at, byte)| *byte == wanted(at)));
+    }
+
+    #[test]
+    fn numbers_have_their_names() {
+        let bytes: Vec<u8> = (1..=10_u32).flat_map(|number| (number << 8).to_le_bytes()).collect();
+        let row = Row::from_bytes(&bytes);
+        assert_eq!(row.numbers(), core::array::from_fn(|at| (at as u32 + 1) << 8));
+        assert_eq!((row.raises, row.greatest_wait, row.open), (0x100, 0x800, 0xa00));
+        assert!(Row::default().is_idle() && !row.is_idle());
+    }
+
+    #[test]
+    fn a_table_and_lines_with_commas() {
+        let sheet = Trace::try_from(RAISED.to_vec()).unwrap().sheet();
+        let table = "\
+input  raises  lowers  asserts  deasserts  returned  offered  dropped  greatest wait  withdrawn    open
+    5       1       0        0          0         0        0        0              0          0       1
+total       1       0        0          0         0        0        0              0          0       1
+records: 1; inputs that did nothing and are left out: 63";
+        assert_eq!(sheet.to_string(), table);
+        let csv = sheet.csv();
+        let lines: Vec<_> = csv.lines().collect();
+        assert_eq!((lines.len(), lines[6], lines[65]), (66, "5,1,0,0,0,0,0,0,0,0,1", "total,1,0,0,0,0,0,0,0,0,1"));
+        assert_eq!(lines[0], "input,raises,lowers,asserts,deasserts,returned,offered,dropped,greatest_wait,withdrawn,open");
+    }
+}

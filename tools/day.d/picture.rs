@@ -1,0 +1,154 @@
+//! The picture: one SVG, with a lane for each input and records from left to right.
+//!
+//! What belongs to records is drawn in an inner SVG whose unit is a record, so that it may be drawn as wide as is wished; widths of lines, marks and letters
+//! do not grow with it. A run of records is a piece of a path, so a lane has a handful of elements, however long the day is.
+
+use crate::lanes::{Day, Lane, Run, ends};
+use crate::text::{Asked, counted};
+use pch_pic::EVENTS;
+use pch_pic::history::{End, Wait};
+use std::fmt::Write;
+
+/// Heights in pixels: the axis, the ring's lane, and an input's. page.css has them too, for the names and the sheet.
+pub const AXIS: usize = 26;
+pub const RING: usize = 54;
+pub const LANE: usize = 30;
+
+/// A place in the day, as a part of the whole width.
+fn percent(record: f64, day: &Day) -> String {
+    format!("{:.3}%", 100.0 * record / day.records as f64)
+}
+
+fn boxes(runs: impl Iterator<Item = Run>, top: usize, height: usize) -> String {
+    runs.map(|run| format!("M{} {top}h{}v{height}h-{}z", run.first, run.len, run.len)).collect()
+}
+
+fn lines(runs: impl Iterator<Item = Run>, middle: usize) -> String {
+    runs.map(|run| format!("M{} {middle}h{}", run.first, run.len)).collect()
+}
+
+/// A path of that class, if there is something to draw.
+fn path(out: &mut String, class: &str, d: &str) {
+    if !d.is_empty() {
+        let _ = writeln!(out, "<path class=\"{class}\" d=\"{d}\"/>");
+    }
+}
+
+/// A lane has the waits and the service above, the latch below them, and the mask behind all.
+const BAND: (usize, usize) = (4, 14);
+const LATCH: (usize, usize) = (20, 5);
+
+fn write_lane(out: &mut String, asked: &Asked, day: &Day, lane: &Lane, top: usize) {
+    let run = |wait: &Wait| Run { first: wait.raised, len: ends(wait, day.records) - wait.raised };
+    let of = |keep: &dyn Fn(&Wait) -> bool| lane.waits.iter().filter(|wait| keep(wait)).map(run).collect::<Vec<_>>();
+    let over = of(&|wait| asked.too_long(wait));
+    let waits = of(&|wait| wait.length().is_some() && !asked.too_long(wait));
+    let (gone, open) = (of(&|wait| matches!(wait.end, End::Withdrawn(_))), of(&|wait| wait.end == End::Open));
+    let _ = writeln!(out, "<g class=\"lane\" data-input=\"{}\" transform=\"translate(0 {top})\">", lane.input);
+    path(out, "masked", &boxes(lane.masked.iter().copied(), 0, LANE));
+    path(out, "latched", &boxes(lane.latched.iter().copied(), LATCH.0, LATCH.1));
+    path(out, "served", &boxes(lane.served.iter().copied(), BAND.0, BAND.1));
+    for (class, runs) in [("wait", &waits), ("over", &over), ("gone", &gone), ("open", &open)] {
+        path(out, class, &boxes(runs.iter().copied(), BAND.0, BAND.1));
+    }
+    path(out, "stripes", &lines(waits.iter().chain(&over).copied(), BAND.0 + BAND.1 / 2));
+    out.push_str("</g>\n");
+}
+
+/// What keeps its size: the numbers and marks of waits.
+fn write_marks(out: &mut String, day: &Day, lane: &Lane, top: usize) {
+    let middle = top + BAND.0 + BAND.1 / 2;
+    for wait in lane.withdrawn() {
+        let _ = writeln!(out, "<use href=\"#gone\" x=\"{}\" y=\"{middle}\"/>", percent(ends(wait, day.records) as f64, day));
+    }
+    if lane.open().is_some() {
+        let _ = writeln!(out, "<use href=\"#open\" x=\"100%\" y=\"{middle}\"/>");
+    }
+    if let Some(wait) = lane.greatest() {
+        let day_longest = wait.length() == Some(day.sheet.total().greatest_wait as usize);
+        let class = if day_longest { "number most" } else { "number" };
+        // It stands in the box or right of it, and at the day's end left of its end.
+        let late = wait.raised * 10 > day.records * 9;
+        let (x, side) = if late { (ends(wait, day.records), " end") } else { (wait.raised, "") };
+        let length = wait.length().unwrap_or(0);
+        let _ = writeln!(out, "<text class=\"{class}{side}\" x=\"{}\" y=\"{}\">{length}</text>", percent(x as f64, day), middle + 4);
+    }
+}
+
+/// Of 1, 2 or 5 times a power of ten the least that makes ten steps of the day, or fewer.
+fn step(records: usize) -> usize {
+    let steps = (0..6).flat_map(|power| [1, 2, 5].map(|factor| factor * 10_usize.pow(power)));
+    steps.into_iter().find(|step| records / step <= 10).unwrap_or(records)
+}
+
+fn write_axis(out: &mut String, day: &Day) {
+    let step = step(day.records);
+    for record in (0..day.records).step_by(step) {
+        let x = percent(record as f64, day);
+        let _ = writeln!(
+            out,
+            "<line class=\"tick\" x1=\"{x}\" x2=\"{x}\" y1=\"{}\" y2=\"{AXIS}\"/><text class=\"at\" x=\"{x}\" y=\"14\">{}</text>",
+            AXIS - 7,
+            counted(record)
+        );
+    }
+}
+
+/// Where the ring's lane has its foot, and how high an event is in it.
+const FOOT: usize = AXIS + RING - 4;
+const UNIT: f64 = 2.5;
+
+/// How many events wait, 0 to 16, as steps from the left to the right; and the line at 16.
+fn write_ring(out: &mut String, day: &Day) {
+    let high = |waiting: usize| FOOT as f64 - UNIT * waiting as f64;
+    let (mut d, mut last) = (format!("M0 {FOOT}"), 0);
+    for moment in day.history.moments().iter() {
+        if moment.waiting != last {
+            last = moment.waiting;
+            let _ = write!(d, "H{}V{}", moment.number, high(last));
+        }
+    }
+    let _ = writeln!(out, "<path class=\"ring\" data-foot=\"{FOOT}\" data-unit=\"{UNIT}\" d=\"{d}H{}V{FOOT}z\"/>", day.records);
+    path(out, "full", &format!("M0 {}H{}", high(EVENTS), day.records));
+}
+
+/// Dropped events: a piece of no length with round ends is a dot, whatever the width of the day.
+fn write_dots(out: &mut String, lane: &Lane, top: usize) {
+    let middle = top + BAND.0 + BAND.1 / 2;
+    let dots: String = lane.dropped.iter().map(|record| format!("M{record}.5 {middle}h0")).collect();
+    path(out, "halo", &dots);
+    if !dots.is_empty() {
+        let _ = writeln!(out, "<path class=\"drop\" data-input=\"{}\" d=\"{dots}\"/>", lane.input);
+    }
+}
+
+pub fn picture(asked: &Asked, day: &Day) -> String {
+    let mut out = String::new();
+    let top = |at: usize| AXIS + RING + LANE * at;
+    let height = top(day.lanes.len());
+    let _ = writeln!(
+        out,
+        "<svg id=\"picture\" width=\"100%\" height=\"{height}\" data-records=\"{}\" data-top=\"{}\" data-lane=\"{LANE}\" role=\"img\" \
+         aria-label=\"The day, a lane for each input, records from left to right\">",
+        day.records,
+        top(0)
+    );
+    let _ = writeln!(out, "<svg width=\"100%\" height=\"{height}\" viewBox=\"0 0 {} {height}\" preserveAspectRatio=\"none\">", day.records);
+    write_ring(&mut out, day);
+    path(&mut out, "block", &day.block_starts().map(|at| format!("M{at} {AXIS}V{height}")).collect::<String>());
+    for (at, lane) in day.lanes.iter().enumerate() {
+        write_lane(&mut out, asked, day, lane, top(at));
+    }
+    let rules: String = (0..=day.lanes.len()).map(|at| format!("M0 {}H{}", top(at), day.records)).collect();
+    path(&mut out, "rule", &rules);
+    for (at, lane) in day.lanes.iter().enumerate() {
+        write_dots(&mut out, lane, top(at));
+    }
+    out.push_str("</svg>\n");
+    write_axis(&mut out, day);
+    for (at, lane) in day.lanes.iter().enumerate() {
+        write_marks(&mut out, day, lane, top(at));
+    }
+    let _ = writeln!(out, "<line id=\"hair\" x1=\"0\" x2=\"0\" y1=\"{AXIS}\" y2=\"{height}\"/>\n</svg>");
+    out
+}
