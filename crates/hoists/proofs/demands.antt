@@ -5,3 +5,4 @@ pub mod Under
 pub mod Handed
 pub mod DemandThree
 pub mod Phases
+pub mod Ended

@@ -72,7 +72,7 @@ module _ (i p a : List ℕ) where
       go t image.wrongContents e b c z = absurd (let y : _≡_ {A = ℕ} 5 0 = rw e at z in omega arith)
       go t (image.broken k x) e b c z = absurd (faults k (rw e at z))
 
-  -- refused, no byte changes but the answer area's, and with 7 not even that
+  -- refused, the phase stays
   pub refused-end-keeps : (end .number ≡ 0 → ⊥) → end .phase ≡ p
   unfolding endStartup
   refused-end-keeps n = test (hoistRoom p a) (λ t. rw t (kept (eqb (endEnding (running p) i .number) 0) refl (λ z. n (rw t z)))) (λ t. rw t)
@@ -82,7 +82,7 @@ module _ (i p a : List ℕ) where
       kept false e m = rw e
 
 -- Once it has ended it does not end again, whatever the image: the phase that a done call leaves is refused by the next.
-after-runs : (p : List ℕ) → 1 ≤ length p → running (afterStartUp p) ≡ true
+pub after-runs : (p : List ℕ) → 1 ≤ length p → running (afterStartUp p) ≡ true
 after-runs [] h = absurd (omega arith)
 after-runs (x ∷ p) h = refl
 
