@@ -79,9 +79,9 @@ mod ffi;
 #[cfg(feature = "std")]
 pub mod file;
 mod form;
-mod hoist;
 #[cfg(feature = "std")]
 pub mod history;
+mod hoist;
 #[cfg(feature = "std")]
 mod recorder;
 pub mod reg;
