@@ -2,3 +2,4 @@
 pub mod Waits
 pub mod Service
 pub mod Drained
+pub mod TakenBack
