@@ -3,3 +3,4 @@ pub mod Waits
 pub mod Service
 pub mod Drained
 pub mod TakenBack
+pub mod Fits

@@ -6,3 +6,4 @@ pub mod SweepMet
 pub mod OrderMet
 pub mod WorkedDay
 pub mod TracePlayed
+pub mod WorkedSheet
