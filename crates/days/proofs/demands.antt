@@ -2,3 +2,5 @@
 pub mod Waits
 pub mod Service
 pub mod Drained
+pub mod TakenBack
+pub mod Fits

@@ -9,3 +9,4 @@ pub mod TracePlayed
 pub mod TraceSalvaged
 pub mod BoardsMet
 pub mod HoistMet
+pub mod WorkedSheet

@@ -1,3 +1,4 @@
+use native.Mathlib.Omega.{arith}
 use Rattle.pch_pic_sheet.proofs.Left.{answer-short, sheet-short, tells}
 use borrow.Author.Needs.{needs}
 use Rattle.pch_pic_sheet.proofs.pch_pic_sheet.Statement.{statement}
@@ -17,7 +18,7 @@ returns c =
 returns-2 : tie.Need-returns-2
 returns-2 c =
     let a = (c .before .before .before .before .before) .args in
-    sheet-short (a .trace .now) (a .sheet .now) (a .answer .now) (c .if2 .taken)
+    sheet-short (a .trace .now) (a .sheet .now) (a .answer .now) (omega (arith, c .if2 .taken))
 
 -- src/lib.rt:21:9
 make-requires : tie.Need-make-requires

@@ -1,0 +1,56 @@
+-- The sheet of a small trace, computed (02, C-21): input 5 waits one record for its unmask, is cleared by a Byte, raised again, drained and lowered.
+use mathlib.Core.Path.{_≡_, refl}
+use mathlib.Core.Bool.{cond}
+use mathlib.Core.List.{List, [], _∷_, _++_}
+use Prim.Native.Nat.{ℕ, _+_}
+use native.Mathlib.Omega.{arith}
+use lib.ListN.{replicate}
+use Rattle.basics.specs.Numbers.{bytesOf}
+use Rattle.basics.specs.Inputs.{on}
+use Rattle.traces.specs.Trace.{good, traceTest}
+use Rattle.traces.specs.Played.{recordsFrom}
+use Rattle.traces.proofs.laws.Computed.{tracing}
+use Rattle.plain.specs.Sequence.{shown}
+use Rattle.sheets.specs.Day.{items, dayOf}
+use Rattle.sheets.specs.Waits.{waits, answered}
+use Rattle.sheets.specs.Sheet.{rowOf}
+use Rattle.sheets.proofs.laws.Computed.{sheeted}
+use Rattle.days.specs.Accounts.{NoIsrWrite, drainedIn, atLast}
+use Rattle.days.proofs.demands.Service.{asserts-less-deasserts}
+
+abbrev asBytes : (kind byte offset value : ℕ) → List ℕ
+asBytes kind byte offset value = kind ∷ byte ∷ (bytesOf 2 offset ++ (replicate 4 0 ++ bytesOf 8 value))
+
+-- raise 5; unmask 5; raise 69, which is refused; a Byte with bit 5 to CLEAR; raise 5; drain; lower 5
+abbrev day : List ℕ
+day =
+    (1 ∷ 0 ∷ 6 ∷ 0 ∷ 7 ∷ 0 ∷ [])
+    ++ (asBytes 1 5 0 0
+    ++ (asBytes 5 4 0x020 0xffffffdf
+    ++ (asBytes 1 69 0 0 ++ (asBytes 5 1 0x080 0x20 ++ (asBytes 1 5 0 0 ++ (asBytes 6 0 0 0 ++ asBytes 2 5 0 0))))))
+
+pub worked-trace : traceTest day ≡ good 6 7
+unfolding tracing
+worked-trace = refl
+
+-- both waits are answered: one at the record after the raise, one by the raise itself
+pub worked-waits : waits 5 (dayOf day .moments) ≡ answered 1 ∷ answered 0 ∷ []
+unfolding tracing sheeted recordsFrom
+worked-waits = refl
+
+pub worked-row : rowOf (dayOf day) 5
+    ≡ record { raises = 2; lowers = 1; asserts = 2; deasserts = 2; returned = 2; offered = 2; dropped = 0; greatest = 1; withdrawn = 0; stillOpen = 0 }
+unfolding tracing sheeted recordsFrom
+worked-row = refl
+
+pub worked-drained : drainedIn (dayOf day .moments) ≡ 2
+unfolding tracing sheeted recordsFrom drainedIn
+worked-drained = refl
+
+-- no record writes to ISR: the premise of the account can be met
+pub worked-quiet : NoIsrWrite (items day)
+unfolding tracing sheeted recordsFrom
+worked-quiet = (refl, (refl, (refl, (refl, (refl, (refl, (refl, tt)))))))
+
+pub worked-account : rowOf (dayOf day) 5 .asserts ≡ rowOf (dayOf day) 5 .deasserts + cond (on (shown (atLast day) .core .lines .isr) 5) 1 0
+worked-account = asserts-less-deasserts 5 (omega arith) day worked-quiet
