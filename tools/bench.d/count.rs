@@ -1,7 +1,8 @@
 //! Instructions per call, counted on this same program: by valgrind's callgrind or, on a machine that runs it on QEMU, by a plugin (count.c). Only the
-//! timed loops are counted, of each kind over one slot and over a whole batch, of a play once and twice, so that in the difference nothing but the calls is
+//! timed loops are counted, of each kind over one slot and over a whole batch, of a play or a salvage once and twice, so that in the difference nothing but the calls is
 //! left. The figures come out the same each time.
 
+use crate::beside;
 use crate::measure::{self, BATCH, Bench};
 use crate::plays::Lent;
 use crate::{Asked, Chosen};
@@ -39,6 +40,12 @@ pub fn counted(asked: &Asked, chosen: &Chosen) {
                 bench_mark();
             }
         }
+        for kind in &chosen.besides {
+            for lents in [1, beside::BATCH] {
+                bench.beside_once(side, kind, lents);
+                bench_mark();
+            }
+        }
         for (length, calls) in chosen.days() {
             for calls in [&calls[..1], calls] {
                 bench.day_once(side, calls, length);
@@ -54,7 +61,7 @@ pub fn counted(asked: &Asked, chosen: &Chosen) {
     }
 }
 
-/// Instructions per call: for each kind, then for the day on each of its images, then for each play and each of its records, those of each side.
+/// Instructions per call: for each kind, each beside them, the day on each of its images, and each play or salvage and each of its records, those of each side.
 pub fn per_call(asked: &Asked, chosen: &Chosen) -> Result<Vec<Vec<f64>>, String> {
     let folder = std::env::temp_dir().join(format!("bench-{}", std::process::id()));
     std::fs::create_dir_all(&folder).map_err(|error| error.to_string())?;
@@ -63,8 +70,9 @@ pub fn per_call(asked: &Asked, chosen: &Chosen) -> Result<Vec<Vec<f64>>, String>
     let totals = totals?;
     // How many calls are in the difference of a row's two counts.
     let kinds = chosen.kinds.iter().map(|_| BATCH - 1);
+    let besides = chosen.besides.iter().map(|_| beside::BATCH - 1);
     let days = chosen.days().map(|(_, calls)| calls.len() - 1);
-    let calls: Vec<usize> = kinds.chain(days).chain(chosen.plays.iter().map(|play| play.calls.len())).collect();
+    let calls: Vec<usize> = kinds.chain(besides).chain(days).chain(chosen.plays.iter().map(|play| play.calls.len())).collect();
     if totals.len() != 2 * calls.len() * asked.sides.len() {
         return Err(format!("there are {} totals, expected {}", totals.len(), 2 * calls.len() * asked.sides.len()));
     }

@@ -142,17 +142,20 @@ fn refused(name: &'static str, title: &'static str, number: u8, image: Prepared,
     Kind { number, ..kind(name, title, image, call) }
 }
 
-fn read(offset: u64, width: u64) -> Call {
+pub fn read(offset: u64, width: u64) -> Call {
     Call::Read { base: BASE, size: SIZE, address: BASE + offset, width }
 }
 
-fn write(offset: u64, width: u64, value: u64) -> Call {
+pub fn write(offset: u64, width: u64, value: u64) -> Call {
     Call::Write { base: BASE, size: SIZE, address: BASE + offset, width, value }
 }
 
+/// A guest at work: two inputs latched and in service, input 7 masked.
+pub fn busy() -> Prepared {
+    Prepared::new().mask(0x80).latched(0x28).in_service(0x28)
+}
+
 pub fn all() -> Vec<Kind> {
-    // a guest at work: two inputs latched and in service, input 7 masked
-    let busy = || Prepared::new().mask(0x80).latched(0x28).in_service(0x28);
     let mut kinds = vec![kind("reset", "reset", busy(), Call::Reset)];
     kinds.extend(reads(&busy));
     kinds.extend(writes(&busy));
@@ -178,11 +181,13 @@ fn forms(busy: &dyn Fn() -> Prepared) -> Vec<Kind> {
         again(LENGTH_2, "form2-raise", "form 2: raise, vector returned", "raise"),
         again(LENGTH_2, "form2-drain-1", "form 2: drain of 1", "drain-1"),
         in_form(NUMBERED, "numbers-reset", "numbers: reset", kind("", "", busy(), Call::Reset)),
+        again(NUMBERED, "numbers-read-isr", "numbers: read Dword, ISR", "read-isr"),
         again(NUMBERED, "numbers-read", "numbers: read Dword, MASK", "read-mask"),
         again(NUMBERED, "numbers-mask-0", "numbers: write MASK, 0 events", "mask-0"),
         again(NUMBERED, "numbers-mask-1", "numbers: write MASK, 1 event", "mask-1"),
         again(NUMBERED, "numbers-mask-17", "numbers: write MASK, 17 events", "mask-17"),
         again(NUMBERED, "numbers-clear", "numbers: write CLEAR, 1 event", "clear"),
+        again(NUMBERED, "numbers-vector-dword", "numbers: write vectors, Dword", "vector-dword"),
         again(NUMBERED, "numbers-raise", "numbers: raise, vector returned", "raise"),
         again(NUMBERED, "numbers-lower", "numbers: lower, vector returned", "lower"),
         again(NUMBERED, "numbers-poll", "numbers: poll, vector returned", "poll"),

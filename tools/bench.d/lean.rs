@@ -3,6 +3,17 @@
 //! code of its own, made from one text, so that every place is a constant. Measured by tools/bench.
 #![forbid(unsafe_code)]
 
+#[path = "lean/beside.rs"]
+mod beside;
+#[path = "lean/salvage.rs"]
+mod salvage;
+#[path = "lean/sheet.rs"]
+mod sheet;
+
+pub use beside::*;
+pub use salvage::*;
+pub use sheet::*;
+
 const ID: u64 = 0x003f_0001_0700_0000;
 
 /// Where things stand in the N bytes of an image.
@@ -71,6 +82,7 @@ macro_rules! by_length {
         }
     };
 }
+use by_length;
 
 /// For each count the bits that its 16 pairs may have: a vector and a flag of 0 or 1 where an event waits, and nothing behind; and those that its 16
 /// numbers may have.
@@ -592,9 +604,9 @@ fn is_good(record: &[u8; 16]) -> bool {
     word(record, 0) & !head | word(record, 8) & !value == 0
 }
 
-/// The records of a trace; or 12 for its contents, 13 for the first bad record.
+/// What a trace lists of its blocks, and all its records; or 12 for its contents.
 #[inline(always)]
-fn records_of(trace: &[u8]) -> Result<&[[u8; 16]], Outcome> {
+fn contents_of(trace: &[u8]) -> Result<(&[[u8; 4]], &[[u8; 16]]), Outcome> {
     const WRONG: Outcome = (12, None);
     let (blocks, rest) = trace.split_first_chunk().ok_or(WRONG)?;
     let blocks = usize::from(u16::from_le_bytes(*blocks));
@@ -602,8 +614,9 @@ fn records_of(trace: &[u8]) -> Result<&[[u8; 16]], Outcome> {
         return Err(WRONG);
     }
     let (listed, rest) = rest.split_at_checked(4 * blocks).ok_or(WRONG)?;
+    let listed = listed.as_chunks().0;
     let mut records = 0;
-    for block in listed.as_chunks::<4>().0 {
+    for block in listed {
         let (from, count) = (number(block, 0), number(block, 2));
         if usize::from(from) != 2 + 4 * blocks + 16 * records || count == 0 {
             return Err(WRONG);
@@ -613,7 +626,13 @@ fn records_of(trace: &[u8]) -> Result<&[[u8; 16]], Outcome> {
     if records > 4000 || rest.len() != 16 * records {
         return Err(WRONG);
     }
-    let records = rest.as_chunks().0;
+    Ok((listed, rest.as_chunks().0))
+}
+
+/// The records of a trace; or 12 for its contents, 13 for the first bad record.
+#[inline(always)]
+fn records_of(trace: &[u8]) -> Result<&[[u8; 16]], Outcome> {
+    let (_, records) = contents_of(trace)?;
     match records.iter().position(|record| !is_good(record)) {
         Some(bad) => Err((13, Some(bad as u64))),
         None => Ok(records),

@@ -1,5 +1,6 @@
 //! The driver of tools/bench: reads what is asked, holds the sides against each other, measures, and prints the table.
 
+mod beside;
 #[path = "../harness/call.rs"]
 mod call;
 #[allow(dead_code)]
@@ -100,9 +101,10 @@ fn sides(list: &str) -> Result<Vec<char>, String> {
     if sides.is_empty() { Err("no side is left".into()) } else { Ok(sides) }
 }
 
-/// What is measured: kinds of call, the calls of the day where it is asked for, and plays.
+/// What is measured: kinds of call, those beside them, the calls of the day where it is asked for, and plays and salvages.
 pub struct Chosen {
     kinds: Vec<Kind>,
+    besides: Vec<beside::Kind>,
     day: Option<Vec<Call>>,
     plays: Vec<Play>,
 }
@@ -116,12 +118,13 @@ impl Chosen {
 
 /// What is asked for. A name's beginning with a star stands for all that begin so.
 fn chosen(asked: &Asked) -> Result<Chosen, String> {
-    let (kinds, plays) = (kinds::all(), plays::all());
+    let (kinds, besides, plays) = (kinds::all(), beside::all(), plays::all());
     let fits = |pattern: &str, name: &str| match pattern.strip_suffix('*') {
         Some(beginning) => name.starts_with(beginning),
         None => pattern == "all" || pattern == name,
     };
-    let names: Vec<&str> = kinds.iter().map(|kind| kind.name).chain(plays.iter().map(|play| play.name.as_str())).chain(["day"]).collect();
+    let of_calls = kinds.iter().map(|kind| kind.name).chain(besides.iter().map(|kind| kind.name));
+    let names: Vec<&str> = of_calls.chain(plays.iter().map(|play| play.name.as_str())).chain(["day"]).collect();
     if let Some(pattern) = asked.kinds.iter().find(|pattern| !names.iter().any(|name| fits(pattern, name))) {
         return Err(format!("no kind {pattern} (see tools/bench --list)"));
     }
@@ -130,6 +133,7 @@ fn chosen(asked: &Asked) -> Result<Chosen, String> {
         day: asked_for("day").then(|| day::calls(asked.day)),
         plays: plays.into_iter().filter(|play| asked_for(&play.name)).collect(),
         kinds: kinds.into_iter().filter(|kind| asked_for(kind.name)).collect(),
+        besides: besides.into_iter().filter(|kind| asked_for(kind.name)).collect(),
     })
 }
 
@@ -141,9 +145,13 @@ fn verified(day: &[Call]) -> Result<(), String> {
         verify::day(day, length)?;
     }
     let numbers = verify::random()?;
+    let besides = beside::all();
+    besides.iter().try_for_each(beside::verify::kind)?;
+    let of_besides = beside::verify::random()?;
     let plays = plays::all();
     plays.iter().try_for_each(verify::played)?;
     let of_traces = verify::traces()?;
+    let (of_salvages, of_sheets) = (verify::damaged()?, verify::sheets()?);
     let beside = if WITH_C { ", on kinds and day beside the published Rust too" } else { "" };
     eprintln!(
         "bench: {} kinds, a day of {} calls and {} random calls left the same bytes on the sides{beside}; random numbers 0..11: {numbers:?}",
@@ -152,7 +160,14 @@ fn verified(day: &[Call]) -> Result<(), String> {
         verify::RANDOM
     );
     eprintln!(
-        "bench: {} plays and {} random traces left the same bytes on the sides, and as their calls one by one; random numbers 0..13: {of_traces:?}",
+        "bench: {} kinds with a board or of the profile and {} random calls left the same bytes on the sides, and as the plain calls; random numbers \
+         0..15: {of_besides:?}",
+        besides.len(),
+        beside::verify::RANDOM
+    );
+    eprintln!(
+        "bench: {} plays, salvages and sheets and {} random traces left the same bytes on the sides, what is played as its calls one by one; random numbers 0..13: \
+         {of_traces:?}; of as many damaged ones, salvaged, 0..16: {of_salvages:?}; of as many summed up, 0..13: {of_sheets:?}",
         plays.len(),
         verify::TRACES
     );
@@ -166,6 +181,7 @@ fn timed(asked: &Asked, chosen: &Chosen) -> Vec<Vec<f64>> {
     let mut bench = Bench::new();
     let best = |calls| Best::new(asked.sides.len(), calls);
     let mut kinds: Vec<Best> = chosen.kinds.iter().map(|_| best(asked.calls)).collect();
+    let mut besides: Vec<Best> = chosen.besides.iter().map(|_| best(asked.calls)).collect();
     let mut days: Vec<Best> = chosen.days().map(|(_, calls)| best(calls.len())).collect();
     // As many plays in a round as have the records of the longest.
     let times: Vec<usize> = chosen.plays.iter().map(|play| RECORDS / play.calls.len()).collect();
@@ -178,6 +194,9 @@ fn timed(asked: &Asked, chosen: &Chosen) -> Vec<Vec<f64>> {
             for (row, kind) in kinds.iter_mut().zip(&chosen.kinds) {
                 row.rounds(rounds, &asked.sides, |side| bench.kind(side, kind, asked.calls / BATCH));
             }
+            for (row, kind) in besides.iter_mut().zip(&chosen.besides) {
+                row.rounds(rounds, &asked.sides, |side| bench.beside(side, kind, asked.calls / beside::BATCH));
+            }
             for (row, (length, calls)) in days.iter_mut().zip(chosen.days()) {
                 row.rounds(rounds, &asked.sides, |side| bench.day(side, calls, length));
             }
@@ -187,14 +206,15 @@ fn timed(asked: &Asked, chosen: &Chosen) -> Vec<Vec<f64>> {
         });
     }
     eprintln!();
-    kinds.iter().chain(&days).chain(&plays).map(Best::per_call).collect()
+    kinds.iter().chain(&besides).chain(&days).chain(&plays).map(Best::per_call).collect()
 }
 
 fn run(mut asked: Asked, chosen: Chosen) -> Result<(), String> {
     if asked.list {
-        chosen.kinds.iter().for_each(|kind| println!("{:20}{}", kind.name, kind.title));
-        println!("{:20}a mixed day of calls, on one image: of form 1, and with numbers", "day");
-        chosen.plays.iter().for_each(|play| println!("{:20}{}", play.name, play.title));
+        chosen.kinds.iter().for_each(|kind| println!("{:22}{}", kind.name, kind.title));
+        chosen.besides.iter().for_each(|kind| println!("{:22}{}", kind.name, kind.title));
+        println!("{:22}a mixed day of calls, on one image: of form 1, and with numbers", "day");
+        chosen.plays.iter().for_each(|play| println!("{:22}{}", play.name, play.title));
         return Ok(());
     }
     if asked.counted {
@@ -218,8 +238,9 @@ fn run(mut asked: Asked, chosen: Chosen) -> Result<(), String> {
         Vec::new()
     };
     let days = chosen.days().zip(["mixed day", "numbers: mixed day"]).map(|(_, title)| (title, true));
+    let besides = chosen.besides.iter().map(|kind| (kind.title, false));
     let plays = chosen.plays.iter().map(|play| (play.title.as_str(), false));
-    let titles = chosen.kinds.iter().map(|kind| (kind.title, has_c(kind))).chain(days).chain(plays);
+    let titles = chosen.kinds.iter().map(|kind| (kind.title, has_c(kind))).chain(besides).chain(days).chain(plays);
     let row = |(k, (title, c)): (usize, (&str, bool))| Row {
         title: title.into(),
         times: times.get(k).cloned().unwrap_or_default(),
@@ -228,7 +249,7 @@ fn run(mut asked: Asked, chosen: Chosen) -> Result<(), String> {
     };
     let rows: Vec<Row> = titles.enumerate().map(row).collect();
     table::print(&rows, &asked.sides, asked.times, asked.instructions, asked.markdown);
-    // In a play there is one loop and one call for all its records.
+    // In a play, a salvage or a sheet there is one loop and one call for all its records.
     tell(&asked, &rows[..rows.len() - chosen.plays.len()], cpu, chosen.day.as_deref());
     Ok(())
 }

@@ -1,9 +1,10 @@
 //! The clock: the sides take turns, round by round, so that the machine's other work hits all alike, and the best round of each counts. All
 //! kinds are gone through several times, since a spell of other work may outlast the rounds of one kind.
 
+use crate::beside;
 use crate::call::Call;
 use crate::count::{BEGIN, END, sign};
-use crate::kinds::{Kind, NUMBERED, Slot};
+use crate::kinds::{Kind, NUMBERED, Prepared, Slot};
 use crate::plays::{Lent, Play};
 use crate::sides;
 use std::time::Instant;
@@ -13,6 +14,7 @@ pub const BATCH: usize = 64;
 
 pub struct Bench {
     slots: Vec<Slot>,
+    besides: Vec<beside::Lent>,
     #[cfg(oracle)]
     devices: Vec<crate::device::Standing>,
 }
@@ -22,6 +24,7 @@ impl Bench {
         let slot = Slot { image: [0; NUMBERED], answer: [0; 16], events: [0; 64] };
         Bench {
             slots: vec![slot; BATCH],
+            besides: vec![beside::Lent::new(&Prepared::new(), NUMBERED, 0); beside::BATCH],
             #[cfg(oracle)]
             devices: (0..BATCH).map(|_| crate::device::Standing::new()).collect(),
         }
@@ -66,6 +69,28 @@ impl Bench {
         self.slots.fill(kind.slot.clone());
         sign(BEGIN);
         timed(kind, &mut self.slots[..slots]);
+        sign(END);
+    }
+
+    /// Nanoseconds of so many batches of this kind beside the plain ones.
+    pub fn beside(&mut self, side: char, kind: &beside::Kind, batches: usize) -> u64 {
+        let timed = each_beside(side);
+        (0..batches)
+            .map(|_| {
+                self.besides.fill(kind.lent.clone());
+                let began = Instant::now();
+                timed(kind, &mut self.besides);
+                began.elapsed().as_nanos() as u64
+            })
+            .sum()
+    }
+
+    /// That kind once on each of the first that are lent, for the counter.
+    pub fn beside_once(&mut self, side: char, kind: &beside::Kind, lents: usize) {
+        let timed = each_beside(side);
+        self.besides.fill(kind.lent.clone());
+        sign(BEGIN);
+        timed(kind, &mut self.besides[..lents]);
         sign(END);
     }
 
@@ -124,6 +149,16 @@ fn each(side: char) -> fn(&Kind, &mut [Slot]) {
     }
 }
 
+/// A side's timed loop over what is lent to the calls beside the plain ones.
+fn each_beside(side: char) -> fn(&beside::Kind, &mut [beside::Lent]) {
+    match side {
+        'a' => beside::sides::bench_timed_beside_a,
+        'b' => beside::sides::bench_timed_beside_b,
+        'd' => beside::sides::bench_timed_beside_d,
+        _ => beside::sides::bench_timed_beside_n,
+    }
+}
+
 /// A side's day.
 fn day(side: char) -> fn(&[Call], &mut Slot, usize) {
     match side {
@@ -134,7 +169,7 @@ fn day(side: char) -> fn(&[Call], &mut Slot, usize) {
     }
 }
 
-/// A side's plays.
+/// A side's plays and salvages.
 fn play(side: char) -> fn(&Play, &mut Lent, usize) {
     match side {
         'a' => sides::bench_timed_play_a,

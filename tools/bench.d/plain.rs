@@ -3,6 +3,17 @@
 //! Measured by tools/bench.
 #![forbid(unsafe_code)]
 
+#[path = "plain/beside.rs"]
+mod beside;
+#[path = "plain/salvage.rs"]
+mod salvage;
+#[path = "plain/sheet.rs"]
+mod sheet;
+
+pub use beside::*;
+pub use salvage::*;
+pub use sheet::*;
+
 /// Where things stand in the N bytes of an image of a form.
 trait Form<const N: usize> {
     const CONTENTS: &'static [u8];
@@ -56,6 +67,7 @@ macro_rules! by_length {
         }
     };
 }
+use by_length;
 
 /// The numbers of waiting events where the image has none.
 const FROM_0: [u8; 32] = [0, 0, 1, 0, 2, 0, 3, 0, 4, 0, 5, 0, 6, 0, 7, 0, 8, 0, 9, 0, 10, 0, 11, 0, 12, 0, 13, 0, 14, 0, 15, 0];
@@ -156,26 +168,39 @@ fn is_good(record: &[u8; 16]) -> bool {
     unused && zeros == 0
 }
 
-/// The records of a trace; refusal 12 for its contents, 13 for the first bad record.
-fn records_of(trace: &[u8]) -> Result<&[[u8; 16]], Refusal> {
+/// What a trace lists of its blocks, and all its records; refusal 12 for its contents.
+#[inline(always)]
+fn contents_of(trace: &[u8]) -> Result<(&[[u8; 4]], &[[u8; 16]]), Refusal> {
     let (blocks, rest) = trace.split_first_chunk().ok_or(refusal(12))?;
     let blocks = usize::from(u16::from_le_bytes(*blocks));
     if !(1..=64).contains(&blocks) {
         return Err(refusal(12));
     }
     let (listed, rest) = rest.split_at_checked(4 * blocks).ok_or(refusal(12))?;
+    let (listed, _) = listed.as_chunks();
     let mut records = 0;
-    for block in listed.chunks_exact(4) {
-        let (from, count) = (u16::from_le_bytes([block[0], block[1]]), u16::from_le_bytes([block[2], block[3]]));
-        if usize::from(from) != 2 + 4 * blocks + 16 * records || count == 0 {
+    for block in listed {
+        let (from, count) = entry(block);
+        if from != 2 + 4 * blocks + 16 * records || count == 0 {
             return Err(refusal(12));
         }
-        records += usize::from(count);
+        records += count;
     }
     if records > 4000 || rest.len() != 16 * records {
         return Err(refusal(12));
     }
-    let (records, _) = rest.as_chunks();
+    Ok((listed, rest.as_chunks().0))
+}
+
+/// Where a block begins, and how many records it has.
+fn entry(block: &[u8; 4]) -> (usize, usize) {
+    let [f0, f1, c0, c1] = *block;
+    (usize::from(u16::from_le_bytes([f0, f1])), usize::from(u16::from_le_bytes([c0, c1])))
+}
+
+/// The records of a trace; refusal 12 for its contents, 13 for the first bad record.
+fn records_of(trace: &[u8]) -> Result<&[[u8; 16]], Refusal> {
+    let (_, records) = contents_of(trace)?;
     match records.iter().position(|record| !is_good(record)) {
         Some(bad) => Err(broken(13, bad)),
         None => Ok(records),

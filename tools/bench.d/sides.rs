@@ -3,7 +3,7 @@
 
 use crate::call::Call;
 use crate::kinds::{Kind, NUMBERED, Slot};
-use crate::plays::{Lent, Play};
+use crate::plays::{Lent, Play, Way};
 use std::hint::black_box;
 use std::slice::{from_raw_parts as part, from_raw_parts_mut as part_mut};
 
@@ -39,12 +39,23 @@ mod library {
             answer: *mut u8,
             al: usize,
         ) -> u8;
+        pub fn pch_pic_salvage(
+            trace: *const u8,
+            tl: usize,
+            kept: *mut u8,
+            kl: usize,
+            list: *mut u8,
+            ll: usize,
+            answer: *mut u8,
+            al: usize,
+        ) -> u8;
+        pub fn pch_pic_sheet(trace: *const u8, tl: usize, sheet: *mut u8, sl: usize, answer: *mut u8, al: usize) -> u8;
     }
 }
 pub use library::*;
 
 /// An area as C lends it.
-type Area = (*mut u8, usize);
+pub type Area = (*mut u8, usize);
 
 /// The calls of a side.
 ///
@@ -58,6 +69,8 @@ pub trait Side {
     unsafe fn drain(image: Area, events: Area, place: usize, answer: Area) -> u8;
     unsafe fn convert(image: Area, target: Area, answer: Area) -> u8;
     unsafe fn play(trace: &[u8], image: Area, answers: Area, events: Area, answer: Area) -> u8;
+    unsafe fn salvage(trace: &[u8], kept: Area, list: Area, answer: Area) -> u8;
+    unsafe fn sheet(trace: &[u8], sheet: Area, answer: Area) -> u8;
 }
 
 pub struct Library;
@@ -94,6 +107,14 @@ impl Side for Library {
     #[inline(always)]
     unsafe fn play(trace: &[u8], i: Area, b: Area, e: Area, a: Area) -> u8 {
         unsafe { pch_pic_play(trace.as_ptr(), trace.len(), i.0, i.1, b.0, b.1, e.0, e.1, a.0, a.1) }
+    }
+    #[inline(always)]
+    unsafe fn salvage(trace: &[u8], k: Area, l: Area, a: Area) -> u8 {
+        unsafe { pch_pic_salvage(trace.as_ptr(), trace.len(), k.0, k.1, l.0, l.1, a.0, a.1) }
+    }
+    #[inline(always)]
+    unsafe fn sheet(trace: &[u8], s: Area, a: Area) -> u8 {
+        unsafe { pch_pic_sheet(trace.as_ptr(), trace.len(), s.0, s.1, a.0, a.1) }
     }
 }
 
@@ -135,6 +156,14 @@ macro_rules! rust {
             unsafe fn play(trace: &[u8], i: Area, b: Area, e: Area, a: Area) -> u8 {
                 unsafe { $of::play(trace, part_mut(i.0, i.1), part_mut(b.0, b.1), part_mut(e.0, e.1), part_mut(a.0, a.1)) }
             }
+            #[inline(always)]
+            unsafe fn salvage(trace: &[u8], k: Area, l: Area, a: Area) -> u8 {
+                unsafe { $of::salvage(trace, part_mut(k.0, k.1), part_mut(l.0, l.1), part_mut(a.0, a.1)) }
+            }
+            #[inline(always)]
+            unsafe fn sheet(trace: &[u8], s: Area, a: Area) -> u8 {
+                unsafe { $of::sheet(trace, part_mut(s.0, s.1), part_mut(a.0, a.1)) }
+            }
         }
     };
 }
@@ -144,7 +173,7 @@ rust!(Lean, lean);
 pub struct Nothing;
 
 #[inline(never)]
-extern "C" fn nothing(image: *mut u8, answer: *mut u8) -> u8 {
+pub extern "C" fn nothing(image: *mut u8, answer: *mut u8) -> u8 {
     black_box((image, answer));
     0
 }
@@ -181,6 +210,14 @@ impl Side for Nothing {
     #[inline(always)]
     unsafe fn play(_: &[u8], i: Area, _: Area, _: Area, a: Area) -> u8 {
         nothing(i.0, a.0)
+    }
+    #[inline(always)]
+    unsafe fn salvage(_: &[u8], k: Area, _: Area, a: Area) -> u8 {
+        nothing(k.0, a.0)
+    }
+    #[inline(always)]
+    unsafe fn sheet(_: &[u8], s: Area, a: Area) -> u8 {
+        nothing(s.0, a.0)
     }
 }
 
@@ -267,6 +304,21 @@ pub fn play<S: Side>(trace: &[u8], lent: &mut Lent) -> u8 {
     unsafe { S::play(trace, area(&mut lent.image), area(&mut lent.answers), area(&mut lent.events), area(&mut lent.answer)) }
 }
 
+/// The trace salvaged. The number that is handed back.
+#[inline(always)]
+pub fn salvage<S: Side>(trace: &[u8], lent: &mut Lent) -> u8 {
+    let area = |bytes: &mut Vec<u8>| (bytes.as_mut_ptr(), bytes.len());
+    // SAFETY: as in play.
+    unsafe { S::salvage(trace, area(&mut lent.kept), area(&mut lent.list), area(&mut lent.answer)) }
+}
+
+/// The sheet of the trace. The number that is handed back.
+#[inline(always)]
+pub fn sheet<S: Side>(trace: &[u8], lent: &mut Lent) -> u8 {
+    // SAFETY: as in play.
+    unsafe { S::sheet(trace, (lent.sheet.as_mut_ptr(), lent.sheet.len()), (lent.answer.as_mut_ptr(), lent.answer.len())) }
+}
+
 /// The reset, and then the calls of a trace's records one by one, each with its own sixteen answer bytes, and the drained events back to back.
 #[inline(always)]
 pub fn one_by_one<S: Side>(calls: &[Call], lent: &mut Lent) {
@@ -296,10 +348,11 @@ pub fn one_by_one<S: Side>(calls: &[Call], lent: &mut Lent) {
 #[inline(always)]
 fn played<S: Side>(play: &Play, lent: &mut Lent, times: usize) {
     for _ in 0..times {
-        if play.one_by_one {
-            one_by_one::<S>(&play.calls, lent);
-        } else {
-            black_box(self::play::<S>(&play.trace, lent));
+        match play.way {
+            Way::Played => drop(black_box(self::play::<S>(&play.trace, lent))),
+            Way::OneByOne => one_by_one::<S>(&play.calls, lent),
+            Way::Salvaged => drop(black_box(salvage::<S>(&play.trace, lent))),
+            Way::Summed => drop(black_box(sheet::<S>(&play.trace, lent))),
         }
     }
 }

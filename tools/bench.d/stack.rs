@@ -1,9 +1,10 @@
 //! The stack that each exported call uses: it runs on a painted stack of its own, and one looks how deep the paint is gone.
 
+use crate::beside::{self, Asked};
 use crate::call::Call;
 use crate::chance::Chance;
 use crate::kinds::{self, LENGTHS, NUMBERED, Slot};
-use crate::plays::{self, Lent};
+use crate::plays::{self, Lent, Way};
 use crate::sides;
 use crate::verify;
 use std::arch::asm;
@@ -15,37 +16,90 @@ const DEPTH: usize = 1 << 14;
 struct Painted([u8; DEPTH]);
 
 /// A C function and its numbers, in the order of the C prototype; those past its own are not looked at.
-type Numbers = (usize, [u64; 10]);
+type Numbers = (usize, [u64; 12]);
+
+/// The numbers of a function that has fewer.
+fn all<const N: usize>(function: usize, numbers: [u64; N]) -> Numbers {
+    let mut all = [0; 12];
+    all[..N].copy_from_slice(&numbers);
+    (function, all)
+}
 
 fn numbers(call: &Call, slot: &mut Slot, target: &mut [u8; NUMBERED], il: usize, al: usize) -> Numbers {
     let (i, il) = (slot.image.as_mut_ptr() as u64, il as u64);
     let (a, al) = (slot.answer.as_mut_ptr() as u64, al as u64);
     match *call {
-        Call::Reset => (sides::pch_pic_reset as *const () as usize, [i, il, a, al, 0, 0, 0, 0, 0, 0]),
+        Call::Reset => all(sides::pch_pic_reset as *const () as usize, [i, il, a, al]),
         Call::Read { base, size, address, width } => {
-            (sides::pch_pic_read as *const () as usize, [i, il, base, size, address, width, a, al, 0, 0])
+            all(sides::pch_pic_read as *const () as usize, [i, il, base, size, address, width, a, al])
         }
         Call::Write { base, size, address, width, value } => {
-            (sides::pch_pic_write as *const () as usize, [i, il, base, size, address, width, value, a, al, 0])
+            all(sides::pch_pic_write as *const () as usize, [i, il, base, size, address, width, value, a, al])
         }
-        Call::Level { input, level } => (sides::pch_pic_level as *const () as usize, [i, il, input, level, a, al, 0, 0, 0, 0]),
-        Call::Poll { input } => (sides::pch_pic_poll as *const () as usize, [i, il, input, a, al, 0, 0, 0, 0, 0]),
+        Call::Level { input, level } => all(sides::pch_pic_level as *const () as usize, [i, il, input, level, a, al]),
+        Call::Poll { input } => all(sides::pch_pic_poll as *const () as usize, [i, il, input, a, al]),
         Call::Drain { place } => {
             let (e, el) = (slot.events.as_mut_ptr() as u64, slot.events.len() as u64);
-            (sides::pch_pic_drain as *const () as usize, [i, il, e, el, place, a, al, 0, 0, 0])
+            all(sides::pch_pic_drain as *const () as usize, [i, il, e, el, place, a, al])
         }
         Call::Convert { target: length } => {
             let (t, tl) = (target.as_mut_ptr() as u64, length.min(NUMBERED) as u64);
-            (sides::pch_pic_convert as *const () as usize, [i, il, t, tl, a, al, 0, 0, 0, 0])
+            all(sides::pch_pic_convert as *const () as usize, [i, il, t, tl, a, al])
         }
     }
 }
 
+fn beside_numbers(asked: &Asked, lent: &mut beside::Lent, il: usize) -> Numbers {
+    use beside::sides;
+    let (i, il) = (lent.slot.image.as_mut_ptr() as u64, il as u64);
+    let ((b, bl), (p, pl)) = ((lent.board.as_mut_ptr() as u64, 256), (lent.phase.as_mut_ptr() as u64, 1));
+    let ((e, el), (a, al)) = ((lent.slot.events.as_mut_ptr() as u64, 64), (lent.slot.answer.as_mut_ptr() as u64, 16));
+    match *asked {
+        Asked::Board(Call::Read { base, size, address, width }) => {
+            all(sides::pch_pic_board_read as *const () as usize, [i, il, b, bl, base, size, address, width, a, al])
+        }
+        Asked::Board(Call::Write { base, size, address, width, value }) => {
+            all(sides::pch_pic_board_write as *const () as usize, [i, il, b, bl, base, size, address, width, value, a, al])
+        }
+        Asked::Board(Call::Level { input, level }) => {
+            all(sides::pch_pic_board_level as *const () as usize, [i, il, b, bl, input, level, a, al])
+        }
+        Asked::Board(Call::Poll { input }) => all(sides::pch_pic_board_poll as *const () as usize, [i, il, b, bl, input, a, al]),
+        Asked::Board(Call::Drain { place }) => all(sides::pch_pic_board_drain as *const () as usize, [i, il, b, bl, e, el, place, a, al]),
+        Asked::Board(_) => all(sides::pch_pic_board_reset as *const () as usize, [i, il, b, bl, a, al]),
+        Asked::Event { vector, flag } => {
+            all(sides::pch_pic_board_event as *const () as usize, [b, bl, u64::from(vector), u64::from(flag), a, al])
+        }
+        Asked::Hoist(Call::Read { base, size, address, width }) => {
+            all(sides::pch_pic_hoist_read as *const () as usize, [i, il, base, size, address, width, a, al])
+        }
+        Asked::Hoist(Call::Write { base, size, address, width, value }) => {
+            all(sides::pch_pic_hoist_write as *const () as usize, [i, il, p, pl, base, size, address, width, value, a, al])
+        }
+        Asked::Hoist(_) => all(sides::pch_pic_hoist_reset as *const () as usize, [i, il, p, pl, a, al]),
+        Asked::EndStartup => all(sides::pch_pic_hoist_end_startup as *const () as usize, [i, il, p, pl, a, al]),
+    }
+}
+
+fn area(bytes: &mut Vec<u8>) -> (u64, u64) {
+    (bytes.as_mut_ptr() as u64, bytes.len() as u64)
+}
+
 fn play_numbers(trace: &[u8], lent: &mut Lent) -> Numbers {
-    let of = |area: &mut Vec<u8>| (area.as_mut_ptr() as u64, area.len() as u64);
-    let ((t, tl), (i, il)) = ((trace.as_ptr() as u64, trace.len() as u64), of(&mut lent.image));
-    let ((b, bl), (e, el), (a, al)) = (of(&mut lent.answers), of(&mut lent.events), of(&mut lent.answer));
-    (sides::pch_pic_play as *const () as usize, [t, tl, i, il, b, bl, e, el, a, al])
+    let ((t, tl), (i, il)) = ((trace.as_ptr() as u64, trace.len() as u64), area(&mut lent.image));
+    let ((b, bl), (e, el), (a, al)) = (area(&mut lent.answers), area(&mut lent.events), area(&mut lent.answer));
+    all(sides::pch_pic_play as *const () as usize, [t, tl, i, il, b, bl, e, el, a, al])
+}
+
+fn salvage_numbers(trace: &[u8], lent: &mut Lent) -> Numbers {
+    let (t, tl) = (trace.as_ptr() as u64, trace.len() as u64);
+    let ((k, kl), (l, ll), (a, al)) = (area(&mut lent.kept), area(&mut lent.list), area(&mut lent.answer));
+    all(sides::pch_pic_salvage as *const () as usize, [t, tl, k, kl, l, ll, a, al])
+}
+
+fn sheet_numbers(trace: &[u8], lent: &mut Lent) -> Numbers {
+    let ((s, sl), (a, al)) = (area(&mut lent.sheet), area(&mut lent.answer));
+    all(sides::pch_pic_sheet as *const () as usize, [trace.as_ptr() as u64, trace.len() as u64, s, sl, a, al])
 }
 
 /// Bytes below the caller's stack that a call wrote, its return address among them. A byte that is written with the paint's own value
@@ -62,18 +116,20 @@ fn used<T>(stack: &mut Painted, lent: impl Fn() -> T, numbers: impl Fn(&mut T) -
             asm!(
                 "mov r12, rsp",
                 "mov rsp, {top}",
-                "push {n9}",
-                "push {n8}",
-                "push {n7}",
-                "push {n6}",
+                "push qword ptr [{n} + 88]",
+                "push qword ptr [{n} + 80]",
+                "push qword ptr [{n} + 72]",
+                "push qword ptr [{n} + 64]",
+                "push qword ptr [{n} + 56]",
+                "push qword ptr [{n} + 48]",
                 "call {function}",
                 "mov rsp, r12",
-                top = in(reg) top, n6 = in(reg) n[6], n7 = in(reg) n[7], n8 = in(reg) n[8], n9 = in(reg) n[9], function = in(reg) function,
+                top = in(reg) top, n = in(reg) n.as_ptr(), function = in(reg) function,
                 in("rdi") n[0], in("rsi") n[1], in("rdx") n[2], in("rcx") n[3], in("r8") n[4], in("r9") n[5],
                 out("r12") _, clobber_abi("C"),
             );
         }
-        let below = DEPTH - 32;
+        let below = DEPTH - 48;
         let deepest_here = stack.0[..below].iter().position(|&byte| byte != paint).map_or(0, |first| below - first);
         deepest = deepest.max(deepest_here);
     }
@@ -100,7 +156,7 @@ const TRACES: usize = 1_000;
 fn plays(stack: &mut Painted) -> usize {
     let mut deepest = 0;
     let mut note = |trace: &[u8], lent: &Lent| deepest = deepest.max(used(stack, || lent.clone(), |lent| play_numbers(trace, lent)));
-    for play in plays::all().iter().filter(|play| !play.one_by_one) {
+    for play in plays::all().iter().filter(|play| play.way == Way::Played) {
         note(&play.trace, &Lent::of(play));
     }
     for width in [1, 2, 4, 8] {
@@ -122,16 +178,98 @@ fn plays(stack: &mut Painted) -> usize {
     deepest
 }
 
+/// The most that a salvage uses: over those that are measured, and random damaged traces.
+fn salvages(stack: &mut Painted) -> usize {
+    let mut deepest = 0;
+    let mut note = |trace: &[u8], lent: &Lent| deepest = deepest.max(used(stack, || lent.clone(), |lent| salvage_numbers(trace, lent)));
+    for play in plays::all().iter().filter(|play| play.way == Way::Salvaged) {
+        note(&play.trace, &Lent::of(play));
+    }
+    let mut chance = Chance::new(6);
+    for _ in 0..TRACES {
+        let trace = plays::random_damaged(&mut chance);
+        note(&trace, &Lent::for_salvage(trace.len(), 256));
+        note(&trace, &Lent::for_salvage(0, 0));
+    }
+    deepest
+}
+
+/// The most that a sheet uses: over those that are measured, and random traces, good and damaged.
+fn sheets(stack: &mut Painted) -> usize {
+    let mut deepest = 0;
+    let mut note = |trace: &[u8]| {
+        deepest = deepest.max(used(stack, || Lent::for_sheet(plays::SHEET), |lent| sheet_numbers(trace, lent)));
+    };
+    plays::all().iter().filter(|play| play.way == Way::Summed).for_each(|play| note(&play.trace));
+    let mut chance = Chance::new(8);
+    for _ in 0..TRACES {
+        note(&plays::random(&mut chance).0);
+        note(&plays::random_damaged(&mut chance));
+    }
+    deepest
+}
+
+fn beside_name(asked: &Asked) -> &'static str {
+    match asked {
+        Asked::Board(Call::Read { .. }) => "pch_pic_board_read",
+        Asked::Board(Call::Write { .. }) => "pch_pic_board_write",
+        Asked::Board(Call::Level { .. }) => "pch_pic_board_level",
+        Asked::Board(Call::Poll { .. }) => "pch_pic_board_poll",
+        Asked::Board(Call::Drain { .. }) => "pch_pic_board_drain",
+        Asked::Board(_) => "pch_pic_board_reset",
+        Asked::Event { .. } => "pch_pic_board_event",
+        Asked::Hoist(Call::Read { .. }) => "pch_pic_hoist_read",
+        Asked::Hoist(Call::Write { .. }) => "pch_pic_hoist_write",
+        Asked::Hoist(_) => "pch_pic_hoist_reset",
+        Asked::EndStartup => "pch_pic_hoist_end_startup",
+    }
+}
+
+/// The most that each call beside the plain ones uses: over all their kinds, every offset and width, and random calls on random images.
+fn besides(stack: &mut Painted) -> Vec<(&'static str, usize)> {
+    let mut most = Vec::new();
+    let mut note = |asked: &Asked, lent: &beside::Lent, il| {
+        let bytes = used(stack, || lent.clone(), |lent| beside_numbers(asked, lent, il));
+        keep(&mut most, beside_name(asked), bytes);
+    };
+    let all = beside::all();
+    all.iter().for_each(|kind| note(&kind.asked, &kind.lent, NUMBERED));
+    for (address, length) in (0..0x400).flat_map(|address| LENGTHS.map(|length| (address, length))) {
+        let lent = beside::Lent::new(&kinds::busy(), length, 0);
+        for width in [1, 2, 4, 8] {
+            let read = Call::Read { base: 0, size: 0x400, address, width };
+            let writes = [0, !0].map(|value| Call::Write { base: 0, size: 0x400, address, width, value });
+            for call in [read].into_iter().chain(writes) {
+                note(&Asked::Board(call), &lent, length);
+                note(&Asked::Hoist(call), &lent, length);
+            }
+        }
+    }
+    let mut chance = Chance::new(4);
+    for _ in 0..RANDOM {
+        let length = chance.one_of(&LENGTHS);
+        let mut lent = beside::Lent::new(&kinds::busy(), length, chance.one_of(&[0, 1]));
+        lent.slot.image = verify::random_image(&mut chance, length);
+        note(&beside::verify::random_asked(&mut chance), &lent, length);
+    }
+    most
+}
+
+/// Keeps the most of each name.
+fn keep(most: &mut Vec<(&'static str, usize)>, name: &'static str, bytes: usize) {
+    match most.iter_mut().find(|one| one.0 == name) {
+        Some(one) => one.1 = one.1.max(bytes),
+        None => most.push((name, bytes)),
+    }
+}
+
 /// The most that each of the calls uses: over all the kinds, every offset and width read and written, and random calls on random images.
 pub fn print(markdown: bool) -> Result<(), String> {
     let mut stack = Box::new(Painted([0; DEPTH]));
-    let mut most: Vec<(&str, usize)> = Vec::new();
+    let mut most = Vec::new();
     let mut note = |call: &Call, slot: &Slot, il, al| {
         let bytes = used(&mut stack, || (slot.clone(), [0; NUMBERED]), |(slot, target)| numbers(call, slot, target, il, al));
-        match most.iter_mut().find(|one| one.0 == name(call)) {
-            Some(one) => one.1 = one.1.max(bytes),
-            None => most.push((name(call), bytes)),
-        }
+        keep(&mut most, name(call), bytes);
     };
     let all = kinds::all();
     for kind in &all {
@@ -155,6 +293,9 @@ pub fn print(markdown: bool) -> Result<(), String> {
         note(&Call::Convert { target: chance.one_of(&LENGTHS) }, &slot, length, 16);
     }
     most.push(("pch_pic_play", plays(&mut stack)));
+    most.push(("pch_pic_salvage", salvages(&mut stack)));
+    most.push(("pch_pic_sheet", sheets(&mut stack)));
+    most.extend(besides(&mut stack));
     if most.iter().any(|one| one.1 > DEPTH / 2) {
         return Err("the painted stack is too small".into());
     }
@@ -162,7 +303,7 @@ pub fn print(markdown: bool) -> Result<(), String> {
         println!("| Call | Stack, bytes |\n|---|---:|");
     }
     for (name, bytes) in most {
-        if markdown { println!("| `{name}` | {bytes} |") } else { println!("{name:16}{bytes:>7} bytes of stack") }
+        if markdown { println!("| `{name}` | {bytes} |") } else { println!("{name:27}{bytes:>7} bytes of stack") }
     }
     Ok(())
 }

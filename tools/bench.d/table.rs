@@ -44,14 +44,14 @@ pub fn print(rows: &[Row], sides: &[char], times: bool, instructions: bool, mark
         println!("| Call | {} |", heads.join(" | "));
         println!("|---|{}", "---:|".repeat(heads.len()));
     } else {
-        println!("{:36}{}", "", heads.iter().map(|head| format!("{head:>11}")).collect::<String>());
+        println!("{:42}{}", "", heads.iter().map(|head| format!("{head:>11}")).collect::<String>());
     }
     for row in rows {
         let cells: Vec<String> = columns.iter().map(|column| column.1(row).unwrap_or_else(|| "-".into())).collect();
         if markdown {
             println!("| {} | {} |", row.title, cells.join(" | "));
         } else {
-            println!("{:36}{}", row.title, cells.iter().map(|cell| format!("{cell:>11}")).collect::<String>());
+            println!("{:42}{}", row.title, cells.iter().map(|cell| format!("{cell:>11}")).collect::<String>());
         }
     }
 }

@@ -3,8 +3,8 @@
 use crate::call::Call;
 use crate::chance::Chance;
 use crate::kinds::{BASE, Kind, LENGTH, LENGTHS, NUMBERED, Prepared, SIZE, Slot, count_at, moved};
-use crate::plays::{self, Lent, Play};
-use crate::sides::{Lean, Library, Plain, Side, converted, make, one_by_one, play};
+use crate::plays::{self, Lent, Play, Way, blocks};
+use crate::sides::{Lean, Library, Plain, Side, converted, make, one_by_one, play, salvage, sheet};
 
 /// What a side hands back, and the target of a conversion.
 fn by<S: Side>(call: &Call, slot: &mut Slot, image_len: usize, answer_len: usize) -> (u8, [u8; NUMBERED]) {
@@ -153,8 +153,70 @@ fn same_calls(what: &str, calls: &[Call], before: &Lent, left: &Lent) -> Result<
     Ok(())
 }
 
+/// The sides salvage the trace, and must hand back the same number and leave the same bytes.
+fn same_salvage(what: &str, trace: &[u8], lent: &mut Lent) -> Result<u8, String> {
+    let (mut plain, mut lean) = (lent.clone(), lent.clone());
+    let number = salvage::<Library>(trace, lent);
+    let others = [("plain Rust", salvage::<Plain>(trace, &mut plain), plain), ("lean Rust", salvage::<Lean>(trace, &mut lean), lean)];
+    match others.iter().find(|other| other.1 != number || other.2 != *lent) {
+        Some((name, handed, _)) => Err(format!("{what}: a salvage hands back {number}, that of {name} {handed}, or leaves other bytes")),
+        None => Ok(number),
+    }
+}
+
+/// The new trace of a salvage that was done.
+fn new_trace(lent: &Lent) -> &[u8] {
+    &lent.kept[..u64::from_le_bytes(lent.answer[8..16].try_into().unwrap()) as usize]
+}
+
+/// What a salvage left, salvaged again, must come out unchanged with an empty list.
+fn same_again(what: &str, left: &Lent) -> Result<(), String> {
+    let trace = new_trace(left);
+    let mut lent = Lent::for_salvage(trace.len(), 0);
+    match same_salvage(what, trace, &mut lent)? {
+        0 if lent.kept == trace => Ok(()),
+        number => Err(format!("{what}: salvaged again the number is {number}, or other bytes are left")),
+    }
+}
+
+/// A salvage that is measured: it is done, by the sides alike.
+fn salvaged(of: &Play) -> Result<(), String> {
+    let mut lent = Lent::of(of);
+    match same_salvage(&of.name, &of.trace, &mut lent)? {
+        0 => same_again(&of.name, &lent),
+        number => Err(format!("{}: the salvage is refused with {number}", of.name)),
+    }
+}
+
+/// The sides make the sheet of the trace, and must hand back the same number and leave the same bytes.
+fn same_sheet(what: &str, trace: &[u8], lent: &mut Lent) -> Result<u8, String> {
+    let (mut plain, mut lean) = (lent.clone(), lent.clone());
+    let number = sheet::<Library>(trace, lent);
+    let others = [("plain Rust", sheet::<Plain>(trace, &mut plain), plain), ("lean Rust", sheet::<Lean>(trace, &mut lean), lean)];
+    match others.iter().find(|other| other.1 != number || other.2 != *lent) {
+        Some((name, handed, other)) => {
+            let first = lent.sheet.iter().zip(&other.sheet).position(|(a, b)| a != b);
+            Err(format!("{what}: a sheet hands back {number}, that of {name} {handed}; the first different byte is {first:?}"))
+        }
+        None => Ok(number),
+    }
+}
+
+/// A sheet that is measured: it is done, by the sides alike.
+fn summed(of: &Play) -> Result<(), String> {
+    match same_sheet(&of.name, &of.trace, &mut Lent::of(of))? {
+        0 => Ok(()),
+        number => Err(format!("{}: the sheet is refused with {number}", of.name)),
+    }
+}
+
 /// A play that is measured: it is done, by the sides alike, and as one by one.
 pub fn played(of: &Play) -> Result<(), String> {
+    match of.way {
+        Way::Salvaged => return salvaged(of),
+        Way::Summed => return summed(of),
+        Way::Played | Way::OneByOne => {}
+    }
     let (before, mut lent) = (Lent::of(of), Lent::of(of));
     match same_play(&of.name, &of.trace, &mut lent)? {
         0 => same_calls(&of.name, &of.calls, &before, &lent),
@@ -194,6 +256,47 @@ pub fn traces() -> Result<[u64; 14], String> {
     }
     match [0, 4, 7, 12, 13].into_iter().find(|&number| numbers[number] == 0) {
         Some(number) => Err(format!("the random traces never met number {number}")),
+        None => Ok(numbers),
+    }
+}
+
+/// Random damaged traces, to buffers that have just the room, more, or too little; gives how often each number came.
+pub fn damaged() -> Result<[u64; 17], String> {
+    let mut chance = Chance::new(17);
+    let mut numbers = [0; 17];
+    for _ in 0..TRACES {
+        let trace = plays::random_damaged(&mut chance);
+        let mut lent = Lent::for_salvage(trace.len(), 256);
+        if same_salvage("random", &trace, &mut lent)? == 0 {
+            same_again("random", &lent)?;
+            let (kept, list) = (new_trace(&lent).len(), 4 * (blocks(&trace).len() - blocks(new_trace(&lent)).len()));
+            lent = Lent::for_salvage(chance.one_of(&[kept - 1, kept, kept + 3]), chance.one_of(&[list.saturating_sub(1), list, list + 3]));
+        }
+        lent.answer.truncate(chance.one_of(&[16, 16, 16, 16, 16, 15]));
+        numbers[usize::from(same_salvage("random", &trace, &mut lent)?)] += 1;
+    }
+    match [0, 7, 12, 16].into_iter().find(|&number| numbers[number] == 0) {
+        Some(number) => Err(format!("the random salvages never met number {number}")),
+        None => Ok(numbers),
+    }
+}
+
+/// Sheets of random traces, some of them damaged; gives how often each number came.
+pub fn sheets() -> Result<[u64; 14], String> {
+    let mut chance = Chance::new(19);
+    let mut numbers = [0; 14];
+    for _ in 0..TRACES {
+        let trace = if chance.percent(80) { plays::random(&mut chance).0 } else { plays::random_damaged(&mut chance) };
+        let mut lent = Lent::for_sheet(chance.one_of(&[plays::SHEET, plays::SHEET, plays::SHEET + 3]));
+        match chance.below(100) {
+            0 => lent.sheet.truncate(plays::SHEET - 1),
+            1 => lent.answer.truncate(15),
+            _ => {}
+        }
+        numbers[usize::from(same_sheet("random", &trace, &mut lent)?)] += 1;
+    }
+    match [0, 7, 12, 13].into_iter().find(|&number| numbers[number] == 0) {
+        Some(number) => Err(format!("the random sheets never met number {number}")),
         None => Ok(numbers),
     }
 }
