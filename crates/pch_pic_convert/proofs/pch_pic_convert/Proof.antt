@@ -3,8 +3,8 @@ use mathlib.Core.Path.{sym}
 use Rattle.calls.proofs.laws.Conversions.{conversion-short}
 use Rattle.fronts.proofs.Told.{told-of-convert}
 use borrow.Author.Needs.{needs}
-use Rattle.pch_pic.proofs.pch_pic_convert.Statement.{statement}
-use Rattle.pch_pic.proofs.pch_pic_convert.Tie as tie
+use Rattle.pch_pic_convert.proofs.pch_pic_convert.Statement.{statement}
+use Rattle.pch_pic_convert.proofs.pch_pic_convert.Tie as tie
 
 pub pch-pic-convert-spec : {M : Type 1} → statement M
 pch-pic-convert-spec =

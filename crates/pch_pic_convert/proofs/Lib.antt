@@ -1,0 +1,1 @@
+-- The laws that the proofs of this crate cite stand in fronts.
