@@ -1,4 +1,5 @@
-// The call that writes the sheet of a lent trace. It requires nothing: every input has its outcome. Here is what lacks room, refusal 7, which writes no byte; the crates below test the trace and make the sheet.
+// The call that writes the sheet of a lent trace. It requires nothing: every input has its outcome. Here is what lacks room, refusal 7, which writes no byte;
+// the crates below test the trace and make the sheet.
 use sheet::make;
 use trace_refusals::NO_ROOM;
 ghost use mathlib.Core.Path.{_≡_};

@@ -1,4 +1,4 @@
-// The sheet of a trace, made in one pass: zeros, then record by record, then the column of open waits and the total. All of it stands in the bytes lent for the sheet.
+// The sheet of a trace, made in one pass: zeros, then record by record, then the column of open waits and the total. It stands in the bytes lent for it.
 // Zeros are stored column by column, and in each for the inputs of a set: of rows one after another the compiler makes a call of memset.
 use answer::Told;
 use answer::Value;

@@ -111,7 +111,8 @@ fn leave(sheet: &mut [u8], w: Watched, set: u64, k: u64) -> Watched
 // One input that waits goes into service, and its assert is returned.
 fn enter_one(sheet: &mut [u8], w: Watched, n: usize, k: u64) -> Watched
     requires { ⌜ Ready (now sheet) n k ⌝ }
-    ensures { λ r. ⌜ Turns (linesOf r) (now (sheet .entry)) (now (sheet .exit)) k (w .waiting) (r .waiting) (λ vs. lines.enter vs false (only n) (linesOf w)) ⌝ }
+    ensures { λ r. ⌜ Turns (linesOf r) (now (sheet .entry)) (now (sheet .exit)) k (w .waiting) (r .waiting)
+        (λ vs. lines.enter vs false (only n) (linesOf w)) ⌝ }
 {
     let bit = 1u64 << n;
     if decide::pending(bit, w.irr, w.mask, w.isr) == 0 {
@@ -129,7 +130,8 @@ fn enter_one(sheet: &mut [u8], w: Watched, n: usize, k: u64) -> Watched
 // One input that is in service leaves it, and its deassert is returned.
 fn leave_one(sheet: &mut [u8], w: Watched, n: usize, k: u64) -> Watched
     requires { ⌜ Ready (now sheet) n k ⌝ }
-    ensures { λ r. ⌜ Turns (linesOf r) (now (sheet .entry)) (now (sheet .exit)) k (w .waiting) (r .waiting) (λ vs. lines.leave vs false (only n) (linesOf w)) ⌝ }
+    ensures { λ r. ⌜ Turns (linesOf r) (now (sheet .entry)) (now (sheet .exit)) k (w .waiting) (r .waiting)
+        (λ vs. lines.leave vs false (only n) (linesOf w)) ⌝ }
 {
     let bit = 1u64 << n;
     if decide::served(bit, w.isr) == 0 {
@@ -148,7 +150,8 @@ fn leave_one(sheet: &mut [u8], w: Watched, n: usize, k: u64) -> Watched
 
 pub fn poll(sheet: &mut [u8], w: Watched, n: usize, k: u64) -> Watched
     requires { ⌜ Ready (now sheet) n k ⌝ }
-    ensures { λ r. ⌜ Follows (linesOf w) (w .waiting) (linesOf r) (r .waiting) (now (sheet .entry)) (now (sheet .exit)) k (λ c. core.move (core.poll n) ∷ []) ⌝ }
+    ensures { λ r. ⌜ Follows (linesOf w) (w .waiting) (linesOf r) (r .waiting) (now (sheet .entry)) (now (sheet .exit)) k
+        (λ c. core.move (core.poll n) ∷ []) ⌝ }
 {
     enter_one(sheet, w, n, k)
 }
@@ -168,7 +171,8 @@ fn count_raise(sheet: &mut [u8], w: Watched, n: usize, k: u64)
 // It is latched, and then polled.
 pub fn raise(sheet: &mut [u8], w: Watched, n: usize, k: u64) -> Watched
     requires { ⌜ Ready (now sheet) n k ⌝ }
-    ensures { λ r. ⌜ Follows (linesOf w) (w .waiting) (linesOf r) (r .waiting) (now (sheet .entry)) (now (sheet .exit)) k (λ c. core.move (core.raise n) ∷ []) ⌝ }
+    ensures { λ r. ⌜ Follows (linesOf w) (w .waiting) (linesOf r) (r .waiting) (now (sheet .entry)) (now (sheet .exit)) k
+        (λ c. core.move (core.raise n) ∷ []) ⌝ }
 {
     count_raise(sheet, w, n, k);
     let latched = Watched {
@@ -183,7 +187,8 @@ pub fn raise(sheet: &mut [u8], w: Watched, n: usize, k: u64) -> Watched
 // Its latch goes off, its wait is taken back, and it leaves service.
 pub fn lower(sheet: &mut [u8], w: Watched, n: usize, k: u64) -> Watched
     requires { ⌜ Ready (now sheet) n k ⌝ }
-    ensures { λ r. ⌜ Follows (linesOf w) (w .waiting) (linesOf r) (r .waiting) (now (sheet .entry)) (now (sheet .exit)) k (λ c. core.move (core.lower n) ∷ []) ⌝ }
+    ensures { λ r. ⌜ Follows (linesOf w) (w .waiting) (linesOf r) (r .waiting) (now (sheet .entry)) (now (sheet .exit)) k
+        (λ c. core.move (core.lower n) ∷ []) ⌝ }
 {
     count(sheet, n, LOWERS);
     withdraw(sheet, n);
@@ -200,7 +205,8 @@ pub fn lower(sheet: &mut [u8], w: Watched, n: usize, k: u64) -> Watched
 
 pub fn write_mask(sheet: &mut [u8], w: Watched, k: u64, val: u32, high: bool) -> Watched
     requires { ⌜ (sheetLength ≤ length (now sheet)) × (k < 4000) ⌝ }
-    ensures { λ r. ⌜ Follows (linesOf w) (w .waiting) (linesOf r) (r .waiting) (now (sheet .entry)) (now (sheet .exit)) k (λ c. core.move (core.setMask high val) ∷ []) ⌝ }
+    ensures { λ r. ⌜ Follows (linesOf w) (w .waiting) (linesOf r) (r .waiting) (now (sheet .entry)) (now (sheet .exit)) k
+        (λ c. core.move (core.setMask high val) ∷ []) ⌝ }
 {
     let old = w.mask;
     let masked = Watched {
@@ -215,7 +221,8 @@ pub fn write_mask(sheet: &mut [u8], w: Watched, k: u64, val: u32, high: bool) ->
 
 pub fn write_clear(sheet: &mut [u8], w: Watched, k: u64, bits: u64) -> Watched
     requires { ⌜ (sheetLength ≤ length (now sheet)) × (k < 4000) ⌝ }
-    ensures { λ r. ⌜ Follows (linesOf w) (w .waiting) (linesOf r) (r .waiting) (now (sheet .entry)) (now (sheet .exit)) k (λ c. core.move (core.clear bits) ∷ []) ⌝ }
+    ensures { λ r. ⌜ Follows (linesOf w) (w .waiting) (linesOf r) (r .waiting) (now (sheet .entry)) (now (sheet .exit)) k
+        (λ c. core.move (core.clear bits) ∷ []) ⌝ }
 {
     withdraw_each(sheet, bits);
     let cleared = Watched {

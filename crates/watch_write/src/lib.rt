@@ -26,7 +26,8 @@ fn write_half(
     high: bool,
 ) -> Watched
     requires { ⌜ (sheetLength ≤ length (now sheet)) × (k < 4000) ⌝ }
-    ensures { λ r. ⌜ Follows (linesOf w) (w .waiting) (linesOf r) (r .waiting) (now (sheet .entry)) (now (sheet .exit)) k (λ c. registerActs (registerView register) high val) ⌝ }
+    ensures { λ r. ⌜ Follows (linesOf w) (w .waiting) (linesOf r) (r .waiting) (now (sheet .entry)) (now (sheet .exit)) k
+        (λ c. registerActs (registerView register) high val) ⌝ }
 {
     match register {
         Register::Id => w,
@@ -72,7 +73,8 @@ pub fn write_dword(sheet: &mut [u8], w: Watched, k: u64, offset: usize, val: u32
 
 pub fn write_qword(sheet: &mut [u8], w: Watched, k: u64, offset: usize, value: u64) -> Watched
     requires { ⌜ (sheetLength ≤ length (now sheet)) × (k < 4000) × (offset + 8 ≤ 2 ^ 64 - 1) ⌝ }
-    ensures { λ r. ⌜ Follows (linesOf w) (w .waiting) (linesOf r) (r .waiting) (now (sheet .entry)) (now (sheet .exit)) k (λ c. writeActs c qword offset value) ⌝ }
+    ensures { λ r. ⌜ Follows (linesOf w) (w .waiting) (linesOf r) (r .waiting) (now (sheet .entry)) (now (sheet .exit)) k
+        (λ c. writeActs c qword offset value) ⌝ }
 {
     let first = write_dword(sheet, w, k, offset, bits::half(value, false));
     write_dword(sheet, first, k, offset + 4, bits::half(value, true))

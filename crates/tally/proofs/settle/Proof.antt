@@ -1,71 +1,42 @@
+-- `settle`: a wait that is over stays so; one that is not gives its length and is over.
 use Prim.Native.Nat.{max}
 use mathlib.Core.Path.{ap, _∙_}
 use Rattle.tally.proofs.Cells.{over-settles, settles}
 use borrow.Author.Needs.{needs}
 use Rattle.tally.proofs.settle.Statement.{statement}
 use Rattle.tally.proofs.settle.Tie as tie
-use Rattle.tally.proofs.settle.Reads as reads
-use Rattle.tally.proofs.settle.Lts as lts
-use Rattle.tally.proofs.cell.Reads as cell-reads
-use Rattle.tally.proofs.elapsed.Reads as elapsed-reads
-use Rattle.tally.proofs.greater.Reads as greater-reads
-use Rattle.tally.proofs.put_cell.Reads as put-cell-reads
 
--- src/lib.rt:89:9
-cell-requires : tie.Need-cell-requires
-cell-requires c κs = search needs
-
--- src/lib.rt:91:9
-same-length : tie.Need-same-length
-same-length c = search needs
-
--- src/lib.rt:91:9
 returns : tie.Need-returns
 returns c =
-    over-settles ((c .before .before .before .before) .args .n) ((c .before) .cell .ensures) ((c .before .before .before .before) .args .k) (c .if1 .taken)
+    let at-cell = c .before in
+    let s = at-cell .before .before .before in
+    over-settles (s .args .n) (at-cell .cell .ensures) (s .args .k) (c .if1 .taken)
 
--- src/lib.rt:93:9
-cell-requires-2 : tie.Need-cell-requires-2
-cell-requires-2 c κs = search needs
-
--- src/lib.rt:94:48
-elapsed-requires : tie.Need-elapsed-requires
-elapsed-requires c κs = search needs
-
--- src/lib.rt:94:34
-greater-requires : tie.Need-greater-requires
-greater-requires c κs = search needs
-
--- src/lib.rt:94:5
-put-cell-requires : tie.Need-put-cell-requires
-put-cell-requires c κs = search needs
-
--- src/lib.rt:95:5
-put-cell-requires-2 : tie.Need-put-cell-requires-2
-put-cell-requires-2 c κs = search needs
-
--- src/lib.rt:85:1
-same-length-2 : tie.Need-same-length-2
-same-length-2 c = search needs
-
--- src/lib.rt:85:1
 returns-2 : tie.Need-returns-2
 returns-2 c =
-    let a = (c .before .before .before .before .before .before .before .before .before .before .before .before .before .before .before .before) .args in
-    settles (a .n) ((c .before .before .before .before .before .before .before .before .before .before .before .before .before) .cell .ensures) ((c .before .before .before .before .before .before .before .before .before .before .before .before) .if1 .left) (a .k) ((c .before .before .before .before .before .before .before .before .before .before) .cell2 .ensures)
-    (((c .before .before .before .before .before .before .before) .greater .ensures) ∙ ap (max ((c .before .before .before .before .before .before .before .before .before .before) .cell2 .result)) ((c .before .before .before .before .before .before .before .before) .elapsed .ensures)) ((c .before .before .before .before .before .before) .put-cell .ensures) ((c .before .before) .put-cell2 .ensures)
+    let at-put-cell2 = c .before .before in
+    let at-put-cell = at-put-cell2 .before .before .before .before in
+    let at-greater = at-put-cell .before in
+    let at-elapsed = at-greater .before in
+    let at-cell2 = at-elapsed .before .before in
+    let h = at-cell2 .before .before in
+    let at-cell = h .before in
+    let s = at-cell .before .before .before in
+    let a = s .args in
+    settles (a .n) (at-cell .cell .ensures) (h .if1 .left) (a .k) (at-cell2 .cell2 .ensures)
+    ((at-greater .greater .ensures) ∙ ap (max (at-cell2 .cell2 .result)) (at-elapsed .elapsed .ensures)) (at-put-cell .put-cell .ensures) (at-put-cell2 .put-cell2 .ensures)
 
 pub settle-spec : {M : Type 1} → statement M
 settle-spec =
     tie.close
     (tie.spec
-    cell-requires
-    same-length
+    (λ c κs. search needs)
+    (λ c. search needs)
     returns
-    cell-requires-2
-    elapsed-requires
-    greater-requires
-    put-cell-requires
-    put-cell-requires-2
-    same-length-2
+    (λ c κs. search needs)
+    (λ c κs. search needs)
+    (λ c κs. search needs)
+    (λ c κs. search needs)
+    (λ c κs. search needs)
+    (λ c. search needs)
     returns-2)

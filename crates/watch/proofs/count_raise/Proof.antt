@@ -1,59 +1,37 @@
+-- `count_raise`: a wait begins where neither its latch nor its service is on.
 use Rattle.watch.specs.Kept.{linesOf}
 use Rattle.watch.proofs.Moving.{raise-counted, raise-begins, raise-found}
 use borrow.Author.Needs.{needs}
 use Rattle.watch.proofs.count_raise.Statement.{statement}
 use Rattle.watch.proofs.count_raise.Tie as tie
-use Rattle.watch.proofs.count_raise.Reads as reads
-use Rattle.watch.proofs.count_raise.Lts as lts
-use Rattle.decide.proofs.served.Reads as served-reads
-use Rattle.tally.proofs.begin.Reads as begin-reads
-use Rattle.tally.proofs.count.Reads as count-reads
 
--- src/lib.rt:161:5
-count-requires : tie.Need-count-requires
-count-requires c κs = search needs
-
--- src/lib.rt:162:15
-shl-bit : tie.Need-shl-bit
-shl-bit c = search needs
-
--- src/lib.rt:163:8
-served-requires : tie.Need-served-requires
-served-requires c κs = search needs
-
--- src/lib.rt:164:9
-begin-requires : tie.Need-begin-requires
-begin-requires c κs = search needs
-
--- src/lib.rt:157:1
-same-length : tie.Need-same-length
-same-length c = search needs
-
--- src/lib.rt:157:1
 returns : tie.Need-returns
 returns c =
-    let a = (c .before .before .before .before .before .before .before .before .before .before .before .before) .args in
-    raise-begins (a .n) ((c .before .before .before .before .before .before .before .before .before .before .before .before) .pre .1) (linesOf (a .w)) ((c .before .before .before .before .before) .served .ensures) ((c .before .before .before .before) .if1 .taken) (a .k) (raise-counted (a .n) ((c .before .before .before .before .before .before .before .before .before) .count .ensures)) ((c .before .before) .begin .ensures)
+    let at-begin = c .before .before in
+    let h = at-begin .before .before in
+    let at-served = h .before in
+    let at-count = at-served .before .before .before .before in
+    let s = at-count .before .before .before in
+    let a = s .args in
+    raise-begins (a .n) (s .pre .1) (linesOf (a .w)) (at-served .served .ensures) (h .if1 .taken) (a .k) (raise-counted (a .n) (at-count .count .ensures)) (at-begin .begin .ensures)
 
--- src/lib.rt:157:1
-same-length-2 : tie.Need-same-length-2
-same-length-2 c = search needs
-
--- src/lib.rt:157:1
 returns-2 : tie.Need-returns-2
 returns-2 c =
-    let a = (c .before .before .before .before .before .before .before .before) .args in
-    raise-found (a .n) ((c .before .before .before .before .before .before .before .before) .pre .1) (linesOf (a .w)) ((c .before) .served .ensures) (c .if1 .left) (a .k) (raise-counted (a .n) ((c .before .before .before .before .before) .count .ensures))
+    let at-served = c .before in
+    let at-count = at-served .before .before .before .before in
+    let s = at-count .before .before .before in
+    let a = s .args in
+    raise-found (a .n) (s .pre .1) (linesOf (a .w)) (at-served .served .ensures) (c .if1 .left) (a .k) (raise-counted (a .n) (at-count .count .ensures))
 
 pub count-raise-spec : {M : Type 1} → statement M
 count-raise-spec =
     tie.close
     (tie.spec
-    count-requires
-    shl-bit
-    served-requires
-    begin-requires
-    same-length
+    (λ c κs. search needs)
+    (λ c. search needs)
+    (λ c κs. search needs)
+    (λ c κs. search needs)
+    (λ c. search needs)
     returns
-    same-length-2
+    (λ c. search needs)
     returns-2)
