@@ -112,6 +112,222 @@ pub unsafe fn pch_pic_play(
     }
 }
 
+pub unsafe fn pch_pic_salvage(
+    trace: *const u8,
+    trace_len: usize,
+    kept: *mut u8,
+    kept_len: usize,
+    list: *mut u8,
+    list_len: usize,
+    answer: *mut u8,
+    answer_len: usize,
+) -> u8 {
+    unsafe {
+        pch_pic_salvage::pch_pic_salvage(
+            area(trace.cast_mut(), trace_len),
+            area(kept, kept_len),
+            area(list, list_len),
+            area(answer, answer_len),
+        )
+    }
+}
+
+pub unsafe fn pch_pic_board_reset(
+    image: *mut u8,
+    image_len: usize,
+    board: *mut u8,
+    board_len: usize,
+    answer: *mut u8,
+    answer_len: usize,
+) -> u8 {
+    unsafe { pch_pic_board::pch_pic_board_reset(area(image, image_len), area(board, board_len), area(answer, answer_len)) }
+}
+
+pub unsafe fn pch_pic_board_read(
+    image: *const u8,
+    image_len: usize,
+    board: *mut u8,
+    board_len: usize,
+    base: u64,
+    size: u64,
+    address: u64,
+    width: u64,
+    answer: *mut u8,
+    answer_len: usize,
+) -> u8 {
+    unsafe {
+        pch_pic_board::pch_pic_board_read(
+            area(image.cast_mut(), image_len),
+            area(board, board_len),
+            base,
+            size,
+            address,
+            width,
+            area(answer, answer_len),
+        )
+    }
+}
+
+pub unsafe fn pch_pic_board_write(
+    image: *mut u8,
+    image_len: usize,
+    board: *mut u8,
+    board_len: usize,
+    base: u64,
+    size: u64,
+    address: u64,
+    width: u64,
+    value: u64,
+    answer: *mut u8,
+    answer_len: usize,
+) -> u8 {
+    unsafe {
+        pch_pic_board::pch_pic_board_write(
+            area(image, image_len),
+            area(board, board_len),
+            base,
+            size,
+            address,
+            width,
+            value,
+            area(answer, answer_len),
+        )
+    }
+}
+
+pub unsafe fn pch_pic_board_level(
+    image: *mut u8,
+    image_len: usize,
+    board: *mut u8,
+    board_len: usize,
+    input: u64,
+    level: u64,
+    answer: *mut u8,
+    answer_len: usize,
+) -> u8 {
+    unsafe { pch_pic_board::pch_pic_board_level(area(image, image_len), area(board, board_len), input, level, area(answer, answer_len)) }
+}
+
+pub unsafe fn pch_pic_board_poll(
+    image: *mut u8,
+    image_len: usize,
+    board: *mut u8,
+    board_len: usize,
+    input: u64,
+    answer: *mut u8,
+    answer_len: usize,
+) -> u8 {
+    unsafe { pch_pic_board::pch_pic_board_poll(area(image, image_len), area(board, board_len), input, area(answer, answer_len)) }
+}
+
+pub unsafe fn pch_pic_board_drain(
+    image: *mut u8,
+    image_len: usize,
+    board: *mut u8,
+    board_len: usize,
+    events: *mut u8,
+    events_len: usize,
+    place: usize,
+    answer: *mut u8,
+    answer_len: usize,
+) -> u8 {
+    unsafe {
+        pch_pic_board::pch_pic_board_drain(
+            area(image, image_len),
+            area(board, board_len),
+            area(events, events_len),
+            place,
+            area(answer, answer_len),
+        )
+    }
+}
+
+pub unsafe fn pch_pic_board_event(board: *mut u8, board_len: usize, vector: u8, flag: u8, answer: *mut u8, answer_len: usize) -> u8 {
+    unsafe { pch_pic_board::pch_pic_board_event(area(board, board_len), vector, flag, area(answer, answer_len)) }
+}
+
+pub unsafe fn pch_pic_hoist_reset(
+    image: *mut u8,
+    image_len: usize,
+    phase: *mut u8,
+    phase_len: usize,
+    answer: *mut u8,
+    answer_len: usize,
+) -> u8 {
+    unsafe { pch_pic_hoist::pch_pic_hoist_reset(area(image, image_len), area(phase, phase_len), area(answer, answer_len)) }
+}
+
+pub unsafe fn pch_pic_hoist_read(
+    image: *const u8,
+    image_len: usize,
+    base: u64,
+    size: u64,
+    address: u64,
+    width: u64,
+    answer: *mut u8,
+    answer_len: usize,
+) -> u8 {
+    unsafe { pch_pic_hoist::pch_pic_hoist_read(area(image.cast_mut(), image_len), base, size, address, width, area(answer, answer_len)) }
+}
+
+pub unsafe fn pch_pic_hoist_write(
+    image: *mut u8,
+    image_len: usize,
+    phase: *const u8,
+    phase_len: usize,
+    base: u64,
+    size: u64,
+    address: u64,
+    width: u64,
+    value: u64,
+    answer: *mut u8,
+    answer_len: usize,
+) -> u8 {
+    unsafe {
+        pch_pic_hoist::pch_pic_hoist_write(
+            area(image, image_len),
+            area(phase.cast_mut(), phase_len),
+            base,
+            size,
+            address,
+            width,
+            value,
+            area(answer, answer_len),
+        )
+    }
+}
+
+pub unsafe fn pch_pic_hoist_end_startup(
+    image: *const u8,
+    image_len: usize,
+    phase: *mut u8,
+    phase_len: usize,
+    answer: *mut u8,
+    answer_len: usize,
+) -> u8 {
+    unsafe { pch_pic_hoist::pch_pic_hoist_end_startup(area(image.cast_mut(), image_len), area(phase, phase_len), area(answer, answer_len)) }
+}
+
+#[cfg(with_sheet)]
+pub unsafe fn pch_pic_sheet(
+    trace: *const u8,
+    trace_len: usize,
+    sheet: *mut u8,
+    sheet_len: usize,
+    answer: *mut u8,
+    answer_len: usize,
+) -> u8 {
+    unsafe { pch_pic_sheet::pch_pic_sheet(area(trace.cast_mut(), trace_len), area(sheet, sheet_len), area(answer, answer_len)) }
+}
+
+/// Whether the sources have the call that makes a sheet; tools/harness/as-rust says so.
+pub const HAS_SHEET: bool = cfg!(with_sheet);
+
+#[cfg(not(with_sheet))]
+pub unsafe fn pch_pic_sheet(_: *const u8, _: usize, _: *mut u8, _: usize, _: *mut u8, _: usize) -> u8 {
+    unreachable!("the sources make no sheet")
+}
+
 pub unsafe fn pch_pic_difference(later: u16, earlier: u16) -> i16 {
     difference::pch_pic_difference(later, earlier)
 }

@@ -3,6 +3,7 @@
 
 use crate::boundary::{Boundary, straddles};
 use crate::call::Call;
+use crate::case::Front;
 use crate::caught::caught;
 use crate::fixed::{History, Says};
 use crate::image::{self, Form, Image, ONE};
@@ -41,6 +42,8 @@ pub struct Met {
     pub differences: u64,
     /// What was met in traces.
     pub traces: MetInTraces,
+    /// What was met by the later fronts.
+    pub fronts: MetByFronts,
 }
 
 /// What the plays of a run met; all but the first of those that were done.
@@ -60,6 +63,57 @@ pub struct MetInTraces {
     pub drained: u64,
     pub dropped: u64,
     pub round: u64,
+}
+
+/// What the calls of the later fronts met.
+#[derive(Default)]
+pub struct MetByFronts {
+    /// Calls by the number that 02 expects: with a board, events heard by one, under the profile and its ends of start-up, salvages, sheets, and plain calls among them.
+    pub boards: [u64; 17],
+    pub heard: [u64; 17],
+    pub hoists: [u64; 17],
+    pub ends: [u64; 17],
+    pub salvages: [u64; 17],
+    pub sheets: [u64; 17],
+    pub plain: [u64; 17],
+    /// Blocks kept and dropped by salvages that were done; outcomes that were salvaged again and played; good traces that came out as they were.
+    pub kept: u64,
+    pub dropped: u64,
+    pub again: u64,
+    pub unchanged: u64,
+    /// Calls with a board that held other counts than the image's, calls on one that was right and of which only those counts changed that may, loads, and the greatest count on a board.
+    pub garbage: u64,
+    pub frames: u64,
+    pub loads: u64,
+    pub greatest: u8,
+    /// Histories after which a second board, driven by events alone, was equal to the first; the events that it heard, the most in one, and those out of order as they came.
+    pub seconds: u64,
+    pub events: u64,
+    pub most_events: u64,
+    pub reordered: u64,
+    /// Calls under the profile after which demand 3's account was held against a recount; vector writes done in start-up while one of their inputs was in service.
+    pub accounts: u64,
+    pub beside_service: u64,
+    /// Records on sheets, the greatest wait, withdrawn and open ones.
+    pub records: u64,
+    pub greatest_wait: u32,
+    pub withdrawn: u64,
+    pub open: u64,
+}
+
+impl MetByFronts {
+    pub fn meet(&mut self, front: &Front, number: u8) {
+        let met = match front {
+            Front::Plain(_) => &mut self.plain,
+            Front::Board(_) => &mut self.boards,
+            Front::Event { .. } => &mut self.heard,
+            Front::Hoist(_) => &mut self.hoists,
+            Front::EndStartup => &mut self.ends,
+            Front::Salvage => &mut self.salvages,
+            Front::Sheet => &mut self.sheets,
+        };
+        met[usize::from(number)] += 1;
+    }
 }
 
 pub struct Bench {

@@ -32,6 +32,12 @@ impl Boundary {
         &self.numbers
     }
 
+    /// ISR and the vectors, as the last done call left them.
+    pub fn in_service(&self) -> (u64, [u8; 64]) {
+        let plain = self.device.plain();
+        (plain.intisr, plain.htmsi_vector)
+    }
+
     pub fn perform(&mut self, call: &Call, image: &mut [u8], answer: &mut [u8], events: &mut [u8], target: &mut [u8]) -> u8 {
         if answer.len() < 16 {
             return 7;

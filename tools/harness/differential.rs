@@ -1,23 +1,35 @@
 //! The differential runs: the library under test and the published Rust side by side. `tools/differential` builds and runs this.
 
 mod bench;
+mod board;
+mod boards;
 mod boundary;
 mod call;
+mod case;
+mod cases;
 mod caught;
 mod chance;
 mod days;
 mod differences;
 mod fixed;
+mod fronts;
 mod generate;
 mod histories;
+mod hoist;
+mod hoists;
 mod image;
 mod lent;
 mod numbers;
 mod played;
 mod plays;
 mod quiet;
+mod salvaged;
+mod salvages;
+mod sheet;
+mod sheets;
 mod sweeps;
 mod text;
+mod told;
 mod trace;
 mod traces;
 mod under_test;
@@ -41,8 +53,20 @@ fn main() -> ExitCode {
     }
 }
 
+/// What is asked for: how many of each, and what is left out.
+struct Asked {
+    seed: u64,
+    calls: u64,
+    records: u64,
+    fronts: [u64; 4],
+    failures: u64,
+    random_only: bool,
+    fronts_only: bool,
+}
+
 fn run(mut words: Vec<String>) -> Result<ExitCode, String> {
-    let (mut seed, mut calls, mut records, mut most_failures, mut random_only) = (1, 1_000_000, 100_000, 10, false);
+    let mut asked =
+        Asked { seed: 1, calls: 1_000_000, records: 100_000, fronts: [40_000; 4], failures: 10, random_only: false, fronts_only: false };
     while !words.is_empty() {
         let word = words.remove(0);
         let mut number = || {
@@ -50,11 +74,16 @@ fn run(mut words: Vec<String>) -> Result<ExitCode, String> {
             value.parse::<u64>().map_err(|_| format!("{word} wants a number"))
         };
         match word.as_str() {
-            "--seed" => seed = number()?,
-            "--calls" => calls = number()?,
-            "--records" => records = number()?,
-            "--failures" => most_failures = number()?,
-            "--random-only" => random_only = true,
+            "--seed" => asked.seed = number()?,
+            "--calls" => asked.calls = number()?,
+            "--records" => asked.records = number()?,
+            "--salvages" => asked.fronts[0] = number()?,
+            "--boards" => asked.fronts[1] = number()?,
+            "--hoists" => asked.fronts[2] = number()?,
+            "--sheets" => asked.fronts[3] = number()?,
+            "--failures" => asked.failures = number()?,
+            "--random-only" => asked.random_only = true,
+            "--fronts-only" => asked.fronts_only = true,
             "--boxed" => under_test::box_areas(),
             "--differences" => {
                 differences::show();
@@ -64,10 +93,21 @@ fn run(mut words: Vec<String>) -> Result<ExitCode, String> {
             _ => return Err(format!("'{word}' is no option")),
         }
     }
-    let mut bench = Bench::new(seed, most_failures);
+    let mut bench = Bench::new(asked.seed, asked.failures);
+    if !asked.fronts_only {
+        calls_and_traces(&mut bench, &asked);
+        tell(&bench);
+    }
+    later_fronts(&mut bench, &asked);
+    tell_fronts(&bench);
+    Ok(verdict(&bench))
+}
+
+fn calls_and_traces(bench: &mut Bench, asked: &Asked) {
+    let Asked { seed, calls, records, .. } = *asked;
     // those of the traces are their own, so that neither moves the other's
     let (mut chance, mut of_traces) = (Chance::new(seed), Chance::new(!seed));
-    if !random_only {
+    if !asked.random_only {
         let start = Instant::now();
         bench.set_lengths(16, 64, false);
         for form in image::FORMS {
@@ -75,23 +115,45 @@ fn run(mut words: Vec<String>) -> Result<ExitCode, String> {
                 bench.play(&history, form);
             }
         }
-        sweeps::run(&mut bench, &mut chance);
+        sweeps::run(bench, &mut chance);
         eprintln!("differential: fixed histories and sweeps: {} calls in {:.1} s", bench.passed, start.elapsed().as_secs_f64());
         let (swept, start) = (bench.passed, Instant::now());
-        traces::sweep(&mut bench, &mut of_traces);
+        traces::sweep(bench, &mut of_traces);
         eprintln!("differential: sweeps of traces: {} plays in {:.1} s", bench.passed - swept, start.elapsed().as_secs_f64());
     }
     let (swept, start) = (bench.passed, Instant::now());
-    histories::run(&mut bench, &mut chance, calls);
+    histories::run(bench, &mut chance, calls);
     let rate = (bench.passed - swept) as f64 / start.elapsed().as_secs_f64();
     eprintln!("differential: random histories, seed {seed}: {} calls, {rate:.0} a second", bench.passed - swept);
     let (before, start) = (bench.passed, Instant::now());
-    traces::random(&mut bench, &mut of_traces, records);
+    traces::random(bench, &mut of_traces, records);
     let (plays, seconds) = (bench.passed - before, start.elapsed().as_secs_f64());
     eprintln!("differential: random traces of {records} records together, seed {seed}: {plays} plays in {seconds:.1} s");
-    tell(&bench);
-    Ok(verdict(&bench))
 }
+
+fn later_fronts(bench: &mut Bench, asked: &Asked) {
+    let parts: [(&str, Sweep, Random); 4] = [
+        ("salvages", salvages::sweep, salvages::random),
+        ("boards", boards::sweep, boards::random),
+        ("hoists", hoists::sweep, hoists::random),
+        ("sheets", sheets::sweep, sheets::random),
+    ];
+    for (k, ((name, sweep, random), count)) in (1..).zip(parts.into_iter().zip(asked.fronts)) {
+        // and those of each front are its own
+        let mut chance = Chance::new(asked.seed.rotate_left(16 * k) ^ u64::from(k));
+        let (before, start) = (bench.passed, Instant::now());
+        if !asked.random_only {
+            sweep(bench, &mut chance);
+        }
+        let swept = bench.passed;
+        random(bench, &mut chance, count);
+        let (fixed, by_chance, seconds) = (swept - before, bench.passed - swept, start.elapsed().as_secs_f64());
+        eprintln!("differential: {name}: {fixed} tried whole, {by_chance} random ones, seed {}, in {seconds:.1} s", asked.seed);
+    }
+}
+
+type Sweep = fn(&mut Bench, &mut Chance);
+type Random = fn(&mut Bench, &mut Chance, u64);
 
 /// One call alone, as a failure printed it.
 fn one(words: &[String]) -> Result<ExitCode, String> {
@@ -100,6 +162,15 @@ fn one(words: &[String]) -> Result<ExitCode, String> {
         let (mut bench, mut stage) = (Bench::new(0, u64::MAX), plays::Stage::new());
         stage.play(&mut bench, &play);
         stage.show();
+        return Ok(verdict(&bench));
+    }
+    if let Some(case) = text::parse_front(words) {
+        let (case, mut bench, mut cases) = (case?, Bench::new(0, u64::MAX), cases::Cases::new());
+        if case.front == case::Front::Sheet && !library::HAS_SHEET {
+            return Err("the library has no call that makes a sheet".into());
+        }
+        cases.make(&mut bench, &case);
+        cases.show(&case);
         return Ok(verdict(&bench));
     }
     let line = text::parse(words)?;
@@ -147,6 +218,50 @@ fn tell(bench: &Bench) {
         "differential: records played {}, of these refused {}, at most in a trace {}, held against calls made one by one {}, events returned {}, \
          drained {}, dropped {}, traces whose numbers went round {}",
         met.records, met.refused, met.longest, met.one_by_one, met.returned, met.drained, met.dropped, met.round
+    );
+}
+
+/// The same of the later fronts.
+fn tell_fronts(bench: &Bench) {
+    let met = &bench.met.fronts;
+    let numbers = |met: &[u64]| {
+        let met = met.iter().enumerate().filter(|(_, count)| **count > 0).map(|(number, count)| format!("{number}: {count}"));
+        met.collect::<Vec<_>>().join(", ")
+    };
+    eprintln!(
+        "differential: salvages by the number handed back {}; blocks kept {}, dropped {}, good traces unchanged {}, outcomes salvaged again {}",
+        numbers(&met.salvages),
+        met.kept,
+        met.dropped,
+        met.unchanged,
+        met.again
+    );
+    eprintln!(
+        "differential: calls with a board {}; on a board that held other counts {}, on one that was right {}, loads {}, greatest count {}; events heard {}; second boards equal {}, \
+         driven by {} events, at most {}, of these not seen in the order of making {}",
+        numbers(&met.boards),
+        met.garbage,
+        met.frames,
+        met.loads,
+        met.greatest,
+        numbers(&met.heard),
+        met.seconds,
+        met.events,
+        met.most_events,
+        met.reordered
+    );
+    eprintln!(
+        "differential: calls under the profile {}; ends of start-up {}; plain calls between {}; vectors changed beside one in service {}, accounts held {}",
+        numbers(&met.hoists),
+        numbers(&met.ends),
+        numbers(&met.plain),
+        met.beside_service,
+        met.accounts
+    );
+    let sheets = if library::HAS_SHEET { numbers(&met.sheets) } else { "none: the library has no such call".into() };
+    eprintln!(
+        "differential: sheets {sheets}; records {}, greatest wait {}, withdrawn {}, open {}",
+        met.records, met.greatest_wait, met.withdrawn, met.open
     );
 }
 

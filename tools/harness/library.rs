@@ -76,5 +76,132 @@ unsafe extern "C" {
         answer: *mut u8,
         answer_len: usize,
     ) -> u8;
+    pub fn pch_pic_salvage(
+        trace: *const u8,
+        trace_len: usize,
+        kept: *mut u8,
+        kept_len: usize,
+        list: *mut u8,
+        list_len: usize,
+        answer: *mut u8,
+        answer_len: usize,
+    ) -> u8;
+    pub fn pch_pic_board_reset(
+        image: *mut u8,
+        image_len: usize,
+        board: *mut u8,
+        board_len: usize,
+        answer: *mut u8,
+        answer_len: usize,
+    ) -> u8;
+    pub fn pch_pic_board_read(
+        image: *const u8,
+        image_len: usize,
+        board: *mut u8,
+        board_len: usize,
+        base: u64,
+        size: u64,
+        address: u64,
+        width: u64,
+        answer: *mut u8,
+        answer_len: usize,
+    ) -> u8;
+    pub fn pch_pic_board_write(
+        image: *mut u8,
+        image_len: usize,
+        board: *mut u8,
+        board_len: usize,
+        base: u64,
+        size: u64,
+        address: u64,
+        width: u64,
+        value: u64,
+        answer: *mut u8,
+        answer_len: usize,
+    ) -> u8;
+    pub fn pch_pic_board_level(
+        image: *mut u8,
+        image_len: usize,
+        board: *mut u8,
+        board_len: usize,
+        input: u64,
+        level: u64,
+        answer: *mut u8,
+        answer_len: usize,
+    ) -> u8;
+    pub fn pch_pic_board_poll(
+        image: *mut u8,
+        image_len: usize,
+        board: *mut u8,
+        board_len: usize,
+        input: u64,
+        answer: *mut u8,
+        answer_len: usize,
+    ) -> u8;
+    pub fn pch_pic_board_drain(
+        image: *mut u8,
+        image_len: usize,
+        board: *mut u8,
+        board_len: usize,
+        events: *mut u8,
+        events_len: usize,
+        place: usize,
+        answer: *mut u8,
+        answer_len: usize,
+    ) -> u8;
+    pub fn pch_pic_board_event(board: *mut u8, board_len: usize, vector: u8, flag: u8, answer: *mut u8, answer_len: usize) -> u8;
+    pub fn pch_pic_hoist_reset(
+        image: *mut u8,
+        image_len: usize,
+        phase: *mut u8,
+        phase_len: usize,
+        answer: *mut u8,
+        answer_len: usize,
+    ) -> u8;
+    pub fn pch_pic_hoist_read(
+        image: *const u8,
+        image_len: usize,
+        base: u64,
+        size: u64,
+        address: u64,
+        width: u64,
+        answer: *mut u8,
+        answer_len: usize,
+    ) -> u8;
+    pub fn pch_pic_hoist_write(
+        image: *mut u8,
+        image_len: usize,
+        phase: *const u8,
+        phase_len: usize,
+        base: u64,
+        size: u64,
+        address: u64,
+        width: u64,
+        value: u64,
+        answer: *mut u8,
+        answer_len: usize,
+    ) -> u8;
+    pub fn pch_pic_hoist_end_startup(
+        image: *const u8,
+        image_len: usize,
+        phase: *mut u8,
+        phase_len: usize,
+        answer: *mut u8,
+        answer_len: usize,
+    ) -> u8;
     pub fn pch_pic_difference(later: u16, earlier: u16) -> i16;
+}
+
+/// Whether the archive has the call that makes a sheet; tools/harness/build says so.
+pub const HAS_SHEET: bool = cfg!(with_sheet);
+
+#[cfg(with_sheet)]
+#[link(name = "pch_pic", kind = "static")]
+unsafe extern "C" {
+    pub fn pch_pic_sheet(trace: *const u8, trace_len: usize, sheet: *mut u8, sheet_len: usize, answer: *mut u8, answer_len: usize) -> u8;
+}
+
+#[cfg(not(with_sheet))]
+pub unsafe fn pch_pic_sheet(_: *const u8, _: usize, _: *mut u8, _: usize, _: *mut u8, _: usize) -> u8 {
+    unreachable!("the archive makes no sheet")
 }

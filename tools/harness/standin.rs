@@ -4,11 +4,16 @@
 // the modules are shared with the harness, and not all of each is used here
 #![allow(dead_code)]
 
+mod board;
 mod boundary;
 mod call;
+mod hoist;
 mod image;
 mod numbers;
 mod played;
+mod salvaged;
+mod sheet;
+mod told;
 mod trace;
 
 use boundary::Boundary;
@@ -147,6 +152,207 @@ pub unsafe fn pch_pic_play(
     let (image, answers, events) = unsafe { (area(image, image_len), area(answers, answers_len), area(events, events_len)) };
     let (trace, answer) = unsafe { (area(trace.cast_mut(), trace_len), area(answer, answer_len)) };
     DEVICE.with_borrow_mut(|device| played::play(device, trace, image, answers, events, answer))
+}
+
+type Lent = (*mut u8, usize);
+
+unsafe fn with_board(call: Call, image: Lent, board: Lent, events: Lent, answer: Lent) -> u8 {
+    let [image, board, events, answer] = [image, board, events, answer].map(|(pointer, len)| unsafe { area(pointer, len) });
+    DEVICE.with_borrow_mut(|device| board::call(device, &call, image, board, events, answer))
+}
+
+unsafe fn under_profile(call: Call, image: Lent, phase: Lent, answer: Lent) -> u8 {
+    let [image, phase, answer] = [image, phase, answer].map(|(pointer, len)| unsafe { area(pointer, len) });
+    DEVICE.with_borrow_mut(|device| hoist::call(device, &call, image, phase, answer))
+}
+
+pub const HAS_SHEET: bool = true;
+
+#[allow(clippy::too_many_arguments)]
+pub unsafe fn pch_pic_salvage(
+    trace: *const u8,
+    trace_len: usize,
+    kept: *mut u8,
+    kept_len: usize,
+    list: *mut u8,
+    list_len: usize,
+    answer: *mut u8,
+    answer_len: usize,
+) -> u8 {
+    unsafe { salvaged::salvage(area(trace.cast_mut(), trace_len), area(kept, kept_len), area(list, list_len), area(answer, answer_len)) }
+}
+
+#[allow(clippy::too_many_arguments)]
+pub unsafe fn pch_pic_board_reset(
+    image: *mut u8,
+    image_len: usize,
+    board: *mut u8,
+    board_len: usize,
+    answer: *mut u8,
+    answer_len: usize,
+) -> u8 {
+    unsafe { with_board(Call::Reset, (image, image_len), (board, board_len), NONE, (answer, answer_len)) }
+}
+
+#[allow(clippy::too_many_arguments)]
+pub unsafe fn pch_pic_board_read(
+    image: *const u8,
+    image_len: usize,
+    board: *mut u8,
+    board_len: usize,
+    base: u64,
+    size: u64,
+    address: u64,
+    width: u64,
+    answer: *mut u8,
+    answer_len: usize,
+) -> u8 {
+    unsafe {
+        with_board(Call::Read { base, size, address, width }, (image.cast_mut(), image_len), (board, board_len), NONE, (answer, answer_len))
+    }
+}
+
+#[allow(clippy::too_many_arguments)]
+pub unsafe fn pch_pic_board_write(
+    image: *mut u8,
+    image_len: usize,
+    board: *mut u8,
+    board_len: usize,
+    base: u64,
+    size: u64,
+    address: u64,
+    width: u64,
+    value: u64,
+    answer: *mut u8,
+    answer_len: usize,
+) -> u8 {
+    unsafe {
+        with_board(Call::Write { base, size, address, width, value }, (image, image_len), (board, board_len), NONE, (answer, answer_len))
+    }
+}
+
+#[allow(clippy::too_many_arguments)]
+pub unsafe fn pch_pic_board_level(
+    image: *mut u8,
+    image_len: usize,
+    board: *mut u8,
+    board_len: usize,
+    input: u64,
+    level: u64,
+    answer: *mut u8,
+    answer_len: usize,
+) -> u8 {
+    unsafe { with_board(Call::Level { input, level }, (image, image_len), (board, board_len), NONE, (answer, answer_len)) }
+}
+
+#[allow(clippy::too_many_arguments)]
+pub unsafe fn pch_pic_board_poll(
+    image: *mut u8,
+    image_len: usize,
+    board: *mut u8,
+    board_len: usize,
+    input: u64,
+    answer: *mut u8,
+    answer_len: usize,
+) -> u8 {
+    unsafe { with_board(Call::Poll { input }, (image, image_len), (board, board_len), NONE, (answer, answer_len)) }
+}
+
+#[allow(clippy::too_many_arguments)]
+pub unsafe fn pch_pic_board_drain(
+    image: *mut u8,
+    image_len: usize,
+    board: *mut u8,
+    board_len: usize,
+    events: *mut u8,
+    events_len: usize,
+    place: usize,
+    answer: *mut u8,
+    answer_len: usize,
+) -> u8 {
+    unsafe {
+        with_board(Call::Drain { place: place as u64 }, (image, image_len), (board, board_len), (events, events_len), (answer, answer_len))
+    }
+}
+
+#[allow(clippy::too_many_arguments)]
+pub unsafe fn pch_pic_board_event(board: *mut u8, board_len: usize, vector: u8, flag: u8, answer: *mut u8, answer_len: usize) -> u8 {
+    unsafe { board::event(area(board, board_len), vector, flag, area(answer, answer_len)) }
+}
+
+#[allow(clippy::too_many_arguments)]
+pub unsafe fn pch_pic_hoist_reset(
+    image: *mut u8,
+    image_len: usize,
+    phase: *mut u8,
+    phase_len: usize,
+    answer: *mut u8,
+    answer_len: usize,
+) -> u8 {
+    unsafe { under_profile(Call::Reset, (image, image_len), (phase, phase_len), (answer, answer_len)) }
+}
+
+#[allow(clippy::too_many_arguments)]
+pub unsafe fn pch_pic_hoist_read(
+    image: *const u8,
+    image_len: usize,
+    base: u64,
+    size: u64,
+    address: u64,
+    width: u64,
+    answer: *mut u8,
+    answer_len: usize,
+) -> u8 {
+    unsafe { under_profile(Call::Read { base, size, address, width }, (image.cast_mut(), image_len), NONE, (answer, answer_len)) }
+}
+
+#[allow(clippy::too_many_arguments)]
+pub unsafe fn pch_pic_hoist_write(
+    image: *mut u8,
+    image_len: usize,
+    phase: *const u8,
+    phase_len: usize,
+    base: u64,
+    size: u64,
+    address: u64,
+    width: u64,
+    value: u64,
+    answer: *mut u8,
+    answer_len: usize,
+) -> u8 {
+    unsafe {
+        under_profile(
+            Call::Write { base, size, address, width, value },
+            (image, image_len),
+            (phase.cast_mut(), phase_len),
+            (answer, answer_len),
+        )
+    }
+}
+
+#[allow(clippy::too_many_arguments)]
+pub unsafe fn pch_pic_hoist_end_startup(
+    image: *const u8,
+    image_len: usize,
+    phase: *mut u8,
+    phase_len: usize,
+    answer: *mut u8,
+    answer_len: usize,
+) -> u8 {
+    unsafe { hoist::end_startup(area(image.cast_mut(), image_len), area(phase, phase_len), area(answer, answer_len)) }
+}
+
+#[allow(clippy::too_many_arguments)]
+pub unsafe fn pch_pic_sheet(
+    trace: *const u8,
+    trace_len: usize,
+    sheet: *mut u8,
+    sheet_len: usize,
+    answer: *mut u8,
+    answer_len: usize,
+) -> u8 {
+    let (trace, sheet, answer) = unsafe { (area(trace.cast_mut(), trace_len), area(sheet, sheet_len), area(answer, answer_len)) };
+    DEVICE.with_borrow_mut(|device| sheet::sheet(device, trace, sheet, answer))
 }
 
 /// Of the two numbers below 65,536 in size that are congruent, the one in range.

@@ -1,6 +1,7 @@
 //! One call as a line of words: a failure is printed so, and `tools/differential --one` takes it back.
 
 use crate::call::Call;
+use crate::case::{Case, Front};
 use crate::days::Play;
 use crate::lent::Areas;
 use std::collections::HashMap;
@@ -16,8 +17,9 @@ pub struct Line {
     pub head: usize,
 }
 
-pub fn line(call: &Call, image: &[u8], lent: &Areas, fill: u64, head: usize) -> String {
-    let what = match *call {
+/// The name and the numbers of a call.
+fn words(call: &Call) -> String {
+    match *call {
         Call::Reset => "reset".into(),
         Call::Read { base, size, address, width } => format!("read base={base:#x} size={size:#x} address={address:#x} width={width:#x}"),
         Call::Write { base, size, address, width, value } => {
@@ -27,7 +29,11 @@ pub fn line(call: &Call, image: &[u8], lent: &Areas, fill: u64, head: usize) -> 
         Call::Poll { input } => format!("poll input={input:#x}"),
         Call::Drain { place } => format!("drain place={place:#x}"),
         Call::Convert { target } => format!("convert target={target:#x}"),
-    };
+    }
+}
+
+pub fn line(call: &Call, image: &[u8], lent: &Areas, fill: u64, head: usize) -> String {
+    let what = words(call);
     let null = lent.image.null || lent.answer.null || lent.events.null;
     let bytes: String = image.iter().map(|byte| format!("{byte:02x}")).collect();
     format!(
@@ -41,6 +47,72 @@ pub fn play_line(play: &Play, file: &str) -> String {
     let Play { ref image, answers, events, answer, null, fill, .. } = *play;
     let bytes: String = image.iter().map(|byte| format!("{byte:02x}")).collect();
     format!("play trace={file} answers={answers:#x} events={events:#x} answer={answer:#x} null={} fill={fill:#x} image={bytes}", null as u8)
+}
+
+/// The name of a front's call.
+pub fn front_name(front: &Front) -> String {
+    front_words(front).split(' ').next().unwrap_or_default().into()
+}
+
+fn front_words(front: &Front) -> String {
+    match front {
+        Front::Plain(call) => format!("plain-{}", words(call)),
+        Front::Board(call) => format!("board-{}", words(call)),
+        Front::Event { vector, flag } => format!("board-event vector={vector:#x} flag={flag:#x}"),
+        Front::Hoist(call) => format!("hoist-{}", words(call)),
+        Front::EndStartup => "hoist-end".into(),
+        Front::Salvage => "salvage".into(),
+        Front::Sheet => "sheet".into(),
+    }
+}
+
+/// A front's call in the same way; each area has its bytes, and of a long one the bytes are in a file beside the program.
+pub fn front_line(case: &Case, failure: u64) -> String {
+    let mut line = format!("{} null={}", front_words(&case.front), case.null as u8);
+    for (name, bytes) in case.front.areas().iter().zip(&case.areas) {
+        let beside = std::env::current_exe().unwrap_or_default().with_file_name(format!("failed-{failure}.{name}"));
+        let hex: String = bytes.iter().map(|byte| format!("{byte:02x}")).collect();
+        if bytes.len() <= 320 || std::fs::write(&beside, bytes).is_err() {
+            line += &format!(" {name}={hex}");
+        } else {
+            line += &format!(" {name}=@{}", beside.display());
+        }
+    }
+    line
+}
+
+/// A front's call back from its words; none where the name is no front's.
+pub fn parse_front(words: &[String]) -> Option<Result<Case, String>> {
+    let (name, words) = words.split_first()?;
+    let known = match name.as_str() {
+        "salvage" | "sheet" | "hoist-end" | "board-event" => name.as_str(),
+        name => name.split_once('-').filter(|(front, _)| ["plain", "board", "hoist"].contains(front))?.1,
+    };
+    Some(case_of(name, known, words))
+}
+
+fn case_of(name: &str, call: &str, words: &[String]) -> Result<Case, String> {
+    let known = [
+        "base", "size", "address", "width", "value", "input", "level", "place", "vector", "flag", "null", "image", "events", "answer",
+        "board", "phase", "trace", "kept", "list", "sheet",
+    ];
+    let fields = Fields::of(words, &known)?;
+    let byte = |name: &str| u8::try_from(fields.need(name)?).map_err(|_| format!("{name}= is over 255"));
+    let front = match call {
+        "salvage" => Front::Salvage,
+        "sheet" => Front::Sheet,
+        "hoist-end" => Front::EndStartup,
+        "board-event" => Front::Event { vector: byte("vector")?, flag: byte("flag")? },
+        _ => match (call_of(call, &fields)?, name.split('-').next()) {
+            (Call::Convert { .. }, _) => return Err(format!("'{name}' is no call of a front")),
+            (call, Some("board")) => Front::Board(call),
+            (call @ (Call::Reset | Call::Read { .. } | Call::Write { .. }), Some("hoist")) => Front::Hoist(call),
+            (call, Some("plain")) => Front::Plain(call),
+            _ => return Err(format!("'{name}' is no call of a front")),
+        },
+    };
+    let areas = front.areas().iter().map(|name| fields.bytes(name)).collect::<Result<_, _>>()?;
+    Ok(Case { front, areas, null: fields.number("null", 0)? != 0 })
 }
 
 /// The words NAME=VALUE of a line.
@@ -81,13 +153,21 @@ impl<'a> Fields<'a> {
         if value <= most as u64 { Ok(value as usize) } else { Err(format!("{name}= is over {most}")) }
     }
 
-    fn image(&self) -> Result<Vec<u8>, String> {
-        let digits = self.text("image")?;
-        let image = (0..digits.len())
+    /// Bytes as pairs of hex digits, or from a file.
+    fn bytes(&self, name: &str) -> Result<Vec<u8>, String> {
+        let digits = self.text(name)?;
+        if let Some(file) = digits.strip_prefix('@') {
+            return std::fs::read(file).map_err(|error| format!("{file}: {error}"));
+        }
+        (0..digits.len())
             .step_by(2)
             .map(|i| digits.get(i..i + 2).and_then(|pair| u8::from_str_radix(pair, 16).ok()))
             .collect::<Option<Vec<u8>>>()
-            .ok_or("image= wants pairs of hex digits")?;
+            .ok_or(format!("{name}= wants pairs of hex digits"))
+    }
+
+    fn image(&self) -> Result<Vec<u8>, String> {
+        let image = self.bytes("image")?;
         if image.len() <= 320 { Ok(image) } else { Err("image= is over 320 bytes".into()) }
     }
 }
@@ -102,9 +182,23 @@ pub fn parse(words: &[String]) -> Result<Line, String> {
         "head",
     ];
     let fields = Fields::of(words, &known)?;
+    let call = call_of(kind, &fields)?;
+    Ok(Line {
+        call,
+        answer: fields.length("answer", 16, 48)?,
+        events: fields.length("events", 0, 96)?,
+        null: fields.number("null", 0)? != 0,
+        fill: fields.number("fill", FILL)?,
+        head: fields.length("head", 0, 15)?,
+        image: fields.image()?,
+    })
+}
+
+/// A call back from its name and its numbers.
+fn call_of(kind: &str, fields: &Fields) -> Result<Call, String> {
     let need = |name: &str| fields.need(name);
     let access = || -> Result<(u64, u64, u64, u64), String> { Ok((need("base")?, need("size")?, need("address")?, need("width")?)) };
-    let call = match kind.as_str() {
+    Ok(match kind {
         "reset" => Call::Reset,
         "read" => {
             let (base, size, address, width) = access()?;
@@ -119,15 +213,6 @@ pub fn parse(words: &[String]) -> Result<Line, String> {
         "drain" => Call::Drain { place: need("place")? },
         "convert" => Call::Convert { target: fields.length("target", need("target")?, 320)? },
         other => return Err(format!("'{other}' is none of reset, read, write, level, poll, drain, convert, play")),
-    };
-    Ok(Line {
-        call,
-        answer: fields.length("answer", 16, 48)?,
-        events: fields.length("events", 0, 96)?,
-        null: fields.number("null", 0)? != 0,
-        fill: fields.number("fill", FILL)?,
-        head: fields.length("head", 0, 15)?,
-        image: fields.image()?,
     })
 }
 

@@ -38,15 +38,15 @@ pub fn contents(blocks: &[usize]) -> Vec<u8> {
 
 /// The records, or the refusal with its value: 12 for wrong contents, a wrong length or more than 4,000 records, then 13 with the number of the first bad one.
 pub fn test(trace: &[u8]) -> Result<Vec<Record>, (u8, Option<u64>)> {
-    let records = records(trace).ok_or((12, None))?;
+    let records = blocks(trace).ok_or((12, None))?.concat();
     match records.iter().position(is_bad) {
         Some(number) => Err((13, Some(number as u64))),
         None => Ok(records),
     }
 }
 
-/// The records, good or bad, where contents and length are right.
-fn records(trace: &[u8]) -> Option<Vec<Record>> {
+/// The records of each block, good or bad, where contents and length are right.
+pub fn blocks(trace: &[u8]) -> Option<Vec<Vec<Record>>> {
     let number = |place: usize| Some(usize::from(u16::from_le_bytes([*trace.get(place)?, *trace.get(place + 1)?])));
     let blocks = number(0)?;
     if !(1..=64).contains(&blocks) {
@@ -54,6 +54,7 @@ fn records(trace: &[u8]) -> Option<Vec<Record>> {
     }
     let first = 2 + 4 * blocks;
     let mut end = first;
+    let mut counts = Vec::new();
     for block in 0..blocks {
         let (offset, count) = (number(2 + 4 * block)?, number(4 + 4 * block)?);
         // back to back in that order, none empty
@@ -61,11 +62,13 @@ fn records(trace: &[u8]) -> Option<Vec<Record>> {
             return None;
         }
         end += 16 * count;
+        counts.push(count);
     }
     if end != trace.len() || end - first > 16 * 4000 {
         return None;
     }
-    Some(trace[first..].chunks(16).map(|bytes| bytes.try_into().expect("a record has 16 bytes")).collect())
+    let mut records = trace[first..].chunks(16).map(|bytes| bytes.try_into().expect("a record has 16 bytes"));
+    Some(counts.into_iter().map(|count| records.by_ref().take(count).collect()).collect())
 }
 
 /// A record is bad if its kind is not 1 to 6 or an unused field or zero byte is not zero.

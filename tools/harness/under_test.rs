@@ -2,7 +2,7 @@
 //! the same number and the same bytes.
 
 use crate::call::Call;
-use crate::lent::{Areas, Five};
+use crate::lent::{Areas, Block, Five};
 use std::sync::atomic::{AtomicBool, Ordering};
 
 static BOXED: AtomicBool = AtomicBool::new(false);
@@ -38,13 +38,18 @@ pub fn difference(later: u16, earlier: u16) -> i16 {
 #[allow(dead_code)]
 pub fn play(lent: &mut Five) -> u8 {
     let Five { trace, image, answers, events, answer } = lent;
-    let mut five = [trace, image, answers, events, answer];
+    lend([trace, image, answers, events, answer], make_play)
+}
+
+/// Lends blocks to a call.
+#[allow(dead_code)]
+pub fn lend<const N: usize>(mut blocks: [&mut Block; N], make: impl FnOnce([Area; N]) -> u8) -> u8 {
     if !BOXED.load(Ordering::Relaxed) {
-        return make_play(five.map(|block| block.lent()));
+        return make(blocks.map(|block| block.lent()));
     }
-    let mut boxes = five.each_ref().map(|block| Box::<[u8]>::from(block.bytes()));
-    let number = make_play(boxes.each_mut().map(|block| (block.as_mut_ptr(), block.len())));
-    for (block, left) in five.iter_mut().zip(&boxes) {
+    let mut boxes = blocks.each_ref().map(|block| Box::<[u8]>::from(block.bytes()));
+    let number = make(boxes.each_mut().map(|block| (block.as_mut_ptr(), block.len())));
+    for (block, left) in blocks.iter_mut().zip(&boxes) {
         block.slice().copy_from_slice(left);
     }
     number
@@ -55,7 +60,7 @@ fn make_play([(t, tl), (i, il), (s, sl), (e, el), (a, al)]: [Area; 5]) -> u8 {
     unsafe { library::pch_pic_play(t, tl, i, il, s, sl, e, el, a, al) }
 }
 
-type Area = (*mut u8, usize);
+pub type Area = (*mut u8, usize);
 
 fn on(call: &Call, lent: &mut Areas, make: fn(&Call, [Area; 4]) -> u8) -> u8 {
     let Areas { image, answer, events, target } = lent;

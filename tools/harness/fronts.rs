@@ -1,0 +1,72 @@
+//! Makes a call of the later fronts of the library under test on lent blocks.
+
+use crate::call::Call;
+use crate::case::Front;
+use crate::lent::Block;
+use crate::under_test::{Area, lend};
+
+/// Makes the call; the number that is handed back.
+// SAFETY, of each: each pointer and length is an area of its own that outlives the call; an empty one may be null, as the boundary says.
+pub fn make(front: &Front, lent: &mut [Block]) -> u8 {
+    match (front, lent) {
+        (Front::Plain(call), [image, events, answer]) => lend([image, events, answer], |areas| plain(call, areas)),
+        (Front::Board(call), [image, events, answer, board]) => lend([image, events, answer, board], |areas| with_board(call, areas)),
+        (&Front::Event { vector, flag }, [board, answer]) => {
+            lend([board, answer], |[(b, bl), (a, al)]| unsafe { library::pch_pic_board_event(b, bl, vector, flag, a, al) })
+        }
+        (Front::Hoist(call), [image, phase, answer]) => lend([image, phase, answer], |areas| under_profile(call, areas)),
+        (Front::EndStartup, [image, phase, answer]) => {
+            lend([image, phase, answer], |[(i, il), (p, pl), (a, al)]| unsafe { library::pch_pic_hoist_end_startup(i, il, p, pl, a, al) })
+        }
+        (Front::Salvage, [trace, kept, list, answer]) => lend([trace, kept, list, answer], |[(t, tl), (k, kl), (l, ll), (a, al)]| unsafe {
+            library::pch_pic_salvage(t, tl, k, kl, l, ll, a, al)
+        }),
+        (Front::Sheet, [trace, sheet, answer]) => {
+            lend([trace, sheet, answer], |[(t, tl), (s, sl), (a, al)]| unsafe { library::pch_pic_sheet(t, tl, s, sl, a, al) })
+        }
+        _ => unreachable!("a case has the areas of its call"),
+    }
+}
+
+fn plain(call: &Call, [(i, il), (e, el), (a, al)]: [Area; 3]) -> u8 {
+    unsafe {
+        match *call {
+            Call::Reset => library::pch_pic_reset(i, il, a, al),
+            Call::Read { base, size, address, width } => library::pch_pic_read(i, il, base, size, address, width, a, al),
+            Call::Write { base, size, address, width, value } => library::pch_pic_write(i, il, base, size, address, width, value, a, al),
+            Call::Level { input, level } => library::pch_pic_level(i, il, input, level, a, al),
+            Call::Poll { input } => library::pch_pic_poll(i, il, input, a, al),
+            Call::Drain { place } => library::pch_pic_drain(i, il, e, el, place as usize, a, al),
+            Call::Convert { .. } => unreachable!("a conversion is no call of a history"),
+        }
+    }
+}
+
+fn with_board(call: &Call, [(i, il), (e, el), (a, al), (b, bl)]: [Area; 4]) -> u8 {
+    unsafe {
+        match *call {
+            Call::Reset => library::pch_pic_board_reset(i, il, b, bl, a, al),
+            Call::Read { base, size, address, width } => library::pch_pic_board_read(i, il, b, bl, base, size, address, width, a, al),
+            Call::Write { base, size, address, width, value } => {
+                library::pch_pic_board_write(i, il, b, bl, base, size, address, width, value, a, al)
+            }
+            Call::Level { input, level } => library::pch_pic_board_level(i, il, b, bl, input, level, a, al),
+            Call::Poll { input } => library::pch_pic_board_poll(i, il, b, bl, input, a, al),
+            Call::Drain { place } => library::pch_pic_board_drain(i, il, b, bl, e, el, place as usize, a, al),
+            Call::Convert { .. } => unreachable!("a conversion has no board"),
+        }
+    }
+}
+
+fn under_profile(call: &Call, [(i, il), (p, pl), (a, al)]: [Area; 3]) -> u8 {
+    unsafe {
+        match *call {
+            Call::Reset => library::pch_pic_hoist_reset(i, il, p, pl, a, al),
+            Call::Read { base, size, address, width } => library::pch_pic_hoist_read(i, il, base, size, address, width, a, al),
+            Call::Write { base, size, address, width, value } => {
+                library::pch_pic_hoist_write(i, il, p, pl, base, size, address, width, value, a, al)
+            }
+            _ => unreachable!("the profile has no other call of its own"),
+        }
+    }
+}
