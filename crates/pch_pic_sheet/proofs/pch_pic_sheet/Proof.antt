@@ -25,7 +25,7 @@ returns-3 c =
     let h = g .before in
     let s = h .before .before .before .before in
     let a = s .args in
-    tells (a .trace .now) (a .sheet .now) (a .answer .now) (h .if1 .left) (g .if2 .left) (at-make .make .result) (at-make .make .ensures) (at-tell .tell .ensures)
+    tells (a .trace .now) (a .sheet .now) (a .answer .now) (h .if1 .left) (omega (arith, g .if2 .left)) (at-make .make .result) (at-make .make .ensures) (at-tell .tell .ensures)
 
 pub pch-pic-sheet-spec : {M : Type 1} → statement M
 pch-pic-sheet-spec =

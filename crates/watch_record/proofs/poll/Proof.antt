@@ -4,6 +4,7 @@ use Rattle.rules.specs.Device.{poll, actsOf}
 use mathlib.Core.Path.{refl}
 use Rattle.watch.specs.Kept.{linesOf}
 use Rattle.watch_record.proofs.Items.{input-done, input-refused}
+use native.Mathlib.Omega.{arith}
 use borrow.Author.Needs.{needs}
 use Rattle.watch_record.proofs.poll.Statement.{statement}
 use Rattle.watch_record.proofs.poll.Tie as tie
@@ -15,7 +16,7 @@ returns c =
     let h = at-poll .before .before in
     let s = h .before .before in
     let a = s .args in
-    input-done (a .k) (a .n) (poll (a .n)) (core.poll (a .n)) (h .if1 .taken) refl (λ z. refl) (at-poll .poll .ensures)
+    input-done (a .k) (a .n) (poll (a .n)) (core.poll (a .n)) (omega (arith, h .if1 .taken)) refl (λ z. refl) (at-poll .poll .ensures)
 
 returns-2 : tie.Need-returns-2
 returns-2 c =

@@ -5,6 +5,7 @@ use Rattle.rules.specs.Device.{level, actsOf}
 use mathlib.Core.Path.{refl}
 use Rattle.watch.specs.Kept.{linesOf}
 use Rattle.watch_record.proofs.Items.{input-done, input-refused}
+use native.Mathlib.Omega.{arith}
 use borrow.Author.Needs.{needs}
 use Rattle.watch_record.proofs.raise.Statement.{statement}
 use Rattle.watch_record.proofs.raise.Tie as tie
@@ -16,7 +17,7 @@ returns c =
     let h = at-raise .before .before in
     let s = h .before .before in
     let a = s .args in
-    input-done (a .k) (a .n) (level (a .n) true) (core.raise (a .n)) (h .if1 .taken) refl (λ z. refl) (at-raise .raise .ensures)
+    input-done (a .k) (a .n) (level (a .n) true) (core.raise (a .n)) (omega (arith, h .if1 .taken)) refl (λ z. refl) (at-raise .raise .ensures)
 
 returns-2 : tie.Need-returns-2
 returns-2 c =
