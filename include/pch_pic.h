@@ -106,12 +106,12 @@
  *     - pch_pic_hoist_reset starts the first phase; a plain pch_pic_reset leaves the phase as it is. In both phases a Dword at an offset that 4 divides
  *       passes, and no other access (14), and ISR is not written, whatever the value (15). In the first the vectors are written, but not where a byte
  *       would change whose input is in service, masked or not (15); a byte that is written as it stands does not change.
- *     - pch_pic_hoist_end_startup starts the second, in which the vectors are not written at all, not even as they stand (15). It is refused while an input is in
- *       service, and when start-up has ended (15).
+ *     - pch_pic_hoist_end_startup starts the second, in which the vectors are not written at all, not even as they stand (15). It is refused while an input
+ *       is in service, and when start-up has ended (15).
  * What passes is the plain call in its number and in every byte; 14 and 15 are given only where the plain call would be done, and change nothing but the
  * answer area. What a guest gains by it: of its calls since a reset, with no other image lent in between, the asserts of each vector are as many as its
- * deasserts and the inputs in service that carry it, dropped events counted; an input that is latched and unmasked, and then not lowered, cleared or masked, is in service from
- * the first poll or raise on; and no vector byte changes while its input is in service, nor any once start-up has ended.
+ * deasserts and the inputs in service that carry it, dropped events counted; an input that is latched and unmasked, and then not lowered, cleared or
+ * masked, is in service from the first poll or raise on; and no vector byte changes while its input is in service, nor any once start-up has ended.
  *
  * THE SHEET. pch_pic_sheet counts a trace's day: 65 rows of ten numbers, those of inputs 0 to 63 and the total, each a u32 with its little end first, 2600
  * bytes in all. Refused records count as none, and keep their number. Columns 0 to 9:

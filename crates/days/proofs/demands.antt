@@ -4,3 +4,4 @@ pub mod Service
 pub mod Drained
 pub mod TakenBack
 pub mod Fits
+pub mod Exact

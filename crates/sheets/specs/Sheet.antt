@@ -3,6 +3,7 @@ use mathlib.Core.Bool.{Bool, true, false, not, _&&_}
 use mathlib.Core.List.{List, [], _∷_, _++_}
 use Prim.Native.Nat.{ℕ, zero, suc, _+_, _*_, max}
 use lib.Dec.{eqb}
+use lib.ListN.{getD}
 use Rattle.basics.specs.Numbers.{bytesOf}
 use Rattle.rules.specs.Account.{tally}
 use Rattle.plain.specs.Events.{Fate, returned, kept, dropped, Note}
@@ -22,6 +23,11 @@ pub record Row : Type 0 where
   pub greatest : ℕ
   pub withdrawn : ℕ
   pub stillOpen : ℕ
+
+-- a row's numbers in their order
+abbrev pub columnOf : Row → ℕ → ℕ
+columnOf r c =
+    getD (r .raises ∷ r .lowers ∷ r .asserts ∷ r .deasserts ∷ r .returned ∷ r .offered ∷ r .dropped ∷ r .greatest ∷ r .withdrawn ∷ r .stillOpen ∷ []) c 0
 
 -- an event was returned, or offered; of the offered ones some were dropped
 abbrev pub isReturned : Fate → Bool

@@ -3,16 +3,11 @@ use mathlib.Core.Path.{_≡_, refl, sym, ap, _∙_}
 use mathlib.Core.List.{List, [], _∷_, _++_, append-assoc}
 use Prim.Native.Nat.{ℕ, zero, suc, _+_, _*_, _<_, _≤_}
 use native.Mathlib.Omega.{arith}
-use lib.ListN.{length, take, drop, getD}
+use lib.ListN.{length, take, drop}
 use Rattle.basics.specs.Numbers.{bytesOf, part}
 use Rattle.basics.proofs.laws.Lists.{part-add, part-then}
-use Rattle.sheets.specs.Sheet.{Row, totalBelow, bytesOfRow, rowsBelow, sheetBytes, sheetLength}
+use Rattle.sheets.specs.Sheet.{Row, columnOf, totalBelow, bytesOfRow, rowsBelow, sheetBytes, sheetLength}
 use Rattle.tallies.specs.Grid.{Grid, cellPlace, Holds}
-
--- a row's numbers in their order
-abbrev pub columnOf : Row → ℕ → ℕ
-columnOf r c =
-    getD (r .raises ∷ r .lowers ∷ r .asserts ∷ r .deasserts ∷ r .returned ∷ r .offered ∷ r .dropped ∷ r .greatest ∷ r .withdrawn ∷ r .stillOpen ∷ []) c 0
 
 -- the bytes of the first k of them
 numbersBelow : ℕ → (ℕ → ℕ) → List ℕ

@@ -25,7 +25,7 @@ use Rattle.plain.proofs.laws.Following.{loadedRun, same-load}
 use Rattle.plain.proofs.demands.History.{same-history}
 use Rattle.sheets.specs.Day.{begun, moments, Day, dayFrom}
 use Rattle.sheets.specs.Waits.{assertOf, deassertOf, waits, greatest, isOpen}
-use Rattle.sheets.specs.Sheet.{Row, returnedOf, offeredOf, droppedOf, rowOf, emptyRow, together, totalBelow, sheetBytes}
+use Rattle.sheets.specs.Sheet.{columnOf, Row, returnedOf, offeredOf, droppedOf, rowOf, emptyRow, together, totalBelow, sheetBytes}
 use Rattle.tallies.specs.Grid.{Grid, Holds}
 use Rattle.tallies.specs.Marks.{Mark, happened, takenBack, idleIn, allMarked, besides, actMarks, marksOf, itemMarks, itemAfter, dayMarks}
 use Rattle.tallies.proofs.laws.Grids.{low-four}
@@ -35,7 +35,7 @@ use Rattle.passes.proofs.laws.Marking.{addedIn, all-marked-at, AllSoon,
 use Rattle.passes.proofs.laws.Recording.{Closed, day-closes}
 use Rattle.passes.proofs.laws.Counting.{history-is, levels-added, moments-level, asserts-added, deasserts-added, returned-added, offered-added, dropped-added}
 use Rattle.passes.proofs.laws.Finishing.{all-cleared, total-zero, total-kept, shutRow, totalOf, finishes}
-use Rattle.passes.proofs.laws.Bytes.{columnOf, sheet-is}
+use Rattle.passes.proofs.laws.Bytes.{sheet-is}
 
 -- ---- the numbers of records are small
 

@@ -1,0 +1,2 @@
+-- What is asked of the exported call, as theorems.
+pub mod Ended
