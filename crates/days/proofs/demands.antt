@@ -5,3 +5,4 @@ pub mod Drained
 pub mod TakenBack
 pub mod Fits
 pub mod Exact
+pub mod Played

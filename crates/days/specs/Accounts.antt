@@ -1,6 +1,6 @@
 -- What the theorems about a sheet speak of: which days write to ISR, and how many events a day drained.
 use mathlib.Core.Path.{_≡_}
-use mathlib.Core.Bool.{Bool, false}
+use mathlib.Core.Bool.{Bool, true, false}
 use mathlib.Core.List.{List, [], _∷_}
 use Prim.Native.Nat.{ℕ, _+_}
 use lib.ListN.{length}
@@ -28,3 +28,9 @@ drainedIn (m ∷ ms) = length (takes (m .before) (m .item) .drained) + drainedIn
 -- the plain engine at the end of a trace
 abbrev pub atLast : List ℕ → Engine
 atLast l = plainAfter begun (items l)
+
+-- a record that the day has as a call, and not refused
+abbrev pub isMade : Item → Bool
+isMade (call c) = true
+isMade (load d) = true
+isMade refused = false

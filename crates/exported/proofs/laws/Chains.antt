@@ -32,7 +32,7 @@ use Rattle.histories.proofs.laws.WellFormed.{history-well}
 -- ---- a done call
 
 -- a refusal has a number that is not 0
-refused-not-done : (r : Refusal) → eqb (refusalNumber r) 0 ≡ false
+pub refused-not-done : (r : Refusal) → eqb (refusalNumber r) 0 ≡ false
 refused-not-done (outside address) = refl
 refused-not-done noWidth = refl
 refused-not-done noInput = refl

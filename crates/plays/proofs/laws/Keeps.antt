@@ -32,6 +32,9 @@ made r =
     (either (eqb (r .kind) 4) (record { plain = refl; front = zero-le })
     (either (eqb (r .kind) 5) (record { plain = refl; front = zero-le }) (record { plain = refl; front = zero-le })))))
 
+pub no-reset : (r : Record) → isReset (askedBy (requestOf r)) ≡ false
+no-reset r = made r .plain
+
 pub in-front : (r : Record) → placeOf (requestOf r) ≤ length (bufferOf (requestOf r))
 in-front r = made r .front
 
