@@ -11,7 +11,7 @@ use Rattle.answer.proofs.done.Reads as done-reads
 use Rattle.sheet.proofs.follow.Reads as follow-reads
 use Rattle.sheet.proofs.join_all.Reads as join-all-reads
 use Rattle.sheet.proofs.zero.Reads as zero-reads
-use Rattle.sheet.proofs.zero_total.Reads as zero-total-reads
+use Rattle.sheet.proofs.zero_row.Reads as zero-row-reads
 use Rattle.trace.proofs.test.Reads as test-reads
 use Rattle.trace_refusals.proofs.of_trace.Reads as of-trace-reads
 
@@ -44,8 +44,8 @@ follow-requires c κs =
     (reaches (a .trace .now) (a .sheet .now) (sym ((c .before .before .before .before .before .before .before .before) .test .ensures) ∙ ap testedView ((c .before .before .before .before .before .before) .tested .given .1)), search needs)
 
 -- src/lib.rt:166:5
-zero-total-requires : tie.Need-zero-total-requires
-zero-total-requires c κs = search needs
+zero-row-requires : tie.Need-zero-row-requires
+zero-row-requires c κs = search needs
 
 -- src/lib.rt:167:5
 join-all-requires : tie.Need-join-all-requires
@@ -64,7 +64,7 @@ returns-2 : tie.Need-returns-2
 returns-2 c =
     let a = (c .before .before .before .before .before .before .before .before .before .before .before .before .before .before .before .before .before .before .before .before .before .before .before) .args in
     tells (c .done .result) (c .done .ensures)
-    (is-made (a .trace .now) (a .sheet .now) (sym ((c .before .before .before .before .before .before .before .before .before .before .before .before .before .before .before .before .before .before .before .before) .test .ensures) ∙ ap testedView ((c .before .before .before .before .before .before .before .before .before .before .before .before .before .before .before .before .before .before) .tested .given .1)) (λ i. omega (arith, (c .before .before .before .before .before .before .before .before .before .before .before .before .before .before .before .before .before .before .before .before .before) .slice-known .given i)) ((c .before .before .before .before .before .before .before .before .before .before .before .before .before .before .before .before .before .before .before .before .before .before .before) .pre) ((c .before .before .before .before .before .before .before .before .before .before .before .before .before .before .before) .zero .ensures) ((c .before .before .before .before .before .before .before .before .before .before .before) .follow .ensures) ((c .before .before .before .before .before .before .before) .zero-total .ensures) ((c .before .before .before) .join-all .ensures))
+    (is-made (a .trace .now) (a .sheet .now) (sym ((c .before .before .before .before .before .before .before .before .before .before .before .before .before .before .before .before .before .before .before .before) .test .ensures) ∙ ap testedView ((c .before .before .before .before .before .before .before .before .before .before .before .before .before .before .before .before .before .before) .tested .given .1)) (λ i. omega (arith, (c .before .before .before .before .before .before .before .before .before .before .before .before .before .before .before .before .before .before .before .before .before) .slice-known .given i)) ((c .before .before .before .before .before .before .before .before .before .before .before .before .before .before .before .before .before .before .before .before .before .before .before) .pre) ((c .before .before .before .before .before .before .before .before .before .before .before .before .before .before .before) .zero .ensures) ((c .before .before .before .before .before .before .before .before .before .before .before) .follow .ensures) ((c .before .before .before .before .before .before .before) .zero-row .ensures) ((c .before .before .before) .join-all .ensures))
 
 pub make-spec : {M : Type 1} → statement M
 make-spec =
@@ -76,7 +76,7 @@ make-spec =
     returns
     zero-requires
     follow-requires
-    zero-total-requires
+    zero-row-requires
     join-all-requires
     done-requires
     same-length
