@@ -14,22 +14,17 @@ unfoldable pub afterItems : Device → List Item → Device
 afterItems d [] = d
 afterItems d (x ∷ xs) = afterItems (itemAfter d x) xs
 
--- a column is zero in these rows; the columns below c are, in the rows of all inputs
-unfoldable pub columnCleared : Grid → ℕ → List ℕ → Grid
-columnCleared f c [] = f
-columnCleared f c (n ∷ ns) = columnCleared (put f n c 0) c ns
+-- the columns below c of row n are zero; these rows are, and those of all inputs
+unfoldable pub rowCleared : Grid → ℕ → ℕ → Grid
+rowCleared f n zero = f
+rowCleared f n (suc c) = put (rowCleared f n c) n c 0
+
+unfoldable pub cleared : Grid → List ℕ → Grid
+cleared f [] = f
+cleared f (n ∷ ns) = cleared (rowCleared f n 10) ns
 
 abbrev pub allInputs : List ℕ
 allInputs = inputs (on 0xffff_ffff_ffff_ffff)
-
-unfoldable pub cleared : Grid → ℕ → Grid
-cleared f zero = f
-cleared f (suc c) = columnCleared (cleared f c) c allInputs
-
--- the total's columns below c are zero
-unfoldable pub totalCleared : Grid → ℕ → Grid
-totalCleared f zero = f
-totalCleared f (suc c) = put (totalCleared f c) 64 c 0
 
 -- a wait that is not over is open
 abbrev pub isOn : ℕ → ℕ

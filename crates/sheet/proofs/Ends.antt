@@ -18,7 +18,7 @@ use Rattle.sheets.specs.Sheet.{rowOf, sheetBytes, sheetLength}
 use Rattle.tallies.specs.Grid.{Becomes}
 use Rattle.tallies.specs.Marks.{dayMarks}
 use Rattle.tallies.specs.Following.{Takes}
-use Rattle.passes.specs.Finish.{cleared, totalCleared, finished}
+use Rattle.passes.specs.Finish.{rowCleared, cleared, allInputs, finished}
 use Rattle.passes.proofs.laws.Passing.{pass-sheet}
 use Rattle.passes.proofs.laws.Days.{items-length, items-loadless}
 use Rattle.answer.specs.Given.{Tells}
@@ -51,8 +51,8 @@ module _ (l s : List ℕ) where
         let g = all-good in
         record { place = g .place; few = omega (arith, g .count, few-records l (g .contents)); fits = omega (arith, g .place, g .count, trace-length l (g .contents)) }
 
-    pub is-made : Bytes s → sheetLength ≤ length s → {s₁ s₂ s₃ s₄ : List ℕ} → Becomes s s₁ (λ f. cleared f 10) → Takes s₁ s₂ (dayMarks 0 reset (map itemOf (recordsFrom l n 0)))
-        → Becomes s₂ s₃ (λ f. totalCleared f 10) → Becomes s₃ s₄ (λ f. finished f 64) → record { number = 0; value = some n; sheet = s₄ } ≡ madeOf l s
+    pub is-made : Bytes s → sheetLength ≤ length s → {s₁ s₂ s₃ s₄ : List ℕ} → Becomes s s₁ (λ f. cleared f allInputs) → Takes s₁ s₂ (dayMarks 0 reset (map itemOf (recordsFrom l n 0)))
+        → Becomes s₂ s₃ (λ f. rowCleared f 64 10) → Becomes s₃ s₄ (λ f. finished f 64) → record { number = 0; value = some n; sheet = s₄ } ≡ madeOf l s
     is-made b h {s₄ = s₄} p q r t =
         let held = t _ _ (r _ _ (q _ _ (p (some-grid s) (drop sheetLength s) (holds-some s b h)))) in
         let xs = map itemOf (recordsFrom l n 0) in

@@ -12,8 +12,8 @@ use Rattle.basics.proofs.laws.Bytes.{part-number}
 use Rattle.sheets.specs.Sheet.{sheetLength}
 use Rattle.tallies.specs.Grid.{Grid, cellPlace, put, Holds, Reads, Becomes}
 use Rattle.tallies.proofs.laws.Grids.{low-four, put-same}
-use Rattle.passes.proofs.laws.Finishing.{column-more}
-use Rattle.passes.specs.Finish.{columnCleared, allInputs, cleared, totalCleared, isOn, shut, joined, rowJoined, finished}
+use Rattle.passes.proofs.laws.Finishing.{cleared-more}
+use Rattle.passes.specs.Finish.{rowCleared, cleared, isOn, shut, joined, rowJoined, finished}
 
 -- before the first round
 pub none-done : (b : List ℕ) → Becomes b b (λ f. f)
@@ -24,16 +24,12 @@ pub next-done : {b c a : List ℕ} (g : Grid → ℕ → Grid) (n : ℕ) → Bec
 next-done {a} g n s t f rest h = let z : suc n ≡ n + 1 = omega arith in subst (λ k. Holds a (g f k) rest) z (t f rest (s f rest h))
 
 module _ {b c a : List ℕ} where
-  pub column-next : (k : ℕ) (ns : List ℕ) (n : ℕ) → Becomes b c (λ f. columnCleared f k ns) → Becomes c a (λ f. put f n k 0) → Becomes b a (λ f. columnCleared f k (ns ++ (n ∷ [])))
-  column-next k ns n s t f rest h = subst (λ (g : Grid). Holds a g rest) (column-more f k ns n) (t _ rest (s f rest h))
+  pub cleared-next : (ns : List ℕ) (n : ℕ) → Becomes b c (λ f. cleared f ns) → Becomes c a (λ f. rowCleared f n 10) → Becomes b a (λ f. cleared f (ns ++ (n ∷ [])))
+  cleared-next ns n s t f rest h = subst (λ (g : Grid). Holds a g rest) (cleared-more f ns n) (t _ rest (s f rest h))
 
-  pub cleared-next : (k : ℕ) → Becomes b c (λ f. cleared f k) → Becomes c a (λ f. columnCleared f k allInputs) → Becomes b a (λ f. cleared f (k + 1))
-  unfolding cleared
-  cleared-next k s t = next-done cleared k s (λ f rest h. t _ rest h)
-
-  pub total-next : (k : ℕ) → Becomes b c (λ f. totalCleared f k) → Becomes c a (λ f. put f 64 k 0) → Becomes b a (λ f. totalCleared f (k + 1))
-  unfolding totalCleared
-  total-next k s t = next-done totalCleared k s (λ f rest h. t _ rest h)
+  pub zero-next : (n k : ℕ) → Becomes b c (λ f. rowCleared f n k) → Becomes c a (λ f. put f n k 0) → Becomes b a (λ f. rowCleared f n (k + 1))
+  unfolding rowCleared
+  zero-next n k s t = next-done (λ f i. rowCleared f n i) k s (λ f rest h. t _ rest h)
 
   pub row-next : (n k : ℕ) → Becomes b c (λ f. rowJoined f n k) → Becomes c a (λ f. put f 64 k (joined k (f 64 k) (f n k))) → Becomes b a (λ f. rowJoined f n (k + 1))
   unfolding rowJoined
@@ -45,17 +41,13 @@ module _ {b c a : List ℕ} where
 
 -- before the first round of each
 module _ (b : List ℕ) where
-  pub column-none : (k : ℕ) → Becomes b b (λ f. columnCleared f k [])
-  unfolding columnCleared
-  column-none k = none-done b
-
-  pub cleared-none : Becomes b b (λ f. cleared f 0)
+  pub cleared-none : Becomes b b (λ f. cleared f [])
   unfolding cleared
   cleared-none = none-done b
 
-  pub total-none : Becomes b b (λ f. totalCleared f 0)
-  unfolding totalCleared
-  total-none = none-done b
+  pub zero-none : (n : ℕ) → Becomes b b (λ f. rowCleared f n 0)
+  unfolding rowCleared
+  zero-none n = none-done b
 
   pub row-none : (n : ℕ) → Becomes b b (λ f. rowJoined f n 0)
   unfolding rowJoined

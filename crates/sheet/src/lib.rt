@@ -1,5 +1,5 @@
 // The sheet of a trace, made in one pass: zeros, then record by record, then the column of open waits and the total. It stands in the bytes lent for it.
-// Zeros are stored column by column, and in each for the inputs of a set: of rows one after another the compiler makes a call of memset.
+// Rows are set to zero for the inputs of a set: of rows counted one after another the compiler makes a call of memset.
 use answer::Told;
 use answer::Value;
 use answer::done;
@@ -24,7 +24,7 @@ ghost use Rattle.sheets.specs.Sheet.{sheetLength};
 ghost use Rattle.tallies.specs.Grid.{Becomes, put};
 ghost use Rattle.tallies.specs.Marks.{dayMarks};
 ghost use Rattle.tallies.specs.Following.{Takes};
-ghost use Rattle.passes.specs.Finish.{columnCleared, allInputs, cleared, totalCleared, isOn, shut, joined, rowJoined, finished};
+ghost use Rattle.passes.specs.Finish.{rowCleared, cleared, allInputs, isOn, shut, joined, rowJoined, finished};
 ghost use Rattle.sheet.specs.Made.{Reaches, told, madeOf};
 
 const INPUTS: usize = 64;
@@ -41,37 +41,26 @@ const TOTAL: usize = 64;
 
 // ---- zeros
 
-fn zero_column(sheet: &mut [u8], column: usize)
-    requires { ⌜ (sheetLength ≤ length (now sheet)) × (column < 10) ⌝ }
-    ensures { λ _. ⌜ Becomes (now (sheet .entry)) (now (sheet .exit)) (λ f. columnCleared f column allInputs) ⌝ }
+fn zero_row(sheet: &mut [u8], n: usize)
+    requires { ⌜ (sheetLength ≤ length (now sheet)) × (n < 65) ⌝ }
+    ensures { λ _. ⌜ Becomes (now (sheet .entry)) (now (sheet .exit)) (λ f. rowCleared f n 10) ⌝ }
 {
-    let mut left = ALL;
-    while left != 0 {
-        let n = u64::trailing_zeros(left) as usize;
-        put_cell(sheet, n, column, 0);
-        left &= left - 1;
+    let mut c = 0;
+    while c < COLUMNS {
+        put_cell(sheet, n, c, 0);
+        c += 1;
     }
 }
 
 fn zero(sheet: &mut [u8])
     requires { ⌜ sheetLength ≤ length (now sheet) ⌝ }
-    ensures { λ _. ⌜ Becomes (now (sheet .entry)) (now (sheet .exit)) (λ f. cleared f 10) ⌝ }
+    ensures { λ _. ⌜ Becomes (now (sheet .entry)) (now (sheet .exit)) (λ f. cleared f allInputs) ⌝ }
 {
-    let mut c = 0;
-    while c < COLUMNS {
-        zero_column(sheet, c);
-        c += 1;
-    }
-}
-
-fn zero_total(sheet: &mut [u8])
-    requires { ⌜ sheetLength ≤ length (now sheet) ⌝ }
-    ensures { λ _. ⌜ Becomes (now (sheet .entry)) (now (sheet .exit)) (λ f. totalCleared f 10) ⌝ }
-{
-    let mut c = 0;
-    while c < COLUMNS {
-        put_cell(sheet, TOTAL, c, 0);
-        c += 1;
+    let mut left = ALL;
+    while left != 0 {
+        let n = u64::trailing_zeros(left) as usize;
+        zero_row(sheet, n);
+        left &= left - 1;
     }
 }
 
@@ -167,7 +156,7 @@ pub fn make(trace: &[u8], sheet: &mut [u8]) -> Told
     };
     zero(sheet);
     follow(trace, first, records, sheet);
-    zero_total(sheet);
+    zero_row(sheet, TOTAL);
     join_all(sheet);
     done(Value::Present(records as u64))
 }

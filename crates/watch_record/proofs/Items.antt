@@ -1,19 +1,18 @@
 -- A call of the device as a record's, refused or done.
 use mathlib.Core.Path.{_≡_, refl, sym, ap, subst, _∙_}
 use mathlib.Core.Bool.{Bool, true, false, cond}
-use mathlib.Core.List.{List, [], _∷_, _++_}
+use mathlib.Core.List.{List, [], _∷_}
+use mathlib.Core.Logic.{inl, inr}
 use Prim.Native.Nat.{ℕ, _+_, _-_, _<_, _≤_}
 use native.Mathlib.Omega.{arith}
 use lib.Dec.{eqb, ltb}
 use lib.ListN.{length, drop, length-drop}
-use borrow.Author.Tests.{lt-ltb, le-ltb, ne-eqb}
-use Rattle.basics.specs.Numbers.{byteOf}
-use Rattle.basics.specs.Inputs.{half}
+use borrow.Author.Tests.{lt-ltb, le-ltb, ne-eqb, eqb-true}
 use Rattle.rules.specs.Lines.{Lines}
 use Rattle.rules.specs.Ring.{drawn}
-use Rattle.rules.specs.Core.{Core, Act, Move, move, turns}
+use Rattle.rules.specs.Core.{Core, Act, Move, move}
 use Rattle.rules.specs.Core as core
-use Rattle.rules.specs.Access.{Width, byte, word, dword, qword, dwordActs, byteActs, writeActs}
+use Rattle.rules.specs.Access.{Width, byte, word, dword, qword, writeActs}
 use Rattle.rules.specs.Device.{Device, WellFormed, Call, level, poll, read, write, drain, actsOf, draws, acted, step}
 use Rattle.rules.proofs.laws.Acts.{step-acted}
 use Rattle.rules.proofs.laws.Steps.{read-device, drain-device}
@@ -35,6 +34,7 @@ use Rattle.tallies.specs.Marks.{marksOf, itemMarks, itemAfter}
 use Rattle.tallies.specs.Following.{Stands, Takes, Follows, FollowsItem}
 use Rattle.tallies.proofs.laws.Taking.{takes-none}
 use Rattle.tallies.proofs.laws.Quiet.{follows-same}
+use Rattle.watch_write.specs.Pieces.{Sized, widthOf}
 
 module _ {l : Lines} {w : ℕ} {m : Lines} {u : ℕ} {b a : List ℕ} (k : ℕ) where
   pub item-as : (x y : Item) → x ≡ y → FollowsItem l w m u b a k x → FollowsItem l w m u b a k y
@@ -98,28 +98,20 @@ module _ (base size address width v : ℕ) {x : Known} (e : knownView x ≡ widt
         item-as k (call (write (widthView y) o v)) (written base size address width v) (ap (λ c. asItem (calls c)) (sym (access-passed base size address width (λ w o. write w o v) (widthView y) o (sym e ∙ ap knownView wide) (sym g ∙ ap (locatedView address) at))))
         (follows-call k (write (widthView y) o v) (λ c. writeActs c (widthView y) o v) refl (λ c. refl) s)
 
-low-bytes : (v x : ℕ) → x ≡ half false v → (byteOf x 0 ≡ byteOf v 0) × (byteOf x 1 ≡ byteOf v 1)
-low-bytes v x e = (omega arith, omega arith)
+-- a width that is known is one of four, and is that width
+pub known-width : (n : ℕ) (w : Width) → widthTest n ≡ pass w → Sized n × (widthOf n ≡ w)
+known-width n w e = go (eqb n 1) (eqb n 2) (eqb n 4) (eqb n 8) refl refl refl refl e
+  where
+    go : (p q r s : Bool) → eqb n 1 ≡ p → eqb n 2 ≡ q → eqb n 4 ≡ r → eqb n 8 ≡ s
+        → cond p (pass byte) (cond q (pass word) (cond r (pass dword) (cond s (pass qword) (refuse noWidth)))) ≡ pass w → Sized n × (cond p byte (cond q word (cond r dword qword)) ≡ w)
+    go true q r s t u v x f = let g : byte ≡ w = cc in (inl (eqb-true n 1 t), g)
+    go false true r s t u v x f = let g : word ≡ w = cc in (inr (inl (eqb-true n 2 u)), g)
+    go false false true s t u v x f = let g : dword ≡ w = cc in (inr (inr (inl (eqb-true n 4 v))), g)
+    go false false false true t u v x f = let g : qword ≡ w = cc in (inr (inr (inr (eqb-true n 8 x))), g)
+    go false false false false t u v x f = absurd (let z : _≡_ {A = ℕ} 0 1 = cc in omega arith)
 
--- a narrow write takes the low half of a value: the bytes that it stores are the value's
-module _ (o v : ℕ) {x : ℕ} (e : x ≡ half false v) {l : Lines} {w : ℕ} {m : Lines} {u : ℕ} {b a : List ℕ} (k : ℕ) where
-  pub byte-low : {y : ℕ} → y ≡ byteOf x 0 → Follows l w m u b a k (λ c. byteActs c o y) → Follows l w m u b a k (λ c. writeActs c byte o v)
-  unfolding writeActs
-  byte-low {y} f s = follows-same k (λ c. byteActs c o y) (λ c. writeActs c byte o v) (λ c _. ap (byteActs c o) (f ∙ low-bytes v x e .0)) s
-
-  pub word-low : Follows l w m u b a k (λ c. writeActs c word o x) → Follows l w m u b a k (λ c. writeActs c word o v)
-  unfolding writeActs
-  word-low s =
-      follows-same k (λ c. writeActs c word o x) (λ c. writeActs c word o v)
-      (λ c _ t. byteActs c o (low-bytes v x e .0 t) ++ byteActs (turns c (byteActs c o (low-bytes v x e .0 t)) .after) (o + 1) (low-bytes v x e .1 t)) s
-
-  pub dword-low : Follows l w m u b a k (λ c. dwordActs o x) → Follows l w m u b a k (λ c. writeActs c dword o v)
-  unfolding writeActs
-  dword-low s = follows-same k (λ c. dwordActs o x) (λ c. writeActs c dword o v) (λ c _. ap (dwordActs o) e) s
-
--- by the width that it is
-pub at-width : {x y : code.Width} → x ≡ y → (o v : ℕ) {l : Lines} {w : ℕ} {m : Lines} {u : ℕ} {b a : List ℕ} (k : ℕ) → Follows l w m u b a k (λ c. writeActs c (widthView y) o v) → Follows l w m u b a k (λ c. writeActs c (widthView x) o v)
-at-width {x} {y} e o v k s = follows-same k (λ c. writeActs c (widthView y) o v) (λ c. writeActs c (widthView x) o v) (λ c _. ap (λ z. writeActs c (widthView z) o v) (sym e)) s
+pub at-width : {i j : Width} → i ≡ j → (o v : ℕ) {l : Lines} {w : ℕ} {m : Lines} {u : ℕ} {b a : List ℕ} (k : ℕ) → Follows l w m u b a k (λ c. writeActs c i o v) → Follows l w m u b a k (λ c. writeActs c j o v)
+at-width {i} {j} e o v k s = follows-same k (λ c. writeActs c i o v) (λ c. writeActs c j o v) (λ c _. ap (λ z. writeActs c z o v) e) s
 
 -- ---- a record by its kind
 

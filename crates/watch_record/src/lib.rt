@@ -1,11 +1,6 @@
 // One record of a trace as a pass takes it: the call that it is, with base 0 and size 65,536. A refused call does nothing.
-use map::Width;
 use view::Record;
 use watch::Watched;
-use watch_write::write_byte;
-use watch_write::write_dword;
-use watch_write::write_qword;
-use watch_write::write_word;
 use window::Known;
 use window::Located;
 ghost use mathlib.Core.Bool.{true, false};
@@ -66,19 +61,13 @@ fn write(sheet: &mut [u8], w: Watched, k: u64, address: u64, width: u64, value: 
     ensures { λ r. ⌜ FollowsItem (linesOf w) (w .waiting) (linesOf r) (r .waiting) (now (sheet .entry)) (now (sheet .exit)) k
         (asItem (askedBy (asked.write 0 65536 address width value))) ⌝ }
 {
-    let Known::As(known) = window::width_of(width) else {
+    let Known::As(_) = window::width_of(width) else {
         return w;
     };
     let Located::At(offset) = window::locate(0, SIZE, address, width) else {
         return w;
     };
-    let low = bits::half(value, false);
-    match known {
-        Width::Byte => write_byte(sheet, w, k, offset, bits::byte_of(low, 0)),
-        Width::Word => write_word(sheet, w, k, offset, low),
-        Width::Dword => write_dword(sheet, w, k, offset, low),
-        Width::Qword => write_qword(sheet, w, k, offset, value),
-    }
+    watch_write::write(sheet, w, k, offset, value, width)
 }
 
 // ---- a record

@@ -1,1 +1,2 @@
--- The contracts cite the definitions of rules and tallies alone.
+-- The parts of a write.
+pub mod Pieces

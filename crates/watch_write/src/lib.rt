@@ -6,14 +6,16 @@ use watch::Watched;
 use watch::write_clear;
 use watch::write_mask;
 ghost use mathlib.Core.Path.{_≡_};
+ghost use mathlib.Core.Bool.{cond};
 ghost use Prim.Native.Nat.{_+_, _-_, _^_, _<_, _≤_};
 ghost use lib.ListN.{length};
 ghost use Rattle.rules.specs.Map.{inByteArea};
-ghost use Rattle.rules.specs.Access.{word, qword, registerActs, dwordActs, byteActs, writeActs};
+ghost use Rattle.rules.specs.Access.{registerActs, writeActs};
 ghost use Rattle.sheets.specs.Sheet.{sheetLength};
 ghost use Rattle.tallies.specs.Following.{Follows, ReadsAs};
 ghost use Rattle.map.specs.Views.{registerView};
 ghost use Rattle.watch.specs.Kept.{linesOf};
+ghost use Rattle.watch_write.specs.Pieces.{placeOf, PutIn, pieceWidth, Sized, widthOf};
 
 // ---- a half of a register
 
@@ -58,29 +60,7 @@ fn value_of(w: Watched, register: Register) -> u64
     }
 }
 
-// ---- Dword and Qword
-
-pub fn write_dword(sheet: &mut [u8], w: Watched, k: u64, offset: usize, val: u32) -> Watched
-    requires { ⌜ (sheetLength ≤ length (now sheet)) × (k < 4000) ⌝ }
-    ensures { λ r. ⌜ Follows (linesOf w) (w .waiting) (linesOf r) (r .waiting) (now (sheet .entry)) (now (sheet .exit)) k (λ c. dwordActs offset val) ⌝ }
-{
-    match decode_low(offset) {
-        Cell::Half(register, high) => write_half(sheet, w, k, register, val, high),
-        Cell::Bytes => w,
-        Cell::Nothing => w,
-    }
-}
-
-pub fn write_qword(sheet: &mut [u8], w: Watched, k: u64, offset: usize, value: u64) -> Watched
-    requires { ⌜ (sheetLength ≤ length (now sheet)) × (k < 4000) × (offset + 8 ≤ 2 ^ 64 - 1) ⌝ }
-    ensures { λ r. ⌜ Follows (linesOf w) (w .waiting) (linesOf r) (r .waiting) (now (sheet .entry)) (now (sheet .exit)) k
-        (λ c. writeActs c qword offset value) ⌝ }
-{
-    let first = write_dword(sheet, w, k, offset, bits::half(value, false));
-    write_dword(sheet, first, k, offset + 4, bits::half(value, true))
-}
-
-// ---- Byte and Word
+// ---- a Byte, or a Dword
 
 // In 0x100..0x39f a Byte meets only route and vector bytes.
 fn in_byte_area(offset: usize) -> bool
@@ -89,37 +69,67 @@ fn in_byte_area(offset: usize) -> bool
     0x100 <= offset && offset < 0x3a0
 }
 
-// Elsewhere it is the Dword that it lies in, as read, with that byte replaced.
-pub fn write_byte(sheet: &mut [u8], w: Watched, k: u64, offset: usize, val: u8) -> Watched
-    requires { ⌜ (sheetLength ≤ length (now sheet)) × (k < 4000) ⌝ }
-    ensures { λ r. ⌜ Follows (linesOf w) (w .waiting) (linesOf r) (r .waiting) (now (sheet .entry)) (now (sheet .exit)) k (λ c. byteActs c offset val) ⌝ }
+// The Dword that it is, or that it lies in.
+fn place_of(offset: usize, narrow: bool) -> usize
+    ensures { λ r. ⌜ r ≡ cond narrow (placeOf offset) offset ⌝ }
 {
-    if in_byte_area(offset) {
+    if narrow { offset & !0x3 } else { offset }
+}
+
+// What a half of a register is written with: of a Byte the half as read, with that byte replaced.
+fn value_in(w: Watched, register: Register, high: bool, offset: usize, narrow: bool, x: u64) -> u32
+    ensures { λ r. ⌜ PutIn (linesOf w) (registerView register) high offset narrow x r ⌝ }
+{
+    let low = bits::half(x, false);
+    if narrow {
+        let old = bits::half(value_of(w, register), high);
+        let place = offset & 0x3;
+        return bits::with_byte(old, place, bits::byte_of(low, 0));
+    }
+    low
+}
+
+fn write_piece(sheet: &mut [u8], w: Watched, k: u64, offset: usize, narrow: bool, x: u64) -> Watched
+    requires { ⌜ (sheetLength ≤ length (now sheet)) × (k < 4000) ⌝ }
+    ensures { λ r. ⌜ Follows (linesOf w) (w .waiting) (linesOf r) (r .waiting) (now (sheet .entry)) (now (sheet .exit)) k
+        (λ c. writeActs c (pieceWidth narrow) offset x) ⌝ }
+{
+    if narrow & in_byte_area(offset) {
         return w;
     }
-    match decode_low(offset & !0x3) {
+    match decode_low(place_of(offset, narrow)) {
         Cell::Half(register, high) => {
-            let old = bits::half(value_of(w, register), high);
-            let place = offset & 0x3;
-            write_half(
-                sheet,
-                w,
-                k,
-                register,
-                bits::with_byte(old, place, val),
-                high,
-            )
+            let val = value_in(w, register, high, offset, narrow, x);
+            write_half(sheet, w, k, register, val, high)
         }
         Cell::Bytes => w,
         Cell::Nothing => w,
     }
 }
 
-// The second Byte meets what the first left.
-pub fn write_word(sheet: &mut [u8], w: Watched, k: u64, offset: usize, low: u32) -> Watched
-    requires { ⌜ (sheetLength ≤ length (now sheet)) × (k < 4000) × (offset + 2 ≤ 2 ^ 64 - 1) ⌝ }
-    ensures { λ r. ⌜ Follows (linesOf w) (w .waiting) (linesOf r) (r .waiting) (now (sheet .entry)) (now (sheet .exit)) k (λ c. writeActs c word offset low) ⌝ }
+// ---- the four widths
+
+// A Word is two Bytes and a Qword two Dwords; the second meets what the first left.
+pub fn write(sheet: &mut [u8], w: Watched, k: u64, offset: usize, value: u64, width: u64) -> Watched
+    requires { ⌜ (sheetLength ≤ length (now sheet)) × (k < 4000) × Sized width × (offset + width ≤ 2 ^ 64 - 1) ⌝ }
+    ensures { λ r. ⌜ Follows (linesOf w) (w .waiting) (linesOf r) (r .waiting) (now (sheet .entry)) (now (sheet .exit)) k
+        (λ c. writeActs c (widthOf width) offset value) ⌝ }
 {
-    let first = write_byte(sheet, w, k, offset, bits::byte_of(low, 0));
-    write_byte(sheet, first, k, offset + 1, bits::byte_of(low, 1))
+    let mut kept = w;
+    let mut at = offset;
+    let mut x = value;
+    let mut left = width;
+    while left != 0 {
+        kept = write_piece(sheet, kept, k, at, left < 4, x);
+        if left == 1 {
+            return kept;
+        }
+        if left == 4 {
+            return kept;
+        }
+        at += (left / 2) as usize;
+        x = x >> (4 * left);
+        left = left / 2;
+    }
+    kept
 }

@@ -13,7 +13,7 @@ use Rattle.basics.specs.Inputs.{on, from}
 use Rattle.basics.proofs.laws.Bits.{test, on-not, on-none}
 use Rattle.basics.proofs.laws.Lists.{part-add}
 use Rattle.tallies.specs.Grid.{Grid, cellPlace, put, Holds}
-use Rattle.passes.specs.Finish.{columnCleared, allInputs, cleared, totalCleared, isOn, shut, joined, rowJoined, finished}
+use Rattle.passes.specs.Finish.{rowCleared, cleared, allInputs, isOn, shut, joined, rowJoined, finished}
 
 nearer : (n k : ℕ) → (n ≡ k → ⊥) → n < suc k → n < k
 nearer n k d h = omega (arith, d, h)
@@ -31,20 +31,35 @@ put-column f n c v m b h = rw (ne-eqb b c h)
 
 -- ---- zeros
 
-zero-stays : (f : Grid) (c : ℕ) (ns : List ℕ) (n : ℕ) → f n c ≡ 0 → columnCleared f c ns n c ≡ 0
-unfolding columnCleared
-zero-stays f c [] n h = h
-zero-stays f c (m ∷ ns) n h = zero-stays (put f m c 0) c ns n (test (eqb c c && eqb n m) (λ t. rw t refl) (λ t. rw t h))
+pub row-zero : (f : Grid) (n k c : ℕ) → c < k → rowCleared f n k n c ≡ 0
+unfolding rowCleared
+row-zero f n zero c q = omega arith
+row-zero f n (suc k) c q =
+    test (eqb c k)
+    (λ t. ap (λ b. put (rowCleared f n k) n k 0 n b) (eqb-true c k t) ∙ put-here (rowCleared f n k) n k 0)
+    (λ t. let d = eqb-false c k t in put-column (rowCleared f n k) n k 0 n c d ∙ row-zero f n k c (nearer c k d q))
 
-column-from : (f : Grid) (c : ℕ) (g : ℕ → Bool) (j k n : ℕ) → j ≤ n → n < j + k → g n ≡ true → columnCleared f c (from j k g) n c ≡ 0
-unfolding columnCleared from
-column-from f c g j zero n p q t = absurd (omega arith)
-column-from f c g j (suc k) n p q t =
+pub row-kept : (f : Grid) (n k m c : ℕ) → (m ≡ n → ⊥) → rowCleared f n k m c ≡ f m c
+unfolding rowCleared
+row-kept f n zero m c d = refl
+row-kept f n (suc k) m c d = put-row (rowCleared f n k) n k 0 m c d ∙ row-kept f n k m c d
+
+zero-stays : (f : Grid) (ns : List ℕ) (n c : ℕ) → c < 10 → f n c ≡ 0 → cleared f ns n c ≡ 0
+unfolding cleared
+zero-stays f [] n c q h = h
+zero-stays f (m ∷ ns) n c q h =
+    zero-stays (rowCleared f m 10) ns n c q
+    (test (eqb n m) (λ t. ap (λ x. rowCleared f m 10 x c) (eqb-true n m t) ∙ row-zero f m 10 c q) (λ t. row-kept f m 10 n c (eqb-false n m t) ∙ h))
+
+cleared-from : (f : Grid) (g : ℕ → Bool) (j k n c : ℕ) → c < 10 → j ≤ n → n < j + k → g n ≡ true → cleared f (from j k g) n c ≡ 0
+unfolding cleared from
+cleared-from f g j zero n c b p q t = absurd (omega arith)
+cleared-from f g j (suc k) n c b p q t =
     test (eqb j n)
     (λ u. let e = eqb-true j n u in
-    rw (ap g e ∙ t) (zero-stays (put f j c 0) c (from (suc j) k g) n (ap (λ m. put f m c 0 n c) e ∙ put-here f n c 0)))
+    rw (ap g e ∙ t) (zero-stays (rowCleared f j 10) (from (suc j) k g) n c b (ap (λ m. rowCleared f m 10 n c) e ∙ row-zero f n 10 c b)))
     (λ u. let h = later j n p (eqb-false j n u) in
-    test (g j) (λ v. rw v (column-from (put f j c 0) c g (suc j) k n h (omega arith) t)) (λ v. rw v (column-from f c g (suc j) k n h (omega arith) t)))
+    test (g j) (λ v. rw v (cleared-from (rowCleared f j 10) g (suc j) k n c b h (omega arith) t)) (λ v. rw v (cleared-from f g (suc j) k n c b h (omega arith) t)))
   where
     later : (j n : ℕ) → j ≤ n → (j ≡ n → ⊥) → suc j ≤ n
     later j n h d = omega (arith, h, d)
@@ -52,39 +67,13 @@ column-from f c g j (suc k) n p q t =
 all-on : (n : ℕ) → n < 64 → on 0xffff_ffff_ffff_ffff n ≡ true
 all-on n p = on-not 64 0 n (omega arith) p ∙ ap not (on-none n)
 
-column-cleared : (f : Grid) (c n : ℕ) → n < 64 → columnCleared f c allInputs n c ≡ 0
-column-cleared f c n p = column-from f c (on 0xffff_ffff_ffff_ffff) 0 64 n (omega arith) (omega arith) (all-on n p)
+pub all-cleared : (f : Grid) (n c : ℕ) → n < 64 → c < 10 → cleared f allInputs n c ≡ 0
+all-cleared f n c p q = cleared-from f (on 0xffff_ffff_ffff_ffff) 0 64 n c q (omega arith) (omega arith) (all-on n p)
 
-column-kept : (f : Grid) (c : ℕ) (ns : List ℕ) (n b : ℕ) → (b ≡ c → ⊥) → columnCleared f c ns n b ≡ f n b
-unfolding columnCleared
-column-kept f c [] n b h = refl
-column-kept f c (m ∷ ns) n b h = column-kept (put f m c 0) c ns n b h ∙ put-column f m c 0 n b h
-
-pub column-more : (f : Grid) (c : ℕ) (ns : List ℕ) (n : ℕ) → put (columnCleared f c ns) n c 0 ≡ columnCleared f c (ns ++ (n ∷ []))
-unfolding columnCleared
-column-more f c [] n = refl
-column-more f c (m ∷ ns) n = column-more (put f m c 0) c ns n
-
-pub all-cleared : (f : Grid) (k n c : ℕ) → n < 64 → c < k → cleared f k n c ≡ 0
+pub cleared-more : (f : Grid) (ns : List ℕ) (n : ℕ) → rowCleared (cleared f ns) n 10 ≡ cleared f (ns ++ (n ∷ []))
 unfolding cleared
-all-cleared f zero n c p q = omega arith
-all-cleared f (suc k) n c p q =
-    test (eqb c k)
-    (λ t. ap (λ b. columnCleared (cleared f k) k allInputs n b) (eqb-true c k t) ∙ column-cleared (cleared f k) k n p)
-    (λ t. let d = eqb-false c k t in column-kept (cleared f k) k allInputs n c d ∙ all-cleared f k n c p (nearer c k d q))
-
-pub total-zero : (f : Grid) (k c : ℕ) → c < k → totalCleared f k 64 c ≡ 0
-unfolding totalCleared
-total-zero f zero c q = omega arith
-total-zero f (suc k) c q =
-    test (eqb c k)
-    (λ t. ap (λ b. put (totalCleared f k) 64 k 0 64 b) (eqb-true c k t) ∙ put-here (totalCleared f k) 64 k 0)
-    (λ t. let d = eqb-false c k t in put-column (totalCleared f k) 64 k 0 64 c d ∙ total-zero f k c (nearer c k d q))
-
-pub total-kept : (f : Grid) (k n c : ℕ) → n < 64 → totalCleared f k n c ≡ f n c
-unfolding totalCleared
-total-kept f zero n c p = refl
-total-kept f (suc k) n c p = put-row (totalCleared f k) 64 k 0 n c (λ e. omega (arith, e)) ∙ total-kept f k n c p
+cleared-more f [] n = refl
+cleared-more f (m ∷ ns) n = cleared-more (rowCleared f m 10) ns n
 
 -- ---- a row joined to the total
 

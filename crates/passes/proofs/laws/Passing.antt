@@ -30,11 +30,11 @@ use Rattle.tallies.specs.Grid.{Grid, Holds}
 use Rattle.tallies.specs.Marks.{Mark, happened, takenBack, idleIn, allMarked, besides, actMarks, marksOf, itemMarks, itemAfter, dayMarks}
 use Rattle.tallies.proofs.laws.Grids.{low-four}
 use Rattle.passes.specs.Slots.{NoLoad, Slot, slotAll, notesIn, Rows}
-use Rattle.passes.specs.Finish.{cleared, totalCleared, isOn, joined, finished}
+use Rattle.passes.specs.Finish.{rowCleared, cleared, allInputs, isOn, joined, finished}
 use Rattle.passes.proofs.laws.Marking.{addedIn, all-marked-at, AllSoon, rows-marked}
 use Rattle.passes.proofs.laws.Recording.{Closed, day-closes}
 use Rattle.passes.proofs.laws.Counting.{history-is, levels-added, moments-level, asserts-added, deasserts-added, returned-added, offered-added, dropped-added}
-use Rattle.passes.proofs.laws.Finishing.{all-cleared, total-zero, total-kept, shutRow, totalOf, finishes}
+use Rattle.passes.proofs.laws.Finishing.{all-cleared, row-zero, row-kept, shutRow, totalOf, finishes}
 use Rattle.passes.proofs.laws.Bytes.{sheet-is}
 
 -- ---- the numbers of records are small
@@ -123,14 +123,14 @@ module _ (xs : List Item) (l : NoLoad xs) where
 
   module _ (few : length xs ≤ 4000) (f : Grid) where
     abbrev start : Grid
-    start = cleared f 10
+    start = cleared f allInputs
 
     abbrev after : Grid
     after = allMarked start marks
 
     module _ (n : ℕ) (p : n < 64) where
       zero-at : (c : ℕ) → c < 10 → start n c ≡ 0
-      zero-at c q = all-cleared f 10 n c p q
+      zero-at c q = all-cleared f n c p q
 
       counted : (c : ℕ) → c < 7 → {v : ℕ} → addedIn n c marks ≡ v → after n c ≡ v % 2 ^ 32
       counted c q {v} e =
@@ -211,10 +211,13 @@ module _ (xs : List Item) (l : NoLoad xs) where
         held-sum a b = omega arith
 
     abbrev last : Grid
-    last = totalCleared after 10
+    last = rowCleared after 64 10
 
     last-row : (n : ℕ) → n < 64 → (c : ℕ) → c < 10 → shutRow last n c ≡ columnOf (rows n) c % 2 ^ 32
-    last-row n p c q = (λ i. cond (eqb c 9) (isOn (total-kept after 10 n 9 p i)) (total-kept after 10 n c p i)) ∙ cells n p c q
+    last-row n p c q = (λ i. cond (eqb c 9) (isOn (kept 9 i)) (kept c i)) ∙ cells n p c q
+      where
+        kept : (b : ℕ) → last n b ≡ after n b
+        kept b = row-kept after 64 10 n b (λ e. omega (arith, e, p))
 
     totals : (k : ℕ) → k ≤ 64 → (c : ℕ) → c < 10 → totalOf last k c ≡ columnOf (totalBelow k rows) c % 2 ^ 32
     unfolding totalOf totalBelow
@@ -228,7 +231,7 @@ module _ (xs : List Item) (l : NoLoad xs) where
     -- The grid after the pass, finished, is held by the bytes of the day's sheet.
     pub pass-sheet : (b rest : List ℕ) → Holds b (finished last 64) rest → b ≡ sheetBytes rows ++ rest
     pass-sheet b rest h =
-        let done = finishes last (λ c q. total-zero after 10 c q) 64 (omega arith) in
+        let done = finishes last (λ c q. row-zero after 64 10 c q) 64 (omega arith) in
         sheet-is b rest (finished last 64) rows h
         (λ n c p q. ap (bytesOf 4) (done .before n c p ∙ last-row n p c q) ∙ low-four (columnOf (rows n) c))
         (λ c q. ap (bytesOf 4) (done .total c q ∙ totals 64 (omega arith) c q) ∙ low-four (columnOf (totalBelow 64 rows) c))

@@ -1,4 +1,3 @@
--- `make`: a refused trace leaves the sheet as it was; of a good one the sheet is made.
 use Rattle.trace.specs.Found.{testedView}
 use native.Mathlib.Omega.{arith}
 use mathlib.Core.Path.{sym, ap, _∙_}
@@ -6,49 +5,79 @@ use Rattle.sheet.proofs.Ends.{tells, no-trace, reaches, is-made}
 use borrow.Author.Needs.{needs}
 use Rattle.sheet.proofs.make.Statement.{statement}
 use Rattle.sheet.proofs.make.Tie as tie
+use Rattle.sheet.proofs.make.Reads as reads
+use Rattle.sheet.proofs.make.Lts as lts
+use Rattle.answer.proofs.done.Reads as done-reads
+use Rattle.sheet.proofs.follow.Reads as follow-reads
+use Rattle.sheet.proofs.join_all.Reads as join-all-reads
+use Rattle.sheet.proofs.zero.Reads as zero-reads
+use Rattle.sheet.proofs.zero_row.Reads as zero-row-reads
+use Rattle.trace.proofs.test.Reads as test-reads
+use Rattle.trace_refusals.proofs.of_trace.Reads as of-trace-reads
 
+-- src/lib.rt:160:9
+test-requires : tie.Need-test-requires
+test-requires c κs = search needs
+
+-- src/lib.rt:161:22
+enum-known-tested : tie.Need-enum-known-tested
+enum-known-tested c = search needs
+
+-- src/lib.rt:162:9
+of-trace-requires : tie.Need-of-trace-requires
+of-trace-requires c κs = search needs
+
+-- src/lib.rt:162:9
 returns : tie.Need-returns
 returns c =
-    let m = c .before in
-    let at-test = m .before in
-    let s = at-test .before .before .before in
-    let a = s .args in
-    tells (c .of-trace .result) (c .of-trace .ensures) (no-trace (a .trace .now) (a .sheet .now) (at-test .test .result) (m .match .keys2) (at-test .test .ensures))
+    let a = (c .before .before .before .before .before) .args in
+    tells (c .of-trace .result) (c .of-trace .ensures) (no-trace (a .trace .now) (a .sheet .now) ((c .before .before) .test .result) ((c .before) .match .keys2) ((c .before .before) .test .ensures))
 
+-- src/lib.rt:164:5
+zero-requires : tie.Need-zero-requires
+zero-requires c κs = search needs
+
+-- src/lib.rt:165:5
 follow-requires : tie.Need-follow-requires
 follow-requires c κs =
-    let at-tested = c .before .before .before .before .before .before in
-    let at-test = at-tested .before .before in
-    let s = at-test .before .before .before in
-    let a = s .args in
-    (reaches (a .trace .now) (a .sheet .now) (sym (at-test .test .ensures) ∙ ap testedView (at-tested .tested .given .1)), search needs)
+    let a = (c .before .before .before .before .before .before .before .before .before .before .before) .args in
+    (reaches (a .trace .now) (a .sheet .now) (sym ((c .before .before .before .before .before .before .before .before) .test .ensures) ∙ ap testedView ((c .before .before .before .before .before .before) .tested .given .1)), search needs)
 
+-- src/lib.rt:166:5
+zero-row-requires : tie.Need-zero-row-requires
+zero-row-requires c κs = search needs
+
+-- src/lib.rt:167:5
+join-all-requires : tie.Need-join-all-requires
+join-all-requires c κs = search needs
+
+-- src/lib.rt:168:5
+done-requires : tie.Need-done-requires
+done-requires c κs = search needs
+
+-- src/lib.rt:156:1
+same-length : tie.Need-same-length
+same-length c = search needs
+
+-- src/lib.rt:156:1
 returns-2 : tie.Need-returns-2
 returns-2 c =
-    let at-join-all = c .before .before .before in
-    let at-zero-total = at-join-all .before .before .before .before in
-    let at-follow = at-zero-total .before .before .before .before in
-    let at-zero = at-follow .before .before .before .before in
-    let at-tested = at-zero .before .before .before in
-    let at-test = at-tested .before .before in
-    let at-slice-known = at-test .before in
-    let s = at-slice-known .before .before in
-    let a = s .args in
+    let a = (c .before .before .before .before .before .before .before .before .before .before .before .before .before .before .before .before .before .before .before .before .before .before .before) .args in
     tells (c .done .result) (c .done .ensures)
-    (is-made (a .trace .now) (a .sheet .now) (sym (at-test .test .ensures) ∙ ap testedView (at-tested .tested .given .1)) (λ i. omega (arith, at-slice-known .slice-known .given i)) (s .pre) (at-zero .zero .ensures) (at-follow .follow .ensures) (at-zero-total .zero-total .ensures) (at-join-all .join-all .ensures))
+    (is-made (a .trace .now) (a .sheet .now) (sym ((c .before .before .before .before .before .before .before .before .before .before .before .before .before .before .before .before .before .before .before .before) .test .ensures) ∙ ap testedView ((c .before .before .before .before .before .before .before .before .before .before .before .before .before .before .before .before .before .before) .tested .given .1)) (λ i. omega (arith, (c .before .before .before .before .before .before .before .before .before .before .before .before .before .before .before .before .before .before .before .before .before) .slice-known .given i)) ((c .before .before .before .before .before .before .before .before .before .before .before .before .before .before .before .before .before .before .before .before .before .before .before) .pre) ((c .before .before .before .before .before .before .before .before .before .before .before .before .before .before .before) .zero .ensures) ((c .before .before .before .before .before .before .before .before .before .before .before) .follow .ensures) ((c .before .before .before .before .before .before .before) .zero-row .ensures) ((c .before .before .before) .join-all .ensures))
 
 pub make-spec : {M : Type 1} → statement M
 make-spec =
     tie.close
     (tie.spec
-    (λ c κs. search needs)
-    (λ c. search needs)
-    (λ c κs. search needs)
+    test-requires
+    enum-known-tested
+    of-trace-requires
     returns
-    (λ c κs. search needs)
+    zero-requires
     follow-requires
-    (λ c κs. search needs)
-    (λ c κs. search needs)
-    (λ c κs. search needs)
-    (λ c. search needs)
+    zero-row-requires
+    join-all-requires
+    done-requires
+    same-length
     returns-2)

@@ -1,62 +1,69 @@
--- `zero`: after each turn, the columns so far are zero.
-use Rattle.sheet.proofs.Loops.{cleared-none, cleared-next, all-done}
-use borrow.Author.Needs.{needs}
+use Rattle.sheet.proofs.Loops.{cleared-none, cleared-next}
+use Rattle.watch.proofs.Visiting.{Visiting, visiting-starts, visited, lowest-below, fewer, visiting-next}
 use Rattle.passes.specs.Finish.{cleared}
-use Prim.Native.Nat.{_-_, _≤_}
 use Rattle.tallies.specs.Grid.{Becomes}
 use native.Mathlib.Omega.{arith}
+use lib.Count.{trailing-le}
+use native.Mathlib.Nat.{lt-of-le-of-lt}
+use borrow.Author.Needs.{needs}
+use Rattle.basics.specs.Inputs.{on, inputs}
 use lib.ListN.{length}
-use mathlib.Core.Path.{_≡_, refl}
+use mathlib.Core.Path.{_≡_, refl, _∙_}
 use Rattle.sheet.proofs.zero.Statement.{statement}
 use Rattle.sheet.proofs.zero.Tie as tie
+use Rattle.sheet.proofs.zero.Reads as reads
+use Rattle.sheet.proofs.zero.Lts as lts
+use Rattle.sheet.proofs.zero_row.Reads as zero-row-reads
 
 abbrev Inv-loop : tie.InvT-loop
-Inv-loop sheet₀ c₀ sheet c = (c ≤ 10) × Becomes sheet₀ sheet (λ f. cleared f c) × (length sheet ≡ length sheet₀)
+Inv-loop sheet₀ left₀ sheet left = Visiting (λ ns. Becomes sheet₀ sheet (λ f. cleared f ns)) 0xffff_ffff_ffff_ffff left × (length sheet ≡ length sheet₀)
 
 abbrev μ-loop : tie.MeasureT-loop
-μ-loop sheet₀ c₀ sheet c = 10 - c
+μ-loop sheet₀ left₀ sheet left = length (inputs (on left))
 
+-- src/lib.rt:49:5
 loop-holds : tie.Need-loop-holds Inv-loop μ-loop
 loop-holds c =
-    let s = c .before in
-    (omega arith, cleared-none (s .args .sheet .now), refl)
+    let a = (c .before) .args in
+    (visiting-starts (λ ns. Becomes (a .sheet .now) (a .sheet .now) (λ f. cleared f ns)) 0xffff_ffff_ffff_ffff (omega arith) (cleared-none (a .sheet .now)), refl)
 
-zero-column-requires : tie.Need-zero-column-requires Inv-loop μ-loop
-zero-column-requires c κs =
-    let t = c .before in
-    let l = t .before in
-    let s = l .before .before in
-    (omega (arith, s .pre, l .loop .inv .2), t .loop-test .taken)
+-- src/lib.rt:50:17
+cast-n : tie.Need-cast-n Inv-loop μ-loop
+cast-n c =
+    record { fits = lt-of-le-of-lt (trailing-le 64 _) (omega arith) }
 
-add-c : tie.Need-add-c Inv-loop μ-loop
-add-c c =
-    let t = c .before .before .before .before in
-    omega (arith, t .loop-test .taken)
+-- src/lib.rt:51:9
+zero-row-requires : tie.Need-zero-row-requires Inv-loop μ-loop
+zero-row-requires c κs =
+    let lt = lowest-below (λ ns. Becomes ((c .before .before .before .before) .args .sheet .now) ((c .before .before) .loop .sheet) (λ f. cleared f ns)) ((c .before .before) .loop .inv .0) ((c .before) .loop-test .taken) in
+    (omega (arith, (c .before .before .before .before) .pre, (c .before .before) .loop .inv .1), omega (arith, lt))
 
+-- src/lib.rt:52:17
+sub-left : tie.Need-sub-left Inv-loop μ-loop
+sub-left c =
+    omega (arith, (c .before .before .before .before) .loop-test .taken)
+
+-- src/lib.rt:49:5
 loop-less : tie.Need-loop-less Inv-loop μ-loop
 loop-less c =
-    let t = c .before .before .before .before in
-    omega (arith, t .loop-test .taken)
+    omega (arith, fewer (λ ns. Becomes ((c .before .before .before .before .before .before .before) .args .sheet .now) ((c .before .before .before .before .before) .loop .sheet) (λ f. cleared f ns)) ((c .before .before .before .before .before) .loop .inv .0) ((c .before .before .before .before) .loop-test .taken))
 
+-- src/lib.rt:49:5
 loop-again : tie.Need-loop-again Inv-loop μ-loop
 loop-again c =
-    let at-zero-column = c .before .before in
-    let t = at-zero-column .before .before in
-    let l = t .before in
-    let l = l .loop in
-    (omega (arith, t .loop-test .taken), cleared-next (l .c) (l .inv .1) (at-zero-column .zero-column .ensures), search needs)
+    let a = (c .before .before .before .before .before .before .before) .args in
+    let q = (c .before .before .before .before .before) .loop .inv .0 in
+    (visiting-next (λ ns. Becomes ((c .before .before .before .before .before .before .before) .args .sheet .now) ((c .before .before .before .before .before) .loop .sheet) (λ f. cleared f ns)) q ((c .before .before .before .before) .loop-test .taken) (λ ns. Becomes (a .sheet .now) ((c .before .before) .zero-row .last .0) (λ f. cleared f ns)) (cleared-next (q .sofar) _ (q .does) ((c .before .before) .zero-row .ensures)), search needs)
 
+-- src/lib.rt:44:1
 same-length : tie.Need-same-length Inv-loop μ-loop
 same-length c =
-    let l = c .before in
-    l .loop .inv .2
+    (c .before) .loop .inv .1
 
+-- src/lib.rt:44:1
 returns : tie.Need-returns Inv-loop μ-loop
 returns c =
-    let l = c .before in
-    let l = l .loop in
-    let e : l .c ≡ 10 = omega (arith, c .loop-test .left, l .inv .0) in
-    all-done (cleared) (l .c) 10 e (l .inv .1)
+    visited (λ ns. Becomes ((c .before .before .before) .args .sheet .now) ((c .before) .loop .sheet) (λ f. cleared f ns)) ((c .before) .loop .inv .0) (c .loop-test .left)
 
 pub zero-spec : {M : Type 1} → statement M
 zero-spec =
@@ -65,8 +72,9 @@ zero-spec =
     Inv-loop
     μ-loop
     loop-holds
-    zero-column-requires
-    add-c
+    cast-n
+    zero-row-requires
+    sub-left
     loop-less
     loop-again
     same-length
