@@ -64,7 +64,7 @@ pub unsafe fn pch_pic_convert(
     answer: *mut u8,
     answer_len: usize,
 ) -> u8 {
-    unsafe { pch_pic::pch_pic_convert(area(image.cast_mut(), image_len), area(target, target_len), area(answer, answer_len)) }
+    unsafe { pch_pic_convert::pch_pic_convert(area(image.cast_mut(), image_len), area(target, target_len), area(answer, answer_len)) }
 }
 
 pub unsafe fn pch_pic_table_read(
