@@ -18,7 +18,8 @@ use Rattle.images.proofs.laws.Saved.{count-stands}
 use Rattle.inplace.specs.Held.{Holds}
 use Rattle.inplace.proofs.Doing.{holds-as}
 use Rattle.shifts.specs.Shifted.{Shifts}
-use Rattle.drains.specs.Drained.{CopiesOut, Drains}
+use Rattle.events_out.specs.Out.{CopiesOut}
+use Rattle.drains.specs.Drained.{Drains}
 
 -- ---- as many as wait or as are asked for
 

@@ -1,31 +1,13 @@
 -- What a drain promises: of whatever device and numbers the image holds, its ring draws for the room that there is, and each event that comes out has its number.
 use mathlib.Core.Path.{_≡_}
-use mathlib.Core.List.{List, [], _∷_, _++_}
-use Prim.Native.Nat.{ℕ, _*_, _/_, _≤_}
+use mathlib.Core.List.{List, _++_}
+use Prim.Native.Nat.{ℕ, _*_, _/_}
 use lib.ListN.{length, take, drop}
 use Rattle.rules.specs.Ring.{Drawn, drawn}
 use Rattle.rules.specs.Device.{Device}
 use Rattle.rules.specs.Numbering.{Numbers, withNumbers, drainedLength, quadsOf, fewer}
 use Rattle.images.specs.Image.{numbersIn}
 use Rattle.inplace.specs.Held.{Holds, Does, withRing}
-
--- ---- what comes out
-
--- two bytes of one list and then two of another, as long as both have them
-abbrev pub woven : List ℕ → List ℕ → List ℕ
-woven [] ns = []
-woven (v ∷ []) ns = []
-woven (v ∷ f ∷ l) [] = []
-woven (v ∷ f ∷ l) (a ∷ []) = []
-woven (v ∷ f ∷ l) (a ∷ b ∷ m) = v ∷ f ∷ a ∷ b ∷ woven l m
-
--- the first n of the events that wait, each with its number
-abbrev pub CopiesOut : (i out : List ℕ) (n : ℕ) → Type 0
-CopiesOut i out n =
-    (d : Device) (s : Numbers) → Holds i d s → n ≤ length (d .ring .waiting)
-    → out ≡ quadsOf (withNumbers (take n (d .ring .waiting)) (take n (numbersIn i .waiting)))
-
--- ---- a drain
 
 -- what the ring of d draws into a buffer
 abbrev pub drew : Device → List ℕ → Drawn

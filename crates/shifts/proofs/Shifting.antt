@@ -23,8 +23,9 @@ use Rattle.rules.proofs.laws.Numbered.{fits, fitting, drawn-fit}
 use Rattle.rules.proofs.laws.Steps.{drain-well}
 use Rattle.inplace.specs.Held.{Holds}
 use Rattle.inplace.proofs.Doing.{holds-as, as-holds}
-use Rattle.shifts.specs.Shifted.{Unused, shifted, Leaves, NumbersLeave, Shifts}
-use Rattle.shifts.proofs.Moving.{sixteen-spare, sixteen-shifted}
+use Rattle.moved_up.specs.Left.{Unused, shifted, Leaves}
+use Rattle.moved_up.proofs.Moving.{sixteen-spare, sixteen-shifted}
+use Rattle.shifts.specs.Shifted.{NumbersLeave, Shifts}
 
 -- ---- one field replaced
 

@@ -1,28 +1,18 @@
 -- What is left where the first n of the waiting events go, with their numbers: events and numbers are things of two bytes.
 use mathlib.Core.Path.{_≡_}
 use mathlib.Core.Bool.{true, false}
-use mathlib.Core.List.{List, _++_}
-use Prim.Native.Nat.{ℕ, _*_, _≤_}
-use lib.ListN.{length, drop, getD, replicate}
+use mathlib.Core.List.{List}
+use Prim.Native.Nat.{ℕ}
+use lib.ListN.{length}
 use borrow.Rule.Slice.PartMut.{putMid}
 use Rattle.rules.specs.Ring.{drawn}
 use Rattle.rules.specs.Device.{Device}
 use Rattle.rules.specs.Numbering.{Numbers, fewer}
 use Rattle.images.specs.Form.{Form, numbers, has, size, place, read}
 use Rattle.inplace.specs.Held.{Holds, withRing}
+use Rattle.moved_up.specs.Left.{Unused, shifted}
 
--- behind the first m things all is zero
-abbrev pub Unused : List ℕ → ℕ → Type 0
-Unused l m = (i : ℕ) → 2 * m ≤ i → getD l i 0 ≡ 0
-
--- the first n things go, and zeros follow the others
-abbrev pub shifted : List ℕ → ℕ → List ℕ
-shifted l n = drop (2 * n) l ++ replicate (2 * n) 0
-
-abbrev pub Leaves : (before after : List ℕ) (m n : ℕ) → Type 0
-Leaves before after m n = Unused before m → after ≡ shifted before n
-
--- so do the numbers of an image that has them; any other stays
+-- the numbers of an image that has them go as things of two bytes do; any other image stays
 pub record NumbersLeave (f : Form) (i j : List ℕ) (m n : ℕ) : Type 0 where
   pub there : has f numbers ≡ true → Unused (read f i numbers) m → j ≡ putMid (place f numbers) (size numbers) i (shifted (read f i numbers) n)
   pub without : has f numbers ≡ false → j ≡ i

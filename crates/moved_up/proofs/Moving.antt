@@ -12,7 +12,7 @@ use Rattle.basics.specs.Numbers.{part, Twos, written}
 use Rattle.rules.specs.Ring.{capacity}
 use Rattle.images.specs.Image.{sixteen}
 use Rattle.images.proofs.laws.Twos.{length-written, sixteen-unused}
-use Rattle.shifts.specs.Shifted.{Unused, shifted, Leaves}
+use Rattle.moved_up.specs.Left.{Unused, shifted, Leaves}
 
 -- ---- moved to the front
 

@@ -18,7 +18,7 @@ use Rattle.images.proofs.laws.Saved.{fields-sized}
 use Rattle.laws.proofs.laws.Images.{numbers-encode, numbers-lost}
 use Rattle.inplace.specs.Held.{Holds}
 use Rattle.inplace.proofs.Doing.{holds-as}
-use Rattle.drains.specs.Drained.{woven, CopiesOut}
+use Rattle.events_out.specs.Out.{woven, CopiesOut}
 
 -- ---- woven by a loop
 

@@ -1,9 +1,9 @@
 -- `leave`: some things move to the front, or none is left.
 use native.Mathlib.Omega.{arith}
-use Rattle.shifts.proofs.Moving.{some-leave, none-leave}
+use Rattle.moved_up.proofs.Moving.{some-leave, none-leave}
 use borrow.Author.Needs.{needs}
-use Rattle.shifts.proofs.leave.Statement.{statement}
-use Rattle.shifts.proofs.leave.Tie as tie
+use Rattle.moved_up.proofs.leave.Statement.{statement}
+use Rattle.moved_up.proofs.leave.Tie as tie
 
 pub leave-spec : {M : Type 1} → statement M
 leave-spec =

@@ -3,9 +3,9 @@ use Prim.Native.Nat.{_-_, _≤_}
 use native.Mathlib.Omega.{arith}
 use lib.ListN.{length}
 use borrow.Author.Needs.{needs}
-use Rattle.shifts.proofs.Moving.{Moving, moving-starts, moving-next, moving-done}
-use Rattle.shifts.proofs.drop_front.Statement.{statement}
-use Rattle.shifts.proofs.drop_front.Tie as tie
+use Rattle.moved_up.proofs.Moving.{Moving, moving-starts, moving-next, moving-done}
+use Rattle.moved_up.proofs.drop_front.Statement.{statement}
+use Rattle.moved_up.proofs.drop_front.Tie as tie
 
 abbrev Inv-loop : tie.InvT-loop
 Inv-loop dst₀ taken i₀ dst i = (i ≤ length dst₀) × Moving dst₀ dst taken i

@@ -3,8 +3,8 @@ use mathlib.Core.Path.{sym}
 use native.Mathlib.Omega.{arith}
 use lib.ListN.{List·getD-eq-default}
 use borrow.Author.Needs.{needs}
-use Rattle.shifts.proofs.byte_or_zero.Statement.{statement}
-use Rattle.shifts.proofs.byte_or_zero.Tie as tie
+use Rattle.moved_up.proofs.byte_or_zero.Statement.{statement}
+use Rattle.moved_up.proofs.byte_or_zero.Tie as tie
 
 pub byte-or-zero-spec : {M : Type 1} → statement M
 byte-or-zero-spec =

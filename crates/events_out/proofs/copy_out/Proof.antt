@@ -8,9 +8,9 @@ use borrow.Author.Needs.{needs}
 use Rattle.images.specs.Form.{pairs, numbers, has}
 use Rattle.image.specs.Shown.{formView}
 use Rattle.image.proofs.Forms.{placed, always-within, field-within, has-numbers, no-numbers}
-use Rattle.drains.proofs.Weaving.{with-numbers, from-zero}
-use Rattle.drains.proofs.copy_out.Statement.{statement}
-use Rattle.drains.proofs.copy_out.Tie as tie
+use Rattle.events_out.proofs.Weaving.{with-numbers, from-zero}
+use Rattle.events_out.proofs.copy_out.Statement.{statement}
+use Rattle.events_out.proofs.copy_out.Tie as tie
 
 pairs-within : (c : tie.After-places-of) → c .places-of .result .pairs + 32 ≤ length (c .before .before .before .args .image .now)
 pairs-within c =

@@ -1,0 +1,2 @@
+-- What is promised of bytes of which the first go.
+pub mod Left
