@@ -32,97 +32,65 @@ cond-none false = refl
 
 -- ---- events
 
-module _ (n c : ℕ) (q : Note → Bool) (zeroth : eqb c 0 ≡ false) (first : eqb c 1 ≡ false) (each : (x : Note) → addedBy n c (happened x) ≡ cond (q x) 1 0) where
-  pub events-added : (ms : List Mark) → addedIn n c ms ≡ tally q (notesIn ms)
-  unfolding addedIn tally
-  events-added [] = refl
-  events-added (raised m ∷ ms) = rw (zeroth, cond-none (eqb m n)) (omega (arith, events-added ms))
-  events-added (lowered m ∷ ms) = rw (first, cond-none (eqb m n)) (omega (arith, events-added ms))
-  events-added (began m k ∷ ms) = rw (cond-none (eqb m n)) (omega (arith, events-added ms))
-  events-added (takenBack m ∷ ms) = rw (cond-none (eqb m n)) (omega (arith, events-added ms))
-  events-added (happened x ∷ ms) = omega (arith, each x, events-added ms)
-
 both : (b : Bool) (u : ℕ) (v : Bool) → u ≡ cond v 1 0 → cond b u 0 ≡ cond (v && b) 1 0
 both true u true e = e
 both true u false e = e
 both false u true e = refl
 both false u false e = refl
 
+-- what counts in column c of input n, by whether an event asserts and what became of it
+module _ (n c : ℕ) (q : Bool → Fate → Bool) where
+  abbrev counts : Note → Bool
+  counts x = q (x .asserted) (x .fate) && eqb (x .input) n
+
+  abbrev Counted : Bool → Fate → Type 0
+  Counted a f = tally (eqb c) (kindColumn a ∷ fateColumns f) ≡ cond (q a f) 1 0
+
+  module _
+      (zeroth : eqb c 0 ≡ false) (first : eqb c 1 ≡ false)
+      (on-returned : Counted true returned) (on-kept : Counted true kept) (on-dropped : Counted true dropped)
+      (off-returned : Counted false returned) (off-kept : Counted false kept) (off-dropped : Counted false dropped)
+    where
+      kinds : (a : Bool) (f : Fate) → Counted a f
+      kinds true returned = on-returned
+      kinds true kept = on-kept
+      kinds true dropped = on-dropped
+      kinds false returned = off-returned
+      kinds false kept = off-kept
+      kinds false dropped = off-dropped
+
+      each : (x : Note) → addedBy n c (happened x) ≡ cond (counts x) 1 0
+      each x = both (eqb (x .input) n) _ (q (x .asserted) (x .fate)) (kinds (x .asserted) (x .fate))
+
+      column : (ms : List Mark) → addedIn n c ms ≡ tally counts (notesIn ms)
+      unfolding addedIn tally
+      column [] = refl
+      column (raised m ∷ ms) = rw (zeroth, cond-none (eqb m n)) (omega (arith, column ms))
+      column (lowered m ∷ ms) = rw (first, cond-none (eqb m n)) (omega (arith, column ms))
+      column (began m k ∷ ms) = rw (cond-none (eqb m n)) (omega (arith, column ms))
+      column (takenBack m ∷ ms) = rw (cond-none (eqb m n)) (omega (arith, column ms))
+      column (happened x ∷ ms) = omega (arith, each x, column ms)
+
 module _ (n : ℕ) where
-  asserts-each : (x : Note) → addedBy n 2 (happened x) ≡ cond (assertOf n x) 1 0
-  unfolding tally
-  asserts-each x = both (eqb (x .input) n) _ (x .asserted) (go (x .asserted) (x .fate))
-    where
-      go : (a : Bool) (f : Fate) → tally (eqb 2) (kindColumn a ∷ fateColumns f) ≡ cond a 1 0
-      go true returned = refl
-      go true kept = refl
-      go true dropped = refl
-      go false returned = refl
-      go false kept = refl
-      go false dropped = refl
-
-  deasserts-each : (x : Note) → addedBy n 3 (happened x) ≡ cond (deassertOf n x) 1 0
-  unfolding tally
-  deasserts-each x = both (eqb (x .input) n) _ (not (x .asserted)) (go (x .asserted) (x .fate))
-    where
-      go : (a : Bool) (f : Fate) → tally (eqb 3) (kindColumn a ∷ fateColumns f) ≡ cond (not a) 1 0
-      go true returned = refl
-      go true kept = refl
-      go true dropped = refl
-      go false returned = refl
-      go false kept = refl
-      go false dropped = refl
-
-  returned-each : (x : Note) → addedBy n 4 (happened x) ≡ cond (returnedOf n x) 1 0
-  unfolding tally
-  returned-each x = both (eqb (x .input) n) _ (isReturned (x .fate)) (go (x .asserted) (x .fate))
-    where
-      go : (a : Bool) (f : Fate) → tally (eqb 4) (kindColumn a ∷ fateColumns f) ≡ cond (isReturned f) 1 0
-      go true returned = refl
-      go true kept = refl
-      go true dropped = refl
-      go false returned = refl
-      go false kept = refl
-      go false dropped = refl
-
-  offered-each : (x : Note) → addedBy n 5 (happened x) ≡ cond (offeredOf n x) 1 0
-  unfolding tally
-  offered-each x = both (eqb (x .input) n) _ (not (isReturned (x .fate))) (go (x .asserted) (x .fate))
-    where
-      go : (a : Bool) (f : Fate) → tally (eqb 5) (kindColumn a ∷ fateColumns f) ≡ cond (not (isReturned f)) 1 0
-      go true returned = refl
-      go true kept = refl
-      go true dropped = refl
-      go false returned = refl
-      go false kept = refl
-      go false dropped = refl
-
-  dropped-each : (x : Note) → addedBy n 6 (happened x) ≡ cond (droppedOf n x) 1 0
-  unfolding tally
-  dropped-each x = both (eqb (x .input) n) _ (isDropped (x .fate)) (go (x .asserted) (x .fate))
-    where
-      go : (a : Bool) (f : Fate) → tally (eqb 6) (kindColumn a ∷ fateColumns f) ≡ cond (isDropped f) 1 0
-      go true returned = refl
-      go true kept = refl
-      go true dropped = refl
-      go false returned = refl
-      go false kept = refl
-      go false dropped = refl
-
   pub asserts-added : (ms : List Mark) → addedIn n 2 ms ≡ tally (assertOf n) (notesIn ms)
-  asserts-added = events-added n 2 (assertOf n) refl refl asserts-each
+  unfolding tally
+  asserts-added = column n 2 (λ a f. a) refl refl refl refl refl refl refl refl
 
   pub deasserts-added : (ms : List Mark) → addedIn n 3 ms ≡ tally (deassertOf n) (notesIn ms)
-  deasserts-added = events-added n 3 (deassertOf n) refl refl deasserts-each
+  unfolding tally
+  deasserts-added = column n 3 (λ a f. not a) refl refl refl refl refl refl refl refl
 
   pub returned-added : (ms : List Mark) → addedIn n 4 ms ≡ tally (returnedOf n) (notesIn ms)
-  returned-added = events-added n 4 (returnedOf n) refl refl returned-each
+  unfolding tally
+  returned-added = column n 4 (λ a f. isReturned f) refl refl refl refl refl refl refl refl
 
   pub offered-added : (ms : List Mark) → addedIn n 5 ms ≡ tally (offeredOf n) (notesIn ms)
-  offered-added = events-added n 5 (offeredOf n) refl refl offered-each
+  unfolding tally
+  offered-added = column n 5 (λ a f. not (isReturned f)) refl refl refl refl refl refl refl refl
 
   pub dropped-added : (ms : List Mark) → addedIn n 6 ms ≡ tally (droppedOf n) (notesIn ms)
-  dropped-added = events-added n 6 (droppedOf n) refl refl dropped-each
+  unfolding tally
+  dropped-added = column n 6 (λ a f. isDropped f) refl refl refl refl refl refl refl refl
 
 -- the events of a day are those that its history has more
 pub history-is : (xs : List Item) (p : Ported) → NoLoad xs → portedAfter p xs .history ≡ p .history ++ notesIn (dayMarks (p .call) (p .device) xs)
