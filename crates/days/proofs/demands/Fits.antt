@@ -16,7 +16,7 @@ use Rattle.rules.specs.Account.{tally}
 use Rattle.rules.specs.Device.{Device, Call, level, read, write, drain, reset, actsOf, step}
 use Rattle.rules.specs.Device as device
 use Rattle.laws.proofs.laws.Images.{reset-well-formed}
-use Rattle.laws.proofs.laws.Losses.{enter-few, events-few, dword-short, byte-short}
+use Rattle.laws.proofs.laws.Losses.{acts-few, dword-short, byte-short}
 use Rattle.plain.specs.Events.{Note}
 use Rattle.plain.specs.Plain.{Engine}
 use Rattle.plain.specs.Sequence.{Item, call, load, refused, loadOf, takes, plainAfter, ringWith, notesOf, Ported, portedFollows, portedAfter}
@@ -33,28 +33,6 @@ use Rattle.passes.proofs.laws.Passing.{no-load-well, great-small}
 use Rattle.passes.proofs.laws.Days.{items-loadless, items-length}
 
 -- ---- how many events a call makes at most
-
-act-few : (c : Core) (a : Act) → length (turn c a .made) ≤ 65
-unfolding lineTurn moved polled raised lowered cleared masked
-act-few c (move (poll m)) = let h = enter-few (c .vectors) false (only m) (c .lines) in omega (arith, h)
-act-few c (move (raise m)) = let h = enter-few (c .vectors) false (only m) (withIrr (c .lines) (put (c .lines .irr) m)) in omega (arith, h)
-act-few c (move (lower m)) = let h = events-few (event (c .vectors) false false) (servedIn (only m) (withIrr (c .lines) (without (c .lines .irr) (only m)))) in omega (arith, h)
-act-few c (move (clear b)) = let h = events-few (event (c .vectors) true false) (servedIn (on b) (withIrr (c .lines) (without (c .lines .irr) (on b)))) in omega (arith, h)
-act-few c (move (setMask g v)) =
-    let new = withHalf g (c .lines .mask) v in
-    let one = enter (c .vectors) true (newlyUnmasked (c .lines .mask) new) (withMask (c .lines) new) in
-    let two = leave (c .vectors) true (newlyMasked (c .lines .mask) new) (one .after) in
-    let first = enter-few (c .vectors) true (newlyUnmasked (c .lines .mask) new) (withMask (c .lines) new) in
-    let second = events-few (event (c .vectors) true false) (servedIn (newlyMasked (c .lines .mask) new) (one .after)) in
-    omega (arith, length-append (one .made) (two .made), first, second)
-act-few c (setIsr g v) = omega arith
-act-few c (store s) = omega arith
-act-few c (setVector m v) = omega arith
-
-acts-few : (c : Core) (xs : List Act) → length (turns c xs .made) ≤ 65 * length xs
-unfolding turns
-acts-few c [] = omega arith
-acts-few c (a ∷ xs) = omega (arith, length-append (turn c a .made) (turns (turn c a .after) xs .made), act-few c a, acts-few (turn c a .after) xs)
 
 calls-short : (c : Core) (x : Call) → length (actsOf c x) ≤ 8
 unfolding actsOf writeActs

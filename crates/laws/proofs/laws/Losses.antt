@@ -100,7 +100,8 @@ act-few c (setIsr h v) = omega arith
 act-few c (store s) = omega arith
 act-few c (setVector n v) = omega arith
 
-acts-few : (c : Core) (xs : List Act) → length (turns c xs .made) ≤ 65 * length xs
+-- and so many acts at most 65 times as many
+pub acts-few : (c : Core) (xs : List Act) → length (turns c xs .made) ≤ 65 * length xs
 unfolding turns
 acts-few c [] = omega arith
 acts-few c (a ∷ xs) = omega (arith, length-append (turn c a .made) (turns (turn c a .after) xs .made), act-few c a, acts-few (turn c a .after) xs)

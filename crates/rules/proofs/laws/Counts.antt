@@ -104,7 +104,7 @@ others false false true h = refl
 others false p false h = refl
 
 module _ (vs : List ℕ) (p : ℕ → Bool) (q : Made → Bool) (h : (o a : Bool) (n : ℕ) → q (event vs o a n) ≡ p n) where
-  abbrev Balanced : Lines → Turn → Type 0
+  abbrev pub Balanced : Lines → Turn → Type 0
   Balanced l t = assertsWith q (t .made) + servedWith p l ≡ deassertsWith q (t .made) + servedWith p (t .after)
 
   balanced-stay : (l : Lines) → Balanced l (stay l)
@@ -155,7 +155,7 @@ module _ (vs : List ℕ) (p : ℕ → Bool) (q : Made → Bool) (h : (o a : Bool
       let two = f (t .after) .made in
       omega (arith, tally-append (λ m. m .asserted && q m) (t .made) two, tally-append (λ m. not (m .asserted) && q m) (t .made) two, x, y)
 
-  balanced-move : (l : Lines) (m : Move) → Balanced l (moved vs l m)
+  pub balanced-move : (l : Lines) (m : Move) → Balanced l (moved vs l m)
   unfolding moved polled raised lowered cleared masked
   balanced-move l (poll n) = balanced-enter false (only n) l
   balanced-move l (raise n) = balanced-enter false (only n) (withIrr l (put (l .irr) n))
