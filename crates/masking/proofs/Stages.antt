@@ -12,7 +12,7 @@ use Rattle.rules.specs.Device.{Device, Value, offers, returned, lost}
 use Rattle.rules.specs.Numbering.{Numbers, takesAll}
 use Rattle.basics.proofs.laws.Lists.{Each}
 use Rattle.basics.proofs.laws.Bits.{without-is}
-use Rattle.laws.proofs.laws.Sets.{enter-ext, leave-ext}
+use Rattle.laws.proofs.laws.Sets.{stages}
 use Rattle.decide.specs.Sets.{servedOf}
 use Rattle.inplace.specs.Held.{Holds, Reads, Becomes, takesEach, Offers, MovesIn, Writes, withLines, withRing, given, untaken}
 use Rattle.inplace.proofs.Doing.{does-same, becomes-then, takes-each, moves-acts}
@@ -74,15 +74,6 @@ module _ (i : List ℕ) (x : ℕ) {isr : ℕ} (risr : Reads i isr (λ d. d .core
         (λ d ns h. ap (λ ns. lostOf (d .ring) (offers (map (event (d .core .vectors) true false) ns))) (serving i x risr is d ns h))
 
 -- ---- MASK and CLEAR
-
--- the two stages, by sets that are the newly unmasked and the newly masked
-stages : (vs : List ℕ) (l : Lines) (new up down : ℕ) → ((i : ℕ) → i < 64 → on up i ≡ newlyUnmasked (l .mask) new i) → ((i : ℕ) → i < 64 → on down i ≡ newlyMasked (l .mask) new i)
-    → andThen (enter vs true (on up) (withMask l new)) (leave vs true (on down)) ≡ masked vs l new
-unfolding masked
-stages vs l new up down ups downs =
-    let first = enter-ext vs true (on up) (newlyUnmasked (l .mask) new) (withMask l new) ups in
-    let second : (m : Lines) → leave vs true (on down) m ≡ leave vs true (newlyMasked (l .mask) new) m = λ m. leave-ext vs true (on down) (newlyMasked (l .mask) new) m downs in
-    (λ t. andThen (first t) (λ m. second m t))
 
 module _ (i : List ℕ) (b : Bool) (v up down : ℕ) {old new : ℕ} (rold : Reads i old (λ d. d .core .lines .mask)) (is : new ≡ withHalf b old v)
     (ups : (n : ℕ) → n < 64 → on up n ≡ newlyUnmasked old (withHalf b old v) n) (downs : (n : ℕ) → n < 64 → on down n ≡ newlyMasked old (withHalf b old v) n) where

@@ -13,7 +13,7 @@ use Rattle.rules.specs.Lines.{Lines, Turn, stay, andThen, withMask, withIrr, wi
 use Rattle.rules.specs.Core.{Move, move, poll, raise, lower, clear, setMask, moved}
 use Rattle.basics.proofs.laws.Bits.{test, is-number, on-number, on-none, on-or, on-bit, put-is, without-is, without-only-is, without-ext, register-ext}
 use Rattle.basics.proofs.laws.Inputs.{inputs-ext, first-input, no-input}
-use Rattle.laws.proofs.laws.Sets.{only-waiting, only-served, enter-ext, leave-ext}
+use Rattle.laws.proofs.laws.Sets.{only-waiting, only-served, stages}
 use Rattle.decide.specs.Sets.{waitingOf, servedOf}
 use Rattle.decide.proofs.Deciding.{inputs-of, none-served}
 use Rattle.tallies.specs.Grid.{Becomes, bump}
@@ -162,20 +162,15 @@ module _ (n : ℕ) (lt : n < 64) (l : Lines) {p : ℕ} (is : p ≡ register (ser
 
 module _ (l : Lines) (b : Bool) (v up down : ℕ) {new : ℕ} (is : new ≡ withHalf b (l .mask) v)
     (ups : (n : ℕ) → n < 64 → on up n ≡ newlyUnmasked (l .mask) (withHalf b (l .mask) v) n) (downs : (n : ℕ) → n < 64 → on down n ≡ newlyMasked (l .mask) (withHalf b (l .mask) v) n) where
-  stages : (vs : List ℕ) → andThen (enter vs true (on up) (withMask l new)) (leave vs true (on down)) ≡ masked vs l (withHalf b (l .mask) v)
-  unfolding masked
-  stages vs =
-      let to = withHalf b (l .mask) v in
-      let first = ap (λ y. enter vs true (on up) (withMask l y)) is ∙ enter-ext vs true (on up) (newlyUnmasked (l .mask) to) (withMask l to) ups in
-      let second : (m : Lines) → leave vs true (on down) m ≡ leave vs true (newlyMasked (l .mask) to) m = λ m. leave-ext vs true (on down) (newlyMasked (l .mask) to) m downs in
-      (λ t. andThen (first t) (λ m. second m t))
+  as-masked : (vs : List ℕ) → andThen (enter vs true (on up) (withMask l new)) (leave vs true (on down)) ≡ masked vs l (withHalf b (l .mask) v)
+  as-masked vs = ap (λ y. andThen (enter vs true (on up) (withMask l y)) (leave vs true (on down))) is ∙ stages vs l (withHalf b (l .mask) v) up down ups downs
 
   pub mask-done : {m n : Lines} {o c a : List ℕ} (k : ℕ) {w u x : ℕ} → Turns m o c k w u (λ vs. enter vs true (on up) (withMask l new)) → Turns n c a k u x (λ vs. leave vs true (on down) m)
       → Follows l w n x o a k (λ _. move (setMask b v) ∷ [])
   unfolding moved
   mask-done {o} k s t =
       follows-move (setMask b v) k (takes-none o)
-      (turns-same k (λ vs. andThen (enter vs true (on up) (withMask l new)) (leave vs true (on down))) (λ vs. masked vs l (withHalf b (l .mask) v)) stages
+      (turns-same k (λ vs. andThen (enter vs true (on up) (withMask l new)) (leave vs true (on down))) (λ vs. masked vs l (withHalf b (l .mask) v)) as-masked
       (turns-then k (λ vs. enter vs true (on up) (withMask l new)) (λ vs. leave vs true (on down)) s t))
 
 pub clear-done : (l : Lines) (x : ℕ) → l .irr < 2 ^ 64 → x < 2 ^ 64 → {m : Lines} {b c a : List ℕ} (k : ℕ) {w u : ℕ} → Takes b c (map takenBack (inputs (on x)))

@@ -1,6 +1,6 @@
 -- One input's asserts, deasserts and service, and the inputs of events: over turns of the lines, acts and calls.
 use mathlib.Core.Path.{_≡_, refl, sym, ap, subst, _∙_}
-use mathlib.Core.Bool.{Bool, true, false, not, _&&_}
+use mathlib.Core.Bool.{Bool, not, _&&_, and-comm}
 use mathlib.Core.List.{List, [], _∷_, _++_}
 use Prim.Native.Nat.{ℕ, _+_, _<_}
 use native.Mathlib.Omega.{arith}
@@ -31,12 +31,6 @@ module _ (n : ℕ) (below : n < 64) where
 
   balanced-then : {l m o : Lines} (ms ns : List Made) → Balanced l m ms → Balanced m o ns → Balanced l o (ms ++ ns)
   balanced-then ms ns x y = record { is = omega (arith, tally-append (up n) ms ns, tally-append (down n) ms ns, x .is, y .is) }
-
-  and-comm : (a b : Bool) → (a && b) ≡ (b && a)
-  and-comm true true = refl
-  and-comm true false = refl
-  and-comm false true = refl
-  and-comm false false = refl
 
   -- of the inputs in service one is n, or none
   served-one : (l : Lines) → servedWith (only n) l ≡ one (on (l .isr) n)

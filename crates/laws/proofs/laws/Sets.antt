@@ -1,11 +1,11 @@
 -- The sets that the engine masks out of the registers, as the sets that Lines speaks of; the two moves depend on their set below 64 only.
 use mathlib.Core.Path.{_≡_, ap, _∙_}
-use mathlib.Core.Bool.{Bool, false, cond, not, _&&_, and-true, and-assoc, and-comm}
+use mathlib.Core.Bool.{Bool, true, false, cond, not, _&&_, and-true, and-assoc, and-comm}
 use mathlib.Core.List.{List, [], _∷_, map}
 use Prim.Native.Nat.{ℕ, _-_, _^_, _<_}
 use lib.Bits.{bitAnd}
 use Rattle.basics.specs.Inputs.{on, inputs, only, without}
-use Rattle.rules.specs.Lines.{Lines, isPending, pendingIn, servedIn, unlatchedIn, withIsr, serve, event, enter, leave}
+use Rattle.rules.specs.Lines.{Lines, isPending, pendingIn, servedIn, unlatchedIn, withIsr, withMask, serve, event, andThen, enter, leave, newlyUnmasked, newlyMasked, masked}
 use Rattle.basics.proofs.laws.Bits.{on-and, on-and-not, without-ext}
 use Rattle.basics.proofs.laws.Inputs.{inputs-ext, only-input}
 
@@ -39,3 +39,12 @@ module _ (vs : List ℕ) (offered : Bool) (f g : ℕ → Bool) (l : Lines) (e : 
       let isr = without-ext (l .isr) f g e in
       let left = inputs-ext (servedIn f l) (servedIn g l) (λ i q. rw (e i q)) in
       λ t. record { after = withIsr l (isr t); made = map (event vs offered false) (left t) }
+
+-- the two stages of a write to MASK, by sets that are the newly unmasked and the newly masked
+pub stages : (vs : List ℕ) (l : Lines) (new up down : ℕ) → ((i : ℕ) → i < 64 → on up i ≡ newlyUnmasked (l .mask) new i) → ((i : ℕ) → i < 64 → on down i ≡ newlyMasked (l .mask) new i)
+    → andThen (enter vs true (on up) (withMask l new)) (leave vs true (on down)) ≡ masked vs l new
+unfolding masked
+stages vs l new up down ups downs =
+    let first = enter-ext vs true (on up) (newlyUnmasked (l .mask) new) (withMask l new) ups in
+    let second : (m : Lines) → leave vs true (on down) m ≡ leave vs true (newlyMasked (l .mask) new) m = λ m. leave-ext vs true (on down) (newlyMasked (l .mask) new) m downs in
+    (λ t. andThen (first t) (λ m. second m t))
