@@ -2,9 +2,9 @@
 use mathlib.Core.Path.{sym, _∙_}
 use borrow.Author.Needs.{needs}
 use Rattle.image.specs.Shown.{formView}
-use Rattle.checked.proofs.Orders.{sized, bad-contents}
-use Rattle.checked.proofs.headed.Statement.{statement}
-use Rattle.checked.proofs.headed.Tie as tie
+use Rattle.image_head.proofs.Orders.{sized, bad-contents}
+use Rattle.image_head.proofs.headed.Statement.{statement}
+use Rattle.image_head.proofs.headed.Tie as tie
 
 returns : tie.Need-returns
 returns c =

@@ -5,9 +5,9 @@ use lib.ListN.{length}
 use Rattle.images.specs.Form.{known, formOf}
 use Rattle.image.specs.Shown.{formView, formKnown}
 use Rattle.image.specs.declared.form.Form.{Form}
-use Rattle.checked.proofs.Orders.{no-form}
-use Rattle.checked.proofs.test_head.Statement.{statement}
-use Rattle.checked.proofs.test_head.Tie as tie
+use Rattle.image_head.proofs.Orders.{no-form}
+use Rattle.image_head.proofs.test_head.Statement.{statement}
+use Rattle.image_head.proofs.test_head.Tie as tie
 
 -- the length is that of the arm's form
 arm : (t : tie.After-known-told) (x : Form) → t .before .form .given .0 .0 ≡ x → formOf (length (t .before .before .before .before .before .args .image .now)) ≡ known (formView x)

@@ -3,9 +3,9 @@ use mathlib.Core.Path.{sym, _∙_}
 use native.Mathlib.Omega.{arith}
 use borrow.Author.Needs.{needs}
 use Rattle.image.specs.Shown.{formView}
-use Rattle.checked.proofs.Heads.{differs, agrees}
-use Rattle.checked.proofs.contents_good.Statement.{statement}
-use Rattle.checked.proofs.contents_good.Tie as tie
+use Rattle.image_head.proofs.Heads.{differs, agrees}
+use Rattle.image_head.proofs.contents_good.Statement.{statement}
+use Rattle.image_head.proofs.contents_good.Tie as tie
 
 returns : tie.Need-returns
 returns c =
