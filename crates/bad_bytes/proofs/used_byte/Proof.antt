@@ -5,9 +5,9 @@ use borrow.Author.Needs.{needs}
 use lib.ListN.{length}
 use Rattle.images.specs.Form.{pairs}
 use Rattle.images.specs.Image.{unusedRule}
-use Rattle.faults.proofs.Firsts.{GoodUpTo, waiting-good, zero-on, used-here, none-used}
-use Rattle.faults.proofs.used_byte.Statement.{statement}
-use Rattle.faults.proofs.used_byte.Tie as tie
+use Rattle.bad_bytes.proofs.Firsts.{GoodUpTo, waiting-good, zero-on, used-here, none-used}
+use Rattle.bad_bytes.proofs.used_byte.Statement.{statement}
+use Rattle.bad_bytes.proofs.used_byte.Tie as tie
 
 abbrev Inv-loop : tie.InvT-loop
 Inv-loop count l i₀ i = (2 * count ≤ i) × (i ≤ length l) × GoodUpTo (unusedRule pairs count .bad) l i

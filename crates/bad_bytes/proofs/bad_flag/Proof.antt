@@ -3,9 +3,9 @@ use Prim.Native.Nat.{_-_, _*_, _≤_}
 use native.Mathlib.Omega.{arith}
 use borrow.Author.Needs.{needs}
 use Rattle.images.specs.Image.{flagRule}
-use Rattle.faults.proofs.Firsts.{GoodUpTo, flag-on, flag-here, no-flag}
-use Rattle.faults.proofs.bad_flag.Statement.{statement}
-use Rattle.faults.proofs.bad_flag.Tie as tie
+use Rattle.bad_bytes.proofs.Firsts.{GoodUpTo, flag-on, flag-here, no-flag}
+use Rattle.bad_bytes.proofs.bad_flag.Statement.{statement}
+use Rattle.bad_bytes.proofs.bad_flag.Tie as tie
 
 abbrev Inv-loop : tie.InvT-loop
 Inv-loop count pairs i₀ i = (i ≤ count) × GoodUpTo (flagRule count .bad) pairs (2 * i)
