@@ -1,8 +1,8 @@
 -- `leave_one`: an input is in service where `served` tells of one.
-use Rattle.service.proofs.Moving.{leave-one-none, leave-one-done}
+use Rattle.enter_leave.proofs.Moving.{leave-one-none, leave-one-done}
 use borrow.Author.Needs.{needs}
-use Rattle.service.proofs.leave_one.Statement.{statement}
-use Rattle.service.proofs.leave_one.Tie as tie
+use Rattle.enter_leave.proofs.leave_one.Statement.{statement}
+use Rattle.enter_leave.proofs.leave_one.Tie as tie
 
 pub leave-one-spec : {M : Type 1} → statement M
 leave-one-spec =

@@ -4,10 +4,10 @@ use native.Mathlib.Nat.{lt-of-le-of-lt}
 use native.Mathlib.Omega.{arith}
 use lib.Count.{trailingZeros, trailing-le}
 use Rattle.basics.proofs.laws.Inputs.{first-below}
-use Rattle.service.proofs.Moving.{enter-none, enter-some}
+use Rattle.enter_leave.proofs.Moving.{enter-none, enter-some}
 use borrow.Author.Needs.{needs}
-use Rattle.service.proofs.enter.Statement.{statement}
-use Rattle.service.proofs.enter.Tie as tie
+use Rattle.enter_leave.proofs.enter.Statement.{statement}
+use Rattle.enter_leave.proofs.enter.Tie as tie
 
 irq-below : (c : tie.Else1) → trailingZeros 64 (c .before .pending .result) < 64
 irq-below c = first-below (c .before .pending .result) (search needs) (c .if1 .left)
