@@ -1,8 +1,8 @@
 -- `from_zero`: the same bytes by computing.
 use mathlib.Core.Path.{refl}
 use Rattle.rules.specs.Device.{upFrom}
-use Rattle.numbers.proofs.from_zero.Statement.{statement}
-use Rattle.numbers.proofs.from_zero.Tie as tie
+use Rattle.number_bytes.proofs.from_zero.Statement.{statement}
+use Rattle.number_bytes.proofs.from_zero.Tie as tie
 
 returns : tie.Need-returns
 unfolding upFrom

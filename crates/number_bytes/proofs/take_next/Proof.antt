@@ -3,8 +3,8 @@ use mathlib.Core.Path.{ap, _∙_}
 use Prim.Native.Nat.{ℕ}
 use Rattle.bytes.specs.Put.{withBytes}
 use borrow.Author.Needs.{needs}
-use Rattle.numbers.proofs.take_next.Statement.{statement}
-use Rattle.numbers.proofs.take_next.Tie as tie
+use Rattle.number_bytes.proofs.take_next.Statement.{statement}
+use Rattle.number_bytes.proofs.take_next.Tie as tie
 
 pub take-next-spec : {M : Type 1} → statement M
 take-next-spec =

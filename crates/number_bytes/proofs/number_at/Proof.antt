@@ -5,8 +5,8 @@ use native.Mathlib.Omega.{arith}
 use borrow.Author.Needs.{needs}
 use Rattle.basics.specs.Numbers.{numberOf, part}
 use Rattle.basics.proofs.laws.Bytes.{part-below}
-use Rattle.numbers.proofs.number_at.Statement.{statement}
-use Rattle.numbers.proofs.number_at.Tie as tie
+use Rattle.number_bytes.proofs.number_at.Statement.{statement}
+use Rattle.number_bytes.proofs.number_at.Tie as tie
 
 two : (c : tie.After-number) → c .number .result ≡ numberOf (part (c .before .before .before .args .at) 2 (c .before .before .before .args .image .now))
 two c =
