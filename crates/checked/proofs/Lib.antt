@@ -1,5 +1,4 @@
 -- The laws that the proofs of this crate cite.
 pub mod Tested
-pub mod Heads
 pub mod Rings
 pub mod Orders

@@ -1,72 +1,21 @@
-// Whether an image may be loaded, in two steps: its length and its contents, which tell its form, and then the rules of its bodies. Bytes are compared as
-// numbers, eight at a time. Of the ring's pairs and numbers the bits are gathered that any has: they settle the commonest ring, and all flags at once. What
-// is wrong in a body, and where, is searched for only in an image that is not accepted.
+// Whether an image with a form's length and contents may be loaded: the rules of its bodies. Bytes are compared as numbers, eight at a time. Of the ring's pairs
+// and numbers the bits are gathered that any has: they settle the commonest ring, and all flags at once. What is wrong in a body, and where, is searched for
+// only in an image that is not accepted.
 use bytes::word_at;
 use image::form::CAPACITY;
 use image::form::Form;
-use image::form::KnownForm;
 use image::form::NUMBERS_LENGTH;
 use image::form::PAIRS_LENGTH;
-use image::form::contents_of;
-use image::form::form_of;
 use image::form::places_of;
 ghost use mathlib.Core.Path.{_≡_};
 ghost use lib.ListN.{length};
-ghost use Rattle.images.specs.Form.{formLength, formOf, known};
+ghost use Rattle.images.specs.Form.{formLength};
 ghost use Rattle.image.specs.Shown.{formView};
-ghost use Rattle.checked.specs.Good.{Headed, holds, spareAt, headGood, bodiesGood};
-
-// What the length and the contents tell: an image of a form, or why it is none.
-pub enum Head {
-    WrongLength,
-    WrongContents,
-    Of(Form),
-}
+ghost use Rattle.checked.specs.Good.{holds, spareAt, bodiesGood};
 
 pub enum Bodies {
     Broken,
     Good,
-}
-
-fn contents_good(image: &[u8], form: Form) -> bool
-    requires { ⌜ length (now image) ≡ formLength (formView form) ⌝ }
-    ensures { λ r. ⌜ r ≡ headGood (formView form) (now (image .entry)) ⌝ }
-{
-    let c = contents_of(form);
-    if word_at(image, 0) != c.first {
-        return false;
-    }
-    if word_at(image, 8) != c.second {
-        return false;
-    }
-    if word_at(image, 14) != c.third {
-        return false;
-    }
-    word_at(image, c.last_at) == c.last
-}
-
-fn headed(image: &[u8], form: Form) -> Head
-    requires { ⌜ formOf (length (now image)) ≡ known (formView form) ⌝ }
-    ensures { λ r. ⌜ Headed r (now (image .entry)) ⌝ }
-{
-    if contents_good(image, form) {
-        return Head::Of(form);
-    }
-    Head::WrongContents
-}
-
-// An arm for each form, so that each compares with constants.
-pub fn test_head(image: &[u8]) -> Head
-    ensures { λ r. ⌜ Headed r (now (image .entry)) ⌝ }
-{
-    let KnownForm::As(form) = form_of(image.len()) else {
-        return Head::WrongLength;
-    };
-    match form {
-        Form::One => headed(image, Form::One),
-        Form::Two => headed(image, Form::Two),
-        Form::Numbered => headed(image, Form::Numbered),
-    }
 }
 
 // Where the numbers stand; in a form without numbers, the pairs.

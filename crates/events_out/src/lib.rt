@@ -2,7 +2,7 @@
 use image::form;
 use image::form::Form;
 use image::form::places_of;
-use numbers::from_zero;
+use number_bytes::from_zero;
 ghost use mathlib.Core.Path.{_≡_};
 ghost use Prim.Native.Nat.{_*_, _≤_};
 ghost use lib.ListN.{length};

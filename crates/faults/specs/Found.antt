@@ -1,9 +1,6 @@
 -- What the functions of this crate hand back, as the rules see it.
-use mathlib.Core.Path.{_≡_}
-use mathlib.Core.Bool.{Bool, true, false}
 use mathlib.Core.List.{List}
-use Prim.Native.Nat.{ℕ, _<_, _≤_}
-use lib.ListN.{length, getD}
+use Prim.Native.Nat.{ℕ}
 use Rattle.images.specs.Form.{pairs}
 use Rattle.images.specs.Image.{copyDiffers, manyWait, badFlag, unusedSet, Finding, flagRule, unusedRule, search, orElse, ImageTest, accepted, wrongLength, wrongContents, broken}
 use Rattle.images.specs.Image as rules-image
@@ -23,12 +20,6 @@ checkedView Accepted = accepted
 checkedView WrongLength = wrongLength
 checkedView WrongContents = wrongContents
 checkedView (Broken k a) = broken (faultView k) a
-
--- the index of the first bad byte, each judged with its index; the length where none is bad
-pub record First (bad : ℕ → ℕ → Bool) (l : List ℕ) (j : ℕ) : Type 0 where
-  pub reach : j ≤ length l
-  pub before : (m : ℕ) → m < j → bad m (getD l m 0) ≡ false
-  pub here : j < length l → bad j (getD l j 0) ≡ true
 
 -- what the rules of n waiting pairs and the unused ones find in bytes that stand from place a on
 abbrev pub pairFault : ℕ → ℕ → List ℕ → Finding

@@ -1,11 +1,11 @@
 // What is wrong with an image that is not accepted, and where: the first rule that is broken, in the rules' order, and the first byte that breaks it. An accepted
 // image never comes here.
+use bad_bytes::bad_flag;
+use bad_bytes::used_byte;
 use bytes::word_at;
 use image::form::CAPACITY;
-use image::form::FLAG;
 use image::form::Form;
 use image::form::NUMBERS_LENGTH;
-use image::form::PAIR;
 use image::form::PAIRS_LENGTH;
 use image::form::places_of;
 ghost use mathlib.Core.Path.{_≡_};
@@ -15,9 +15,9 @@ ghost use Rattle.basics.specs.Numbers.{part};
 ghost use Rattle.rules.specs.Ring.{capacity};
 ghost use Rattle.images.specs.Form.{formLength};
 ghost use Rattle.images.specs.Form as rules-form;
-ghost use Rattle.images.specs.Image.{flagRule, unusedRule, finding, rules, firstFault, bodyTest};
+ghost use Rattle.images.specs.Image.{unusedRule, finding, rules, firstFault, bodyTest};
 ghost use Rattle.image.specs.Shown.{formView};
-ghost use Rattle.faults.specs.Found.{checkedView, First, pairFault};
+ghost use Rattle.faults.specs.Found.{checkedView, pairFault};
 
 // The copy of IRR differs, too many wait, a waiting pair's flag is neither 0 nor 1, an unused pair or number is not zero.
 pub enum Fault {
@@ -33,37 +33,6 @@ pub enum Checked {
     WrongLength,
     WrongContents,
     Broken(Fault, usize),
-}
-
-// The first flag of a waiting pair that is neither 0 nor 1, or the length.
-fn bad_flag(count: usize, pairs: &[u8]) -> usize
-    requires { ⌜ (length (now pairs) ≡ 2 * capacity) × (count ≤ capacity) ⌝ }
-    ensures { λ r. ⌜ First (flagRule count .bad) (now (pairs .entry)) r ⌝ }
-{
-    let mut i = 0;
-    while i < count {
-        let pair = PAIR * i;
-        if pairs[pair + FLAG] > 1 {
-            return pair + FLAG;
-        }
-        i += 1;
-    }
-    pairs.len()
-}
-
-// The first byte behind the waiting pairs, or numbers, that is not zero, or the length.
-fn used_byte(count: usize, pairs: &[u8]) -> usize
-    requires { ⌜ (length (now pairs) ≡ 2 * capacity) × (count ≤ capacity) ⌝ }
-    ensures { λ r. ⌜ First (unusedRule rules-form.pairs count .bad) (now (pairs .entry)) r ⌝ }
-{
-    let mut i = PAIR * count;
-    while i < pairs.len() {
-        if pairs[i] != 0 {
-            return i;
-        }
-        i += 1;
-    }
-    pairs.len()
 }
 
 // The rules of the pairs, which stand from `at` on.

@@ -15,13 +15,14 @@ use Rattle.image.specs.declared.form.Form as code
 use Rattle.inplace.specs.Held.{Reads}
 use Rattle.inplace.specs.Passed.{Passed}
 use Rattle.inplace.proofs.Passing.{here}
-use Rattle.checked.specs.Good.{headTest, Headed, holds, bodiesGood, bodiesTest}
-use Rattle.checked.specs.declared.Head.{Head}
-use Rattle.checked.specs.declared.Head.the-variants.{Of}
+use Rattle.image_head.specs.Good.{headTest, Headed}
+use Rattle.checked.specs.Good.{holds, bodiesGood, bodiesTest}
+use Rattle.image_head.specs.declared.Head.{Head}
+use Rattle.image_head.specs.declared.Head.the-variants.{Of}
 use Rattle.checked.specs.declared.Bodies.{Bodies}
 use Rattle.checked.specs.declared.Bodies.the-variants.{Broken}
-use Rattle.checked.proofs.Head.{the-type}
-use Rattle.checked.proofs.Orders.{head-refuses}
+use Rattle.image_head.proofs.Head.{the-type}
+use Rattle.image_head.proofs.Orders.{head-refuses}
 use Rattle.answer.specs.Given.{Tells, ends}
 use Rattle.answer.specs.declared.Told.{Told}
 use Rattle.refusals.proofs.Ends.{tells, head-told, broken-refused, bodies-told}

@@ -1,9 +1,9 @@
 // The calls on an input, on the image alone: what they tell is handed back. The image is tested here, 4, 5, 8 to 11; what comes after is `accepted_input`.
 use answer::Told;
 use checked::Bodies;
-use checked::Head;
 use checked::test_bodies;
-use checked::test_head;
+use image_head::Head;
+use image_head::test_head;
 use refusals::of_bodies;
 use refusals::of_head;
 ghost use mathlib.Core.Path.{_≡_};

@@ -17,7 +17,7 @@ use Rattle.decide.specs.Sets.{servedOf}
 use Rattle.inplace.specs.Held.{Holds, Reads, Becomes, takesEach, Offers, MovesIn, Writes, withLines, withRing, given, untaken}
 use Rattle.inplace.proofs.Doing.{does-same, becomes-then, takes-each, moves-acts}
 use Rattle.inplace.proofs.Turning.{afterTurn, moves-by, moves-then}
-use Rattle.service.proofs.Moving.{serving, stays}
+use Rattle.enter_leave.proofs.Moving.{serving, stays}
 use Rattle.events.specs.Offered.{assertOf, deasserts}
 
 -- ---- the event of an input that entered is returned to us, and then offered

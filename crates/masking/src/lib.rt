@@ -1,8 +1,8 @@
 // Writes to MASK and CLEAR, in place on an image: what enters service and what leaves it, and the events of that, offered to the ring.
+use enter_leave::enter;
 use events::offer_each;
 use events::offer_entered;
 use image::form::Form;
-use service::enter;
 ghost use mathlib.Core.Path.{_≡_};
 ghost use mathlib.Core.Bool.{true};
 ghost use mathlib.Core.List.{[], _∷_};

@@ -21,7 +21,7 @@ use Rattle.rules.proofs.laws.Numbered.{Fits, fits, fitting, takes-returned}
 use Rattle.bytes.specs.Put.{withBytes}
 use Rattle.inplace.specs.Held.{Holds, Taken, NumberOffered}
 use Rattle.inplace.proofs.Doing.{holds-as, as-holds}
-use Rattle.numbers.specs.Next.{NextTaken}
+use Rattle.number_bytes.specs.Next.{NextTaken}
 
 module _ (f : Form) (i : List ℕ) (long : length i ≡ formLength f) where
   -- ---- an image without numbers

@@ -14,13 +14,15 @@ use Rattle.calls.proofs.laws.Outcomes.{image-refused}
 use Rattle.inplace.specs.Passed.{Passed}
 use Rattle.image.specs.Shown.{formView}
 use Rattle.image.specs.declared.form.Form as code
-use Rattle.checked.specs.Good.{headTest, Headed, holds, bodiesGood, bodiesTest}
-use Rattle.checked.specs.declared.Head.{Head}
-use Rattle.checked.specs.declared.Head.the-variants.{Of}
+use Rattle.image_head.specs.Good.{headTest, Headed}
+use Rattle.checked.specs.Good.{holds, bodiesGood, bodiesTest}
+use Rattle.image_head.specs.declared.Head.{Head}
+use Rattle.image_head.specs.declared.Head.the-variants.{WrongLength, WrongContents, Of}
 use Rattle.checked.specs.declared.Bodies.{Bodies}
 use Rattle.checked.specs.declared.Bodies.the-variants.{Broken, Good}
-use Rattle.checked.proofs.Head.{the-type}
-use Rattle.checked.proofs.Orders.{left-head, head-refuses, head-value, sized, accepts, refuses}
+use Rattle.image_head.proofs.Head.{the-type}
+use Rattle.image_head.proofs.Orders.{left-head, head-refuses, sized}
+use Rattle.checked.proofs.Orders.{accepts, refuses}
 use Rattle.checked.proofs.Orders as orders
 use Rattle.answer.specs.Given.{Tells, ends}
 use Rattle.answer.specs.declared.Told.{Told}
@@ -30,6 +32,11 @@ pub tells : (t : Told) {n : ℕ} {v : Value} → Tells t n v → {j e : List ℕ
 tells t p {j} {e} d = (λ s. record { number = p .0 s; value = p .1 s; image = j; events = e }) ∙ d
 
 -- ---- an image that is not accepted
+
+head-value : (h : Head) → none ≡ imageValue (headTest h)
+head-value WrongLength = refl
+head-value WrongContents = refl
+head-value (Of f) = refl
 
 -- 4 and 5: what is told of its length or its contents is what its test finds, and how a call on it ends
 module _ (i : List ℕ) (h : Head) (o : OneOf (0 ∷ 1 ∷ []) (tagOf the-type h)) (d : Headed h i) (t : Told) (p : Tells t (imageNumber (headTest h)) none) where

@@ -1,11 +1,11 @@
 // What a call tells that is refused: 01's and 02's numbers, and the value that goes with each. Which refusal comes first is known above.
 use answer::Told;
 use answer::Value;
-use checked::Head;
 use faults::Checked;
 use faults::Fault;
 use faults::first_fault;
 use image::form::Form;
+use image_head::Head;
 ghost use mathlib.Core.Path.{_≡_};
 ghost use Rattle.rules.specs.Device.{none};
 ghost use Rattle.calls.specs.Calls.{faultNumber, refusalNumber, refusalValue, noWidth, noInput, wrongLength, imageNumber, imageValue};
@@ -13,7 +13,8 @@ ghost use Rattle.calls.specs.Calls as asked;
 ghost use lib.ListN.{length};
 ghost use Rattle.images.specs.Form.{formLength};
 ghost use Rattle.image.specs.Shown.{formView};
-ghost use Rattle.checked.specs.Good.{headTest, bodiesTest};
+ghost use Rattle.image_head.specs.Good.{headTest};
+ghost use Rattle.checked.specs.Good.{bodiesTest};
 ghost use Rattle.faults.specs.Found.{faultView, checkedView};
 ghost use Rattle.answer.specs.Given.{valueView, Tells};
 

@@ -10,7 +10,7 @@ use Rattle.images.proofs.laws.Tests.{form-known}
 use Rattle.laws.proofs.laws.Images.{decode-as, numbers-as}
 use Rattle.calls.proofs.laws.Conversions.{no-image, no-target, not-accepted, convert-done}
 use Rattle.image.specs.Shown.{formView, formKnown}
-use Rattle.checked.proofs.Orders.{head-refuses}
+use Rattle.image_head.proofs.Orders.{head-refuses}
 use Rattle.inplace.specs.Passed.{Passed}
 use Rattle.inplace.proofs.Passing.{long, few}
 use Rattle.refusals.proofs.Ends.{fitting, goes-on, tells, head-told, broken-refused, bodies-told}

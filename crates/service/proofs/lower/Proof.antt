@@ -1,6 +1,6 @@
 -- `lower`: the latch is stored, and then the input leaves.
 use Rattle.engine.specs.Moves.{answerValue}
-use Rattle.service.proofs.Moving.{lower-done}
+use Rattle.service.proofs.Calling.{lower-done}
 use borrow.Author.Needs.{needs}
 use Rattle.service.proofs.lower.Statement.{statement}
 use Rattle.service.proofs.lower.Tie as tie

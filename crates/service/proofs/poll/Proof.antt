@@ -1,6 +1,6 @@
 -- `poll`: the set of one input.
 use Rattle.engine.specs.Moves.{answerValue}
-use Rattle.service.proofs.Moving.{poll-done}
+use Rattle.service.proofs.Calling.{poll-done}
 use borrow.Author.Needs.{needs}
 use Rattle.service.proofs.poll.Statement.{statement}
 use Rattle.service.proofs.poll.Tie as tie

@@ -1,6 +1,6 @@
 -- `raise`: the latch is stored, and then it is polled.
 use Rattle.engine.specs.Moves.{answerValue}
-use Rattle.service.proofs.Moving.{raise-done}
+use Rattle.service.proofs.Calling.{raise-done}
 use borrow.Author.Needs.{needs}
 use Rattle.service.proofs.raise.Statement.{statement}
 use Rattle.service.proofs.raise.Tie as tie
