@@ -9,9 +9,9 @@ use lib.Dec.{eqb, leb}
 use borrow.Author.Tests.{eq-eqb, ne-eqb, le-leb, lt-leb}
 use Rattle.traces.specs.Trace.{mostRecords, recordLength, twoAt, listedAt, blockAt, blocksFrom, recordsIn, backToBack}
 use Rattle.traces.proofs.laws.Blocks.{records-none, records-front, stand-none, stand-next}
-use Rattle.contents.specs.declared.Listed.{Listed}
-use Rattle.contents.specs.declared.Listed.the-variants.{Records, Wrong}
-use Rattle.contents.specs.Found.{listedIf, standing, listedAs}
+use Rattle.blocks.specs.declared.Listed.{Listed}
+use Rattle.blocks.specs.declared.Listed.the-variants.{Records, Wrong}
+use Rattle.blocks.specs.Found.{listedIf, standing, listedAs}
 
 -- of n blocks the first b stand and have r records
 pub record Looked (l : List ℕ) (n r b : ℕ) : Type 0 where

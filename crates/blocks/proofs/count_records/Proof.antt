@@ -2,9 +2,9 @@
 use Prim.Native.Nat.{_+_, _-_}
 use native.Mathlib.Omega.{arith}
 use borrow.Author.Needs.{needs}
-use Rattle.contents.proofs.Standing.{Looked, looked-none, looked-all, other-offset, no-record, too-many, looked-on}
-use Rattle.contents.proofs.count_records.Statement.{statement}
-use Rattle.contents.proofs.count_records.Tie as tie
+use Rattle.blocks.proofs.Standing.{Looked, looked-none, looked-all, other-offset, no-record, too-many, looked-on}
+use Rattle.blocks.proofs.count_records.Statement.{statement}
+use Rattle.blocks.proofs.count_records.Tie as tie
 
 abbrev Inv-loop : tie.InvT-loop
 Inv-loop trace blocks first records₀ b₀ records b = Looked trace blocks records b

@@ -2,9 +2,9 @@
 use Prim.Native.Nat.{_+_}
 use native.Mathlib.Omega.{arith}
 use borrow.Author.Needs.{needs}
-use Rattle.contents.proofs.Twos.{two-there}
-use Rattle.contents.proofs.two_at.Statement.{statement}
-use Rattle.contents.proofs.two_at.Tie as tie
+use Rattle.blocks.proofs.Twos.{two-there}
+use Rattle.blocks.proofs.two_at.Statement.{statement}
+use Rattle.blocks.proofs.two_at.Tie as tie
 
 returns : tie.Need-returns
 returns c =
