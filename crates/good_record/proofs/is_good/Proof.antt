@@ -1,9 +1,9 @@
 -- `is_good`: what is not zero says which kinds are left.
 use borrow.Author.Tests.{eq-eqb, ne-eqb}
 use Rattle.view.specs.Shown.{recordView}
-use Rattle.trace.proofs.Whole.{zeros-set, value-set, offset-set, byte-set, none-set}
-use Rattle.trace.proofs.is_good.Statement.{statement}
-use Rattle.trace.proofs.is_good.Tie as tie
+use Rattle.good_record.proofs.Uses.{zeros-set, value-set, offset-set, byte-set, none-set}
+use Rattle.good_record.proofs.is_good.Statement.{statement}
+use Rattle.good_record.proofs.is_good.Tie as tie
 
 returns : tie.Need-returns
 returns c =
