@@ -12,10 +12,11 @@ use Rattle.rules.specs.Device.{offers, returned}
 use Rattle.basics.proofs.laws.Bits.{without-common-is, on-none}
 use Rattle.laws.proofs.laws.Sets.{enter-ext, leave-ext}
 use Rattle.laws.proofs.laws.Losses.{lost-few, enter-few}
-use Rattle.state.specs.View.{WellRing, Pushes, linesView, ringView}
+use Rattle.state.specs.View.{WellRing, linesView, ringView}
 use Rattle.state.specs.declared.Lines.{Lines}
 use Rattle.state.specs.declared.Ring.{Ring}
-use Rattle.state.specs.declared.Pushed.{Pushed}
+use Rattle.push.specs.declared.Pushed.{Pushed}
+use Rattle.push.specs.Pushes.{Pushes}
 use Rattle.decide.specs.Sets.{servedOf}
 use Rattle.engine.specs.Moves.{Answers, answerValue}
 use Rattle.moves.specs.Offers.{Offers, Moves, eventsOf}

@@ -14,9 +14,10 @@ use Rattle.rules.specs.Device.{offers, lost}
 use Rattle.rules.proofs.laws.Acts.{offers-append}
 use Rattle.rules.proofs.laws.Rings.{run-append}
 use Rattle.laws.proofs.laws.Losses.{lost-append, lost-few, events-few}
-use Rattle.state.specs.View.{WellRing, Pushes, ringView}
+use Rattle.state.specs.View.{WellRing, ringView}
 use Rattle.state.specs.declared.Ring.{Ring}
-use Rattle.state.specs.declared.Pushed.{Pushed}
+use Rattle.push.specs.declared.Pushed.{Pushed}
+use Rattle.push.specs.Pushes.{Pushes}
 use Rattle.moves.specs.Offers.{Offers, eventsOf}
 
 pub offers-as : {r : Ring} {n : ℕ} {before : ring.Ring} {ms ns : List Made} → ms ≡ ns → Offers r n before ms → Offers r n before ns

@@ -11,9 +11,10 @@ use Rattle.rules.specs.Ring as ring
 use Rattle.rules.specs.Device.{offers}
 use Rattle.basics.proofs.laws.Inputs.{no-input}
 use Rattle.laws.proofs.laws.Losses.{from-few}
-use Rattle.state.specs.View.{WellRing, Pushes, ringView}
+use Rattle.state.specs.View.{WellRing, ringView}
 use Rattle.state.specs.declared.Ring.{Ring}
-use Rattle.state.specs.declared.Pushed.{Pushed}
+use Rattle.push.specs.declared.Pushed.{Pushed}
+use Rattle.push.specs.Pushes.{Pushes}
 use Rattle.moves.specs.Offers.{Offers, eventsOf}
 use Rattle.moves.proofs.Offering.{offers-as, none-offered, one-at-most, one-offered, offered-then}
 

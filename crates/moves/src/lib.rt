@@ -71,7 +71,7 @@ pub fn update_int_mask(
         out = routed.lines;
         let answer = routed.answer;
         if let Answer::Vector(vector) = answer {
-            let pushed = state::push_output_event(
+            let pushed = push::push_output_event(
                 queue,
                 PchPicOutputEvent {
                     vector,
@@ -121,7 +121,7 @@ pub fn queue_events_for_mask(
     while left != 0 {
         let irq = u64::trailing_zeros(left) as usize;
         let vector = vectors[irq];
-        let pushed = state::push_output_event(out, PchPicOutputEvent { vector, asserted });
+        let pushed = push::push_output_event(out, PchPicOutputEvent { vector, asserted });
         out = pushed.ring;
         dropped += lost(pushed.kept);
         left &= !(1u64 << irq);

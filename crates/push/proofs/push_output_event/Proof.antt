@@ -1,9 +1,9 @@
 -- `push_output_event` is an offer: with room the event is stored behind the newest, without it is counted.
 use native.Mathlib.Omega.{arith}
 use borrow.Author.Needs.{needs}
-use Rattle.state.proofs.Slots.{push-room, kept-room, push-full, kept-full}
-use Rattle.state.proofs.push_output_event.Statement.{statement}
-use Rattle.state.proofs.push_output_event.Tie as tie
+use Rattle.push.proofs.Behind.{push-room, kept-room, push-full, kept-full}
+use Rattle.push.proofs.push_output_event.Statement.{statement}
+use Rattle.push.proofs.push_output_event.Tie as tie
 
 pub push-output-event-spec : {M : Type 1} → statement M
 push-output-event-spec =

@@ -1,8 +1,8 @@
 -- `pop_output_event` is a drain with room for one: nothing waits, or the event at the head comes out and the head moves on.
 use borrow.Author.Needs.{needs}
-use Rattle.state.proofs.Slots.{pop-none, pop-one}
-use Rattle.state.proofs.pop_output_event.Statement.{statement}
-use Rattle.state.proofs.pop_output_event.Tie as tie
+use Rattle.pop.proofs.Oldest.{pop-none, pop-one}
+use Rattle.pop.proofs.pop_output_event.Statement.{statement}
+use Rattle.pop.proofs.pop_output_event.Tie as tie
 
 pub pop-output-event-spec : {M : Type 1} → statement M
 pop-output-event-spec =
