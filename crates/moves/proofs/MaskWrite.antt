@@ -19,12 +19,13 @@ use Rattle.push.specs.declared.Pushed.{Pushed}
 use Rattle.push.specs.Pushes.{Pushes}
 use Rattle.decide.specs.Sets.{servedOf}
 use Rattle.engine.specs.Moves.{Answers, answerValue}
-use Rattle.moves.specs.Offers.{Offers, Moves, eventsOf}
+use Rattle.events_for_mask.specs.Offers.{Offers, eventsOf}
+use Rattle.moves.specs.Moves.{Moves}
 use Rattle.engine.specs.declared.Answer.the-variants.{None, Vector}
 use Rattle.engine.specs.declared.Routed.{Routed}
 use Rattle.decide.proofs.Deciding.{served-is, inputs-of}
 use Rattle.engine.proofs.Turns.{serve-after, serve-isr, offers-one, offers-none, enter-none, leave-none}
-use Rattle.moves.proofs.Offering.{offers-as, none-offered, one-offered, offered-then}
+use Rattle.events_for_mask.proofs.Offering.{offers-as, none-offered, one-offered, offered-then}
 
 module _ (vs : List ℕ) (l : Lines) (r : Ring) (new up : ℕ) (ups : (i : ℕ) → i < 64 → on up i ≡ newlyUnmasked (l .«int_mask») new i)
     (hisr : l .intisr < 2 ^ 64) where

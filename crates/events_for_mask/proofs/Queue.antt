@@ -15,8 +15,8 @@ use Rattle.state.specs.View.{WellRing, ringView}
 use Rattle.state.specs.declared.Ring.{Ring}
 use Rattle.push.specs.declared.Pushed.{Pushed}
 use Rattle.push.specs.Pushes.{Pushes}
-use Rattle.moves.specs.Offers.{Offers, eventsOf}
-use Rattle.moves.proofs.Offering.{offers-as, none-offered, one-at-most, one-offered, offered-then}
+use Rattle.events_for_mask.specs.Offers.{Offers, eventsOf}
+use Rattle.events_for_mask.proofs.Offering.{offers-as, none-offered, one-at-most, one-offered, offered-then}
 
 -- what holds at each turn: what was offered so far and what is left are all; and what was dropped and what is left are 64 at most
 pub record Queueing (vs : List ℕ) (a : Bool) (before : ring.Ring) (all : ℕ) (r : Ring) (n x : ℕ) : Type 0 where

@@ -18,7 +18,7 @@ use Rattle.state.specs.View.{WellRing, ringView}
 use Rattle.state.specs.declared.Ring.{Ring}
 use Rattle.push.specs.declared.Pushed.{Pushed}
 use Rattle.push.specs.Pushes.{Pushes}
-use Rattle.moves.specs.Offers.{Offers, eventsOf}
+use Rattle.events_for_mask.specs.Offers.{Offers, eventsOf}
 
 pub offers-as : {r : Ring} {n : ℕ} {before : ring.Ring} {ms ns : List Made} → ms ≡ ns → Offers r n before ms → Offers r n before ns
 offers-as {r} {n} {before} e o = subst (Offers r n before) e o

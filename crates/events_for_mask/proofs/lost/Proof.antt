@@ -1,7 +1,7 @@
 -- `lost` is right in each of its two cases.
 use borrow.Author.Needs.{needs}
-use Rattle.moves.proofs.lost.Statement.{statement}
-use Rattle.moves.proofs.lost.Tie as tie
+use Rattle.events_for_mask.proofs.lost.Statement.{statement}
+use Rattle.events_for_mask.proofs.lost.Tie as tie
 
 pub lost-spec : {M : Type 1} → statement M
 lost-spec =

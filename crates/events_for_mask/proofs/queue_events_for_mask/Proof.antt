@@ -8,11 +8,11 @@ use Rattle.basics.specs.Inputs.{on, inputs}
 use Rattle.basics.proofs.laws.Inputs.{first-below, first-input}
 use Rattle.basics.proofs.laws.Bits.{without-only-is}
 use Rattle.state.specs.View.{ringView}
-use Rattle.moves.proofs.Offering.{one-at-most}
-use Rattle.moves.proofs.Queue.{Queueing, queue-start, queue-step, queue-done, queue-less}
+use Rattle.events_for_mask.proofs.Offering.{one-at-most}
+use Rattle.events_for_mask.proofs.Queue.{Queueing, queue-start, queue-step, queue-done, queue-less}
 use borrow.Author.Needs.{needs}
-use Rattle.moves.proofs.queue_events_for_mask.Statement.{statement}
-use Rattle.moves.proofs.queue_events_for_mask.Tie as tie
+use Rattle.events_for_mask.proofs.queue_events_for_mask.Statement.{statement}
+use Rattle.events_for_mask.proofs.queue_events_for_mask.Tie as tie
 
 abbrev Inv-loop : tie.InvT-loop
 Inv-loop vectors mask asserted out₀ dropped₀ left₀ out dropped left = Queueing vectors asserted (ringView out₀) mask out dropped left

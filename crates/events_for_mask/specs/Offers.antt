@@ -1,16 +1,15 @@
--- What the functions that offer events promise, in the rules' terms: the lines after, the ring after the offers, and how many it dropped.
+-- What a function that offers events promises, in the rules' terms: the ring after the offers, and how many it dropped.
 use mathlib.Core.Path.{_≡_}
 use mathlib.Core.Bool.{Bool, true}
 use mathlib.Core.List.{List, map}
 use Prim.Native.Nat.{ℕ}
 use Rattle.basics.specs.Inputs.{on, inputs}
-use Rattle.rules.specs.Lines.{Made, Turn, event}
+use Rattle.rules.specs.Lines.{Made, event}
 use Rattle.rules.specs.Ring as ring
 use Rattle.rules.specs.Ring.{ringRun}
 use Rattle.rules.specs.Device.{offers, lost}
 use Rattle.state.specs.declared.Ring.{Ring}
-use Rattle.state.specs.View.{WellRing, linesView, ringView}
-use Rattle.moves.specs.declared.Moved.{Moved}
+use Rattle.state.specs.View.{WellRing, ringView}
 
 -- the events that are made for the inputs in m
 abbrev pub eventsOf : List ℕ → ℕ → Bool → List Made
@@ -21,8 +20,3 @@ pub record Offers (r : Ring) (n : ℕ) (before : ring.Ring) (ms : List Made) : T
   pub well : WellRing r
   pub ring : ringView r ≡ ringRun before (offers ms) .after
   pub dropped : n ≡ lost before ms
-
--- a move that offers its events
-pub record Moves (m : Moved) (before : ring.Ring) (t : Turn) : Type 0 where
-  pub lines : linesView (m .lines) ≡ t .after
-  pub offers : Offers (m .ring) (m .dropped) before (t .made)
