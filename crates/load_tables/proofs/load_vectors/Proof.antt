@@ -6,8 +6,8 @@ use Rattle.images.specs.Form.{formLength}
 use Rattle.images.specs.Image.{decodeAs}
 use Rattle.image.specs.Shown.{formView}
 use borrow.Author.Needs.{needs}
-use Rattle.loaded.proofs.load_vectors.Statement.{statement}
-use Rattle.loaded.proofs.load_vectors.Tie as tie
+use Rattle.load_tables.proofs.load_vectors.Statement.{statement}
+use Rattle.load_tables.proofs.load_vectors.Tie as tie
 
 pub load-vectors-spec : {M : Type 1} → statement M
 load-vectors-spec =

@@ -17,8 +17,8 @@ use Rattle.image.specs.Shown.{PlacesOf}
 use Rattle.image.specs.declared.form.Places.{Places}
 use Rattle.image.proofs.Forms.{always-within}
 use Rattle.images.proofs.laws.Layout.{has-all}
-use Rattle.loaded.proofs.load_ring.Statement.{statement}
-use Rattle.loaded.proofs.load_ring.Tie as tie
+use Rattle.load_ring.proofs.load_ring.Statement.{statement}
+use Rattle.load_ring.proofs.load_ring.Tie as tie
 
 -- a field ends within the image
 within : (c : tie.After-places-of) (q : Field) → always q ≡ true → placeIn (c .places-of .result) q + size q ≤ length (c .before .before .args .image .now)

@@ -10,8 +10,8 @@ use Rattle.images.proofs.laws.Layout.{always}
 use Rattle.image.specs.Shown.{formView, placeIn}
 use Rattle.image.proofs.Forms.{always-within, always-word}
 use Rattle.images.specs.Form.{read}
-use Rattle.loaded.proofs.load_stored.Statement.{statement}
-use Rattle.loaded.proofs.load_stored.Tie as tie
+use Rattle.load_words.proofs.load_stored.Statement.{statement}
+use Rattle.load_words.proofs.load_stored.Tie as tie
 
 -- a field ends within the image
 within : (c : tie.After-places-of) (q : Field) → always q ≡ true → placeIn (c .places-of .result) q + size q ≤ length (c .before .before .args .image .now)

@@ -11,8 +11,8 @@ use Rattle.images.specs.Form.{Field, routes, size}
 use Rattle.images.proofs.laws.Layout.{always}
 use Rattle.image.specs.Shown.{formView, placeIn}
 use Rattle.image.proofs.Forms.{always-at, always-within}
-use Rattle.loaded.proofs.load_routes.Statement.{statement}
-use Rattle.loaded.proofs.load_routes.Tie as tie
+use Rattle.load_tables.proofs.load_routes.Statement.{statement}
+use Rattle.load_tables.proofs.load_routes.Tie as tie
 
 -- a field ends within the image
 within : (c : tie.After-places-of) (q : Field) → always q ≡ true → placeIn (c .places-of .result) q + size q ≤ length (c .before .before .args .image .now)

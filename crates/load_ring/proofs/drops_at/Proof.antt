@@ -5,8 +5,8 @@ use native.Mathlib.Omega.{arith}
 use borrow.Author.Needs.{needs}
 use Rattle.basics.specs.Numbers.{numberOf, part}
 use Rattle.basics.proofs.laws.Bytes.{part-below}
-use Rattle.loaded.proofs.drops_at.Statement.{statement}
-use Rattle.loaded.proofs.drops_at.Tie as tie
+use Rattle.load_ring.proofs.drops_at.Statement.{statement}
+use Rattle.load_ring.proofs.drops_at.Tie as tie
 
 four : (c : tie.After-number) → c .number .result ≡ numberOf (part (c .before .before .before .args .at) 4 (c .before .before .before .args .image .now))
 four c =
