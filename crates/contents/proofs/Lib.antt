@@ -1,4 +1,2 @@
 -- The laws that the proofs of this crate cite.
-pub mod Twos
-pub mod Standing
 pub mod Whole

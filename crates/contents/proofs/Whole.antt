@@ -10,10 +10,11 @@ use borrow.Author.Tests.{le-leb, leb-true}
 use Rattle.traces.specs.Trace.{mostBlocks, mostRecords, recordLength, blockCount, blocks, backToBack, firstPlace, recordCount}
 use Rattle.traces.proofs.laws.Contents as contents-laws
 use Rattle.traces.proofs.laws.Contents.{contents-are, contents-wrong}
-use Rattle.contents.specs.declared.Listed.{Listed}
-use Rattle.contents.specs.declared.Listed.the-variants as listed
+use Rattle.blocks.specs.declared.Listed.{Listed}
+use Rattle.blocks.specs.declared.Listed.the-variants as listed
+use Rattle.blocks.specs.Found.{listedIf, standing, listedAs}
 use Rattle.contents.specs.declared.Contents.the-variants.{Good, Wrong}
-use Rattle.contents.specs.Found.{listedIf, standing, listedAs, contentsIf, contentsAs}
+use Rattle.contents.specs.Found.{contentsIf, contentsAs}
 
 -- an answer about blocks taken apart
 abbrev areListed : Listed → Bool

@@ -1,24 +1,10 @@
 -- The answers of this crate's functions.
-use mathlib.Core.Bool.{Bool, true, false, _&&_}
+use mathlib.Core.Bool.{Bool, true, false}
 use mathlib.Core.List.{List}
 use Prim.Native.Nat.{ℕ}
-use lib.Dec.{leb}
-use Rattle.traces.specs.Trace.{mostRecords, listedAt, blocksFrom, recordsIn, backToBack, firstPlace, recordCount, contentsGood}
-use Rattle.contents.specs.declared.Listed as listed
-use Rattle.contents.specs.declared.Listed.the-variants as listed-variants
+use Rattle.traces.specs.Trace.{firstPlace, recordCount, contentsGood}
 use Rattle.contents.specs.declared.Contents as contents
 use Rattle.contents.specs.declared.Contents.the-variants as contents-variants
-
--- the records of n blocks that stand back to back and are not too many
-abbrev pub listedIf : Bool → ℕ → listed.Listed
-listedIf true n = listed-variants.Records n
-listedIf false n = listed-variants.Wrong
-
-abbrev pub standing : ℕ → List ℕ → Bool
-standing n l = backToBack (listedAt n) (blocksFrom n 0 l) && leb (recordsIn (blocksFrom n 0 l)) mostRecords
-
-abbrev pub listedAs : ℕ → List ℕ → listed.Listed
-listedAs n l = listedIf (standing n l) (recordsIn (blocksFrom n 0 l))
 
 -- good contents, with the place of the first record and how many there are
 abbrev pub contentsIf : Bool → ℕ → ℕ → contents.Contents

@@ -1,4 +1,2 @@
 -- The laws that the proofs of this crate cite.
 pub mod MaskWrite
-pub mod Offering
-pub mod Queue

@@ -1,2 +1,2 @@
 -- What the moves that offer events promise.
-pub mod Offers
+pub mod Moves

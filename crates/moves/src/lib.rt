@@ -2,22 +2,16 @@
 // expressions that the calls in place need too stand in crate decide. A function takes the parts of the state that it reads or changes, and hands back those that it
 // changes; the vector bytes are lent.
 use engine::Answer;
+use events_for_mask::lost;
+use events_for_mask::queue_events_for_mask;
 use state::Lines;
 use state::PchPicOutputEvent;
 use state::PchPicState;
 use state::Ring;
-ghost use mathlib.Core.Path.{_≡_};
-ghost use mathlib.Core.Bool.{cond};
 ghost use Rattle.basics.specs.Inputs.{withHalf};
 ghost use Rattle.rules.specs.Lines.{cleared, masked};
 ghost use Rattle.state.specs.View.{WellRing, linesView, ringView};
-ghost use Rattle.moves.specs.Offers.{Offers, Moves, eventsOf};
-
-// The ring after events were offered to it, and how many of them it dropped.
-pub struct Queued {
-    pub ring: Ring,
-    pub dropped: u32,
-}
+ghost use Rattle.moves.specs.Moves.{Moves};
 
 // The lines and the ring after a register write that moves them, and how many of its events were dropped.
 pub struct Moved {
@@ -71,7 +65,7 @@ pub fn update_int_mask(
         out = routed.lines;
         let answer = routed.answer;
         if let Answer::Vector(vector) = answer {
-            let pushed = state::push_output_event(
+            let pushed = push::push_output_event(
                 queue,
                 PchPicOutputEvent {
                     vector,
@@ -96,35 +90,4 @@ pub fn update_int_mask(
         ring: queue,
         dropped,
     }
-}
-
-// How many events a push dropped: one, unless it was kept.
-fn lost(kept: bool) -> u32
-    ensures { λ r. ⌜ r ≡ cond kept 0 1 ⌝ }
-{
-    if kept { 0 } else { 1 }
-}
-
-// An event for each input in mask is offered to the ring, lowest first.
-pub fn queue_events_for_mask(
-    ring: Ring,
-    vectors: &[u8; PchPicState::IRQ_COUNT],
-    mask: u64,
-    asserted: bool,
-) -> Queued
-    requires { ⌜ WellRing ring ⌝ }
-    ensures { λ r. ⌜ Offers (r .ring) (r .dropped) (ringView ring) (eventsOf (now (vectors .entry)) mask asserted) ⌝ }
-{
-    let mut out = ring;
-    let mut dropped = 0;
-    let mut left = mask;
-    while left != 0 {
-        let irq = u64::trailing_zeros(left) as usize;
-        let vector = vectors[irq];
-        let pushed = state::push_output_event(out, PchPicOutputEvent { vector, asserted });
-        out = pushed.ring;
-        dropped += lost(pushed.kept);
-        left &= !(1u64 << irq);
-    }
-    Queued { ring: out, dropped }
 }

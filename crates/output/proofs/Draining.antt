@@ -13,11 +13,12 @@ use Rattle.rules.specs.Ring.{Event, Drawn, drawn, flag, pairsOf}
 use Rattle.basics.proofs.laws.Bits.{test}
 use Rattle.basics.proofs.laws.Lists.{turn}
 use Rattle.state.proofs.Slots.{ringOf}
-use Rattle.state.specs.View.{WellRing, ringView, Pops, takenOf, eventOf}
+use Rattle.state.specs.View.{WellRing, ringView, eventOf}
 use Rattle.state.specs.declared.Ring.{Ring}
-use Rattle.state.specs.declared.Popped.{Popped}
-use Rattle.state.specs.declared.Taken.{Taken}
-use Rattle.state.specs.declared.Taken.the-variants.{Nothing, One}
+use Rattle.pop.specs.Pops.{Pops, takenOf}
+use Rattle.pop.specs.declared.Popped.{Popped}
+use Rattle.pop.specs.declared.Taken.{Taken}
+use Rattle.pop.specs.declared.Taken.the-variants.{Nothing, One}
 use Rattle.output.specs.Drains.{Drains, pairPut}
 
 -- what holds at turn i of n: the ring is i events shorter, the pairs so far and those to come are all n, and what lies behind is as it was

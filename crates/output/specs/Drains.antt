@@ -6,8 +6,8 @@ use lib.ListN.{length, drop, set}
 use Rattle.rules.specs.Ring as ring
 use Rattle.rules.specs.Ring.{drawn, flag, pairsOf}
 use Rattle.state.specs.declared.Ring.{Ring}
-use Rattle.state.specs.declared.Taken.{Taken}
-use Rattle.state.specs.declared.Taken.the-variants.{Nothing, One}
+use Rattle.pop.specs.declared.Taken.{Taken}
+use Rattle.pop.specs.declared.Taken.the-variants.{Nothing, One}
 use Rattle.state.specs.View.{WellRing, ringView}
 use Rattle.output.specs.declared.Drained.{Drained}
 

@@ -1,6 +1,6 @@
 // The drain of the events that wait, after drain_output_events in loongarch_pch_pic.rs of axdevice 0.8.5, into a lent buffer. The ring goes in and comes back.
+use pop::Taken;
 use state::Ring;
-use state::Taken;
 ghost use mathlib.Core.Path.{_≡_};
 ghost use Prim.Native.Nat.{_+_, _*_, _/_, _<_, min};
 ghost use lib.ListN.{length};
@@ -41,7 +41,7 @@ pub fn drain_output_events(ring: Ring, buf: &mut [u8]) -> Drained
     let count = fitting(out.output_len, buf.len());
     let mut i = 0;
     while i < count {
-        let popped = state::pop_output_event(out);
+        let popped = pop::pop_output_event(out);
         let event = popped.event;
         out = popped.ring;
         put_event(buf, i, event);

@@ -23,7 +23,7 @@ use Rattle.state.specs.declared.PchPicState.{PchPicState}
 use Rattle.state.specs.declared.Stored.{Stored}
 use Rattle.state.specs.View.{linesView, storedView, ringView, view, Well, Is}
 use Rattle.moves.specs.declared.Moved.{Moved}
-use Rattle.moves.specs.Offers.{Moves}
+use Rattle.moves.specs.Moves.{Moves}
 use Rattle.registers.specs.declared.Written.{Written}
 use Rattle.registers.specs.Writes.{Writes, bytesActs}
 use Rattle.registers.proofs.Bytes.{bytes-short}

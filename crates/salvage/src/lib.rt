@@ -3,9 +3,9 @@
 use answer::Told;
 use answer::Value;
 use answer::done;
+use blocks::two_at;
 use contents::Contents;
 use contents::contents_of;
-use contents::two_at;
 use rebuilt::put_blocks;
 use rebuilt::put_contents;
 use rebuilt::put_list;

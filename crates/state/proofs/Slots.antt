@@ -1,19 +1,12 @@
--- The slots of the ring as a list of events: how many they are, one more at the end, the oldest taken out.
-use mathlib.Core.Path.{_≡_, refl, sym, ap, ap₂, _∙_}
-use mathlib.Core.Bool.{Bool, true, false}
-use mathlib.Core.List.{List, [], _∷_, _++_}
-use Prim.Native.Nat.{ℕ, zero, suc, _+_, _-_, _%_, _≤_, _<_, min}
-use native.Mathlib.Nat.{mod-eq-of-lt, add-zero, add-suc, suc-add}
-use native.Mathlib.Numerals.{add-one}
-use native.Mathlib.Omega.{arith}
-use lib.ListN.{length, getD, set, take, drop}
-use lib.Seq.{getD-set-same, getD-set-other}
-use lib.Dec.{ltb}
-use borrow.Author.Tests.{lt-ltb, le-ltb}
-use Rattle.rules.specs.Ring.{capacity, stop, Event, Drawn, offered, drawn}
+-- The slots of the ring as a list of events, and how many they are.
+use mathlib.Core.Path.{_≡_, refl, ap}
+use mathlib.Core.Bool.{Bool}
+use mathlib.Core.List.{List}
+use Prim.Native.Nat.{ℕ, zero, suc}
+use lib.ListN.{length}
+use Rattle.rules.specs.Ring.{Event}
 use Rattle.rules.specs.Ring as rules-ring
-use Rattle.rules.proofs.laws.Rings.{offered-room, offered-full}
-use Rattle.state.specs.View.{slot, slots, ringView}
+use Rattle.state.specs.View.{slots, ringView}
 use Rattle.state.specs.declared.Ring.{Ring}
 
 abbrev pub ev : ℕ → Bool → Event
@@ -28,88 +21,6 @@ module _ (vs : List ℕ) (fs : List Bool) where
   slots-length h zero = refl
   slots-length h (suc n) = ap suc (slots-length (suc h) n)
 
-  -- the newest event is the last
-  slots-last : (h n : ℕ) → slots vs fs h (suc n) ≡ slots vs fs h n ++ (slot vs fs (h + n) ∷ [])
-  unfolding slots
-  slots-last h zero = ap (λ (i : ℕ). slot vs fs i ∷ []) (sym (add-zero h))
-  slots-last h (suc n) =
-      ap (λ (l : List Event). slot vs fs h ∷ l) (slots-last (suc h) n ∙ ap (λ (i : ℕ). slots vs fs (suc h) n ++ (slot vs fs i ∷ [])) (suc-add h n ∙ sym (add-suc h n)))
-
-  -- a head and the same head counted round are one
-  slots-round : (h g n : ℕ) → h % 16 ≡ g % 16 → slots vs fs h n ≡ slots vs fs g n
-  unfolding slots
-  slots-round h g zero e = refl
-  slots-round h g (suc n) e =
-      ap₂ (λ (x : Event) (l : List Event). x ∷ l) (ap (λ (j : ℕ). ev (getD vs j 0) (getD fs j false)) e) (slots-round (suc h) (suc g) n (omega arith))
-
-  -- the oldest, and the others from the next head on
-  pub slots-first : (h n : ℕ) → h < 16 → (n ≡ 0 → ⊥) → slots vs fs h n ≡ ev (getD vs h 0) (getD fs h false) ∷ slots vs fs ((h + 1) % 16) (n - 1)
-  unfolding slots
-  slots-first h zero l z = absurd (z refl)
-  slots-first h (suc n) l z =
-      ap₂ (λ (x : Event) (r : List Event). x ∷ r) (ap (λ (j : ℕ). ev (getD vs j 0) (getD fs j false)) (mod-eq-of-lt l))
-      (slots-round (suc h) ((h + 1) % 16) n (omega arith) ∙ ap (slots vs fs ((h + 1) % 16)) same)
-    where
-      same : n ≡ suc n - 1
-      same = omega arith
-
--- slots that are not read may differ
-slots-ext : (vs ws : List ℕ) (fs gs : List Bool) (h n : ℕ) → ((i : ℕ) → h ≤ i → i < h + n → slot vs fs i ≡ slot ws gs i) → slots vs fs h n ≡ slots ws gs h n
-unfolding slots
-slots-ext vs ws fs gs h zero e = refl
-slots-ext vs ws fs gs h (suc n) e =
-    ap₂ (λ (x : Event) (l : List Event). x ∷ l) (e h (omega arith) (omega arith)) (slots-ext vs ws fs gs (suc h) n (λ i p q. e i (omega arith) (omega arith)))
-
--- an event stored behind the newest is one event more
-slots-push : (vs : List ℕ) (fs : List Bool) (h n v : ℕ) (a : Bool) → length vs ≡ 16 → length fs ≡ 16 → n < 16
-    → slots (set vs ((h + n) % 16) v) (set fs ((h + n) % 16) a) h (n + 1) ≡ slots vs fs h n ++ (ev v a ∷ [])
-slots-push vs fs h n v a lv lf l =
-    let j = (h + n) % 16 in
-    ap (slots (set vs j v) (set fs j a) h) (add-one n) ∙ slots-last (set vs j v) (set fs j a) h n
-    ∙ ap₂ (λ (r : List Event) (x : Event). r ++ (x ∷ []))
-    (slots-ext (set vs j v) vs (set fs j a) fs h n
-    (λ i p q. ap₂ ev (getD-set-other vs j (i % 16) v 0 (omega arith)) (getD-set-other fs j (i % 16) a false (omega arith))))
-    (ap₂ ev (getD-set-same vs j v 0 (omega arith)) (getD-set-same fs j a false (omega arith)))
-
--- ---- what the two functions come to
-module _ (r : Ring) where
-  -- as many wait as the length says
-  pub waiting-length : length (ringView r .waiting) ≡ r .«output_len»
-  waiting-length = slots-length (r .«output_vectors») (r .«output_asserted») (r .«output_head») (r .«output_len»)
-
-  -- room: the event is stored and kept
-  pub push-room : (v : ℕ) (a : Bool) → length (r .«output_vectors») ≡ 16 → length (r .«output_asserted») ≡ 16 → r .«output_len» < 16
-      → ringOf (slots (set (r .«output_vectors») ((r .«output_head» + r .«output_len») % 16) v) (set (r .«output_asserted») ((r .«output_head» + r .«output_len») % 16) a) (r .«output_head») (r .«output_len» + 1)) (r .«output_drops»)
-      ≡ offered (ringView r) (ev v a)
-  push-room v a lv lf l =
-      ap (λ (es : List Event). ringOf es (r .«output_drops»)) (slots-push (r .«output_vectors») (r .«output_asserted») (r .«output_head») (r .«output_len») v a lv lf l)
-      ∙ sym (offered-room (ringView r) (ev v a) (omega (arith, waiting-length)))
-
-  pub kept-room : r .«output_len» < 16 → true ≡ ltb (length (ringView r .waiting)) capacity
-  kept-room l = sym (lt-ltb (length (ringView r .waiting)) capacity (omega (arith, waiting-length)))
-
-  -- no room: it is counted and not kept
-  pub push-full : (e : Event) (n : ℕ) → r .«output_len» ≡ 16 → n ≡ min (r .«output_drops» + 1) stop → ringOf (ringView r .waiting) n ≡ offered (ringView r) e
-  push-full e n l p = ap (ringOf (ringView r .waiting)) p ∙ sym (offered-full (ringView r) e (omega (arith, waiting-length)))
-
-  pub kept-full : r .«output_len» ≡ 16 → false ≡ ltb (length (ringView r .waiting)) capacity
-  kept-full l = sym (le-ltb (length (ringView r .waiting)) capacity (omega (arith, waiting-length)))
-
-  -- a drain with room for one, by the events that wait
-  abbrev one-of : List Event → Drawn
-  one-of es = record { after = ringOf (drop 1 es) (r .«output_drops»); drained = take 1 es }
-
-  pub pop-none : r .«output_len» ≡ 0 → record { after = ringView r; drained = [] } ≡ drawn (ringView r) 1
-  unfolding drawn slots
-  pop-none e =
-      let none = ap (slots (r .«output_vectors») (r .«output_asserted») (r .«output_head»)) e in
-      ap (λ (es : List Event). record { after = ringOf es (r .«output_drops»); drained = [] }) none ∙ sym (ap one-of none)
-
-  pub pop-one : r .«output_head» < 16 → (r .«output_len» ≡ 0 → ⊥)
-      → record {
-        after = ringOf (slots (r .«output_vectors») (r .«output_asserted») ((r .«output_head» + 1) % 16) (r .«output_len» - 1)) (r .«output_drops»);
-        drained = ev (getD (r .«output_vectors») (r .«output_head») 0) (getD (r .«output_asserted») (r .«output_head») false) ∷ [];
-      }
-      ≡ drawn (ringView r) 1
-  unfolding drawn
-  pop-one h n = sym (ap one-of (slots-first (r .«output_vectors») (r .«output_asserted») (r .«output_head») (r .«output_len») h n))
+-- as many wait as the length says
+pub waiting-length : (r : Ring) → length (ringView r .waiting) ≡ r .«output_len»
+waiting-length r = slots-length (r .«output_vectors») (r .«output_asserted») (r .«output_head») (r .«output_len»)

@@ -3,8 +3,7 @@ use mathlib.Core.Path.{_≡_}
 use mathlib.Core.Bool.{Bool, false}
 use mathlib.Core.List.{List, [], _∷_}
 use Prim.Native.Nat.{ℕ, zero, suc, _%_, _<_, _≤_}
-use lib.Dec.{ltb}
-use lib.ListN.{length, getD}
+use lib.ListN.{getD}
 use Rattle.rules.specs.Lines as rules-lines
 use Rattle.rules.specs.Ring as rules-ring
 use Rattle.rules.specs.Ring.{Event}
@@ -15,10 +14,6 @@ use Rattle.state.specs.declared.Lines.{Lines}
 use Rattle.state.specs.declared.Stored.{Stored}
 use Rattle.state.specs.declared.Ring.{Ring}
 use Rattle.state.specs.declared.PchPicState.{PchPicState}
-use Rattle.state.specs.declared.Pushed.{Pushed}
-use Rattle.state.specs.declared.Popped.{Popped}
-use Rattle.state.specs.declared.Taken.{Taken}
-use Rattle.state.specs.declared.Taken.the-variants.{Nothing, One}
 
 abbrev pub eventOf : PchPicOutputEvent → Event
 eventOf e = record { vector = e .vector; asserted = e .asserted }
@@ -63,18 +58,3 @@ pub record IsRing (r : Ring) (shown : rules-ring.Ring) : Type 0 where
 pub record Is (s : PchPicState) (shown : Device) : Type 0 where
   pub well : Well s
   pub shows : view s ≡ shown
-
--- a push is an offer, and tells whether it found fewer than 16 waiting
-pub record Pushes (p : Pushed) (before : rules-ring.Ring) (e : Event) : Type 0 where
-  pub is : IsRing (p .ring) (rules-ring.offered before e)
-  pub kept : p .kept ≡ ltb (length (before .waiting)) rules-ring.capacity
-
--- what was taken out, as a list of at most one
-abbrev pub takenOf : Taken → List Event
-takenOf Nothing = []
-takenOf (One e) = eventOf e ∷ []
-
--- a pop is a drain with room for one
-pub record Pops (p : Popped) (before : rules-ring.Ring) : Type 0 where
-  pub well : WellRing (p .ring)
-  pub shows : record { after = ringView (p .ring); drained = takenOf (p .event) } ≡ rules-ring.drawn before 1

@@ -1,7 +1,7 @@
-// The state of the PCH-PIC and its ring of output events, after loongarch_pch_pic.rs of axdevice 0.8.5.
+// The state of the PCH-PIC and its reset, after loongarch_pch_pic.rs of axdevice 0.8.5.
 // The Rust's fields stand in four parts, which mirror the Device of the rules, so that a function takes only the part that it changes.
 ghost use Rattle.rules.specs.Device.{reset};
-ghost use Rattle.state.specs.View.{eventOf, ringView, WellRing, Pushes, Pops, Is};
+ghost use Rattle.state.specs.View.{Is};
 
 // The registers that move, of all 64 inputs.
 pub struct Lines {
@@ -139,69 +139,4 @@ impl PchPicState {
 pub struct PchPicOutputEvent {
     pub vector: u8,
     pub asserted: bool,
-}
-
-// The ring after a push, and whether the event was kept.
-pub struct Pushed {
-    pub ring: Ring,
-    pub kept: bool,
-}
-
-// What pop_output_event takes out: the Rust's Option<PchPicOutputEvent>.
-pub enum Taken {
-    Nothing,
-    One(PchPicOutputEvent),
-}
-
-pub struct Popped {
-    pub ring: Ring,
-    pub event: Taken,
-}
-
-// The newest event waits last; where 16 wait it is dropped, and counted as far as the count goes.
-pub fn push_output_event(ring: Ring, event: PchPicOutputEvent) -> Pushed
-    requires { ⌜ WellRing ring ⌝ }
-    ensures { λ r. ⌜ Pushes r (ringView ring) (eventOf event) ⌝ }
-{
-    let mut out = ring;
-    if out.output_len == PchPicState::OUTPUT_QUEUE_CAPACITY {
-        if out.output_drops < 0xffff_ffff {
-            out.output_drops += 1;
-        }
-        return Pushed {
-            ring: out,
-            kept: false,
-        };
-    }
-    let index = (out.output_head + out.output_len) % PchPicState::OUTPUT_QUEUE_CAPACITY;
-    out.output_vectors[index] = event.vector;
-    out.output_asserted[index] = event.asserted;
-    out.output_len += 1;
-    Pushed {
-        ring: out,
-        kept: true,
-    }
-}
-
-// The oldest event comes out.
-pub fn pop_output_event(ring: Ring) -> Popped
-    requires { ⌜ WellRing ring ⌝ }
-    ensures { λ r. ⌜ Pops r (ringView ring) ⌝ }
-{
-    let mut out = ring;
-    if out.output_len == 0 {
-        return Popped {
-            ring: out,
-            event: Taken::Nothing,
-        };
-    }
-    let head = out.output_head;
-    let vector = out.output_vectors[head];
-    let asserted = out.output_asserted[head];
-    out.output_head = (head + 1) % PchPicState::OUTPUT_QUEUE_CAPACITY;
-    out.output_len -= 1;
-    Popped {
-        ring: out,
-        event: Taken::One(PchPicOutputEvent { vector, asserted }),
-    }
 }

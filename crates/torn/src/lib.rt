@@ -1,5 +1,5 @@
 // Which blocks of a trace are torn: the first bad record in each block, and what is left without those that have one.
-use contents::two_at;
+use blocks::two_at;
 use trace::first_bad;
 ghost use mathlib.Core.Path.{_≡_};
 ghost use Prim.Native.Nat.{_+_, _≤_};

@@ -1,51 +1,19 @@
--- The tests on a record, the first bad one, and the test of a trace by what was found.
+-- The first bad record, and the test of a trace by what was found.
 use mathlib.Core.Path.{_≡_, refl, sym, ap, _∙_}
-use mathlib.Core.Bool.{Bool, true, false, cond, not, _&&_, _||_, and-true, and-false, or-true, or-false, false≢true}
+use mathlib.Core.Bool.{Bool, true, false, cond, not, false≢true}
 use mathlib.Core.List.{List}
 use Prim.Native.Nat.{ℕ, suc, _+_, _-_, _*_, _<_, _≤_}
 use native.Mathlib.Omega.{arith}
-use lib.Dec.{eqb, leb}
 use lib.ListN.{length}
-use borrow.Author.Tests.{eqb-true, lt-ltb, le-ltb}
-use Rattle.basics.proofs.laws.Bits.{test}
+use borrow.Author.Tests.{lt-ltb, le-ltb}
 use Rattle.traces.specs.Trace.{mostRecords, recordLength, firstPlace, recordCount, contentsGood}
-use Rattle.traces.specs.Trace.{Record, recordAt, isKind, usesByte, usesOffset, usesValue, isGood, firstBad, good, wrongContents, badRecord, foundBad, traceTest}
+use Rattle.traces.specs.Trace.{Record, recordAt, isGood, firstBad, good, wrongContents, badRecord, foundBad, traceTest}
 use Rattle.traces.proofs.laws.Contents.{contents-have}
 use Rattle.traces.proofs.laws.Firsts.{first-end, first-here, first-on}
 use Rattle.contents.specs.declared.Contents.{Contents}
 use Rattle.contents.specs.declared.Contents.the-variants.{Good, Wrong}
 use Rattle.contents.specs.Found.{contentsIf, contentsAs}
 use Rattle.trace.specs.Found.{badFrom}
-
--- ---- a record
-
--- what is not zero says which kinds are left
-module _ (r : Record) where
-  pub zeros-set : eqb (r .zeros) 0 ≡ false → false ≡ isGood r
-  unfolding isGood
-  zeros-set z = rw (z, and-false)
-
-  module _ (z : eqb (r .zeros) 0 ≡ true) where
-    pub value-set : eqb (r .value) 0 ≡ false → eqb (r .kind) 5 ≡ isGood r
-    unfolding isGood
-    value-set v = test (eqb (r .kind) 5) (λ f. rw (eqb-true (r .kind) 5 f, z)) (λ f. rw (z, v, f, and-false, and-false, and-false))
-
-    module _ (v : eqb (r .value) 0 ≡ true) where
-      pub offset-set : eqb (r .offset) 0 ≡ false → (eqb (r .kind) 4 || eqb (r .kind) 5) ≡ isGood r
-      unfolding isGood
-      offset-set o =
-          test (eqb (r .kind) 4)
-          (λ f. rw (eqb-true (r .kind) 4 f, z, v))
-          (λ f. test (eqb (r .kind) 5) (λ g. rw (eqb-true (r .kind) 5 g, z)) (λ g. rw (z, v, o, f, g, and-false, and-false)))
-
-      module _ (o : eqb (r .offset) 0 ≡ true) where
-        pub byte-set : eqb (r .byte) 0 ≡ false → (isKind (r .kind) && not (eqb (r .kind) 6)) ≡ isGood r
-        unfolding isGood
-        byte-set b = rw (z, v, o, b, or-true (usesOffset (r .kind)), or-true (usesValue (r .kind)), or-false, and-true)
-
-        pub none-set : eqb (r .byte) 0 ≡ true → isKind (r .kind) ≡ isGood r
-        unfolding isGood
-        none-set b = rw (z, v, o, b, or-true (usesByte (r .kind)), or-true (usesOffset (r .kind)), or-true (usesValue (r .kind)), and-true)
 
 -- ---- the first bad record
 

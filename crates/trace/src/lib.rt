@@ -1,37 +1,14 @@
 // A trace tested: its contents, and then its records, of which the first bad one is told.
 use contents::Contents;
 use contents::contents_of;
+use good_record::is_good;
 use held::record_at;
 use view::LENGTH;
-use view::Record;
 ghost use mathlib.Core.Path.{_≡_};
 ghost use Prim.Native.Nat.{_+_, _*_, _≤_};
 ghost use lib.ListN.{length};
-ghost use Rattle.traces.specs.Trace.{mostRecords, recordLength, isGood, firstBad, traceTest};
-ghost use Rattle.view.specs.Shown.{recordView};
+ghost use Rattle.traces.specs.Trace.{mostRecords, recordLength, firstBad, traceTest};
 ghost use Rattle.trace.specs.Found.{badFrom, testedView};
-
-// A kind is 1 to 6, and what it does not use is zero, as the zero bytes are. What is not zero is looked for first: it says which kinds are left, in half the
-// instructions of all tests in a row.
-pub fn is_good(r: Record) -> bool
-    ensures { λ t. ⌜ t ≡ isGood (recordView r) ⌝ }
-{
-    let kind = r.kind;
-    if r.zeros != 0 {
-        return false;
-    }
-    if r.value != 0 {
-        return kind == 5;
-    }
-    if r.offset != 0 {
-        return (kind == 4) | (kind == 5);
-    }
-    let known = (1 <= kind) & (kind <= 6);
-    if r.byte != 0 {
-        return known & (kind != 6);
-    }
-    known
-}
 
 // The first bad one of so many records from a place on, counted from 0; their number where all are good.
 pub fn first_bad(trace: &[u8], first: usize, records: usize) -> usize

@@ -11,9 +11,10 @@ use Rattle.state.specs.View.{linesView, ringView}
 use Rattle.state.specs.declared.Lines.{Lines}
 use Rattle.state.specs.declared.Ring.{Ring}
 use Rattle.decide.specs.Sets.{servedOf}
-use Rattle.moves.specs.Offers.{Offers, Moves, eventsOf}
+use Rattle.events_for_mask.specs.Offers.{Offers, eventsOf}
+use Rattle.moves.specs.Moves.{Moves}
 use Rattle.decide.proofs.Deciding.{inputs-of}
-use Rattle.moves.proofs.Offering.{offers-as}
+use Rattle.events_for_mask.proofs.Offering.{offers-as}
 use borrow.Author.Needs.{needs}
 use Rattle.moves.proofs.clear_irq.Statement.{statement}
 use Rattle.moves.proofs.clear_irq.Tie as tie

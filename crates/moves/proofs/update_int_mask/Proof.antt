@@ -10,7 +10,7 @@ use Rattle.state.specs.View.{linesView}
 use Rattle.engine.specs.Moves.{Answers}
 use Rattle.engine.specs.declared.Routed.{Routed}
 use Rattle.moves.proofs.MaskWrite.{Entered, entered-one, entered-none, entered-skip, entered-few, left-some, left-none}
-use Rattle.moves.proofs.Offering.{events-lost}
+use Rattle.events_for_mask.proofs.Offering.{events-lost}
 use borrow.Author.Needs.{needs}
 use Rattle.moves.proofs.update_int_mask.Statement.{statement}
 use Rattle.moves.proofs.update_int_mask.Tie as tie

@@ -1,0 +1,2 @@
+-- What a function that offers events promises.
+pub mod Offers

@@ -1,0 +1,2 @@
+-- What a pop promises.
+pub mod Pops

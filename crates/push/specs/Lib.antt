@@ -1,0 +1,2 @@
+-- What a push promises.
+pub mod Pushes
