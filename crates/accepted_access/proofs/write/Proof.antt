@@ -3,6 +3,7 @@ use mathlib.Core.Path.{_≡_, refl, sym, ap, _∙_}
 use mathlib.Core.List.{List}
 use lib.ListN.{length}
 use Prim.Native.Nat.{ℕ}
+use native.Mathlib.Omega.{arith}
 use Rattle.images.specs.Form.{formLength}
 use Rattle.rules.specs.Device as device
 use Rattle.calls.specs.Calls as asked
@@ -36,7 +37,7 @@ write-spec =
     (λ c. search needs)
     (λ c κs. search needs)
     (λ c. search needs)
-    (λ c κs. let t = c .before in let o = t .before .before .before .before in let l = o .before .before in let e = l .before .before in let w = e .before .before in (long (w .before .before .pre), rw (t .enum-told4 .given .1) at (reach _ _ (l .locate .ensures .1) (o .offset .given .1) (sym (w .width-of .ensures) ∙ ap knownView (e .known .given .1)))))
+    (λ c κs. let t = c .before in let o = t .before .before .before .before in let l = o .before .before in let e = l .before .before in let w = e .before .before in (long (w .before .before .pre), let h = rw (t .enum-told4 .given .1) at (reach _ _ (l .locate .ensures .1) (o .offset .given .1) (sym (w .width-of .ensures) ∙ ap knownView (e .known .given .1))) in omega (arith, h)))
     (λ c. search needs)
     (λ c κs. search needs)
     (λ c. search needs)

@@ -1,5 +1,8 @@
 -- `fault_number`: in each arm the number that the rules give. Written out, so that a wrong number is refused here, and not at what calls it.
+use mathlib.Core.Path.{sym, ap}
 use borrow.Author.Needs.{needs}
+use Rattle.calls.specs.Calls.{faultNumber}
+use Rattle.faults.specs.Found.{faultView}
 use Rattle.refusals.proofs.fault_number.Statement.{statement}
 use Rattle.refusals.proofs.fault_number.Tie as tie
 
@@ -11,7 +14,7 @@ fault-number-spec =
     (λ c. search needs)
     (λ c. search needs)
     (λ c. search needs)
-    (λ c. search needs)
-    (λ c. search needs)
-    (λ c. search needs)
-    (λ c. search needs))
+    (λ c. sym (ap (λ f. faultNumber (faultView f)) (c .enum-told .given .1)))
+    (λ c. sym (ap (λ f. faultNumber (faultView f)) (c .enum-told2 .given .1)))
+    (λ c. sym (ap (λ f. faultNumber (faultView f)) (c .enum-told3 .given .1)))
+    (λ c. sym (ap (λ f. faultNumber (faultView f)) (c .enum-told4 .given .1))))

@@ -26,12 +26,12 @@ close-requires c κs =
     let t = c .before in
     let l = t .before in
     let s = l .before .before in
-    (omega (arith, s .pre, l .loop .inv .2), t .loop-test .taken)
+    (omega (arith, s .pre, l .loop .inv .2), omega (arith, t .loop-test .taken))
 
 join-row-requires : tie.Need-join-row-requires Inv-loop μ-loop
 join-row-requires c κs =
     let t = c .before .before .before .before .before in
-    (search needs, t .loop-test .taken)
+    (search needs, omega (arith, t .loop-test .taken))
 
 add-n : tie.Need-add-n Inv-loop μ-loop
 add-n c =
