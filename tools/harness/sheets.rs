@@ -114,7 +114,7 @@ fn own(bench: &mut Bench) {
     }
 }
 
-/// The days by hand; then, where the library has the call, these, every length of the areas, and faults several at a time.
+/// The days by hand; then these, every length of the areas, and faults several at a time.
 pub fn sweep(bench: &mut Bench, chance: &mut Chance) {
     own(bench);
     let mut cases = Cases::new();
@@ -151,9 +151,6 @@ pub fn sweep(bench: &mut Bench, chance: &mut Chance) {
 }
 
 fn make(bench: &mut Bench, cases: &mut Cases, trace: Vec<u8>, sheet: usize, answer: usize) {
-    if !library::HAS_SHEET {
-        return;
-    }
     let areas = vec![trace, vec![0xe5; sheet], vec![0xc3; answer]];
     if cases.make(bench, &Case { front: Front::Sheet, areas, null: sheet % 2 == 0 }) != Some(0) {
         return;
@@ -173,7 +170,7 @@ fn make(bench: &mut Bench, cases: &mut Cases, trace: Vec<u8>, sheet: usize, answ
 pub fn random(bench: &mut Bench, chance: &mut Chance, records: u64) {
     let mut cases = Cases::new();
     let mut made = 0;
-    while library::HAS_SHEET && made < records && !bench.over() {
+    while made < records && !bench.over() {
         let length = match chance.below(20) {
             0..=9 => chance.between(1, 40),
             10..=18 => chance.between(1, 500),
