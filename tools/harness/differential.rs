@@ -11,6 +11,7 @@ mod caught;
 mod chance;
 mod days;
 mod differences;
+mod expected;
 mod fixed;
 mod fronts;
 mod generate;
