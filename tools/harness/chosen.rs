@@ -350,6 +350,7 @@ fn boards(choice: &mut Choice) {
         boards::history(bench, chance, cases, 40);
         boards::second(bench, chance, cases, 40);
     }
+    assert!(bench.met.fronts.seconds > 0 && bench.met.fronts.loads > 0, "there are loads, and a second board that events drive");
     // one input in service on a board that holds anything
     let mut image = generate::accepted(chance, NUMBERED);
     set_isr(&mut image, 1 << 63);
@@ -423,6 +424,10 @@ fn hoists(choice: &mut Choice) {
     for _ in 0..4 {
         hoists::history(bench, chance, cases, 40);
     }
+    assert!(
+        bench.met.fronts.accounts > 0 && bench.met.fronts.beside_service > 0,
+        "histories go on from a reset, and change vectors in start-up"
+    );
     // start-up ends, and not again
     set_isr(&mut image, 0);
     assert_eq!(make(choice, Front::EndStartup, &image, &[0], 16), 0);
