@@ -308,7 +308,6 @@ pub unsafe fn pch_pic_hoist_end_startup(
     unsafe { pch_pic_hoist::pch_pic_hoist_end_startup(area(image.cast_mut(), image_len), area(phase, phase_len), area(answer, answer_len)) }
 }
 
-#[cfg(with_sheet)]
 pub unsafe fn pch_pic_sheet(
     trace: *const u8,
     trace_len: usize,
@@ -318,14 +317,6 @@ pub unsafe fn pch_pic_sheet(
     answer_len: usize,
 ) -> u8 {
     unsafe { pch_pic_sheet::pch_pic_sheet(area(trace.cast_mut(), trace_len), area(sheet, sheet_len), area(answer, answer_len)) }
-}
-
-/// Whether the sources have the call that makes a sheet; tools/harness/as-rust says so.
-pub const HAS_SHEET: bool = cfg!(with_sheet);
-
-#[cfg(not(with_sheet))]
-pub unsafe fn pch_pic_sheet(_: *const u8, _: usize, _: *mut u8, _: usize, _: *mut u8, _: usize) -> u8 {
-    unreachable!("the sources make no sheet")
 }
 
 pub unsafe fn pch_pic_difference(later: u16, earlier: u16) -> i16 {

@@ -76,6 +76,8 @@ pub struct MetByFronts {
     pub salvages: [u64; 17],
     pub sheets: [u64; 17],
     pub plain: [u64; 17],
+    /// And conversions, differences and plays that were made as such calls.
+    pub others: [u64; 17],
     /// Blocks kept and dropped by salvages that were done; outcomes that were salvaged again and played; good traces that came out as they were.
     pub kept: u64,
     pub dropped: u64,
@@ -105,6 +107,7 @@ impl MetByFronts {
     pub fn meet(&mut self, front: &Front, number: u8) {
         let met = match front {
             Front::Plain(_) => &mut self.plain,
+            Front::Convert | Front::Difference { .. } | Front::Play => &mut self.others,
             Front::Board(_) => &mut self.boards,
             Front::Event { .. } => &mut self.heard,
             Front::Hoist(_) => &mut self.hoists,

@@ -49,13 +49,13 @@ pub fn sweep(bench: &mut Bench, chance: &mut Chance) {
     most_events(bench, &mut cases, 300);
 }
 
-fn make(bench: &mut Bench, cases: &mut Cases, call: Call, image: &[u8], [events, answer, board]: [usize; 3], null: bool) {
+pub fn make(bench: &mut Bench, cases: &mut Cases, call: Call, image: &[u8], [events, answer, board]: [usize; 3], null: bool) {
     let areas = vec![image.to_vec(), vec![0xd4; events], vec![0xc3; answer], vec![0xe5; board]];
     cases.make(bench, &Case { front: Front::Board(call), areas, null });
 }
 
 /// A board hears an event; what it holds then.
-fn hear(bench: &mut Bench, cases: &mut Cases, vector: u8, flag: u8, board: Vec<u8>, answer: usize) -> Vec<u8> {
+pub fn hear(bench: &mut Bench, cases: &mut Cases, vector: u8, flag: u8, board: Vec<u8>, answer: usize) -> Vec<u8> {
     let case = Case { front: Front::Event { vector, flag }, areas: vec![board, vec![0xc3; answer]], null: false };
     cases.make(bench, &case);
     cases.left(0).to_vec()
@@ -81,7 +81,7 @@ struct Held {
 }
 
 /// Random calls, from reset and from accepted images of each form, with loads and with boards that hold anything.
-fn history(bench: &mut Bench, chance: &mut Chance, cases: &mut Cases, length: u64) {
+pub fn history(bench: &mut Bench, chance: &mut Chance, cases: &mut Cases, length: u64) {
     let mut mood = generate::mood(chance);
     cases.expected.head = chance.below(16) as usize;
     let form = chance.one_of(&FORMS);
@@ -242,7 +242,7 @@ fn may_break(image: &[u8], call: &Call) -> bool {
 
 /// A history from reset that meets demand 3's premises and drops nothing: refused calls anywhere, no load. All is drained at the end, and the events, put in the order of their
 /// numbers, drive a second board.
-fn second(bench: &mut Bench, chance: &mut Chance, cases: &mut Cases, length: u64) {
+pub fn second(bench: &mut Bench, chance: &mut Chance, cases: &mut Cases, length: u64) {
     let mut mood = generate::mood_in(chance, 0, 0x400);
     let mut held = Held { image: vec![0x5c; NUMBERED.length], board: any_board(chance) };
     let mut seen: Vec<Event> = Vec::new();

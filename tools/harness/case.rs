@@ -1,17 +1,15 @@
-//! A call of the later fronts as data, with the bytes of all that it is lent; and what 02 expects of it.
+//! A call of a front as data, with the bytes of all that it is lent.
 
-use crate::board;
-use crate::boundary::Boundary;
 use crate::call::Call;
-use crate::hoist;
 use crate::lent::Block;
-use crate::salvaged;
-use crate::sheet;
 
-/// The fronts' calls with their numbers, and the plain calls beside them.
+/// The fronts' calls with their numbers, and the plain calls beside them. What a difference hands back is put into an area, as if it had been lent one.
 #[derive(Clone, Copy, Debug, PartialEq, Eq)]
 pub enum Front {
     Plain(Call),
+    Convert,
+    Difference { later: u16, earlier: u16 },
+    Play,
     Board(Call),
     Event { vector: u8, flag: u8 },
     Hoist(Call),
@@ -25,6 +23,9 @@ impl Front {
     pub fn areas(&self) -> &'static [&'static str] {
         match self {
             Front::Plain(_) => &["image", "events", "answer"],
+            Front::Convert => &["image", "target", "answer"],
+            Front::Difference { .. } => &["difference"],
+            Front::Play => &["trace", "image", "answers", "events", "answer"],
             Front::Board(_) => &["image", "events", "answer", "board"],
             Front::Event { .. } => &["board", "answer"],
             Front::Hoist(_) | Front::EndStartup => &["image", "phase", "answer"],
@@ -35,7 +36,7 @@ impl Front {
 }
 
 /// The areas hold these bytes before the call; an empty one is a null pointer where `null` says so.
-#[derive(Clone)]
+#[derive(Clone, Debug, PartialEq, Eq)]
 pub struct Case {
     pub front: Front,
     pub areas: Vec<Vec<u8>>,
@@ -49,18 +50,11 @@ impl Case {
     }
 }
 
-/// What 02 expects of the call: the number, and what it leaves of the blocks.
-pub fn expected(boundary: &mut Boundary, front: &Front, lent: &mut [Block]) -> u8 {
-    match (front, lent) {
-        (Front::Plain(call), [image, events, answer]) => boundary.perform(call, image.slice(), answer.slice(), events.slice(), &mut []),
-        (Front::Board(call), [image, events, answer, board]) => {
-            board::call(boundary, call, image.slice(), board.slice(), events.slice(), answer.slice())
-        }
-        (&Front::Event { vector, flag }, [board, answer]) => board::event(board.slice(), vector, flag, answer.slice()),
-        (Front::Hoist(call), [image, phase, answer]) => hoist::call(boundary, call, image.slice(), phase.slice(), answer.slice()),
-        (Front::EndStartup, [image, phase, answer]) => hoist::end_startup(image.bytes(), phase.slice(), answer.slice()),
-        (Front::Salvage, [trace, kept, list, answer]) => salvaged::salvage(trace.bytes(), kept.slice(), list.slice(), answer.slice()),
-        (Front::Sheet, [trace, sheet, answer]) => sheet::sheet(boundary, trace.bytes(), sheet.slice(), answer.slice()),
-        _ => unreachable!("a case has the areas of its call"),
-    }
+/// A case, the number that 02 expects of it, and the bytes of the areas after it.
+#[allow(dead_code)]
+#[derive(PartialEq, Eq)]
+pub struct Made {
+    pub case: Case,
+    pub number: u8,
+    pub left: Vec<Vec<u8>>,
 }

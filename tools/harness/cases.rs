@@ -2,8 +2,9 @@
 
 use crate::bench::Bench;
 use crate::boundary::Boundary;
-use crate::case::{Case, expected};
+use crate::case::{Case, Made};
 use crate::caught::caught;
+use crate::expected::expected;
 use crate::fronts;
 use crate::lent::Block;
 use crate::text;
@@ -13,11 +14,13 @@ pub struct Cases {
     /// What the last call left on the library's side, and on the expected one.
     got: Vec<Block>,
     want: Vec<Block>,
+    /// All that was made, where it is to be recorded.
+    pub made: Option<Vec<Made>>,
 }
 
 impl Cases {
     pub fn new() -> Self {
-        Cases { expected: Boundary::new(), got: Vec::new(), want: Vec::new() }
+        Cases { expected: Boundary::new(), got: Vec::new(), want: Vec::new(), made: None }
     }
 
     /// Makes the call on both sides, unless the run is over. Gives the number that 02 expects where all is equal; else the failure was printed.
@@ -26,13 +29,17 @@ impl Cases {
             return None;
         }
         (self.got, self.want) = (case.lent(), case.lent());
-        let Cases { expected: boundary, got, want } = self;
+        let Cases { expected: boundary, got, want, .. } = self;
         let number = caught(|| fronts::make(&case.front, got));
         let wanted = caught(|| expected(boundary, &case.front, want));
         let what = match (number, wanted) {
             (Ok(number), Ok(wanted)) if number == wanted && self.got == self.want => {
                 bench.passed += 1;
                 bench.met.fronts.meet(&case.front, wanted);
+                if let Some(made) = &mut self.made {
+                    let left = self.want.iter().map(|block| block.bytes().to_vec()).collect();
+                    made.push(Made { case: case.clone(), number: wanted, left });
+                }
                 return Some(wanted);
             }
             (_, Err(words)) => {

@@ -11,6 +11,7 @@ mod caught;
 mod chance;
 mod days;
 mod differences;
+mod expected;
 mod fixed;
 mod fronts;
 mod generate;
@@ -166,9 +167,6 @@ fn one(words: &[String]) -> Result<ExitCode, String> {
     }
     if let Some(case) = text::parse_front(words) {
         let (case, mut bench, mut cases) = (case?, Bench::new(0, u64::MAX), cases::Cases::new());
-        if case.front == case::Front::Sheet && !library::HAS_SHEET {
-            return Err("the library has no call that makes a sheet".into());
-        }
         cases.make(&mut bench, &case);
         cases.show(&case);
         return Ok(verdict(&bench));
@@ -258,10 +256,13 @@ fn tell_fronts(bench: &Bench) {
         met.beside_service,
         met.accounts
     );
-    let sheets = if library::HAS_SHEET { numbers(&met.sheets) } else { "none: the library has no such call".into() };
     eprintln!(
-        "differential: sheets {sheets}; records {}, greatest wait {}, withdrawn {}, open {}",
-        met.records, met.greatest_wait, met.withdrawn, met.open
+        "differential: sheets {}; records {}, greatest wait {}, withdrawn {}, open {}",
+        numbers(&met.sheets),
+        met.records,
+        met.greatest_wait,
+        met.withdrawn,
+        met.open
     );
 }
 

@@ -3,13 +3,25 @@
 use crate::call::Call;
 use crate::case::Front;
 use crate::lent::Block;
-use crate::under_test::{Area, lend};
+use crate::under_test::{self, Area, lend};
+
+/// An area that a call has not.
+const NONE: Area = (std::ptr::null_mut(), 0);
 
 /// Makes the call; the number that is handed back.
 // SAFETY, of each: each pointer and length is an area of its own that outlives the call; an empty one may be null, as the boundary says.
 pub fn make(front: &Front, lent: &mut [Block]) -> u8 {
     match (front, lent) {
-        (Front::Plain(call), [image, events, answer]) => lend([image, events, answer], |areas| plain(call, areas)),
+        (Front::Plain(call), [image, events, answer]) => lend([image, answer, events], |[i, a, e]| under_test::make(call, [i, a, e, NONE])),
+        (Front::Convert, [image, target, answer]) => {
+            lend([image, answer, target], |[i, a, t]| under_test::make(&Call::Convert { target: t.1 }, [i, a, NONE, t]))
+        }
+        (&Front::Difference { later, earlier }, [difference]) => {
+            let bytes = under_test::difference(later, earlier).to_le_bytes();
+            difference.slice().iter_mut().zip(bytes).for_each(|(place, byte)| *place = byte);
+            0
+        }
+        (Front::Play, [trace, image, answers, events, answer]) => lend([trace, image, answers, events, answer], under_test::make_play),
         (Front::Board(call), [image, events, answer, board]) => lend([image, events, answer, board], |areas| with_board(call, areas)),
         (&Front::Event { vector, flag }, [board, answer]) => {
             lend([board, answer], |[(b, bl), (a, al)]| unsafe { library::pch_pic_board_event(b, bl, vector, flag, a, al) })
@@ -25,20 +37,6 @@ pub fn make(front: &Front, lent: &mut [Block]) -> u8 {
             lend([trace, sheet, answer], |[(t, tl), (s, sl), (a, al)]| unsafe { library::pch_pic_sheet(t, tl, s, sl, a, al) })
         }
         _ => unreachable!("a case has the areas of its call"),
-    }
-}
-
-fn plain(call: &Call, [(i, il), (e, el), (a, al)]: [Area; 3]) -> u8 {
-    unsafe {
-        match *call {
-            Call::Reset => library::pch_pic_reset(i, il, a, al),
-            Call::Read { base, size, address, width } => library::pch_pic_read(i, il, base, size, address, width, a, al),
-            Call::Write { base, size, address, width, value } => library::pch_pic_write(i, il, base, size, address, width, value, a, al),
-            Call::Level { input, level } => library::pch_pic_level(i, il, input, level, a, al),
-            Call::Poll { input } => library::pch_pic_poll(i, il, input, a, al),
-            Call::Drain { place } => library::pch_pic_drain(i, il, e, el, place as usize, a, al),
-            Call::Convert { .. } => unreachable!("a conversion is no call of a history"),
-        }
     }
 }
 

@@ -83,28 +83,32 @@ fn areas(bench: &mut Bench, chance: &mut Chance, cases: &mut Cases) {
         }
     }
     for faults in 0..64 {
-        let faulty = |bit: usize| faults & (1 << bit) != 0;
-        let mut image = generate::accepted(chance, FORMS[faults % 3]);
-        if faulty(2) {
-            image[0] ^= 4;
-        }
-        // an unknown width; an access over the window's end, of an unaligned or other width, or of ISR
-        let width = if faulty(3) {
-            3
-        } else if faulty(5) {
-            8
-        } else {
-            4
-        };
-        let address = if faulty(4) { 0x3ff } else { 0x3a0 };
+        let (address, width, areas) = faulty(faults, generate::accepted(chance, FORMS[faults % 3]));
         for front in calls(address, width) {
-            let areas = vec![image.clone(), vec![PHASES[faults % 3]; 1 - usize::from(faulty(1))], vec![0xc3; 16 - usize::from(faulty(0))]];
-            cases.make(bench, &Case { front, areas, null: false });
+            cases.make(bench, &Case { front, areas: areas.clone(), null: false });
         }
     }
 }
 
-fn make(bench: &mut Bench, cases: &mut Cases, call: Call, image: Vec<u8>, phase: Vec<u8>, answer: usize) {
+/// An access, its width, and the areas of its call, with the faults that the bits of a number say: a short answer area, no phase, an image that is not accepted, an unknown
+/// width, an access over the window's end, of another width; without them it is of ISR.
+pub fn faulty(faults: usize, mut image: Vec<u8>) -> (u64, u64, Vec<Vec<u8>>) {
+    let faulty = |bit: usize| faults & (1 << bit) != 0;
+    if faulty(2) {
+        image[0] ^= 4;
+    }
+    let width = if faulty(3) {
+        3
+    } else if faulty(5) {
+        8
+    } else {
+        4
+    };
+    let address = if faulty(4) { 0x3ff } else { 0x3a0 };
+    (address, width, vec![image, vec![PHASES[faults % 3]; 1 - usize::from(faulty(1))], vec![0xc3; 16 - usize::from(faulty(0))]])
+}
+
+pub fn make(bench: &mut Bench, cases: &mut Cases, call: Call, image: Vec<u8>, phase: Vec<u8>, answer: usize) {
     cases.make(bench, &Case { front: Front::Hoist(call), areas: vec![image, phase, vec![0xc3; answer]], null: false });
 }
 
@@ -125,7 +129,7 @@ struct Held {
     account: Option<[i64; LINES]>,
 }
 
-fn history(bench: &mut Bench, chance: &mut Chance, cases: &mut Cases, length: u64) {
+pub fn history(bench: &mut Bench, chance: &mut Chance, cases: &mut Cases, length: u64) {
     let mut mood = if chance.percent(80) { generate::mood_in(chance, 0, 0x400) } else { generate::mood(chance) };
     cases.expected.head = chance.below(16) as usize;
     let form = chance.one_of(&FORMS);

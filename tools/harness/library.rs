@@ -189,19 +189,6 @@ unsafe extern "C" {
         answer: *mut u8,
         answer_len: usize,
     ) -> u8;
-    pub fn pch_pic_difference(later: u16, earlier: u16) -> i16;
-}
-
-/// Whether the archive has the call that makes a sheet; tools/harness/build says so.
-pub const HAS_SHEET: bool = cfg!(with_sheet);
-
-#[cfg(with_sheet)]
-#[link(name = "pch_pic", kind = "static")]
-unsafe extern "C" {
     pub fn pch_pic_sheet(trace: *const u8, trace_len: usize, sheet: *mut u8, sheet_len: usize, answer: *mut u8, answer_len: usize) -> u8;
-}
-
-#[cfg(not(with_sheet))]
-pub unsafe fn pch_pic_sheet(_: *const u8, _: usize, _: *mut u8, _: usize, _: *mut u8, _: usize) -> u8 {
-    unreachable!("the archive makes no sheet")
+    pub fn pch_pic_difference(later: u16, earlier: u16) -> i16;
 }

@@ -41,6 +41,14 @@ impl Numbers {
     }
 }
 
+/// The difference that 02 asks for: one alone is in range.
+#[allow(dead_code)]
+pub fn difference(later: u16, earlier: u16) -> i16 {
+    (i16::MIN..=i16::MAX)
+        .find(|&difference| is_difference(later, earlier, difference))
+        .expect("one of 65,536 numbers in a row is congruent")
+}
+
 /// Whether a difference is the one that 02 asks for; its type has the range from -32,768 to 32,767.
 pub fn is_difference(later: u16, earlier: u16, difference: i16) -> bool {
     (i32::from(later) - i32::from(earlier) - i32::from(difference)) % 65_536 == 0

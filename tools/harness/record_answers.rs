@@ -1,32 +1,55 @@
-//! Makes the files of recorded answers and of recorded plays: the published Rust answers, by the boundary that 01 states. `tools/record-answers` runs this.
+//! Makes the files of recorded answers and of recorded cases: the published Rust answers, by the boundary that 01 states, and beside it the harness's own reading of 02.
+//! `tools/record-answers` runs this.
 
 // the modules are shared with the other programs, and not all of each is used here
 #![allow(dead_code)]
 
+mod bench;
+mod board;
+mod boards;
 mod boundary;
 mod call;
+mod case;
+mod case_records;
+mod cases;
+mod caught;
 mod chance;
+mod chosen;
 mod days;
+mod expected;
 mod fixed;
+mod fronts;
 mod generate;
+mod hoist;
+mod hoists;
 mod image;
 mod lent;
 mod numbers;
-mod play_records;
 mod played;
+mod plays;
 mod quiet;
 mod records;
+mod salvaged;
+mod salvages;
+mod sheet;
+mod sheets;
+mod text;
+mod told;
 mod trace;
+mod under_test;
 
+use bench::Bench;
 use boundary::Boundary;
 use call::Call;
+use case_records::Writer;
+use cases::Cases;
 use chance::Chance;
-use days::{Day, Play};
-use image::{FORMS, Form, NUMBERED};
-use play_records::Lent;
+use chosen::{Choice, FILES, File};
+use image::{FORMS, Form};
 use records::{
     ANSWER_AREA, ANSWER_FILL, Answered, BYTE, EVENT_BUFFER, EVENT_FILL, IMAGE, IMAGE_BUFFER, IMAGE_RECORDS, MAGIC, RECORD, WHOLE,
 };
+use std::collections::BTreeMap;
 
 /// The recorder keeps the three areas as a replayer does.
 struct Recorder {
@@ -113,7 +136,7 @@ const SEED: u64 = 20;
 fn main() {
     quiet::on_closed_pipes();
     let path = std::env::args().nth(1).expect("the path of the file to write");
-    let path_of_plays = std::env::args().nth(2).expect("the path of the plays' file");
+    let folder = std::env::args().nth(2).expect("the folder of the files of cases");
     let mut recorder = Recorder::new();
     let mut chance = Chance::new(SEED);
     for form in FORMS {
@@ -148,7 +171,9 @@ fn main() {
     let file = recorder.finish();
     keep(&path, &file);
     println!("{path}: {records} records, {calls} of them calls, {} bytes", file.len());
-    plays(&path_of_plays);
+    for file in &FILES {
+        cases(file, &format!("{folder}/{}.bin", file.name));
+    }
 }
 
 fn keep(path: &str, file: &[u8]) {
@@ -158,38 +183,29 @@ fn keep(path: &str, file: &[u8]) {
     }
 }
 
-/// The fixed histories as traces in all forms, random traces, good and damaged, and one with the most records.
-fn plays(path: &str) {
-    let mut chance = Chance::new(SEED);
-    let (mut rust, mut file, mut numbers) = (Boundary::new(), vec![0; play_records::HEADER], [0_u32; 14]);
-    let mut record = |play: &Play| {
-        let before = Lent::new(&play.trace, [play.image.len(), play.answers, play.events, play.answer]);
-        let mut after = before.clone();
-        let Lent { trace, image, answers, events, answer } = &mut after;
-        let number = played::play(&mut rust, trace, image, answers, events, answer);
-        file.extend(play_records::write(&before, number, &after));
-        numbers[usize::from(number)] += 1;
-    };
-    for form in FORMS {
-        for history in fixed::histories(form) {
-            let records: Vec<trace::Record> = history.steps.iter().filter_map(|(call, _)| trace::record(call)).collect();
-            let (count, blocks) = (records.len(), days::cut(&mut chance, records.len()));
-            record(&Day { records, blocks, image: vec![0; form.length] }.play(count, 8, 0));
-        }
-        for length in (1..=40).step_by(2).chain([130]) {
-            let records = days::random_records(&mut chance, length);
-            let play = Day { records, blocks: days::cut(&mut chance, length), image: vec![0; form.length] }.play(length, 8, 0);
-            record(&play);
-            record(&days::damaged(&mut chance, play));
-        }
+/// Makes the cases that are chosen for a file, with what is expected of them; the numbers that each call hands back are told.
+fn cases(file: &File, path: &str) {
+    let mut cases = Cases::new();
+    cases.made = Some(Vec::new());
+    let mut choice = Choice { bench: Bench::new(SEED, 1), chance: Chance::new(SEED), cases };
+    (file.choose)(&mut choice);
+    assert_eq!(choice.bench.failed, 0, "the stand-in does what is expected");
+    let (mut writer, mut numbers) = (Writer::new(), BTreeMap::<String, BTreeMap<u8, u32>>::new());
+    for made in choice.cases.made.iter().flatten() {
+        writer.add(made);
+        *numbers.entry(text::front_name(&made.case.front)).or_default().entry(made.number).or_default() += 1;
     }
-    let records = days::random_records(&mut chance, 4000);
-    record(&Day { records, blocks: days::cut(&mut chance, 4000), image: vec![0; NUMBERED.length] }.play(4000, 0, 0));
-    let count: u32 = numbers.iter().sum();
-    file[..8].copy_from_slice(play_records::MAGIC);
-    file[8..12].copy_from_slice(&count.to_le_bytes());
-    keep(path, &file);
-    println!("{path}: {count} plays, numbers 0 to 13: {numbers:?}, {} bytes", file.len());
+    for (call, wanted) in file.numbers {
+        let missing: Vec<&u8> = wanted.iter().filter(|&number| numbers.get(*call).is_none_or(|met| !met.contains_key(number))).collect();
+        assert!(missing.is_empty(), "{path}: no {call} hands back {missing:?}");
+    }
+    let count: u32 = numbers.values().flat_map(BTreeMap::values).sum();
+    let bytes = writer.finish();
+    keep(path, &bytes);
+    println!("{path}: {count} cases, {} bytes; by the number handed back", bytes.len());
+    for (call, met) in numbers {
+        println!("  {call} {met:?}");
+    }
 }
 
 /// Every register half and the ends of the tables, with their neighbours, by every width, on an image where much is set.
@@ -207,18 +223,10 @@ fn read_sweep(recorder: &mut Recorder, chance: &mut Chance, form: Form) {
 
 /// Each rule of the form broken in turn, for a call of each kind.
 fn broken_rules(recorder: &mut Recorder, chance: &mut Chance, form: Form) {
-    let image = loop {
-        let image = generate::accepted(chance, form);
-        if (2..16).contains(&image[form.count]) {
-            break image;
-        }
-    };
+    let image = chosen::with_events(chance, form);
     recorder.load(&image);
-    let mut breaches = vec![(0, 9), (form.count, 17), (form.pairs + 3, 2), (form.pairs + 31, 1)];
-    breaches.extend(form.copy.map(|copy| (copy, image[copy] ^ 1)));
-    breaches.extend(form.numbers.map(|numbers| (numbers + 33, 1)));
     let (base, size) = (0, 0x400);
-    for (place, byte) in breaches {
+    for (place, byte) in chosen::breaches(&image, form) {
         recorder.set_byte(place, byte);
         recorder.call(Call::Read { base, size, address: 0x3a0, width: 8 }, form.length, 16, 0);
         recorder.call(Call::Write { base, size, address: 0x020, width: 4, value: 0 }, form.length, 16, 0);

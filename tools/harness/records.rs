@@ -70,15 +70,10 @@ pub fn checksum(bytes: &[u8]) -> u32 {
 
 impl Answered {
     pub fn write(&self) -> [u8; RECORD] {
-        let (kind, numbers) = match self.call {
-            Call::Reset => (1, [0; 5]),
-            Call::Read { base, size, address, width } => (2, [base, size, address, width, 0]),
-            Call::Write { base, size, address, width, value } => (3, [base, size, address, width, value]),
-            Call::Level { input, level } => (4, [input, level, 0, 0, 0]),
-            Call::Poll { input } => (5, [input, 0, 0, 0, 0]),
-            Call::Drain { place } => (6, [place, self.events as u64, 0, 0, 0]),
-            Call::Convert { .. } => unreachable!("conversions are not recorded"),
-        };
+        let (kind, mut numbers) = self.call.coded();
+        if let Call::Drain { .. } = self.call {
+            numbers.push(self.events as u64);
+        }
         let mut record = [0; RECORD];
         record[0] = kind;
         record[1] = self.number;
@@ -96,21 +91,12 @@ impl Answered {
 
     /// A record of a call, or none where it is of no such kind.
     pub fn read(record: &[u8]) -> Option<Answered> {
-        let number = |k: usize| u64::from_le_bytes(record[16 + 8 * k..24 + 8 * k].try_into().unwrap());
-        let call = match record[0] {
-            1 => Call::Reset,
-            2 => Call::Read { base: number(0), size: number(1), address: number(2), width: number(3) },
-            3 => Call::Write { base: number(0), size: number(1), address: number(2), width: number(3), value: number(4) },
-            4 => Call::Level { input: number(0), level: number(1) },
-            5 => Call::Poll { input: number(0) },
-            6 => Call::Drain { place: number(0) },
-            _ => return None,
-        };
+        let numbers: [u64; 5] = std::array::from_fn(|k| u64::from_le_bytes(record[16 + 8 * k..24 + 8 * k].try_into().unwrap()));
         Some(Answered {
-            call,
+            call: Call::decoded(record[0], &numbers)?,
             image: u16::from_le_bytes([record[60], record[61]]) as usize,
             answer: record[3] as usize,
-            events: if record[0] == 6 { number(1) as usize } else { 0 },
+            events: if record[0] == 6 { numbers[1] as usize } else { 0 },
             number: record[1],
             value: (record[2] == 1).then(|| u64::from_le_bytes(record[8..16].try_into().unwrap())),
             image_sum: u32::from_le_bytes(record[4..8].try_into().unwrap()),

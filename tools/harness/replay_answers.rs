@@ -1,18 +1,20 @@
-//! Replays files of recorded answers and of recorded plays through the library under test. `tools/replay-answers` builds and runs this. It needs no
+//! Replays files of recorded answers and of recorded cases through the library under test. `tools/replay-answers` builds and runs this. It needs no
 //! Rust source of the device.
 
 // the modules are shared with the other programs, and not all of each is used here
 #![allow(dead_code)]
 
 mod call;
+mod case;
+mod case_records;
+mod fronts;
 mod lent;
-mod play_records;
 mod quiet;
 mod records;
 mod under_test;
 
-use lent::{Areas, Block, Five};
-use play_records::{Lent, Recorded};
+use case_records::Reader;
+use lent::Areas;
 use records::{
     ANSWER_AREA, ANSWER_FILL, Answered, BYTE, EVENT_BUFFER, EVENT_FILL, IMAGE, IMAGE_BUFFER, IMAGE_RECORDS, MAGIC, RECORD, WHOLE,
 };
@@ -23,7 +25,10 @@ fn main() -> ExitCode {
     let (mut passed, mut failed) = (0, 0);
     for path in std::env::args().skip(1) {
         match std::fs::read(&path).map_err(|error| error.to_string()).and_then(|file| replay(&file)) {
-            Ok((held, not)) => (passed, failed) = (passed + held, failed + not),
+            Ok((held, not)) => {
+                println!("{path}: {held} passed, {not} failed");
+                (passed, failed) = (passed + held, failed + not);
+            }
             Err(message) => {
                 eprintln!("replay-answers: {path}: {message}");
                 return ExitCode::from(2);
@@ -36,8 +41,8 @@ fn main() -> ExitCode {
 
 /// How many comparisons held and how many did not, or what is wrong with the file.
 fn replay(file: &[u8]) -> Result<(u64, u64), String> {
-    if file.starts_with(play_records::MAGIC) && file.len() >= play_records::HEADER {
-        return replay_plays(file);
+    if file.starts_with(case_records::MAGIC) && file.len() >= case_records::HEADER {
+        return replay_cases(file);
     }
     if file.len() < RECORD || file.len() % RECORD != 0 || &file[..8] != MAGIC {
         return Err("this is no file of recorded answers".into());
@@ -119,43 +124,25 @@ fn make(answered: &Answered, areas: &mut Areas) -> Result<(), &'static str> {
     }
 }
 
-/// The same of recorded plays.
-fn replay_plays(file: &[u8]) -> Result<(u64, u64), String> {
-    let (mut passed, mut failed, mut at) = (0, 0, play_records::HEADER);
-    while at < file.len() {
-        let (recorded, bytes) = Recorded::read(&file[at..]).ok_or("a play is cut off")?;
-        let (number, after) = play(&recorded.before)?;
-        match recorded.holds(number, &after) {
+/// The same of recorded cases.
+fn replay_cases(file: &[u8]) -> Result<(u64, u64), String> {
+    let (mut passed, mut failed) = (0, 0);
+    let (mut reader, told) = Reader::new(file);
+    while !reader.is_over() {
+        let number = passed + failed;
+        let made = reader.case().ok_or(format!("case {number} is cut off, or is none"))?;
+        let mut lent = made.case.lent();
+        let handed_back = fronts::make(&made.case.front, &mut lent);
+        match case_records::holds(&made, handed_back, &lent) {
             Ok(()) => passed += 1,
             Err(what) => {
                 failed += 1;
-                println!("FAILED: play {}: {what}", passed + failed - 1);
+                println!("FAILED: case {number}, {:?}: {what}", made.case.front);
             }
         }
-        at += bytes;
     }
-    let told = u64::from(u32::from_le_bytes(file[8..12].try_into().unwrap()));
     if told != passed + failed {
-        return Err(format!("the header tells of {told} plays, and there are {}", passed + failed));
+        return Err(format!("the header tells of {told} cases, and there are {}", passed + failed));
     }
     Ok((passed, failed))
-}
-
-/// Makes a play; a byte around an area that it changed is told.
-fn play(before: &Lent) -> Result<(u8, Lent), String> {
-    let lend = |bytes: &[u8]| Block::of(bytes, false);
-    let mut five = Five {
-        trace: lend(&before.trace),
-        image: lend(&before.image),
-        answers: lend(&before.answers),
-        events: lend(&before.events),
-        answer: lend(&before.answer),
-    };
-    let number = under_test::play(&mut five);
-    let blocks = [&five.trace, &five.image, &five.answers, &five.events, &five.answer];
-    if blocks.into_iter().any(|block| !block.edges_stand()) {
-        return Err("a play wrote past what it was lent".into());
-    }
-    let [trace, image, answers, events, answer] = blocks.map(|block| block.bytes().to_vec());
-    Ok((number, Lent { trace, image, answers, events, answer }))
 }

@@ -10,18 +10,19 @@ use crate::plays::Stage;
 use crate::trace::{self, DRAIN, Record};
 
 /// Both sides, and a stage on which what was salvaged is played.
-struct Salvages {
-    cases: Cases,
+pub struct Salvages {
+    pub cases: Cases,
     stage: Stage,
 }
 
 /// What is small enough is tried whole.
 pub fn sweep(bench: &mut Bench, chance: &mut Chance) {
-    let mut both = Salvages { cases: Cases::new(), stage: Stage::new() };
+    let mut both = Salvages::new(Cases::new());
     sets(bench, &mut both);
     blocks(bench, chance, &mut both);
     reasons(bench, &mut both);
     lengths(bench, &mut both);
+    faults(bench, &mut both.cases);
 }
 
 /// Every set of records of a short trace, damaged in three ways.
@@ -77,31 +78,35 @@ fn reasons(bench: &mut Bench, both: &mut Salvages) {
     }
 }
 
-/// Every length of each area, null ones too; and several faults at once, of which the first in the order 7, 12, 16, 7 is told.
-fn lengths(bench: &mut Bench, both: &mut Salvages) {
+/// A short torn trace on areas of these lengths. What is kept of it has 2 + 8 bytes and 4 records, the list two entries.
+pub fn short_case([kept, list, answer]: [usize; 3], null: bool) -> Case {
     let mut records = some(7);
     (records[1], records[6]) = ([0; 16], [7; 16]);
-    let torn = trace::bytes(&records, &[2, 3, 1, 1]);
-    let case = |kept: usize, list: usize, answer: usize, null: bool| {
-        let areas = vec![torn.clone(), vec![0xa1; kept], vec![0xb2; list], vec![0xc3; answer]];
-        Case { front: Front::Salvage, areas, null }
-    };
-    // what is kept has 2 + 8 bytes and 4 records, the list two entries
+    let areas = vec![trace::bytes(&records, &[2, 3, 1, 1]), vec![0xa1; kept], vec![0xb2; list], vec![0xc3; answer]];
+    Case { front: Front::Salvage, areas, null }
+}
+
+/// Every length of each area, null ones too.
+fn lengths(bench: &mut Bench, both: &mut Salvages) {
     for null in [false, true] {
         for length in 0..=80 {
-            both.cases.make(bench, &case(length, 8, 16, null));
-            both.cases.make(bench, &case(length, 7, 16, null));
+            both.cases.make(bench, &short_case([length, 8, 16], null));
+            both.cases.make(bench, &short_case([length, 7, 16], null));
         }
         for length in 0..=20 {
-            both.cases.make(bench, &case(74, length, 16, null));
-            both.cases.make(bench, &case(74, 8, length, null));
-            both.cases.make(bench, &case(73, 8, length, null));
+            both.cases.make(bench, &short_case([74, length, 16], null));
+            both.cases.make(bench, &short_case([74, 8, length], null));
+            both.cases.make(bench, &short_case([73, 8, length], null));
         }
     }
+}
+
+/// Several faults at once, of which the first in the order 7, 12, 16, 7 is told.
+pub fn faults(bench: &mut Bench, cases: &mut Cases) {
     for faults in 0..32 {
         let faulty = |bit: usize| faults & (1 << bit) != 0;
-        let [kept, list, answer] = [(3, 74), (4, 8), (0, 16)].map(|(bit, length)| length - usize::from(faulty(bit)));
-        let mut case = case(kept, list, answer, false);
+        let lengths = [(3, 74), (4, 8), (0, 16)].map(|(bit, length)| length - usize::from(faulty(bit)));
+        let mut case = short_case(lengths, false);
         if faulty(1) {
             case.areas[0].push(0);
         }
@@ -110,13 +115,13 @@ fn lengths(bench: &mut Bench, both: &mut Salvages) {
             let bad: Vec<Record> = vec![[0; 16]; 7];
             case.areas[0].splice(18..18 + 7 * 16, bad.concat());
         }
-        both.cases.make(bench, &case);
+        cases.make(bench, &case);
     }
 }
 
 /// Random traces with so many records together, each salvaged as it is, torn, and with damaged contents.
 pub fn random(bench: &mut Bench, chance: &mut Chance, records: u64) {
-    let mut both = Salvages { cases: Cases::new(), stage: Stage::new() };
+    let mut both = Salvages::new(Cases::new());
     let mut made = 0;
     while made < records && !bench.over() {
         let length = match chance.below(20) {
@@ -145,7 +150,7 @@ pub fn random(bench: &mut Bench, chance: &mut Chance, records: u64) {
 }
 
 /// Some blocks damaged, from one to all: a record in any way that makes it bad, some that leave it good, or from a record on all that stands in the block.
-fn torn(chance: &mut Chance, good: &[Record], blocks: &[usize]) -> Vec<Record> {
+pub fn torn(chance: &mut Chance, good: &[Record], blocks: &[usize]) -> Vec<Record> {
     let mut records = good.to_vec();
     let share = chance.one_of(&[3, 20, 50, 90, 100]);
     let mut first = 0;
@@ -178,8 +183,12 @@ fn spoil(chance: &mut Chance, record: &mut Record) {
 }
 
 impl Salvages {
+    pub fn new(cases: Cases) -> Self {
+        Salvages { cases, stage: Stage::new() }
+    }
+
     /// Salvages with room and some bytes more. The outcome is salvaged again, which changes nothing, and it plays.
-    fn try_bytes(&mut self, bench: &mut Bench, trace: &[u8], more: usize) {
+    pub fn try_bytes(&mut self, bench: &mut Bench, trace: &[u8], more: usize) {
         let filled = |byte: u8, length: usize| vec![byte; length];
         let case = |trace: &[u8]| {
             let areas = vec![trace.to_vec(), filled(0xa1, trace.len() + more), filled(0xb2, 256 + more), filled(0xc3, 16 + more)];
@@ -222,7 +231,7 @@ impl Salvages {
     }
 
     /// Salvages with the least room that is enough, and with less.
-    fn short(&mut self, bench: &mut Bench, chance: &mut Chance, trace: &[u8]) {
+    pub fn short(&mut self, bench: &mut Bench, chance: &mut Chance, trace: &[u8]) {
         let Some(blocks) = trace::blocks(trace) else { return };
         let good = |block: &&Vec<Record>| !block.iter().any(trace::is_bad);
         let kept: Vec<&Vec<Record>> = blocks.iter().filter(good).collect();

@@ -30,7 +30,7 @@ const fn isr(bits: u64) -> Record {
 const ALL_BUT: fn(u8) -> u64 = |input| !(1 << input);
 
 /// Days with the rows that they give, counted by hand: input, and the ten numbers in their order. All other rows but the total are zero.
-fn by_hand() -> Vec<(&'static str, Vec<Record>, Vec<(usize, [u32; 10])>)> {
+pub fn by_hand() -> Vec<(&'static str, Vec<Record>, Vec<(usize, [u32; 10])>)> {
     vec![
         // raised while masked; the unmask asserts it two records later, into the ring; lowered, which is returned
         ("a wait", vec![raise(5), raise(5), mask(ALL_BUT(5)), lower(5)], vec![(5, [2, 1, 1, 1, 1, 1, 0, 2, 0, 0])]),
@@ -114,7 +114,7 @@ fn own(bench: &mut Bench) {
     }
 }
 
-/// The days by hand; then, where the library has the call, these, every length of the areas, and faults several at a time.
+/// The days by hand; then these, every length of the areas, and faults several at a time.
 pub fn sweep(bench: &mut Bench, chance: &mut Chance) {
     own(bench);
     let mut cases = Cases::new();
@@ -129,17 +129,7 @@ pub fn sweep(bench: &mut Bench, chance: &mut Chance) {
     for answer in 0..=40 {
         make(bench, &mut cases, good.clone(), LENGTH + answer, answer);
     }
-    for faults in 0..16 {
-        let faulty = |bit: usize| faults & (1 << bit) != 0;
-        let mut trace = good.clone();
-        if faulty(2) {
-            trace[0] = 3;
-        }
-        if faulty(3) {
-            trace[10] = 0;
-        }
-        make(bench, &mut cases, trace, LENGTH - usize::from(faulty(1)), 16 - usize::from(faulty(0)));
-    }
+    faults(bench, &mut cases);
     // every kind of record with each byte of it another
     for good in EACH {
         for bit in 0..128 {
@@ -150,10 +140,22 @@ pub fn sweep(bench: &mut Bench, chance: &mut Chance) {
     }
 }
 
-fn make(bench: &mut Bench, cases: &mut Cases, trace: Vec<u8>, sheet: usize, answer: usize) {
-    if !library::HAS_SHEET {
-        return;
+/// Several faults at once, of which the first in the order 7, 12, 13 is told.
+pub fn faults(bench: &mut Bench, cases: &mut Cases) {
+    for faults in 0..16 {
+        let faulty = |bit: usize| faults & (1 << bit) != 0;
+        let mut trace = trace::bytes(&some(6), &[4, 2]);
+        if faulty(2) {
+            trace[0] = 3;
+        }
+        if faulty(3) {
+            trace[10] = 0;
+        }
+        make(bench, cases, trace, LENGTH - usize::from(faulty(1)), 16 - usize::from(faulty(0)));
     }
+}
+
+pub fn make(bench: &mut Bench, cases: &mut Cases, trace: Vec<u8>, sheet: usize, answer: usize) {
     let areas = vec![trace, vec![0xe5; sheet], vec![0xc3; answer]];
     if cases.make(bench, &Case { front: Front::Sheet, areas, null: sheet % 2 == 0 }) != Some(0) {
         return;
@@ -173,7 +175,7 @@ fn make(bench: &mut Bench, cases: &mut Cases, trace: Vec<u8>, sheet: usize, answ
 pub fn random(bench: &mut Bench, chance: &mut Chance, records: u64) {
     let mut cases = Cases::new();
     let mut made = 0;
-    while library::HAS_SHEET && made < records && !bench.over() {
+    while made < records && !bench.over() {
         let length = match chance.below(20) {
             0..=9 => chance.between(1, 40),
             10..=18 => chance.between(1, 500),
@@ -193,7 +195,7 @@ pub fn random(bench: &mut Bench, chance: &mut Chance, records: u64) {
 }
 
 /// A day on which inputs wait: raised while masked, and then unmasked, polled, cleared or lowered.
-fn waiting(chance: &mut Chance, count: usize) -> Vec<Record> {
+pub fn waiting(chance: &mut Chance, count: usize) -> Vec<Record> {
     let few: [u8; 4] = std::array::from_fn(|_| chance.below(64) as u8);
     (0..count)
         .map(|_| {

@@ -166,8 +166,6 @@ unsafe fn under_profile(call: Call, image: Lent, phase: Lent, answer: Lent) -> u
     DEVICE.with_borrow_mut(|device| hoist::call(device, &call, image, phase, answer))
 }
 
-pub const HAS_SHEET: bool = true;
-
 #[allow(clippy::too_many_arguments)]
 pub unsafe fn pch_pic_salvage(
     trace: *const u8,

@@ -57,6 +57,9 @@ pub fn front_name(front: &Front) -> String {
 fn front_words(front: &Front) -> String {
     match front {
         Front::Plain(call) => format!("plain-{}", words(call)),
+        Front::Convert => "front-convert".into(),
+        Front::Difference { later, earlier } => format!("front-difference later={later:#x} earlier={earlier:#x}"),
+        Front::Play => "front-play".into(),
         Front::Board(call) => format!("board-{}", words(call)),
         Front::Event { vector, flag } => format!("board-event vector={vector:#x} flag={flag:#x}"),
         Front::Hoist(call) => format!("hoist-{}", words(call)),
@@ -85,7 +88,7 @@ pub fn front_line(case: &Case, failure: u64) -> String {
 pub fn parse_front(words: &[String]) -> Option<Result<Case, String>> {
     let (name, words) = words.split_first()?;
     let known = match name.as_str() {
-        "salvage" | "sheet" | "hoist-end" | "board-event" => name.as_str(),
+        "salvage" | "sheet" | "hoist-end" | "board-event" | "front-convert" | "front-difference" | "front-play" => name.as_str(),
         name => name.split_once('-').filter(|(front, _)| ["plain", "board", "hoist"].contains(front))?.1,
     };
     Some(case_of(name, known, words))
@@ -93,12 +96,39 @@ pub fn parse_front(words: &[String]) -> Option<Result<Case, String>> {
 
 fn case_of(name: &str, call: &str, words: &[String]) -> Result<Case, String> {
     let known = [
-        "base", "size", "address", "width", "value", "input", "level", "place", "vector", "flag", "null", "image", "events", "answer",
-        "board", "phase", "trace", "kept", "list", "sheet",
+        "base",
+        "size",
+        "address",
+        "width",
+        "value",
+        "input",
+        "level",
+        "place",
+        "vector",
+        "flag",
+        "null",
+        "image",
+        "events",
+        "answer",
+        "board",
+        "phase",
+        "trace",
+        "kept",
+        "list",
+        "sheet",
+        "later",
+        "earlier",
+        "target",
+        "difference",
+        "answers",
     ];
     let fields = Fields::of(words, &known)?;
     let byte = |name: &str| u8::try_from(fields.need(name)?).map_err(|_| format!("{name}= is over 255"));
+    let event = |name: &str| u16::try_from(fields.need(name)?).map_err(|_| format!("{name}= is over 65535"));
     let front = match call {
+        "front-convert" => Front::Convert,
+        "front-difference" => Front::Difference { later: event("later")?, earlier: event("earlier")? },
+        "front-play" => Front::Play,
         "salvage" => Front::Salvage,
         "sheet" => Front::Sheet,
         "hoist-end" => Front::EndStartup,

@@ -55,7 +55,8 @@ pub fn lend<const N: usize>(mut blocks: [&mut Block; N], make: impl FnOnce([Area
     number
 }
 
-fn make_play([(t, tl), (i, il), (s, sl), (e, el), (a, al)]: [Area; 5]) -> u8 {
+#[allow(dead_code)]
+pub fn make_play([(t, tl), (i, il), (s, sl), (e, el), (a, al)]: [Area; 5]) -> u8 {
     // SAFETY: each pointer and length is an area of its own that outlives the call; an empty one may be null, as the boundary says.
     unsafe { library::pch_pic_play(t, tl, i, il, s, sl, e, el, a, al) }
 }
@@ -78,7 +79,7 @@ fn on(call: &Call, lent: &mut Areas, make: fn(&Call, [Area; 4]) -> u8) -> u8 {
     number
 }
 
-fn make(call: &Call, [(i, il), (a, al), (e, el), (t, tl)]: [Area; 4]) -> u8 {
+pub fn make(call: &Call, [(i, il), (a, al), (e, el), (t, tl)]: [Area; 4]) -> u8 {
     // SAFETY: each pointer and length is an area of its own that outlives the call; an empty one may be null, as the boundary says.
     unsafe {
         match *call {

@@ -38,12 +38,17 @@ needs_rt() {
     }
 }
 
-# recorded: the file of recorded answers, which is data of the crate that replays it, and that of recorded plays.
-recorded() {
+# recorded_answers: the file of recorded answers, which is data of the crate that replays it.
+recorded_answers() {
     local found
     for found in "$(dirname "$here")"/crates/*/data/answers.bin; do
         echo "$found"
         break
     done
-    echo "$(dirname "$here")/tests/traces/plays.bin"
+}
+
+# recorded FOLDER: the files of recorded cases in a folder, each by its name, so that none can be missing.
+recorded() {
+    local name
+    for name in plays conversions differences salvages boards hoists sheets; do echo "$1/$name.bin"; done
 }
