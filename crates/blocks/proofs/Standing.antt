@@ -1,15 +1,13 @@
 -- Blocks looked at one after another: those before number b stand, and what is left decides.
-use mathlib.Core.Path.{_≡_, refl, sym, ap, _∙_}
-use mathlib.Core.Bool.{Bool, true, false, _&&_, and-false}
+use mathlib.Core.Path.{_≡_, sym, ap, _∙_}
+use mathlib.Core.Bool.{false, _&&_, and-false}
 use mathlib.Core.List.{List}
-use Prim.Native.Nat.{ℕ, zero, suc, _+_, _-_, _*_, _<_, _≤_}
-use native.Mathlib.Numerals.{add-one}
+use Prim.Native.Nat.{ℕ, suc, _+_, _-_, _*_, _<_, _≤_}
 use native.Mathlib.Omega.{arith}
 use lib.Dec.{eqb, leb}
 use borrow.Author.Tests.{eq-eqb, ne-eqb, le-leb, lt-leb}
 use Rattle.traces.specs.Trace.{mostRecords, recordLength, twoAt, listedAt, blockAt, blocksFrom, recordsIn, backToBack}
 use Rattle.traces.proofs.laws.Blocks.{records-none, records-front, stand-none, stand-next}
-use Rattle.blocks.specs.declared.Listed.{Listed}
 use Rattle.blocks.specs.declared.Listed.the-variants.{Records, Wrong}
 use Rattle.blocks.specs.Found.{listedIf, standing, listedAs}
 

@@ -13,12 +13,12 @@ use lib.Seq.{length-take-le, getD-take, getD-set-same, getD-set-other, drop-set-
 use borrow.Author.Tests.{eq-eqb, ne-eqb, eqb-true, eqb-false}
 use borrow.Rule.Slice.PartMut.{putMid}
 use Rattle.basics.specs.Numbers.{Bytes, part}
-use Rattle.basics.specs.Inputs.{on, inputs, only, without}
+use Rattle.basics.specs.Inputs.{on, inputs, only}
 use Rattle.rules.specs.Device.{Device}
 use Rattle.rules.specs.Numbering.{Numbers}
 use Rattle.rules.specs.Account.{carries, carrying}
 use Rattle.basics.proofs.laws.Bits.{test, on-none, on-without}
-use Rattle.basics.proofs.laws.Inputs.{Lowest, lowest, first-input, lowest-dropped, no-inputs}
+use Rattle.basics.proofs.laws.Inputs.{lowest, first-input, lowest-dropped, no-inputs}
 use Rattle.rules.proofs.laws.Counts.{one, split, size-ext, only-size}
 use Rattle.laws.proofs.laws.Losses.{from-few}
 use Rattle.images.specs.Form.{unknown, known, formOf}

@@ -1,5 +1,5 @@
 -- What takes a latch back: CLEAR with the input's bit written as 1, or a lowering.
-use mathlib.Core.Bool.{Bool, false, _||_}
+use mathlib.Core.Bool.{Bool, false}
 use Prim.Native.Nat.{ℕ}
 use Rattle.basics.specs.Inputs.{on, only}
 use Rattle.rules.specs.Core.{Act, move, poll, raise, lower, clear, setMask, setIsr, store, setVector}

@@ -1,9 +1,8 @@
 -- How a read or a write under the profile ends on an accepted image, by the answers of its tests: as the full device's, or with 14 or 15.
 use mathlib.Core.Path.{_≡_, refl, sym, ap, _∙_}
-use mathlib.Core.Bool.{Bool, true, false, cond, true≢false}
+use mathlib.Core.Bool.{Bool, true, false, true≢false}
 use mathlib.Core.List.{List}
 use Prim.Native.Nat.{ℕ, _%_}
-use lib.Dec.{eqb}
 use borrow.Author.Tests.{eqb-true}
 use Rattle.rules.specs.Access.{Width, byte, word, dword, qword}
 use Rattle.rules.specs.Device.{Device, Call}

@@ -1,5 +1,5 @@
 -- The image's test comes first: where it refuses, a call under the profile ends as the full device's, and the end of start-up with the same number and value.
-use mathlib.Core.Path.{_≡_, refl, sym, ap, _∙_}
+use mathlib.Core.Path.{_≡_, refl, sym, _∙_}
 use mathlib.Core.Bool.{Bool}
 use mathlib.Core.List.{List, [], _∷_}
 use Prim.Native.Nat.{ℕ}
@@ -9,7 +9,7 @@ use Rattle.rules.specs.Device.{Call, none}
 use Rattle.images.specs.Form.{Form}
 use Rattle.images.specs.Image.{ImageTest, imageTest, decode, numbersIn}
 use Rattle.images.specs.Image as image
-use Rattle.calls.specs.Calls.{imageNumber, imageValue, Tested, Request, calls, askedBy, bufferOf, ending}
+use Rattle.calls.specs.Calls.{imageNumber, imageValue, Tested, Request, calls, askedBy, bufferOf}
 use Rattle.image.specs.Shown.{formView}
 use Rattle.image.specs.declared.form.Form as code
 use Rattle.inplace.specs.Held.{Reads}

@@ -1,10 +1,10 @@
 -- The four exported calls of the hoist profile (02, C-22), on any bytes: the number handed back, and every byte of image, phase and answer area afterwards.
-use mathlib.Core.Bool.{Bool, true, false, cond, _&&_, _||_}
+use mathlib.Core.Bool.{Bool, false, cond, _&&_, _||_}
 use mathlib.Core.List.{List, []}
 use Prim.Native.Nat.{ℕ}
 use lib.Dec.{eqb, leb}
 use lib.ListN.{length}
-use Rattle.rules.specs.Device.{Device, Value, none}
+use Rattle.rules.specs.Device.{Device, none}
 use Rattle.images.specs.Image.{ImageTest, imageTest, decode}
 use Rattle.images.specs.Image as image
 use Rattle.calls.specs.Calls.{refusalNumber, noRoom, Tested, pass, refuse, onPass, imageAnswer, imageNumber, imageValue, Request, read, write, Asked, afresh, calls, askedBy}

@@ -1,6 +1,6 @@
 -- The saved image, over its form: the bytes of each field of a device and of the numbers beside it, the device and the numbers that an image holds, and which bytes
 -- are accepted: an ordered list of rules, each with the place that it finds wrong. Last, an image of the form that its length tells, as the calls have it.
-use mathlib.Core.Bool.{Bool, true, false, cond, not, _&&_, _||_}
+use mathlib.Core.Bool.{Bool, true, cond, not, _&&_, _||_}
 use mathlib.Core.List.{List, [], _∷_, _++_}
 use Prim.Native.Nat.{ℕ, suc, _-_, _*_, _%_}
 use lib.Dec.{eqb, leb, ltb}

@@ -3,7 +3,7 @@ use table::Place;
 use table::look;
 ghost use mathlib.Core.Path.{_≡_};
 ghost use Prim.Native.Nat.{_<_};
-ghost use Rattle.table.specs.Meaning.{meant, Agrees};
+ghost use Rattle.table.specs.Meaning.{Agrees};
 ghost use Rattle.table.specs.Views.{placeView};
 ghost use Rattle.map_rows.specs.Rows.{isNothing, begins, Row};
 

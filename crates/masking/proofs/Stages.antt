@@ -1,11 +1,11 @@
 -- MASK and CLEAR, done in place: the stores to the registers and the offers come to the rules' steps, and those one after another to the rules' two stages.
-use mathlib.Core.Path.{_≡_, refl, sym, ap, subst, _∙_}
+use mathlib.Core.Path.{_≡_, refl, ap, _∙_}
 use mathlib.Core.Bool.{Bool, true, false}
 use mathlib.Core.List.{List, [], _∷_, map}
 use Prim.Native.Nat.{ℕ, _+_, _-_, _^_, _<_}
 use lib.Bits.{bitAnd}
 use Rattle.basics.specs.Inputs.{on, inputs, register, without, withHalf}
-use Rattle.rules.specs.Lines.{Lines, Turn, stay, withMask, withIrr, withIsr, event, andThen, pendingIn, serve, enter, leave, newlyUnmasked, newlyMasked, cleared, masked}
+use Rattle.rules.specs.Lines.{Turn, stay, withMask, withIrr, withIsr, event, andThen, pendingIn, serve, enter, leave, newlyUnmasked, newlyMasked, cleared, masked}
 use Rattle.rules.specs.Core.{move, moved, clear, setMask}
 use Rattle.rules.specs.Ring.{ringStep, ringRun, dropped, lostOf}
 use Rattle.rules.specs.Device.{Device, Value, offers, returned, lost}

@@ -4,17 +4,17 @@ use mathlib.Core.Bool.{true, false}
 use mathlib.Core.List.{List, [], _∷_, _++_}
 use Prim.Native.Nat.{ℕ, _+_, _*_, _<_, _≤_}
 use native.Mathlib.Omega.{arith}
-use lib.ListN.{length, take, drop, getD}
+use lib.ListN.{length, take, getD}
 use lib.Seq.{drop-drop}
 use borrow.Author.Tests.{lt-ltb, le-ltb}
 use Rattle.basics.specs.Numbers.{numberOf, bytesOf, part}
 use Rattle.rules.specs.Ring.{capacity}
 use Rattle.rules.specs.Device.{Device}
-use Rattle.rules.specs.Numbering.{Numbers, following, takes, fromZero, numberTwos}
-use Rattle.images.specs.Form.{Form, count, next, numbers, has, size, place, formLength}
-use Rattle.images.specs.Image.{fieldOf, encodeAs, encodeLike, numbersIn, numbersAs, countIn}
+use Rattle.rules.specs.Numbering.{Numbers, following, takes, numberTwos}
+use Rattle.images.specs.Form.{Form, count, next, numbers, has, place, formLength}
+use Rattle.images.specs.Image.{fieldOf, encodeAs, encodeLike, numbersIn, countIn}
 use Rattle.images.proofs.laws.Twos.{sixteen-snoc}
-use Rattle.images.proofs.laws.Saved.{has-next, numbers-there, numbers-not-there, encode-without, fields-sized, few-numbers, count-stands}
+use Rattle.images.proofs.laws.Saved.{has-next, numbers-there, numbers-not-there, encode-without, fields-sized, count-stands}
 use Rattle.laws.proofs.laws.Images.{numbers-as, encode-as, numbers-encode}
 use Rattle.laws.proofs.laws.InPlace.{withNext, withWaiting, next-apart, numbers-apart, field-written, bytes-written}
 use Rattle.rules.proofs.laws.Numbered.{Fits, fits, fitting, takes-returned}

@@ -1,5 +1,5 @@
 -- One input's waits while the marks come: the greatest so far, how many were withdrawn, and where the one began that is not over.
-use mathlib.Core.Bool.{Bool, cond, _&&_}
+use mathlib.Core.Bool.{cond, _&&_}
 use mathlib.Core.List.{List, [], _∷_}
 use mathlib.Core.Path.{_≡_}
 use Prim.Native.Nat.{ℕ, _+_, _-_, _%_, _^_, _<_, max}

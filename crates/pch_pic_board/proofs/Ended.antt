@@ -1,7 +1,7 @@
 -- The end of a call with a board: what `finish` asks holds of a call that has ended, and what it promises is the call's outcome.
-use mathlib.Core.Path.{_≡_, ap, _∙_}
+use mathlib.Core.Path.{_≡_}
 use mathlib.Core.List.{List}
-use Prim.Native.Nat.{ℕ, _-_, _≤_, zero-le}
+use Prim.Native.Nat.{ℕ, _-_, _≤_}
 use lib.ListN.{length}
 use borrow.Rule.Slice.PartMut.{putMid}
 use Rattle.basics.specs.Numbers.{Bytes, part}

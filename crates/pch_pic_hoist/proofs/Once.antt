@@ -3,7 +3,6 @@ use mathlib.Core.Path.{_≡_, sym, ap, _∙_}
 use mathlib.Core.List.{List, []}
 use Prim.Native.Nat.{ℕ}
 use Rattle.calls.specs.Calls.{read, write, Outcome, leaves, outcome}
-use Rattle.calls.proofs.demands.OneOutcome.{one-result}
 use Rattle.hoists.specs.HoistCalls.{hoistRead, hoistWrite, PhaseLeft, phaseLeaves}
 use Rattle.hoists.proofs.demands.Answers.{done-read-is-full, done-write-is-full}
 

@@ -2,7 +2,7 @@
 use mathlib.Core.Path.{_≡_, refl, sym, ap, subst, _∙_}
 use mathlib.Core.Bool.{Bool, true, false, cond}
 use mathlib.Core.List.{List, [], _∷_, _++_}
-use Prim.Native.Nat.{ℕ, zero, suc, _+_, _-_, _*_, _/_, _^_, _<_, _≤_}
+use Prim.Native.Nat.{ℕ, zero, suc, _+_, _-_, _*_, _/_, _<_, _≤_}
 use native.Mathlib.Nat.{le-refl}
 use native.Mathlib.Omega.{arith}
 use lib.Dec.{eqb}
@@ -12,11 +12,9 @@ use Rattle.rules.specs.Ring as ring
 use Rattle.rules.specs.Ring.{Event, capacity, drawn, flag, pairsOf}
 use Rattle.rules.specs.Access.{Width, readAt, writeActs}
 use Rattle.rules.specs.Device.{Device, Call, level, poll, read, write, drain, step, acted}
-use Rattle.calls.specs.Window.{inside}
 use Rattle.calls.specs.Calls.{Tested, pass, refuse, noWidth, outside, inputCall, widthTest, addressTest, accessCall}
 use Rattle.sessions.specs.Session.{space, plus, minus, equals, letter-d, letter-k, letter-o, digits, asks, sessionBase, sessionSize, vectorSaid, eventsSaid, said, playedLine}
 use Rattle.sessions.specs.Session as session
-use Rattle.basics.proofs.laws.Bits.{test}
 use Rattle.laws.proofs.laws.Maps as maps
 use Rattle.rules.proofs.laws.Steps.{withLines, withRing, level-device, level-value, poll-device, poll-value, drain-device, drain-drained, read-device, write-device}
 use Rattle.rules.specs.Lines.{polled, levelled}

@@ -1,13 +1,13 @@
 -- How a play ends, by the test that decides it: one law for each way; and what a good trace and a reset image have.
 use mathlib.Core.Path.{_≡_, refl, sym, ap, subst, _∙_}
-use mathlib.Core.Bool.{Bool, true, false, cond, _&&_, and-eq-true-iff, and-false}
+use mathlib.Core.Bool.{Bool, true, false, _&&_, and-false}
 use mathlib.Core.List.{List, [], _∷_}
-use Prim.Native.Nat.{ℕ, _+_, _*_, _<_, _≤_, zero-le}
+use Prim.Native.Nat.{ℕ, _*_, _<_, _≤_, zero-le}
 use native.Mathlib.Omega.{arith}
 use types.Run.{OneOf}
 use denote.Enum.Declared.{tagOf}
 use lib.Dec.{leb}
-use lib.ListN.{length, replicate}
+use lib.ListN.{length}
 use borrow.Author.Tests.{le-leb, lt-leb}
 use mathlib.Core.Logic.{⊎-elim}
 use Rattle.rules.specs.Device.{Value, none, some}
@@ -15,7 +15,7 @@ use Rattle.images.specs.Form.{Form, Known, unknown, known, formOf}
 use Rattle.calls.specs.Calls.{answerLength, Ending, ending, Outcome}
 use Rattle.calls.specs.Calls as request
 use Rattle.inplace.specs.Passed.{Passed}
-use Rattle.traces.specs.Trace.{recordCount, TraceTest, good, wrongContents, badRecord, traceNumber, traceValue, traceTest}
+use Rattle.traces.specs.Trace.{recordCount, TraceTest, good, traceNumber, traceValue, traceTest}
 use Rattle.traces.specs.Played.{drainRoom, recordsFrom, records, Played, playedFrom, afresh, played}
 use Rattle.traces.proofs.demands.Told.{AllGood, Means, test-told}
 use Rattle.traces.proofs.demands.Sizes.{few-records, trace-length}

@@ -4,7 +4,7 @@ use mathlib.Core.List.{List, [], _∷_, _++_}
 use Prim.Native.Nat.{ℕ, _+_, _*_}
 use lib.Dec.{eqb, leb}
 use lib.ListN.{length, drop}
-use Rattle.rules.specs.Device.{Value, none, some}
+use Rattle.rules.specs.Device.{Value, some}
 use Rattle.images.specs.Form.{Known, unknown, known, formOf}
 use Rattle.calls.specs.Calls.{refusalNumber, refusalValue, wrongLength, noRoom, answerLength, answered, Outcome}
 use Rattle.traces.specs.Trace.{Record, recordCount, TraceTest, good, wrongContents, badRecord, traceNumber, traceValue, traceTest}

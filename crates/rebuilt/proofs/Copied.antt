@@ -5,7 +5,7 @@ use Prim.Native.Nat.{ℕ, _+_, _*_, _≤_}
 use native.Mathlib.Omega.{arith}
 use lib.ListN.{length, take, drop, length-append, length-drop, drop-of-length-le}
 use lib.Seq.{take-add, take-all}
-use Rattle.basics.specs.Numbers.{Bytes, bytesOf, part}
+use Rattle.basics.specs.Numbers.{Bytes, bytesOf}
 use Rattle.basics.proofs.laws.Bytes.{part-number}
 use Rattle.basics.proofs.laws.Parts.{Filled}
 use Rattle.images.specs.Image.{registerAt}

@@ -6,7 +6,7 @@ use Prim.Native.Nat.{ℕ, _+_, _-_, _*_, _<_, _≤_}
 use native.Mathlib.Omega.{arith}
 use lib.ListN.{length, drop}
 use borrow.Rule.Slice.PartMut.{putMid}
-use Rattle.basics.specs.Numbers.{bytesOf, part}
+use Rattle.basics.specs.Numbers.{bytesOf}
 use Rattle.traces.specs.Trace.{recordLength, listedAt, blockAt}
 use Rattle.traces.proofs.laws.Contents.{contents-have}
 use Rattle.plays.specs.Playing.{inFront}

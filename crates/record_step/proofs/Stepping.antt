@@ -1,25 +1,25 @@
 -- What playing one record has to show: of a drain of all, and of any other call.
-use mathlib.Core.Path.{_≡_, refl, sym, ap, _∙_}
-use mathlib.Core.Bool.{true, cond, and-eq-true-iff}
-use mathlib.Core.List.{List, [], _++_}
+use mathlib.Core.Path.{_≡_, sym, ap, _∙_}
+use mathlib.Core.Bool.{true, and-eq-true-iff}
+use mathlib.Core.List.{List, []}
 use Prim.Native.Nat.{ℕ, _*_, _≤_, zero-le}
 use native.Mathlib.Omega.{arith}
 use lib.Dec.{eqb, leb}
 use lib.Seq.{take-nil}
 use borrow.Author.Tests.{leb-true}
-use lib.ListN.{length, take, drop, replicate}
+use lib.ListN.{length, replicate}
 use borrow.Rule.Slice.PartMut.{putMid}
 use Rattle.basics.specs.Numbers.{part}
 use Rattle.rules.specs.Device.{Value, some}
 use Rattle.images.specs.Form.{Form}
 use Rattle.rules.specs.Numbering.{drainedLength}
-use Rattle.calls.specs.Calls.{answerLength, answered, valueIn, Ending, ending, settled, Outcome}
+use Rattle.calls.specs.Calls.{answerLength, answered, valueIn, ending, settled, Outcome}
 use Rattle.calls.specs.Calls as request
 use Rattle.basics.proofs.laws.Bits.{test}
 use Rattle.inplace.specs.Passed.{Passed}
 use Rattle.traces.specs.Trace.{Record, isKind, isGood}
 use Rattle.traces.specs.Played.{drainRoom, requestOf, asked, playedOn, drainedIn}
-use Rattle.plays.specs.Playing.{drains, inFront}
+use Rattle.plays.specs.Playing.{inFront}
 use Rattle.plays.proofs.laws.Drained.{asked-ends, answer-whole, drained-fit, Drew, drew}
 use Rattle.plays.proofs.laws.Keeps.{in-front}
 use Rattle.plays.proofs.laws.InFront.{front-part}

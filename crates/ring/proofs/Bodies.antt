@@ -1,16 +1,15 @@
 -- Body 4 as bytes: an event stored behind those that wait, or counted as lost.
 use mathlib.Core.Path.{_≡_, refl, sym, ap, _∙_}
 use mathlib.Core.Bool.{Bool, true}
-use mathlib.Core.List.{List, [], _∷_, _++_, map, append-assoc, append-nil}
+use mathlib.Core.List.{List, [], _∷_, _++_, map, append-nil}
 use Prim.Native.Nat.{ℕ, zero, suc, _+_, _-_, _*_, _<_, _≤_, min}
 use native.Mathlib.Omega.{arith}
 use lib.Dec.{ltb, lit<}
-use lib.ListN.{length, take, getD, set, replicate, length-append}
-use lib.Seq.{take-all, drop-at}
+use lib.ListN.{length, getD, set, replicate, length-append}
 use borrow.Author.Tests.{lt-ltb, le-ltb, ltb-true}
 use borrow.Rule.Slice.PartMut.{putMid}
 use Rattle.basics.specs.Numbers.{numberOf, bytesOf, part, Bytes}
-use Rattle.rules.specs.Ring.{capacity, stop, flag, pairsOf, Event, Ring, offer, offered, ringStep, ringRun, droppedBy, dropped, lostOf}
+use Rattle.rules.specs.Ring.{capacity, stop, flag, pairsOf, Event, Ring, offer, offered, ringStep, ringRun, droppedBy, dropped}
 use Rattle.rules.specs.Device.{Device, WellFormed, reset}
 use Rattle.rules.specs.Numbering.{Numbers, takes}
 use Rattle.images.specs.Form.{Form, count, place, formLength}

@@ -5,7 +5,7 @@ use Prim.Native.Nat.{ℕ, zero, suc, _+_, _*_, _≤_, zero-le}
 use native.Mathlib.Nat.{zero-add}
 use native.Mathlib.Omega.{arith}
 use lib.Dec.{eqb}
-use borrow.Author.Tests.{eq-eqb, ne-eqb}
+use borrow.Author.Tests.{ne-eqb}
 use Rattle.basics.proofs.laws.Bits.{test}
 use Rattle.traces.specs.Trace.{Record, recordLength, firstPlace, recordAt, nth}
 use Rattle.traces.specs.Played.{recordsFrom}

@@ -1,7 +1,7 @@
 -- The rounds of a play: what holds when k records are played, before the first of them and after one more.
 use mathlib.Core.Path.{_≡_, refl, sym, ap, subst, _∙_}
 use mathlib.Core.Bool.{true}
-use mathlib.Core.List.{List, _++_}
+use mathlib.Core.List.{List}
 use Prim.Native.Nat.{ℕ, suc, _+_, _-_, _*_, _<_, _≤_, zero-le}
 use native.Mathlib.Nat.{zero-add}
 use native.Mathlib.Omega.{arith}
@@ -24,7 +24,7 @@ use Rattle.plays.proofs.laws.Rooms.{drains-last, drains-more}
 use Rattle.plays.proofs.laws.InFront.{front-length, front-next, front-rest}
 use Rattle.plays.proofs.laws.Keeps.{keeps-accepted}
 use Rattle.record_step.specs.Step.{Playable, Steps}
-use Rattle.rounds.specs.Played.{Reaches, Ready, PlayedTo}
+use Rattle.rounds.specs.Played.{Ready, PlayedTo}
 
 -- k records are played, and `used` bytes of events are written
 pub record Round (l : List ℕ) (n : ℕ) (f : Form) (i bs es : List ℕ) (k used : ℕ) (j cs fs : List ℕ) : Type 0 where

@@ -1,6 +1,6 @@
 -- The numbers of events: a layer beside the device, moved by what a call makes and drains; the device does not know them (02, C-19).
 use mathlib.Core.Path.{_≡_}
-use mathlib.Core.Bool.{Bool, true, cond, _&&_}
+use mathlib.Core.Bool.{Bool, cond, _&&_}
 use mathlib.Core.List.{List, [], _∷_, _++_, map}
 use Prim.Native.Nat.{ℕ, zero, suc, _+_, _*_, _%_, _^_, _<_}
 use lib.Dec.{eqb, ltb}

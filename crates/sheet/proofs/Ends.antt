@@ -1,16 +1,16 @@
 -- How it ends: refused, with the sheet as it was, or made.
-use mathlib.Core.Path.{_≡_, refl, sym, ap, subst, _∙_}
+use mathlib.Core.Path.{_≡_, sym, ap, subst, _∙_}
 use mathlib.Core.List.{List, [], _∷_, _++_, map}
 use mathlib.Core.Logic.{⊎-elim}
-use Prim.Native.Nat.{ℕ, _+_, _*_, _≤_}
+use Prim.Native.Nat.{ℕ, _+_, _≤_}
 use native.Mathlib.Omega.{arith}
 use types.Run.{OneOf}
 use denote.Enum.Declared.{tagOf}
 use lib.ListN.{length, drop}
 use Rattle.basics.specs.Numbers.{Bytes}
 use Rattle.rules.specs.Device.{Value, some, reset}
-use Rattle.traces.specs.Trace.{recordCount, TraceTest, good, traceNumber, traceValue, traceTest}
-use Rattle.traces.specs.Played.{recordsFrom, records}
+use Rattle.traces.specs.Trace.{good, traceNumber, traceValue, traceTest}
+use Rattle.traces.specs.Played.{recordsFrom}
 use Rattle.traces.proofs.demands.Told.{AllGood, Means, test-told}
 use Rattle.traces.proofs.demands.Sizes.{few-records, trace-length}
 use Rattle.sheets.specs.Day.{itemOf, items, begun, dayFrom}

@@ -1,13 +1,13 @@
 -- The loops over rows and columns: one round more.
 use mathlib.Core.Path.{_≡_, refl, sym, ap, subst, _∙_}
-use mathlib.Core.Bool.{true, false, cond}
+use mathlib.Core.Bool.{cond}
 use mathlib.Core.List.{List, [], _∷_, _++_}
-use Prim.Native.Nat.{ℕ, suc, _+_, _%_, _^_, _<_, _≤_, max}
+use Prim.Native.Nat.{ℕ, suc, _+_, _%_, _^_, _≤_, max}
 use native.Mathlib.Nat.{mod-lt}
 use native.Mathlib.Omega.{arith}
 use lib.ListN.{length, drop}
 use borrow.Author.Tests.{eq-eqb, ne-eqb}
-use Rattle.basics.specs.Numbers.{numberOf, part, Bytes, bytesOf}
+use Rattle.basics.specs.Numbers.{numberOf, part, Bytes}
 use Rattle.basics.proofs.laws.Bytes.{part-number}
 use Rattle.sheets.specs.Sheet.{sheetLength}
 use Rattle.tallies.specs.Grid.{Grid, cellPlace, put, Holds, Reads, Becomes}

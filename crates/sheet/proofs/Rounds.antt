@@ -1,18 +1,18 @@
 -- The rounds of the pass: what holds when k records are followed, before the first of them and after one more.
 use mathlib.Core.Path.{_≡_, refl, sym, ap, subst, _∙_}
 use mathlib.Core.List.{List, [], _∷_, _++_, map}
-use Prim.Native.Nat.{ℕ, _+_, _-_, _*_, _^_, _<_, _≤_}
+use Prim.Native.Nat.{ℕ, _+_, _-_, _*_, _<_, _≤_}
 use native.Mathlib.Nat.{zero-add}
 use native.Mathlib.Omega.{arith}
 use lib.ListN.{length}
 use Rattle.rules.specs.Lines.{Lines}
-use Rattle.rules.specs.Device.{Device, WellFormed, reset}
+use Rattle.rules.specs.Device.{WellFormed, reset}
 use Rattle.laws.proofs.laws.Images.{reset-well-formed}
 use Rattle.plain.specs.Sequence.{Item}
 use Rattle.traces.specs.Trace.{Record, recordLength, firstPlace, recordAt, nth}
 use Rattle.traces.specs.Played.{recordsFrom}
 use Rattle.sheets.specs.Day.{itemOf}
-use Rattle.tallies.specs.Marks.{Mark, itemMarks, itemAfter, dayMarks}
+use Rattle.tallies.specs.Marks.{itemMarks, itemAfter, dayMarks}
 use Rattle.tallies.specs.Following.{Stands, Takes, FollowsItem}
 use Rattle.tallies.proofs.laws.Taking.{takes-none, takes-then, takes-same}
 use Rattle.passes.specs.Finish.{afterItems}

@@ -4,7 +4,6 @@ pub mod rows;
 use map::Plain;
 use map::Register;
 ghost use mathlib.Core.Path.{_≡_};
-ghost use mathlib.Core.Bool.{false};
 ghost use Rattle.map.specs.Views.{registerView};
 ghost use Rattle.table.specs.Meaning.{partOf, reading, meant, Agrees};
 ghost use Rattle.table.specs.Views.{placeView};

@@ -1,7 +1,7 @@
 -- What a Dword reads and writes in place, by what its offset means.
 use mathlib.Core.Path.{_≡_, refl, sym, ap, _∙_}
 use mathlib.Core.Bool.{Bool}
-use mathlib.Core.List.{List, [], _∷_, _++_}
+use mathlib.Core.List.{List, [], _++_}
 use Prim.Native.Nat.{ℕ, zero, suc, _+_}
 use Rattle.basics.specs.Numbers.{byteOf}
 use Rattle.basics.specs.Inputs.{half}
@@ -9,7 +9,6 @@ use Rattle.rules.specs.Core.{Core, CoreTurn, Act, turns}
 use Rattle.rules.specs.Map.{Register, halfOf, bytes, cellAt}
 use Rattle.rules.specs.Map as map
 use Rattle.rules.specs.Access.{valueOf, readCell, readDword, registerActs, entryActs, cellActs, dwordActs, byteActs}
-use Rattle.rules.specs.Device.{acted}
 use Rattle.rules.proofs.laws.Acts.{turns-append}
 use Rattle.laws.proofs.laws.Losses.{entry-quiet}
 use Rattle.laws.proofs.laws.Widths.{dword-of}

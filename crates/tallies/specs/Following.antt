@@ -12,7 +12,7 @@ use Rattle.rules.specs.Map as map
 use Rattle.rules.specs.Map.{Register}
 use Rattle.rules.specs.Access.{valueOf}
 use Rattle.plain.specs.Sequence.{Item, notesOf}
-use Rattle.tallies.specs.Grid.{Grid, Becomes}
+use Rattle.tallies.specs.Grid.{Becomes}
 use Rattle.tallies.specs.Marks.{Mark, happened, allMarked, marksOf, itemMarks, itemAfter}
 
 -- a device has these lines, and so many wait

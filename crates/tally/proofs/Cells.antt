@@ -1,6 +1,6 @@
 -- The numbers of a sheet, as the functions of this crate read and write them.
 use mathlib.Core.Path.{_≡_, refl, sym, ap, subst, _∙_}
-use mathlib.Core.Bool.{Bool, true, false, cond}
+use mathlib.Core.Bool.{Bool, true, false}
 use mathlib.Core.List.{List, [], _∷_, _++_}
 use Prim.Native.Nat.{ℕ, _+_, _-_, _%_, _^_, _<_, max}
 use native.Mathlib.Omega.{arith}

@@ -1,5 +1,5 @@
 -- What enters and what leaves, by value: the numbers come to the rules' turns.
-use mathlib.Core.Path.{_≡_, refl, sym, ap, subst, _∙_}
+use mathlib.Core.Path.{_≡_, refl, sym, ap, _∙_}
 use mathlib.Core.Bool.{Bool, true, false, cond, not, _&&_, _||_, and-comm}
 use mathlib.Core.List.{List, [], _∷_, map}
 use Prim.Native.Nat.{ℕ, _-_, _*_, _%_, _^_, _<_}
@@ -8,11 +8,11 @@ use lib.Bits.{bitAnd, bitOr}
 use lib.Count.{trailingZeros}
 use lib.Dec.{eqb}
 use borrow.Author.Tests.{eq-eqb, eqb-true}
-use Rattle.basics.specs.Inputs.{on, inputs, only, put, register, without, withHalf}
-use Rattle.rules.specs.Lines.{Lines, Turn, stay, andThen, withMask, withIrr, withIsr, event, isPending, pendingIn, servedIn, serve, enter, leave, newlyUnmasked, newlyMasked, polled, raised, lowered, masked, cleared}
-use Rattle.rules.specs.Core.{Move, move, poll, raise, lower, clear, setMask, moved}
+use Rattle.basics.specs.Inputs.{on, inputs, only, register, without, withHalf}
+use Rattle.rules.specs.Lines.{Lines, stay, andThen, withMask, withIrr, withIsr, event, isPending, pendingIn, servedIn, serve, enter, leave, newlyUnmasked, newlyMasked, polled, raised, lowered, masked, cleared}
+use Rattle.rules.specs.Core.{move, poll, raise, lower, clear, setMask, moved}
 use Rattle.basics.proofs.laws.Bits.{test, is-number, on-number, on-none, on-or, on-bit, put-is, without-is, without-only-is, without-ext, register-ext}
-use Rattle.basics.proofs.laws.Inputs.{inputs-ext, first-input, no-input}
+use Rattle.basics.proofs.laws.Inputs.{first-input, no-input}
 use Rattle.laws.proofs.laws.Sets.{only-waiting, only-served, stages}
 use Rattle.decide.specs.Sets.{waitingOf, servedOf}
 use Rattle.decide.proofs.Deciding.{inputs-of, none-served}

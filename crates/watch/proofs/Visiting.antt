@@ -8,12 +8,12 @@ use lib.Bits.{bitAnd, and-le-l}
 use lib.Count.{trailingZeros}
 use lib.ListN.{length}
 use Rattle.basics.specs.Inputs.{on, inputs}
-use Rattle.rules.specs.Lines.{Made, event}
+use Rattle.rules.specs.Lines.{event}
 use Rattle.basics.proofs.laws.Inputs.{first-below, first-input, lowest-dropped, no-input}
-use Rattle.tallies.specs.Marks.{Mark, takenBack}
+use Rattle.tallies.specs.Marks.{takenBack}
 use Rattle.tallies.specs.Following.{Takes, Offers}
-use Rattle.tallies.proofs.laws.Taking.{takes-none, takes-then, takes-same}
-use Rattle.tallies.proofs.laws.Turning.{offers-none, offers-then, offers-same}
+use Rattle.tallies.proofs.laws.Taking.{takes-then, takes-same}
+use Rattle.tallies.proofs.laws.Turning.{offers-then, offers-same}
 
 pub record Visiting (P : List ℕ → Type 0) (set left : ℕ) : Type 0 where
   pub sofar : List ℕ

@@ -14,7 +14,7 @@ ghost use Rattle.basics.specs.Inputs.{on, inputs, only};
 ghost use Rattle.rules.specs.Lines as lines;
 ghost use Rattle.rules.specs.Core as core;
 ghost use Rattle.sheets.specs.Sheet.{sheetLength};
-ghost use Rattle.tallies.specs.Marks.{raised, lowered, began, takenBack, idleIn};
+ghost use Rattle.tallies.specs.Marks.{raised, began, takenBack, idleIn};
 ghost use Rattle.tallies.specs.Following.{Takes, Offers, Turns, Follows};
 ghost use Rattle.tally.specs.Fates.{Ready};
 ghost use Rattle.watch.specs.Kept.{linesOf};

@@ -3,9 +3,9 @@ use mathlib.Core.Path.{_≡_, refl, sym, ap, subst, _∙_}
 use mathlib.Core.Bool.{Bool, true, false, cond}
 use mathlib.Core.List.{List, [], _∷_}
 use mathlib.Core.Logic.{inl, inr}
-use Prim.Native.Nat.{ℕ, _+_, _-_, _<_, _≤_}
+use Prim.Native.Nat.{ℕ, _-_, _<_, _≤_}
 use native.Mathlib.Omega.{arith}
-use lib.Dec.{eqb, ltb}
+use lib.Dec.{eqb}
 use lib.ListN.{length, drop, length-drop}
 use borrow.Author.Tests.{lt-ltb, le-ltb, ne-eqb, eqb-true}
 use Rattle.rules.specs.Lines.{Lines}
@@ -13,10 +13,10 @@ use Rattle.rules.specs.Ring.{drawn}
 use Rattle.rules.specs.Core.{Core, Act, Move, move}
 use Rattle.rules.specs.Core as core
 use Rattle.rules.specs.Access.{Width, byte, word, dword, qword, writeActs}
-use Rattle.rules.specs.Device.{Device, WellFormed, Call, level, poll, read, write, drain, actsOf, draws, acted, step}
+use Rattle.rules.specs.Device.{Device, Call, level, poll, read, write, drain, actsOf, draws}
 use Rattle.rules.proofs.laws.Acts.{step-acted}
 use Rattle.rules.proofs.laws.Steps.{read-device, drain-device}
-use Rattle.calls.specs.Calls.{Tested, pass, refuse, onPass, widthTest, addressTest, inputCall, accessCall, calls, askedBy, noWidth, outside}
+use Rattle.calls.specs.Calls.{Tested, pass, refuse, onPass, widthTest, addressTest, inputCall, calls, askedBy, noWidth, outside}
 use Rattle.calls.specs.Calls as asked
 use Rattle.calls.proofs.laws.Outcomes.{width-refused, address-refused, access-passed}
 use Rattle.plain.specs.Sequence.{Item, call, refused}
@@ -30,8 +30,8 @@ use Rattle.window.specs.declared.Known.the-variants.{As, Unknown}
 use Rattle.window.specs.declared.Located.{Located}
 use Rattle.window.specs.declared.Located.the-variants.{At, Outside}
 use Rattle.sheets.specs.Day.{asItem, itemOf}
-use Rattle.tallies.specs.Marks.{marksOf, itemMarks, itemAfter}
-use Rattle.tallies.specs.Following.{Stands, Takes, Follows, FollowsItem}
+use Rattle.tallies.specs.Marks.{marksOf}
+use Rattle.tallies.specs.Following.{Stands, Follows, FollowsItem}
 use Rattle.tallies.proofs.laws.Taking.{takes-none}
 use Rattle.tallies.proofs.laws.Quiet.{follows-same}
 use Rattle.watch_write.specs.Pieces.{Sized, widthOf}

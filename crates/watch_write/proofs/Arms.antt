@@ -11,13 +11,12 @@ use Rattle.basics.specs.Numbers.{byteOf, withByte}
 use Rattle.basics.specs.Inputs.{on, without, half, asHalf}
 use Rattle.basics.proofs.laws.Bits.{without-is}
 use Rattle.rules.specs.Lines.{Lines}
-use Rattle.rules.specs.Core.{Core, Act, move, clear, turns}
+use Rattle.rules.specs.Core.{move, clear}
 use Rattle.rules.specs.Map as map
 use Rattle.rules.specs.Access.{Width, byte, word, dword, qword, valueOf, registerActs, cellActs, dwordActs, byteActs, writeActs}
 use Rattle.map.specs.Views.{registerView}
 use Rattle.map.specs.declared.Register.{Register}
 use Rattle.map.specs.declared.Register.the-variants as register
-use Rattle.map.specs.declared.Plain.{Plain}
 use Rattle.tallies.specs.Following.{Follows, heeded, ReadsAs}
 use Rattle.tallies.proofs.laws.Taking.{follows-then}
 use Rattle.tallies.proofs.laws.Quiet.{follows-same, byte-of-half, byte-of-bytes, byte-of-none, dword-follows}

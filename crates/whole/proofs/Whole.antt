@@ -1,16 +1,16 @@
 -- How a drain of an accepted image ends.
 use mathlib.Core.Path.{_≡_, refl, sym, ap, _∙_}
-use mathlib.Core.List.{List, [], _++_}
+use mathlib.Core.List.{List, _++_}
 use Prim.Native.Nat.{ℕ, _+_, _-_, _*_, _/_, min}
 use native.Mathlib.Omega.{arith}
 use lib.ListN.{length, take, drop, length-take}
 use Rattle.images.specs.Form.{Form}
 use Rattle.rules.specs.Ring.{Event, Drawn, drawn}
-use Rattle.rules.specs.Device.{some, step, value}
+use Rattle.rules.specs.Device.{some, value}
 use Rattle.rules.specs.Device as device
 use Rattle.rules.specs.Numbering.{Numbered, withNumbers, drainedLength, quadsOf, fewer, drainedWith, valueWith}
 use Rattle.images.specs.Image.{encodeLike, decode, numbersIn}
-use Rattle.calls.specs.Calls.{pass, written, ending}
+use Rattle.calls.specs.Calls.{written, ending}
 use Rattle.calls.specs.Calls as asked
 use Rattle.laws.proofs.laws.Images.{encode-same}
 use Rattle.calls.proofs.laws.Outcomes.{call-done}

@@ -1,18 +1,12 @@
 -- `read`: no such width, then outside the window; done, the image stays and what the registers read is told.
-use mathlib.Core.Path.{_≡_, refl, sym, ap, _∙_}
+use mathlib.Core.Path.{refl, sym, ap, _∙_}
 use Rattle.rules.specs.Access.{readAt}
-use mathlib.Core.List.{List}
-use lib.ListN.{length}
-use Prim.Native.Nat.{ℕ}
-use Rattle.images.specs.Form.{formLength}
 use Rattle.rules.specs.Device as device
 use Rattle.calls.specs.Calls as asked
-use Rattle.image.specs.Shown.{formView}
 use Rattle.window.specs.Tests.{knownView}
 use Rattle.window.proofs.Bounds.{reach}
-use Rattle.inplace.specs.Passed.{Passed}
 use Rattle.inplace.proofs.Passing.{long}
-use Rattle.refusals.proofs.Ends.{fitting, goes-on, tells, by-head, by-bodies}
+use Rattle.refusals.proofs.Ends.{tells}
 use Rattle.accepted_access.proofs.Aims.{no-width, no-place, read-done}
 use borrow.Author.Needs.{needs}
 use Rattle.accepted_access.proofs.read.Statement.{statement}

@@ -1,18 +1,12 @@
 -- `write`: no such width, then outside the window; done, the image is that of the device after the write.
-use mathlib.Core.Path.{_≡_, refl, sym, ap, _∙_}
-use mathlib.Core.List.{List}
-use lib.ListN.{length}
-use Prim.Native.Nat.{ℕ}
+use mathlib.Core.Path.{refl, sym, ap, _∙_}
 use native.Mathlib.Omega.{arith}
-use Rattle.images.specs.Form.{formLength}
 use Rattle.rules.specs.Device as device
 use Rattle.calls.specs.Calls as asked
-use Rattle.image.specs.Shown.{formView}
 use Rattle.window.specs.Tests.{knownView}
 use Rattle.window.proofs.Bounds.{reach}
-use Rattle.inplace.specs.Passed.{Passed}
 use Rattle.inplace.proofs.Passing.{long}
-use Rattle.refusals.proofs.Ends.{fitting, goes-on, tells, by-head, by-bodies}
+use Rattle.refusals.proofs.Ends.{tells}
 use Rattle.accepted_access.proofs.Aims.{no-width, no-place, write-done}
 use Rattle.accepted_access.proofs.Reaching.{byte-low, word-low, dword-low}
 use borrow.Author.Needs.{needs}

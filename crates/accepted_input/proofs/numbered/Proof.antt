@@ -1,6 +1,5 @@
 -- `numbered`: a vector takes the next number; where there is none, nothing.
-use mathlib.Core.Path.{_≡_, refl, ap, _∙_}
-use mathlib.Core.Bool.{false}
+use mathlib.Core.Path.{refl, ap}
 use Prim.Native.Nat.{ℕ, _+_, _*_, _^_}
 use Rattle.rules.specs.Device.{some}
 use borrow.Author.Needs.{needs}

@@ -1,15 +1,10 @@
 -- `poll`: no such input; done, only the lines moved, and the vector returned is told with its number.
 use mathlib.Core.Path.{_≡_, refl, _∙_}
 use lib.ListN.{length}
-use mathlib.Core.List.{List}
-use Prim.Native.Nat.{ℕ}
-use Rattle.images.specs.Form.{formLength}
 use Rattle.rules.specs.Device as device
 use Rattle.calls.specs.Calls as asked
-use Rattle.image.specs.Shown.{formView}
-use Rattle.inplace.specs.Passed.{Passed}
 use Rattle.inplace.proofs.Passing.{long}
-use Rattle.refusals.proofs.Ends.{fitting, goes-on, tells, by-head, by-bodies}
+use Rattle.refusals.proofs.Ends.{tells}
 use Rattle.accepted_input.proofs.Lines.{no-input, poll-done}
 use borrow.Author.Needs.{needs}
 use Rattle.accepted_input.proofs.poll.Statement.{statement}

@@ -1,8 +1,8 @@
 -- The list of the inputs that have a property: what it depends on, its first one, when it is empty. trailing_zeros gives the first one.
 use mathlib.Core.Path.{_≡_, refl, sym, ap, ap₂, _∙_}
 use mathlib.Core.Logic.{⊎-elim}
-use mathlib.Core.Bool.{Bool, true, false, cond, not, _&&_, and-true, and-assoc, and-comm}
-use mathlib.Core.List.{List, [], _∷_, map}
+use mathlib.Core.Bool.{Bool, true, false, cond, not, _&&_, and-true}
+use mathlib.Core.List.{List, [], _∷_}
 use Prim.Native.Nat.{ℕ, zero, suc, _+_, _-_, _/_, _%_, _^_, _≤_, _<_, suc-le-suc, zero-le}
 use native.Mathlib.Nat.{eq-or-lt-of-le, le-of-suc-le-suc, lt-of-le-of-lt}
 use native.Mathlib.Omega.{arith}
@@ -10,7 +10,7 @@ use lib.Bits.{bitAnd, and-le-l}
 use lib.Count.{trailingZeros, under}
 use borrow.Author.Tests.{eq-eqb, ne-eqb, eqb-true, eqb-false}
 use Rattle.basics.specs.Inputs.{on, from, inputs, only, without}
-use Rattle.basics.proofs.laws.Bits.{digit, test, is-number, on-zero, on-suc, on-none, on-and, on-and-not, on-without, without-ext}
+use Rattle.basics.proofs.laws.Bits.{digit, test, is-number, on-zero, on-suc, on-none, on-and, on-without}
 
 -- ---- lists
 pub from-ext : (n k : ℕ) (f g : ℕ → Bool) → ((i : ℕ) → n ≤ i → i < n + k → f i ≡ g i) → from n k f ≡ from n k g

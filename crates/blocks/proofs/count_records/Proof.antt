@@ -1,5 +1,5 @@
 -- `count_records`: the blocks looked at so far stand, and what is left of them decides.
-use Prim.Native.Nat.{_+_, _-_}
+use Prim.Native.Nat.{_-_}
 use native.Mathlib.Omega.{arith}
 use borrow.Author.Needs.{needs}
 use Rattle.blocks.proofs.Standing.{Looked, looked-none, looked-all, other-offset, no-record, too-many, looked-on}

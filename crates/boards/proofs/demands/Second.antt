@@ -6,18 +6,15 @@ use mathlib.Core.List.{List, [], _∷_, _++_, map, append-nil}
 use Prim.Native.Nat.{ℕ, zero, suc, _+_, _≤_}
 use native.Mathlib.Omega.{arith}
 use lib.Dec.{lit≤}
-use lib.ListN.{length, take, length-map}
-use Rattle.rules.specs.Lines.{Made}
-use Rattle.rules.specs.Ring.{Event, kept, dropped}
+use lib.ListN.{length, take}
 use Rattle.rules.specs.Device.{Device, Call, reset, upFrom}
 use Rattle.rules.specs.Numbering.{Numbers, Numbered, fromZero, eventsIn}
 use Rattle.rules.specs.History.{history, fromReset}
 use Rattle.images.specs.Form.{Form, one, two, numbered, numbers, has, formLength}
-use Rattle.images.specs.Image.{decode, numbersIn}
+use Rattle.images.specs.Image.{numbersIn}
 use Rattle.calls.specs.Calls.{afresh, askedBy}
-use Rattle.histories.specs.Premises.{Along, Admitted}
-use Rattle.histories.specs.Demands.{asEvent, ringActs}
-use Rattle.exported.specs.Exported.{Exported, leftBy, isDone, Underway, carriedOn, carriedThrough, NoLoads, doneCalls, inImage, afterReset, returnedBy, drainedBy}
+use Rattle.histories.specs.Demands.{asEvent}
+use Rattle.exported.specs.Exported.{Exported, isDone, Underway, carriedOn, carriedThrough, doneCalls, inImage, afterReset, returnedBy, drainedBy}
 use Rattle.order.specs.Fates.{isReturned, isKept, isDropped, Placed, eventsMade, withFate}
 use Rattle.order.specs.Numbered.{numberAt, allFrom, numberedFrom, InOrder}
 use Rattle.order.specs.Read.{returnedRead, drainedRead}

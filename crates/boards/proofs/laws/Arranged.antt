@@ -1,17 +1,13 @@
 -- Two lists in one, and numbered events put in order: whatever the order in which they were collected, by rising number they stand as they were made.
 use mathlib.Core.Path.{_≡_, refl, sym, ap, subst, _∙_}
-use mathlib.Core.Bool.{Bool, cond}
 use mathlib.Core.List.{List, [], _∷_, _++_, map}
-use Prim.Native.Nat.{ℕ, zero, suc, _+_, _<_, _≤_}
+use Prim.Native.Nat.{ℕ, zero, suc, _+_, _<_}
 use native.Mathlib.Omega.{arith}
-use lib.Dec.{leb}
 use borrow.Author.Tests.{le-leb, lt-leb}
 use Rattle.rules.specs.Numbering.{Numbered}
 use Rattle.rules.specs.Device.{upFrom}
-use Rattle.images.specs.Form.{decided}
-use Rattle.order.specs.Fates.{Fate, Fate-discrete, isReturned, isKept, isDropped, Placed, withFate}
+use Rattle.order.specs.Fates.{Fate, isReturned, isKept, isDropped, Placed, withFate}
 use Rattle.boards.specs.Hearing.{Interleaves, neither, first, second, inserted, byNumber}
-use Rattle.basics.proofs.laws.Bits.{test}
 
 -- ---- two lists in one
 

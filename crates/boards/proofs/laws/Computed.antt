@@ -1,7 +1,7 @@
 -- The definitions on closed numbers, so that it is seen what they say: counts that a call moves, a second board, and numbered events put in order.
 use mathlib.Core.Path.{_≡_, refl}
 use mathlib.Core.Bool.{Bool, true, false}
-use mathlib.Core.List.{List, [], _∷_, map}
+use mathlib.Core.List.{List, [], _∷_}
 use Prim.Native.Nat.{ℕ}
 use lib.ListN.{set, getD, replicate}
 use Rattle.rules.specs.Core.{Core}

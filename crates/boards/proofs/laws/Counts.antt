@@ -3,17 +3,17 @@ use mathlib.Core.Path.{_≡_, refl, sym, ap, _∙_}
 use mathlib.Core.Logic.{_⊎_, inl, inr}
 use mathlib.Core.Bool.{Bool, true, false, cond, not, _&&_, _||_, and-false, false≢true}
 use mathlib.Core.List.{List, [], _∷_, map}
-use Prim.Native.Nat.{ℕ, zero, suc, _+_, _-_, _<_, _≤_}
+use Prim.Native.Nat.{ℕ, zero, suc, _+_, _-_, _<_}
 use native.Mathlib.Omega.{arith}
 use lib.Dec.{eqb}
-use lib.ListN.{length, getD, length-map, List·getD-map}
+use lib.ListN.{length, getD, length-map}
 use lib.Seq.{ext-getD}
 use borrow.Author.Tests.{eqb-true}
 use Rattle.basics.specs.Inputs.{on, inputs}
 use Rattle.rules.specs.Lines.{servedIn}
 use Rattle.rules.specs.Core.{Core}
 use Rattle.rules.specs.Device.{upFrom}
-use Rattle.rules.specs.Account.{servedWith, carries, carrying}
+use Rattle.rules.specs.Account.{carries, carrying}
 use Rattle.boards.specs.Board.{countsBy, recount, touched, carryingWith, broughtCount, broughtBy, Touching}
 use Rattle.basics.proofs.laws.Bits.{test}
 use Rattle.basics.proofs.laws.Inputs.{first-has}

@@ -1,20 +1,20 @@
 -- A second board by its counts: what the events made say of a vector brings its count from that of the core before to that of the core after.
-use mathlib.Core.Path.{_≡_, refl, sym, ap, ap₂, subst, _∙_}
+use mathlib.Core.Path.{_≡_, refl, sym, ap, subst, _∙_}
 use mathlib.Core.Logic.{⊎-elim}
 use mathlib.Core.Bool.{Bool, true, false, cond, not, _&&_}
 use mathlib.Core.List.{List, [], _∷_, _++_, map, map-append, append-nil}
 use Prim.Native.Nat.{ℕ, _+_, _-_, _<_, _≤_}
 use native.Mathlib.Omega.{arith}
 use lib.Dec.{eqb}
-use lib.ListN.{length, set, getD, replicate, length-set, length-replicate, getD-replicate}
+use lib.ListN.{length, set, getD, length-set, length-replicate, getD-replicate}
 use lib.Seq.{getD-set-same, getD-set-other}
 use borrow.Author.Tests.{le-leb, eqb-true, eqb-false}
 use Rattle.basics.specs.Inputs.{on, inputs, only, put, without, withHalf}
 use Rattle.rules.specs.Lines.{Lines, Made, event, withIrr, withMask, pendingIn, servedIn, serve, enter, newlyUnmasked, newlyMasked}
 use Rattle.rules.specs.Lines.{polled, raised, lowered, cleared, masked}
 use Rattle.rules.specs.Ring.{Event, flag}
-use Rattle.rules.specs.Core.{Core, Move, poll, raise, lower, clear, setMask, Act, move, setIsr, store, setVector, moved, lineTurn, turn, turns}
-use Rattle.rules.specs.Device.{Device, Call, actsOf, acted, step, reset}
+use Rattle.rules.specs.Core.{Core, Move, poll, raise, lower, clear, setMask, Act, move, setIsr, store, setVector, moved, lineTurn, turn}
+use Rattle.rules.specs.Device.{Device, Call, acted, step, reset}
 use Rattle.rules.specs.History.{history, fromReset}
 use Rattle.rules.specs.Account.{tally, servedWith, hasVector, carries, asserts, deasserts, carrying}
 use Rattle.histories.specs.Premises.{Along, Admitted}

@@ -4,11 +4,11 @@ use mathlib.Core.List.{List, []}
 use Prim.Native.Nat.{ℕ, _<_, _≤_}
 use lib.ListN.{length}
 use borrow.Author.Tests.{le-leb, lt-leb}
-use Rattle.rules.specs.Device.{Device, Value, none}
+use Rattle.rules.specs.Device.{none}
 use Rattle.images.specs.Form.{Form, Known, unknown, known, formOf}
 use Rattle.images.specs.Image.{ImageTest, imageTest, encodeAs, decode, numbersIn}
 use Rattle.images.specs.Image as image
-use Rattle.calls.specs.Calls.{wrongLength, noRoom, refusalNumber, Tested, pass, refuse, onPass, imageAnswer, imageNumber, imageValue, answerLength, answered, leaves, Ending}
+use Rattle.calls.specs.Calls.{wrongLength, noRoom, refusalNumber, pass, refuse, onPass, imageAnswer, imageNumber, imageValue, answerLength, answered, leaves, Ending}
 use Rattle.calls.specs.Convert.{lengthTest, converted, convertEnded, convertEnding, conversion}
 
 module _ (i t : List ℕ) where

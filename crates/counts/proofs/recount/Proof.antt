@@ -2,7 +2,7 @@
 use Prim.Native.Nat.{_<_, _≤_}
 use native.Mathlib.Nat.{lt-of-le-of-lt}
 use native.Mathlib.Omega.{arith}
-use mathlib.Core.Path.{_≡_, _∙_}
+use mathlib.Core.Path.{_∙_}
 use lib.Count.{trailingZeros, trailing-le}
 use lib.ListN.{length}
 use Rattle.basics.specs.Inputs.{on, inputs}

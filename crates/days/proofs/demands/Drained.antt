@@ -1,21 +1,19 @@
 -- 02, C-21: what was offered, less what was dropped and what waits at the end, is what was drained. Stated of the sheet's total.
 use mathlib.Core.Path.{_≡_, refl, sym, ap, subst, _∙_}
-use mathlib.Core.Bool.{Bool, cond}
 use mathlib.Core.List.{List, []}
 use Prim.Native.Nat.{ℕ, zero, suc, _+_}
 use native.Mathlib.Nat.{zero-add}
-use native.Mathlib.Omega.{arith}
 use lib.ListN.{length}
 use Rattle.rules.specs.Account.{tally}
 use Rattle.rules.specs.Device.{reset}
 use Rattle.laws.proofs.laws.Images.{reset-well-formed}
-use Rattle.plain.specs.Events.{Note, waiting}
-use Rattle.plain.specs.Sequence.{loadOf, plainAfter}
+use Rattle.plain.specs.Events.{waiting}
+use Rattle.plain.specs.Sequence.{loadOf}
 use Rattle.plain.proofs.laws.Following.{loadedRun}
 use Rattle.plain.proofs.demands.History.{same-history}
 use Rattle.traces.specs.Played.{records}
 use Rattle.sheets.specs.Day.{items, begun, dayOf}
-use Rattle.sheets.specs.Sheet.{Row, rowOf, together, totalBelow}
+use Rattle.sheets.specs.Sheet.{Row, rowOf, totalBelow}
 use Rattle.passes.specs.Slots.{NoLoad}
 use Rattle.passes.proofs.laws.Passing.{no-load-well, same-begun}
 use Rattle.passes.proofs.laws.Days.{items-loadless}

@@ -1,16 +1,16 @@
 -- 02, C-21, in exact numbers: every number of the sheet of a good trace is below 2 ^ 32, so that its four bytes tell it.
-use mathlib.Core.Path.{_≡_, refl, sym, ap, subst, _∙_}
-use mathlib.Core.Bool.{Bool, true, false, cond}
-use mathlib.Core.List.{List, [], _∷_, _++_, map}
+use mathlib.Core.Path.{_≡_, refl, ap, subst}
+use mathlib.Core.Bool.{Bool, true, false}
+use mathlib.Core.List.{List, [], _∷_}
 use Prim.Native.Nat.{ℕ, zero, suc, _+_, _*_, _^_, _<_, _≤_, max}
 use native.Mathlib.Omega.{arith}
 use lib.ListN.{length, length-append}
 use Rattle.basics.specs.Numbers.{byteOf}
-use Rattle.basics.specs.Inputs.{on, only, put, without, half, withHalf}
+use Rattle.basics.specs.Inputs.{half}
 use Rattle.basics.proofs.laws.Bits.{test}
-use Rattle.rules.specs.Lines.{Lines, Made, event, withMask, withIrr, servedIn, enter, leave, newlyUnmasked, newlyMasked, polled, raised, lowered, cleared, masked}
+use Rattle.rules.specs.Lines.{Made}
 use Rattle.rules.specs.Ring.{Ring}
-use Rattle.rules.specs.Core.{Core, Act, Move, move, setIsr, store, setVector, poll, raise, lower, clear, setMask, moved, lineTurn, turn, turns}
+use Rattle.rules.specs.Core.{Core, poll, turns}
 use Rattle.rules.specs.Access.{byte, word, dword, qword, dwordActs, byteActs, writeActs}
 use Rattle.rules.specs.Account.{tally}
 use Rattle.rules.specs.Device.{Device, Call, level, read, write, drain, reset, actsOf, step}
@@ -19,15 +19,15 @@ use Rattle.laws.proofs.laws.Images.{reset-well-formed}
 use Rattle.laws.proofs.laws.Losses.{acts-few, dword-short, byte-short}
 use Rattle.plain.specs.Events.{Note}
 use Rattle.plain.specs.Plain.{Engine}
-use Rattle.plain.specs.Sequence.{Item, call, load, refused, loadOf, takes, plainAfter, ringWith, notesOf, Ported, portedFollows, portedAfter}
+use Rattle.plain.specs.Sequence.{Item, call, load, refused, loadOf, takes, ringWith, notesOf, Ported, portedFollows, portedAfter}
 use Rattle.plain.proofs.demands.History.{same-history}
 use Rattle.traces.specs.Trace.{recordCount, good, traceTest}
-use Rattle.traces.specs.Played.{recordsFrom, records}
+use Rattle.traces.specs.Played.{records}
 use Rattle.traces.proofs.demands.Told.{AllGood, Means, test-told}
 use Rattle.traces.proofs.demands.Sizes.{few-records}
-use Rattle.sheets.specs.Day.{Moment, itemOf, items, begun, moments, dayOf}
-use Rattle.sheets.specs.Waits.{End, endFrom, begins, waits}
-use Rattle.sheets.specs.Sheet.{Row, rowOf, emptyRow, together, totalBelow}
+use Rattle.sheets.specs.Day.{Moment, items, begun, moments, dayOf}
+use Rattle.sheets.specs.Waits.{End, begins, waits}
+use Rattle.sheets.specs.Sheet.{Row, rowOf, together, totalBelow}
 use Rattle.passes.specs.Slots.{NoLoad}
 use Rattle.passes.proofs.laws.Passing.{no-load-well, great-small}
 use Rattle.passes.proofs.laws.Days.{items-loadless, items-length}

@@ -1,7 +1,7 @@
 -- The day that is counted is the day that is played (02, C-21, C-11): after each record the plain engine shows the device that the played image holds, and a record is refused in the one just
 -- where it is refused in the other.
 use mathlib.Core.Path.{_≡_, refl, sym, ap, _∙_}
-use mathlib.Core.Bool.{true, false, true≢false, and-false}
+use mathlib.Core.Bool.{false, true≢false, and-false}
 use mathlib.Core.List.{List, [], _∷_, map}
 use Prim.Native.Nat.{ℕ}
 use lib.Dec.{eqb}
@@ -19,7 +19,7 @@ use Rattle.calls.specs.Calls as request
 use Rattle.laws.proofs.laws.Images.{reset-well-formed, reset-numbered, decode-encode, encode-as}
 use Rattle.exported.specs.Exported.{Exported, isDone, isReset, isLoad, carriedOn, doneCall, atLoad, current}
 use Rattle.exported.proofs.laws.Chains.{refused-not-done, faithful-at-load, faithful-kept, carried-on, left-holds, left-last}
-use Rattle.plain.specs.Sequence.{call, refused, loadOf, shown, Ported, portedFollows, portedAfter, plainAfter}
+use Rattle.plain.specs.Sequence.{call, loadOf, shown, Ported, portedFollows, portedAfter, plainAfter}
 use Rattle.plain.proofs.demands.History.{shows-device}
 use Rattle.traces.specs.Trace.{Record, nth}
 use Rattle.traces.specs.Played.{requestOf, playedOn, recordsFrom, outcomes, gathered}

@@ -1,28 +1,27 @@
 -- 02, C-21, of each input: its asserts less its deasserts are 1 or 0, and are whether it is in service at the end, where no record's write reaches ISR.
-use mathlib.Core.Path.{_≡_, refl, sym, ap, subst, _∙_}
-use mathlib.Core.Bool.{Bool, true, false, cond, not, _&&_}
-use mathlib.Core.List.{List, [], _∷_, _++_, map}
+use mathlib.Core.Path.{_≡_, refl, sym, ap, _∙_}
+use mathlib.Core.Bool.{Bool, cond}
+use mathlib.Core.List.{List, [], _∷_}
 use Prim.Native.Nat.{ℕ, _+_, _<_}
 use native.Mathlib.Omega.{arith}
-use lib.Dec.{eqb}
 use Rattle.basics.specs.Inputs.{on}
 use Rattle.basics.proofs.laws.Bits.{on-none}
 use Rattle.rules.specs.Lines.{Made}
 use Rattle.rules.specs.Ring.{Ring}
 use Rattle.rules.specs.Account.{tally}
-use Rattle.rules.specs.Device.{Device, reset, actsOf, acted, step}
+use Rattle.rules.specs.Device.{reset, actsOf, acted, step}
 use Rattle.rules.proofs.laws.Counts.{tally-append}
 use Rattle.histories.proofs.laws.Reach.{no-isr-act}
 use Rattle.laws.proofs.laws.Images.{reset-well-formed}
 use Rattle.plain.specs.Events.{Note}
-use Rattle.plain.specs.Sequence.{Item, call, load, refused, loadOf, shown, WellLoaded, plainAfter, noteOf, fateIn, ringWith, notesOf, Ported, portedFollows, portedAfter}
+use Rattle.plain.specs.Sequence.{Item, call, load, refused, loadOf, shown, noteOf, fateIn, ringWith, notesOf, Ported, portedFollows, portedAfter}
 use Rattle.plain.proofs.demands.History.{shows-device, same-history}
 use Rattle.traces.specs.Played.{records}
-use Rattle.sheets.specs.Day.{itemOf, items, begun, dayOf}
+use Rattle.sheets.specs.Day.{items, begun, dayOf}
 use Rattle.sheets.specs.Waits.{assertOf, deassertOf}
 use Rattle.sheets.specs.Sheet.{rowOf}
 use Rattle.days.specs.Accounts.{NoIsrWrite, atLast}
-use Rattle.days.proofs.laws.Balance.{up, down, Balanced, balanced-acts}
+use Rattle.days.proofs.laws.Balance.{up, down, balanced-acts}
 use Rattle.passes.specs.Slots.{NoLoad}
 use Rattle.passes.proofs.laws.Passing.{no-load-well}
 use Rattle.passes.proofs.laws.Days.{items-loadless}

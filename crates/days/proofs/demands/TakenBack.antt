@@ -1,13 +1,13 @@
 -- 02, C-21: a wait is withdrawn by CLEAR or a lowering, and by nothing else. Of an input that is latched, a record leaves the latch off exactly if it lowers the input or
 -- writes a 1 to its place in CLEAR.
-use mathlib.Core.Path.{_≡_, refl, sym, ap, subst, _∙_}
+use mathlib.Core.Path.{_≡_, refl, sym, ap, _∙_}
 use mathlib.Core.Bool.{Bool, true, false, not, _&&_, _||_}
 use mathlib.Core.List.{List, [], _∷_}
 use Prim.Native.Nat.{ℕ, _<_}
 use Rattle.basics.specs.Inputs.{on, inputs, only, put, without, withHalf}
 use Rattle.basics.proofs.laws.Bits.{test, on-put, on-without}
-use Rattle.rules.specs.Lines.{Lines, Turn, withMask, withIrr, pendingIn, serve, enter, leave, newlyUnmasked, newlyMasked, polled, raised, lowered, cleared, masked}
-use Rattle.rules.specs.Core.{Core, Act, Move, move, setIsr, store, setVector, poll, raise, lower, clear, setMask, moved, lineTurn, turn, turns}
+use Rattle.rules.specs.Lines.{Lines, withMask, withIrr, pendingIn, serve, newlyUnmasked, polled, raised, lowered, cleared, masked}
+use Rattle.rules.specs.Core.{Core, Act, move, setIsr, store, setVector, poll, raise, lower, clear, setMask, moved, lineTurn, turn, turns}
 use Rattle.rules.specs.Device.{Device, WellFormed, Call, level, read, write, drain, reset, actsOf, acted, step}
 use Rattle.rules.specs.Device as device
 use Rattle.laws.proofs.laws.Images.{reset-well-formed}

@@ -1,14 +1,13 @@
 -- 02, C-21: every raise that found its input neither latched nor in service is answered, withdrawn or open, and these add up.
-use mathlib.Core.Path.{_≡_, refl, sym, ap, _∙_}
-use mathlib.Core.Bool.{Bool, true, false, cond}
-use mathlib.Core.List.{List, [], _∷_, _++_}
+use mathlib.Core.Path.{_≡_, refl, _∙_}
+use mathlib.Core.List.{List, [], _∷_}
 use Prim.Native.Nat.{ℕ, _+_}
 use native.Mathlib.Omega.{arith}
-use lib.ListN.{length, length-append}
+use lib.ListN.{length}
 use Rattle.basics.proofs.laws.Bits.{test}
 use Rattle.rules.specs.Account.{tally}
-use Rattle.sheets.specs.Day.{Moment, number, dayOf}
-use Rattle.sheets.specs.Waits.{begins, End, answered, withdrawn, stillOpen, endFrom, waits, isAnswered, isWithdrawn, isOpen}
+use Rattle.sheets.specs.Day.{Moment, dayOf}
+use Rattle.sheets.specs.Waits.{begins, End, answered, withdrawn, stillOpen, waits, isAnswered, isWithdrawn, isOpen}
 use Rattle.sheets.specs.Sheet.{rowOf}
 
 -- a wait has one end

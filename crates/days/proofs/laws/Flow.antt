@@ -1,18 +1,16 @@
 -- Events offered, dropped, waiting and drained, over a call and over a day; and the inputs that made them.
 use mathlib.Core.Path.{_≡_, refl, sym, ap, subst, _∙_}
-use mathlib.Core.Bool.{Bool, true, false, cond, not, _&&_}
-use mathlib.Core.List.{List, [], _∷_, _++_, map}
-use Prim.Native.Nat.{ℕ, zero, suc, _+_, _<_, _≤_}
+use mathlib.Core.Bool.{Bool, true, false, not}
+use mathlib.Core.List.{List, [], _∷_}
+use Prim.Native.Nat.{ℕ, _+_}
 use native.Mathlib.Omega.{arith}
-use lib.Dec.{eqb, ltb}
+use lib.Dec.{ltb}
 use lib.ListN.{length, length-append}
-use borrow.Author.Tests.{lt-ltb, le-ltb, ltb-true, ltb-false, eqb-true, eqb-false, eq-eqb, ne-eqb}
-use Rattle.basics.specs.Inputs.{from, inputs, on, only, put, without, withHalf}
+use borrow.Author.Tests.{ltb-true, ltb-false}
 use Rattle.basics.proofs.laws.Bits.{test}
-use Rattle.basics.proofs.laws.Inputs.{first-has}
-use Rattle.rules.specs.Lines.{Lines, Made, event, withMask, withIrr, pendingIn, servedIn, serve, enter, leave, newlyUnmasked, newlyMasked, polled, raised, lowered, cleared, masked}
-use Rattle.rules.specs.Ring.{Ring, RingAct, Drawn, ringStep, ringRun, kept}
-use Rattle.rules.specs.Core.{Core, Act, Move, move, setIsr, store, setVector, poll, raise, lower, clear, setMask, moved, lineTurn, turn, turns}
+use Rattle.rules.specs.Lines.{Made}
+use Rattle.rules.specs.Ring.{Ring, ringStep, ringRun, kept}
+use Rattle.rules.specs.Core.{poll, turns}
 use Rattle.rules.specs.Account.{tally}
 use Rattle.rules.specs.Device.{Device, WellFormed, Call, level, read, write, drain, offers, draws, actsOf, acted, step}
 use Rattle.rules.specs.Device as device
@@ -21,7 +19,7 @@ use Rattle.rules.proofs.laws.Counts.{tally-append}
 use Rattle.histories.proofs.laws.WellFormed.{step-well}
 use Rattle.plain.specs.Events.{Note, waiting}
 use Rattle.plain.specs.Plain.{Engine}
-use Rattle.plain.specs.Sequence.{Item, call, load, refused, takes, plainAfter, noteOf, fateIn, ringWith, notesOf}
+use Rattle.plain.specs.Sequence.{Item, call, load, refused, takes, plainAfter, ringWith, notesOf}
 use Rattle.plain.proofs.laws.Same.{Run, Same}
 use Rattle.plain.proofs.laws.Following.{stepped, countedRun, like-call, sized, same-counted}
 use Rattle.sheets.specs.Day.{moments}

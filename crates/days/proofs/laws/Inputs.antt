@@ -1,5 +1,5 @@
 -- Every event is of one of the 64 inputs, so what is counted for each of them adds up to what is counted of all.
-use mathlib.Core.Path.{_≡_, refl, sym, ap, subst, _∙_}
+use mathlib.Core.Path.{_≡_, refl, _∙_}
 use mathlib.Core.Bool.{Bool, true, false, cond, _&&_}
 use mathlib.Core.List.{List, [], _∷_, _++_, map}
 use Prim.Native.Nat.{ℕ, zero, suc, _+_, _<_, _≤_}
@@ -13,7 +13,7 @@ use Rattle.rules.specs.Lines.{Lines, Made, event, withMask, withIrr, pendingIn,
 use Rattle.rules.specs.Ring.{Ring}
 use Rattle.rules.specs.Core.{Core, Act, Move, move, setIsr, store, setVector, poll, raise, lower, clear, setMask, moved, lineTurn, turn, turns}
 use Rattle.rules.specs.Account.{tally}
-use Rattle.rules.specs.Device.{Device, actsOf, step}
+use Rattle.rules.specs.Device.{actsOf, step}
 use Rattle.plain.specs.Events.{Note}
 use Rattle.plain.specs.Sequence.{Item, call, load, refused, ringWith, notesOf, Ported, portedFollows, portedAfter}
 use Rattle.passes.specs.Slots.{NoLoad}

@@ -1,5 +1,5 @@
 -- `offer_each`: what was offered so far was kept, until one is dropped; what is left then is offered by `offer_rest`.
-use mathlib.Core.Path.{sym, _∙_}
+use mathlib.Core.Path.{_∙_}
 use Prim.Native.Nat.{_-_, _<_}
 use native.Mathlib.Nat.{zero-add, lt-of-le-of-lt}
 use native.Mathlib.Omega.{arith}

@@ -5,7 +5,6 @@ use mathlib.Core.List.{List}
 use Prim.Native.Nat.{ℕ}
 use lib.ListN.{length}
 use Rattle.basics.specs.Numbers.{Bytes}
-use Rattle.images.specs.Form.{formLength}
 use Rattle.images.specs.Image.{accepted, imageTest}
 use Rattle.calls.specs.Calls.{Request, askedBy, outcome}
 use Rattle.exported.specs.Exported.{Exported, Underway, isDone, isReset, isLoad, carriedOn, atLoad, current}

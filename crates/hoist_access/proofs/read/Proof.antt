@@ -1,8 +1,6 @@
 -- `read`: no such width, then outside the window, then no aligned Dword; done, the image stays and what the registers read is told.
-use mathlib.Core.Path.{_≡_, refl, sym, ap, _∙_}
-use mathlib.Core.Bool.{Bool, true, false}
-use mathlib.Core.List.{List}
-use Prim.Native.Nat.{ℕ}
+use mathlib.Core.Path.{refl, sym, ap, _∙_}
+use mathlib.Core.Bool.{false}
 use borrow.Author.Needs.{needs}
 use Rattle.rules.specs.Access.{readAt}
 use Rattle.rules.specs.Device as device

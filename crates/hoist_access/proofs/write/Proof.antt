@@ -1,6 +1,6 @@
 -- `write`: no such width, then outside the window, then no aligned Dword, then a write that is not for this guest; done, the image is that of the device after the write.
 use mathlib.Core.Path.{_≡_, refl, sym, ap, _∙_}
-use mathlib.Core.Bool.{Bool, true, false}
+use mathlib.Core.Bool.{Bool, true}
 use mathlib.Core.List.{List}
 use Prim.Native.Nat.{ℕ}
 use borrow.Author.Needs.{needs}

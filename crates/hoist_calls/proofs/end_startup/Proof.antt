@@ -1,5 +1,5 @@
 -- `end_startup`: the image is refused where 01's order puts it; accepted, start-up cannot end, or it does.
-use mathlib.Core.Path.{_≡_, refl, ap, subst}
+use mathlib.Core.Path.{_≡_, subst}
 use mathlib.Core.Bool.{Bool}
 use mathlib.Core.List.{List}
 use Prim.Native.Nat.{ℕ}

@@ -1,19 +1,16 @@
 -- A call that the profile lets through, in whatever phase, is one that demand 3 admits: it writes no ISR, and changes no vector byte whose input is in service.
 use mathlib.Core.Path.{_≡_, refl, sym, ap, _∙_}
 use mathlib.Core.Bool.{Bool, true, false, cond, not, _&&_, _||_, true≢false}
-use mathlib.Core.List.{List}
-use Prim.Native.Nat.{ℕ, _%_, _<_}
+use Prim.Native.Nat.{ℕ, _%_}
 use lib.Dec.{eqb}
 use lib.ListN.{getD}
 use borrow.Author.Tests.{eqb-true}
-use Rattle.basics.specs.Inputs.{on}
 use Rattle.rules.specs.Map.{inVectors}
-use Rattle.rules.specs.Core.{turns, lineTurn, vectorsAfter}
-use Rattle.rules.specs.Access.{Width, byte, word, dword, qword}
+use Rattle.rules.specs.Core.{turns, vectorsAfter}
+use Rattle.rules.specs.Access.{byte, word, dword, qword}
 use Rattle.rules.specs.Device.{Device, Call, level, poll, read, write, drain, actsOf, acted, step}
-use Rattle.histories.specs.Premises.{isIsr, writesIsr, ServedVectorsStay, Admitted}
+use Rattle.histories.specs.Premises.{isIsr, ServedVectorsStay, Admitted}
 use Rattle.histories.specs.Demands.{inService}
-use Rattle.basics.proofs.laws.Bits.{test}
 use Rattle.hoists.specs.Profile.{changesVector, changesServed, forbidden, Verdict, passes, unaligned, unfit, verdict}
 use Rattle.hoists.proofs.laws.Inputs.{none-here}
 

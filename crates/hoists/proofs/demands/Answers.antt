@@ -2,8 +2,8 @@
 -- these two are given only where that would be done; and a refused call changes no byte but the answer area's.
 use mathlib.Core.Path.{_≡_, refl, sym, ap, _∙_}
 use mathlib.Core.Logic.{_⊎_, inl, inr}
-use mathlib.Core.Bool.{Bool, true, false, cond, _&&_, true≢false, and-false, and-eq-true-iff}
-use mathlib.Core.List.{List, []}
+use mathlib.Core.Bool.{Bool, true, false, cond, true≢false, and-false, and-eq-true-iff}
+use mathlib.Core.List.{List}
 use Prim.Native.Nat.{ℕ, _≤_}
 use native.Mathlib.Omega.{arith}
 use lib.Dec.{leb}
@@ -12,7 +12,7 @@ use borrow.Author.Tests.{le-leb, leb-true}
 use Rattle.rules.specs.Access.{Width}
 use Rattle.rules.specs.Device as device
 use Rattle.images.specs.Image.{imageTest, accepted, decode}
-use Rattle.calls.specs.Calls.{pass, accessCall, Request, read, write, askedBy, answerLength, answered, bufferOf, Outcome, leaves, Ending, ending, settled, outcome}
+use Rattle.calls.specs.Calls.{pass, accessCall, Request, read, write, askedBy, answerLength, answered, bufferOf, Outcome, leaves, ending, settled, outcome}
 use Rattle.basics.proofs.laws.Bits.{test}
 use Rattle.calls.proofs.demands.Refused.{refused-changes-nothing}
 use Rattle.hoists.specs.Profile.{running, alignedDword, forbidden, Verdict, passes, unaligned, unfit, verdict}

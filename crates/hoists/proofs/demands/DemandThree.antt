@@ -1,7 +1,7 @@
 -- 02, C-22: 'Under the profile demand 3 must hold from reset with no premise but the absence of loads.' Over calls under the profile, whatever phases they are given, with levels, polls and drains
 -- between them and refused calls anywhere: the account, service and order, as a host reads them. What demand 3 asks of writes, none to ISR and none that changes a vector byte in service, the profile sees to.
 use mathlib.Core.Path.{_≡_, refl, sym, ap, subst, _∙_}
-use mathlib.Core.Bool.{Bool, true, false, cond}
+use mathlib.Core.Bool.{true, false}
 use mathlib.Core.List.{List, [], _∷_, _++_, append-nil, append-assoc}
 use Prim.Native.Nat.{ℕ, _+_, _<_, min}
 use native.Mathlib.Omega.{arith}
@@ -14,15 +14,14 @@ use Rattle.rules.specs.History.{history}
 use Rattle.rules.specs.Account.{carrying, assertsAmong, deassertsAmong}
 use Rattle.images.specs.Form.{Form}
 use Rattle.images.specs.Image.{decode}
-use Rattle.calls.specs.Calls.{Request, Outcome}
 use Rattle.histories.specs.Premises.{Along, Admitted}
 use Rattle.histories.specs.Demands.{inService, Eligible, Spared, Undisturbed, pollsOrRaises, asEvent, foundBy, ringActs}
-use Rattle.exported.specs.Exported.{Exported, Underway, carriedThrough, NoLoads, doneCall, doneCalls, current, inImage, Faithful, afterReset, returnedBy, drainedBy, Balances}
-use Rattle.histories.proofs.laws.Folds.{history-append, along-append}
+use Rattle.exported.specs.Exported.{Exported, Underway, carriedThrough, NoLoads, doneCall, doneCalls, inImage, Faithful, afterReset, drainedBy}
+use Rattle.histories.proofs.laws.Folds.{along-append}
 use Rattle.exported.proofs.laws.Chains.{faithful-after-reset}
 use Rattle.exported.proofs.demands.FromCalls.{image-holds-device}
 use Rattle.exported.proofs.demands.HandedBack.{account-under-way, account-of-calls, account-without-drops, service-of-calls, service-once-raised, order-of-calls, drops-of-calls}
-use Rattle.hoists.specs.Hoisted.{resets, Hoisted, leftBy, isDone, requestOf, exportedAs, plainCall, plainCalls, returnedUnder, drainedUnder, BalancesUnder, HandedOn, leftAfter}
+use Rattle.hoists.specs.Hoisted.{resets, Hoisted, leftBy, isDone, exportedAs, plainCall, plainCalls, returnedUnder, drainedUnder, BalancesUnder, HandedOn, leftAfter}
 use Rattle.hoists.proofs.demands.Under.{PlainIs, none, one, plain-is, reads-full, all-admitted}
 use Rattle.hoists.proofs.demands.Handed.{handed-on-is-no-load, left-through, a-reset-begins-under}
 

@@ -1,6 +1,6 @@
 -- Calls under the profile, each given the image that the one before it left and none a reset: none is a load, and the image left at last is that of the history.
 use mathlib.Core.Path.{_≡_, refl, sym, ap, _∙_}
-use mathlib.Core.Bool.{Bool, true, false, cond, _&&_, true≢false, and-false}
+use mathlib.Core.Bool.{Bool, true, false, true≢false, and-false}
 use mathlib.Core.List.{List, [], _∷_, _++_, map}
 use Prim.Native.Nat.{ℕ}
 use native.Mathlib.Omega.{arith}
@@ -8,12 +8,11 @@ use lib.Dec.{eqb, leb}
 use lib.ListN.{length}
 use borrow.Author.Tests.{eq-eqb, leb-true}
 use Rattle.rules.specs.Device.{reset}
-use Rattle.rules.specs.Numbering.{fromZero}
 use Rattle.images.specs.Form.{Form}
 use Rattle.images.specs.Form as form
-use Rattle.images.specs.Image.{ImageTest, imageTest, decode, encodeAs}
+use Rattle.images.specs.Image.{ImageTest, imageTest, decode}
 use Rattle.images.specs.Image as image
-use Rattle.calls.specs.Calls.{Request, afresh, calls, askedBy, Outcome, outcome}
+use Rattle.calls.specs.Calls.{Request, askedBy, Outcome}
 use Rattle.calls.specs.Calls as request
 use Rattle.exported.specs.Exported.{Underway, carriedOn, carriedThrough, NoLoads, afterReset}
 use Rattle.exported.specs.Exported as full

@@ -1,11 +1,11 @@
 -- The two phases (02, C-22): a reset starts the first; start-up ends only where no input is in service, and once; after it no vector byte changes.
-use mathlib.Core.Path.{_≡_, refl, sym, ap, subst, _∙_}
-use mathlib.Core.Bool.{Bool, true, false, cond, not, _&&_, _||_, true≢false, and-false, and-eq-true-iff}
+use mathlib.Core.Path.{_≡_, refl, sym, ap, _∙_}
+use mathlib.Core.Bool.{Bool, true, false, cond, _||_, true≢false, and-eq-true-iff}
 use mathlib.Core.List.{List, [], _∷_}
 use Prim.Native.Nat.{ℕ, _%_, _≤_}
 use native.Mathlib.Omega.{arith}
 use lib.Dec.{eqb, leb}
-use lib.ListN.{length, drop}
+use lib.ListN.{length}
 use borrow.Author.Tests.{eqb-true, eq-eqb, le-leb, leb-true}
 use Rattle.rules.specs.Core.{turns, vectorsAfter}
 use Rattle.rules.specs.Access.{byte, word, dword, qword}
@@ -20,8 +20,8 @@ use Rattle.exported.specs.Exported.{Underway, carriedThrough, NoLoads, doneCall
 use Rattle.basics.proofs.laws.Bits.{test}
 use Rattle.histories.proofs.laws.Folds.{fold-calls}
 use Rattle.exported.proofs.demands.FromCalls.{image-holds-device, image-holds-history}
-use Rattle.hoists.specs.Profile.{running, inStartUp, afterStartUp, anyServed, forbidden, Verdict, passes, unaligned, unfit, verdict}
-use Rattle.hoists.specs.HoistCalls.{hoistRoom, PhaseLeft, phaseLeaves, phaseSettled, hoistReset, cannotEnd, endTold, endEnding, endStartup}
+use Rattle.hoists.specs.Profile.{running, inStartUp, afterStartUp, anyServed, forbidden, passes, unaligned, unfit, verdict}
+use Rattle.hoists.specs.HoistCalls.{hoistRoom, PhaseLeft, phaseLeaves, hoistReset, cannotEnd, endEnding, endStartup}
 use Rattle.hoists.specs.Hoisted.{Hoisted, plainCalls}
 use Rattle.hoists.proofs.laws.Vectors.{no-vector-written}
 use Rattle.hoists.proofs.demands.Admits.{allowed, passed, no-verdict}

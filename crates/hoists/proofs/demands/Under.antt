@@ -1,22 +1,21 @@
 -- Calls under the profile as exported calls of the full device: a done one leaves what that one leaves, and is one that demand 3 admits.
 use mathlib.Core.Path.{_≡_, refl, sym, ap, ap₂, subst, _∙_}
-use mathlib.Core.Bool.{Bool, true, false, cond, not, _&&_, true≢false, and-false, and-eq-true-iff}
-use mathlib.Core.List.{List, [], _∷_, _++_, map, append-nil}
+use mathlib.Core.Bool.{Bool, true, false, cond, not, true≢false, and-false}
+use mathlib.Core.List.{List, [], _∷_, _++_, map}
 use Prim.Native.Nat.{ℕ, _≤_}
 use native.Mathlib.Omega.{arith}
 use lib.Dec.{eqb, leb, lit≤}
 use lib.ListN.{length}
-use borrow.Author.Tests.{eqb-true, eq-eqb, le-leb, leb-true}
-use Rattle.rules.specs.Ring.{Event}
-use Rattle.rules.specs.Device.{Device, Call, step}
+use borrow.Author.Tests.{eqb-true, le-leb, leb-true}
+use Rattle.rules.specs.Device.{Device, Call}
 use Rattle.rules.specs.Device as device
 use Rattle.rules.specs.History.{history}
 use Rattle.images.specs.Form.{Known, unknown, known, formOf}
 use Rattle.images.specs.Image.{imageTest, accepted, decode}
-use Rattle.calls.specs.Calls.{pass, widthTest, addressTest, Request, Asked, afresh, calls, askedBy, resetAs, performed, answerLength, answered, bufferOf, written, Outcome, leaves, ended, ending, settled, outcome}
+use Rattle.calls.specs.Calls.{pass, widthTest, addressTest, Request, calls, askedBy, resetAs, performed, answerLength, answered, bufferOf, written, Outcome, leaves, ended, ending, settled, outcome}
 use Rattle.calls.specs.Calls as request
 use Rattle.histories.specs.Premises.{Along, Admitted}
-use Rattle.exported.specs.Exported.{Exported, Underway, carriedOn, carriedThrough, NoLoads, doneCall, doneCalls, current, Faithful, returnedTo, drainedTo, returnedBy, drainedBy}
+use Rattle.exported.specs.Exported.{Exported, Underway, carriedOn, NoLoads, doneCall, doneCalls, current, Faithful, returnedTo, drainedTo, returnedBy, drainedBy}
 use Rattle.exported.specs.Exported as full
 use Rattle.basics.proofs.laws.Bits.{test}
 use Rattle.exported.proofs.laws.Chains.{passed, left-holds, handed, done-call, carried-on, faithful-kept}

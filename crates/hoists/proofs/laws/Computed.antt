@@ -3,17 +3,17 @@ use mathlib.Core.Path.{_≡_, refl}
 use mathlib.Core.Bool.{Bool, true, false}
 use mathlib.Core.List.{List, [], _∷_, map}
 use Prim.Native.Nat.{ℕ}
-use lib.ListN.{length, replicate}
-use Rattle.rules.specs.Access.{Width, byte, word, dword, qword}
+use lib.ListN.{replicate}
+use Rattle.rules.specs.Access.{byte, word, dword, qword}
 use Rattle.rules.specs.Device.{Device, Call, level, read, write, none, some, reset}
 use Rattle.rules.specs.History.{fromReset}
 use Rattle.rules.specs.Numbering.{fromZero}
 use Rattle.images.specs.Form.{two}
 use Rattle.images.specs.Image.{encodeAs}
-use Rattle.calls.specs.Calls.{Outcome, answered}
+use Rattle.calls.specs.Calls.{answered}
 use Rattle.calls.proofs.laws.Computing.{computing}
 use Rattle.hoists.specs.Profile.{changesServed, forbidden, Verdict, passes, unaligned, unfit, verdict}
-use Rattle.hoists.specs.HoistCalls.{judged, hoistRead, hoistWrite, PhaseLeft, phaseLeaves, hoistReset, endStartup}
+use Rattle.hoists.specs.HoistCalls.{judged, hoistRead, hoistWrite, phaseLeaves, hoistReset, endStartup}
 
 -- one name that opens what has to compute
 unfoldable pub hoisting : ℕ

@@ -1,11 +1,11 @@
 -- Some input has f exactly where it is not so that none has it; and some input is in service exactly where ISR is not 0.
-use mathlib.Core.Path.{_≡_, refl, sym, ap, _∙_}
+use mathlib.Core.Path.{_≡_, sym, ap, _∙_}
 use mathlib.Core.Bool.{Bool, true, false, not, true≢false}
 use Prim.Native.Nat.{ℕ, zero, suc, _+_, _^_, _<_, _≤_, zero-le}
 use native.Mathlib.Omega.{arith}
 use lib.Dec.{eqb}
-use borrow.Author.Tests.{eqb-true, ne-eqb, eq-eqb}
-use Rattle.basics.specs.Inputs.{on, from, inputs}
+use borrow.Author.Tests.{eqb-true, eq-eqb}
+use Rattle.basics.specs.Inputs.{from}
 use Rattle.basics.proofs.laws.Bits.{test}
 use Rattle.basics.proofs.laws.Inputs.{no-inputs, no-input, first-input}
 use Rattle.rules.specs.Device.{Device}

@@ -3,7 +3,6 @@ use mathlib.Core.Path.{_≡_, refl, sym, ap, _∙_}
 use mathlib.Core.Bool.{Bool, true, false, cond}
 use mathlib.Core.List.{List}
 use Prim.Native.Nat.{ℕ, _<_}
-use native.Mathlib.Omega.{arith}
 use lib.Dec.{lit<}
 use Rattle.rules.specs.Access.{Width}
 use Rattle.rules.specs.Device.{Device, Call}
@@ -11,7 +10,7 @@ use Rattle.rules.specs.Device as device
 use Rattle.images.specs.Image.{copyDiffers, manyWait, badFlag, unusedSet, ImageTest, imageTest, decode}
 use Rattle.images.specs.Image as image
 use Rattle.calls.specs.Calls.{Refusal, outside, noWidth, noInput, wrongLength, wrongContents, noRoom, broken, refusalNumber, Tested, pass, refuse, onPass, imageAnswer, widthTest, addressTest}
-use Rattle.calls.specs.Calls.{Request, read, Asked, afresh, calls, askedBy, Done, performed, Ending, ended, ending}
+use Rattle.calls.specs.Calls.{Request, read, Asked, afresh, calls, askedBy, Done, performed, ended, ending}
 use Rattle.hoists.proofs.laws.Computed as computed
 use Rattle.hoists.specs.Profile.{alignedDword, Verdict, passes, unaligned, unfit, verdict}
 use Rattle.hoists.specs.HoistCalls.{saidOf, judged, endsBy, hoistEnding}

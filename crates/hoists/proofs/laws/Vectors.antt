@@ -1,9 +1,9 @@
 -- What an aligned Dword write does to the vector bytes: outside them nothing; among them the four bytes from its offset on become the value's. So four tests tell
 -- whether it would change a byte whose input is in service.
 use mathlib.Core.Path.{_≡_, refl, sym, ap, _∙_}
-use mathlib.Core.Bool.{Bool, true, false, cond, not, _&&_, _||_, true≢false, and-false}
+use mathlib.Core.Bool.{Bool, true, false, not, _&&_, _||_, true≢false, and-false}
 use mathlib.Core.List.{List, [], _∷_, _++_}
-use Prim.Native.Nat.{ℕ, zero, suc, _+_, _-_, _*_, _/_, _%_, _^_, _<_, _≤_}
+use Prim.Native.Nat.{ℕ, zero, suc, _+_, _-_, _/_, _%_, _<_, _≤_}
 use native.Mathlib.Omega.{arith}
 use lib.Dec.{eqb, lit<}
 use lib.ListN.{length, getD, set, length-set}
@@ -11,9 +11,9 @@ use lib.Seq.{sets, getD-set-same, getD-set-other}
 use borrow.Author.Tests.{eq-eqb}
 use Rattle.basics.specs.Numbers.{numberOf, bytesOf, byteOf, Bytes}
 use Rattle.basics.specs.Inputs.{on, half}
-use Rattle.rules.specs.Core.{Core, Act, setVector, vectorsAfter, turn, turns}
+use Rattle.rules.specs.Core.{Core, Act, setVector, vectorsAfter, turns}
 use Rattle.rules.specs.Map.{Register, bytes, within, inVectors, cellAt}
-use Rattle.rules.specs.Access.{dword, entry, readDword, readCell, registerActs, entryActs, cellActs, dwordActs, writeActs}
+use Rattle.rules.specs.Access.{dword, readDword, readCell, registerActs, cellActs, writeActs}
 use Rattle.rules.specs.Device.{Device, WellFormed, write, actsOf, acted, step}
 use Rattle.histories.specs.Demands.{Each, inService}
 use Rattle.basics.proofs.laws.Bits.{test}

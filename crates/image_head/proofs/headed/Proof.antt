@@ -1,6 +1,5 @@
 -- `headed`: the contents are the form's, or the image is refused by them.
 use mathlib.Core.Path.{sym, _∙_}
-use borrow.Author.Needs.{needs}
 use Rattle.image.specs.Shown.{formView}
 use Rattle.image_head.proofs.Orders.{sized, bad-contents}
 use Rattle.image_head.proofs.headed.Statement.{statement}

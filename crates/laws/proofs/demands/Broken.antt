@@ -11,11 +11,11 @@ use lib.ListN.{length, getD}
 use borrow.Author.Tests.{eq-eqb, eqb-true, eqb-false, le-leb, leb-true, lt-ltb, le-ltb, ltb-true, ltb-false}
 use Rattle.basics.specs.Numbers.{part, same}
 use Rattle.rules.specs.Ring.{capacity}
-use Rattle.images.specs.Form.{Form, one, two, numbered, Field, word, copy, irr, count, pairs, numbers, has, size, place, formLength, contentsLength, contentsOf, read, Known, unknown, known, formOf}
+use Rattle.images.specs.Form.{Form, one, Field, word, copy, irr, count, pairs, numbers, has, size, place, formLength, contentsLength, contentsOf, read, Known, unknown, known, formOf}
 use Rattle.images.specs.Image.{wordIn, countIn, Fault, copyDiffers, manyWait, badFlag, unusedSet, Finding, clear, found, Rule, copyRule, countRule, rules, search, finding, firstFault}
 use Rattle.images.specs.Image.{accepted, wrongLength, wrongContents, broken, bodyTest, testAs, imageTest, everyByte, pairByte, acceptedBefore}
 use Rattle.basics.proofs.laws.Bits.{test}
-use Rattle.images.proofs.laws.Layout.{has-all, field-fits}
+use Rattle.images.proofs.laws.Layout.{has-all}
 use Rattle.basics.proofs.laws.Lists.{equal-same, same-equal}
 use Rattle.images.proofs.laws.Tests.{each-byte, Flags, accepted-has, accepted-if-has, known-length, test-known, byte-read, length-read, Told, search-told, decided}
 use Rattle.images.proofs.laws.Tests.{Holds, Unused, flags-hold, unused-hold, copy-holds, count-holds, count-read}

@@ -2,7 +2,7 @@
 -- holds the same device. Request C-19: only the numbers are lost, and only where the image has them and the target has not.
 use mathlib.Core.Path.{_≡_, refl, sym, ap, subst, _∙_}
 use mathlib.Core.Bool.{true, false, false≢true}
-use mathlib.Core.List.{List, []}
+use mathlib.Core.List.{List}
 use Prim.Native.Nat.{ℕ}
 use native.Mathlib.Omega.{arith}
 use lib.ListN.{length}
@@ -11,13 +11,13 @@ use Rattle.rules.specs.Device.{WellFormed}
 use Rattle.rules.specs.Numbering.{WellNumbered, fromZero}
 use Rattle.images.specs.Form.{Form, one, two, numbered, numbers, forms, has, Known, unknown, known, formOf, formLength}
 use Rattle.images.specs.Image.{ImageTest, accepted, wrongLength, wrongContents, broken, imageTest, encodeAs, encodeLike, decode, numbersIn}
-use Rattle.calls.specs.Calls.{Refusal, Tested, pass, refuse, onPass, imageAnswer, Outcome}
+use Rattle.calls.specs.Calls.{Refusal, pass, refuse, Outcome}
 use Rattle.calls.specs.Calls as calls
-use Rattle.calls.specs.Convert.{lengthTest, converted, conversion}
+use Rattle.calls.specs.Convert.{converted, conversion}
 use Rattle.basics.proofs.laws.Bits.{test}
 use Rattle.images.proofs.laws.Tests.{form-known, form-found}
 use Rattle.images.proofs.laws.Saved.{bytes-encode, length-encode, encode-without}
-use Rattle.laws.proofs.laws.Images.{form-of, encode-as, HasForm, accepted-has, encode-decode, decode-well-formed, numbers-well, accepted-encode, decode-encode, numbers-encode, numbers-lost}
+use Rattle.laws.proofs.laws.Images.{form-of, encode-as, accepted-has, encode-decode, decode-well-formed, numbers-well, accepted-encode, decode-encode, numbers-encode, numbers-lost}
 use Rattle.calls.proofs.laws.Conversions.{is-converted}
 
 -- what a conversion that is done has seen: an accepted image, and a target with the length of a form

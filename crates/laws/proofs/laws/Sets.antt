@@ -4,7 +4,7 @@ use mathlib.Core.Bool.{Bool, true, false, cond, not, _&&_, and-true, and-assoc, 
 use mathlib.Core.List.{List, [], _∷_, map}
 use Prim.Native.Nat.{ℕ, _-_, _^_, _<_}
 use lib.Bits.{bitAnd}
-use Rattle.basics.specs.Inputs.{on, inputs, only, without}
+use Rattle.basics.specs.Inputs.{on, inputs, only}
 use Rattle.rules.specs.Lines.{Lines, isPending, pendingIn, servedIn, unlatchedIn, withIsr, withMask, serve, event, andThen, enter, leave, newlyUnmasked, newlyMasked, masked}
 use Rattle.basics.proofs.laws.Bits.{on-and, on-and-not, without-ext}
 use Rattle.basics.proofs.laws.Inputs.{inputs-ext, only-input}

@@ -9,7 +9,7 @@ use borrow.Author.Needs.{needs}
 use Rattle.basics.specs.Numbers.{written}
 use Rattle.rules.specs.Ring.{capacity}
 use Rattle.rules.specs.Device.{upFrom}
-use Rattle.rules.specs.Numbering.{fromZero, numberTwos}
+use Rattle.rules.specs.Numbering.{numberTwos}
 use Rattle.images.specs.Image.{sixteen, numberBody}
 use Rattle.images.proofs.laws.Saved.{length-upFrom}
 use Rattle.images.proofs.laws.Twos.{length-written, written-snoc}

@@ -1,7 +1,6 @@
 -- `load_vectors`: in each form the part that its places name.
-use mathlib.Core.Path.{_≡_, sym, ap, _∙_}
+use mathlib.Core.Path.{sym, ap, _∙_}
 use native.Mathlib.Omega.{arith}
-use lib.ListN.{length}
 use Rattle.images.specs.Form.{formLength}
 use Rattle.images.specs.Image.{decodeAs}
 use Rattle.image.specs.Shown.{formView}

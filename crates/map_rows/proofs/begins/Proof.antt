@@ -1,7 +1,5 @@
 -- `begins`: by its arms.
-use mathlib.Core.Path.{sym, ap, _∙_}
-use mathlib.Core.Bool.{Bool, not}
-use Rattle.table.specs.Meaning.{Meaning}
+use mathlib.Core.Path.{sym, ap}
 use Rattle.table.specs.Views.{placeView}
 use Rattle.table.specs.declared.Place.{Place}
 use Rattle.map_rows.specs.Rows.{begins}

@@ -1,26 +1,25 @@
 -- What an act did to the wait of one input, by its marks: nothing, its assert, or it was taken back. And acts one after another.
 use mathlib.Core.Path.{_≡_, refl, sym, ap, subst, _∙_}
 use mathlib.Core.Bool.{Bool, true, false, cond, not, _&&_, _||_, true≢false}
-use mathlib.Core.List.{List, [], _∷_, _++_, map, map-append, append-nil}
-use Prim.Native.Nat.{ℕ, zero, suc, _+_, _-_, _<_, _≤_, max}
+use mathlib.Core.List.{List, [], _∷_, _++_, map, map-append}
+use Prim.Native.Nat.{ℕ, zero, suc, _+_, _-_, _<_, _≤_}
 use native.Mathlib.Omega.{arith}
 use lib.Dec.{eqb, ltb}
-use lib.ListN.{length}
-use borrow.Author.Tests.{eqb-true, eqb-false, eq-eqb, ne-eqb, lt-ltb, le-ltb, ltb-true, ltb-false}
+use borrow.Author.Tests.{eqb-true, eqb-false, eq-eqb, ne-eqb, lt-ltb, ltb-true, ltb-false}
 use Rattle.basics.specs.Inputs.{on, from, inputs, only, put, without, withHalf}
 use Rattle.basics.proofs.laws.Bits.{test, on-put, on-without}
 use Rattle.basics.proofs.laws.Inputs.{first-has}
-use Rattle.rules.specs.Lines.{Lines, Made, Turn, event, withMask, withIrr, pendingIn, servedIn, serve, enter, leave, newlyUnmasked, newlyMasked, polled, raised, lowered, cleared, masked}
-use Rattle.rules.specs.Ring.{Ring, ringRun}
-use Rattle.rules.specs.Core.{Core, CoreTurn, Act, Move, move, setIsr, store, setVector, poll, raise, lower, clear, setMask, moved, lineTurn, turn, turns}
+use Rattle.rules.specs.Lines.{Lines, Made, event, withMask, withIrr, pendingIn, servedIn, serve, enter, leave, newlyUnmasked, newlyMasked, polled, raised, lowered, cleared, masked}
+use Rattle.rules.specs.Ring.{Ring}
+use Rattle.rules.specs.Core.{Act, move, setIsr, store, setVector, poll, raise, lower, clear, setMask, moved, lineTurn, turn, turns}
 use Rattle.rules.specs.Account.{tally}
-use Rattle.rules.specs.Device.{Device, offers, acted}
+use Rattle.rules.specs.Device.{Device, acted}
 use Rattle.rules.proofs.laws.Counts.{tally-append}
-use Rattle.rules.proofs.laws.Steps.{acted-one, turns-one}
-use Rattle.rules.proofs.laws.Acts.{turns-append, acted-none, acted-append}
+use Rattle.rules.proofs.laws.Steps.{acted-one}
+use Rattle.rules.proofs.laws.Acts.{acted-none, acted-append}
 use Rattle.histories.specs.Demands.{Each, done, also}
 use Rattle.plain.specs.Events.{Note}
-use Rattle.plain.specs.Sequence.{noteOf, fateIn, ringWith, notesOf}
+use Rattle.plain.specs.Sequence.{ringWith, notesOf}
 use Rattle.plain.proofs.laws.Queues.{ringAfter, notes-append}
 use Rattle.sheets.specs.Waits.{assertOf}
 use Rattle.tallies.specs.Marks.{Mark, began, takenBack, happened, idleIn, besides, actMarks, marksOf}

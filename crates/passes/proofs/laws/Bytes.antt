@@ -1,12 +1,12 @@
 -- Bytes that hold a grid, row by row, are the bytes of a sheet.
 use mathlib.Core.Path.{_≡_, refl, sym, ap, _∙_}
-use mathlib.Core.List.{List, [], _∷_, _++_, append-assoc}
-use Prim.Native.Nat.{ℕ, zero, suc, _+_, _*_, _<_, _≤_}
+use mathlib.Core.List.{List, [], _++_, append-assoc}
+use Prim.Native.Nat.{ℕ, zero, suc, _+_, _*_, _<_}
 use native.Mathlib.Omega.{arith}
-use lib.ListN.{length, take, drop}
+use lib.ListN.{drop}
 use Rattle.basics.specs.Numbers.{bytesOf, part}
 use Rattle.basics.proofs.laws.Lists.{part-add, part-then}
-use Rattle.sheets.specs.Sheet.{Row, columnOf, totalBelow, bytesOfRow, rowsBelow, sheetBytes, sheetLength}
+use Rattle.sheets.specs.Sheet.{Row, columnOf, totalBelow, bytesOfRow, rowsBelow, sheetBytes}
 use Rattle.tallies.specs.Grid.{Grid, cellPlace, Holds}
 
 -- the bytes of the first k of them

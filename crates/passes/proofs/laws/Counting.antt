@@ -1,14 +1,12 @@
 -- What the marks of a day add to the columns that are counted.
-use mathlib.Core.Path.{_≡_, refl, sym, ap, subst, _∙_}
+use mathlib.Core.Path.{_≡_, refl, sym, ap, _∙_}
 use mathlib.Core.Bool.{Bool, true, false, cond, not, _&&_}
 use mathlib.Core.List.{List, [], _∷_, _++_, map, append-nil, append-assoc}
-use Prim.Native.Nat.{ℕ, _+_, _<_}
+use Prim.Native.Nat.{ℕ, _+_}
 use native.Mathlib.Omega.{arith}
 use lib.Dec.{eqb}
-use borrow.Author.Tests.{ne-eqb}
 use Rattle.basics.specs.Inputs.{on, inputs}
 use Rattle.basics.proofs.laws.Bits.{test}
-use Rattle.rules.specs.Lines.{Lines}
 use Rattle.rules.specs.Core.{Act, move, raise, lower, poll, clear, setMask, setIsr, store, setVector, turn}
 use Rattle.rules.specs.Account.{tally}
 use Rattle.rules.specs.Device.{Device, Call, actsOf, acted}
@@ -19,9 +17,9 @@ use Rattle.plain.specs.Events.{Note, Fate, returned, kept, dropped}
 use Rattle.plain.specs.Plain.{Engine}
 use Rattle.plain.specs.Sequence.{Item, call, load, refused, takes, notesOf, Ported, portedFollows, portedAfter}
 use Rattle.sheets.specs.Day.{Moment, moments}
-use Rattle.sheets.specs.Waits.{movesLevel, isLevel, raises, lowers, assertOf, deassertOf}
+use Rattle.sheets.specs.Waits.{movesLevel, isLevel, assertOf, deassertOf}
 use Rattle.sheets.specs.Sheet.{isReturned, isDropped, returnedOf, offeredOf, droppedOf}
-use Rattle.tallies.specs.Marks.{Mark, raised, lowered, began, takenBack, happened, kindColumn, fateColumns, idleIn, besides, actMarks, marksOf, itemMarks, itemAfter, dayMarks}
+use Rattle.tallies.specs.Marks.{Mark, raised, lowered, began, takenBack, happened, kindColumn, fateColumns, idleIn, besides, actMarks, marksOf, dayMarks}
 use Rattle.passes.specs.Slots.{NoLoad, notesIn}
 use Rattle.passes.proofs.laws.Marking.{addedBy, addedIn, added-append}
 use Rattle.passes.proofs.laws.Acting.{notes-in-append, notes-of-acts}

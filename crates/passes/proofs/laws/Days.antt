@@ -1,8 +1,7 @@
 -- The records of a trace as the items of a day, one more at a time.
 use mathlib.Core.Path.{_≡_, refl, sym, ap, subst, _∙_}
-use mathlib.Core.Bool.{true, false}
 use mathlib.Core.List.{List, [], _∷_, _++_, map, append-nil, append-assoc}
-use Prim.Native.Nat.{ℕ, zero, suc, _+_, _*_, _≤_}
+use Prim.Native.Nat.{ℕ, zero, suc, _+_}
 use native.Mathlib.Nat.{zero-add}
 use native.Mathlib.Omega.{arith}
 use lib.Dec.{eqb}
@@ -10,7 +9,7 @@ use lib.ListN.{length}
 use Rattle.basics.proofs.laws.Bits.{test}
 use Rattle.rules.specs.Device.{Device, WellFormed, Call}
 use Rattle.rules.specs.Device as device
-use Rattle.calls.specs.Calls.{Tested, pass, refuse, Request, Asked, calls, askedBy}
+use Rattle.calls.specs.Calls.{Tested, pass, refuse, Asked, calls, askedBy}
 use Rattle.calls.specs.Calls as request
 use Rattle.histories.proofs.laws.WellFormed.{step-well}
 use Rattle.plain.specs.Sequence.{Item, call, load, refused}

@@ -1,18 +1,14 @@
 -- The grid before the first record, and after the last: which number stands where.
-use mathlib.Core.Path.{_≡_, refl, sym, ap, subst, _∙_}
-use mathlib.Core.Bool.{Bool, true, false, cond, not, _&&_}
-use mathlib.Core.List.{List, [], _∷_, _++_, append-assoc}
-use Prim.Native.Nat.{ℕ, zero, suc, _+_, _*_, _%_, _^_, _<_, _≤_, max}
-use native.Mathlib.Nat.{mod-lt}
+use mathlib.Core.Path.{_≡_, refl, sym, ap, _∙_}
+use mathlib.Core.Bool.{Bool, true, cond, not}
+use mathlib.Core.List.{List, [], _∷_, _++_}
+use Prim.Native.Nat.{ℕ, zero, suc, _+_, _%_, _^_, _<_, _≤_}
 use native.Mathlib.Omega.{arith}
-use lib.Dec.{eqb, ltb}
-use lib.ListN.{length, take, drop}
-use borrow.Author.Tests.{eqb-true, eqb-false, eq-eqb, ne-eqb, lt-ltb, le-ltb}
-use Rattle.basics.specs.Numbers.{bytesOf, part}
+use lib.Dec.{eqb}
+use borrow.Author.Tests.{eqb-true, eqb-false, eq-eqb, ne-eqb}
 use Rattle.basics.specs.Inputs.{on, from}
 use Rattle.basics.proofs.laws.Bits.{test, on-not, on-none}
-use Rattle.basics.proofs.laws.Lists.{part-add}
-use Rattle.tallies.specs.Grid.{Grid, cellPlace, put, Holds}
+use Rattle.tallies.specs.Grid.{Grid, put}
 use Rattle.passes.specs.Finish.{rowCleared, cleared, allInputs, isOn, shut, joined, rowJoined, finished}
 
 nearer : (n k : ℕ) → (n ≡ k → ⊥) → n < suc k → n < k

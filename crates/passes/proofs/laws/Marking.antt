@@ -1,18 +1,18 @@
 -- A mark, as the row of one input takes it.
 use mathlib.Core.Path.{_≡_, refl, sym, ap, subst, _∙_}
-use mathlib.Core.Bool.{Bool, true, false, cond, _&&_, and-eq-true-iff}
+use mathlib.Core.Bool.{Bool, true, false, cond}
 use mathlib.Core.List.{List, [], _∷_, _++_}
-use Prim.Native.Nat.{ℕ, zero, suc, _+_, _-_, _%_, _^_, _<_, max}
+use Prim.Native.Nat.{ℕ, _+_, _-_, _%_, _^_, _<_, max}
 use native.Mathlib.Nat.{mod-lt}
 use native.Mathlib.Omega.{arith}
 use lib.Dec.{eqb}
 use borrow.Author.Tests.{eqb-true, eqb-false, eq-eqb, ne-eqb}
 use Rattle.basics.proofs.laws.Bits.{test}
 use Rattle.rules.specs.Account.{tally}
-use Rattle.plain.specs.Events.{Note, Fate, returned, kept, dropped}
+use Rattle.plain.specs.Events.{Fate, returned, kept, dropped}
 use Rattle.tallies.specs.Grid.{Grid, put, bump}
 use Rattle.tallies.specs.Marks.{Mark, raised, lowered, began, takenBack, happened, inputOf, kindColumn, fateColumns, grown, bumped, settled, withdrawn, waited, marked, allMarked}
-use Rattle.passes.specs.Slots.{Slot, settle, takeBack, startAt, slotAfter, slotAll, notesIn, Rows}
+use Rattle.passes.specs.Slots.{Slot, settle, takeBack, startAt, slotAfter, slotAll, Rows}
 
 pub eqb-sym : (a b : ℕ) → eqb a b ≡ eqb b a
 eqb-sym a b = test (eqb a b) (λ t. t ∙ sym (eq-eqb b a (sym (eqb-true a b t)))) (λ t. t ∙ sym (ne-eqb b a (λ e. eqb-false a b t (sym e))))

@@ -3,11 +3,10 @@ use mathlib.Core.Path.{_≡_, refl, sym, ap, subst, _∙_}
 use mathlib.Core.Bool.{Bool, true, false, cond}
 use mathlib.Core.List.{List, [], _∷_, _++_, map}
 use Prim.Native.Nat.{ℕ, zero, suc, _+_, _%_, _^_, _<_, _≤_, max}
-use native.Mathlib.Nat.{mod-lt}
 use native.Mathlib.Omega.{arith}
 use lib.Dec.{eqb}
 use lib.ListN.{length}
-use borrow.Author.Tests.{eqb-true, eqb-false}
+use borrow.Author.Tests.{eqb-true}
 use Rattle.basics.specs.Numbers.{bytesOf}
 use Rattle.basics.specs.Inputs.{on, inputs}
 use Rattle.basics.proofs.laws.Bits.{test}
@@ -19,7 +18,7 @@ use Rattle.rules.specs.Device.{Device, reset, actsOf, acted}
 use Rattle.rules.specs.Device as device
 use Rattle.laws.proofs.laws.Images.{reset-well-formed}
 use Rattle.plain.specs.Events.{Note}
-use Rattle.plain.specs.Sequence.{Item, call, load, refused, loadOf, WellLoaded, plainAfter, noteOf, fateIn, ringWith, notesOf}
+use Rattle.plain.specs.Sequence.{Item, call, load, refused, loadOf, WellLoaded, plainAfter, ringWith, notesOf}
 use Rattle.plain.proofs.laws.Same.{Same}
 use Rattle.plain.proofs.laws.Following.{loadedRun, same-load}
 use Rattle.plain.proofs.demands.History.{same-history}
@@ -27,7 +26,7 @@ use Rattle.sheets.specs.Day.{begun, moments, Day, dayFrom}
 use Rattle.sheets.specs.Waits.{assertOf, deassertOf, waits, greatest, isOpen}
 use Rattle.sheets.specs.Sheet.{columnOf, Row, returnedOf, offeredOf, droppedOf, rowOf, emptyRow, together, totalBelow, sheetBytes}
 use Rattle.tallies.specs.Grid.{Grid, Holds}
-use Rattle.tallies.specs.Marks.{Mark, happened, takenBack, idleIn, allMarked, besides, actMarks, marksOf, itemMarks, itemAfter, dayMarks}
+use Rattle.tallies.specs.Marks.{Mark, happened, takenBack, idleIn, allMarked, besides, actMarks, marksOf, dayMarks}
 use Rattle.tallies.proofs.laws.Grids.{low-four}
 use Rattle.passes.specs.Slots.{NoLoad, Slot, slotAll, notesIn, Rows}
 use Rattle.passes.specs.Finish.{rowCleared, cleared, allInputs, isOn, joined, finished}

@@ -2,7 +2,7 @@
 use mathlib.Core.Path.{_≡_, refl, sym, ap, subst, _∙_}
 use mathlib.Core.Bool.{Bool, true, false, cond, not, _&&_, true≢false}
 use mathlib.Core.List.{List, [], _∷_, _++_, append-nil}
-use Prim.Native.Nat.{ℕ, suc, _+_, _-_, _<_, _≤_, max}
+use Prim.Native.Nat.{ℕ, _+_, _-_, _<_, _≤_, max}
 use native.Mathlib.Omega.{arith}
 use lib.Dec.{eqb, ltb}
 use lib.ListN.{length, drop, drop-of-length-le}
@@ -11,24 +11,22 @@ use borrow.Author.Tests.{eqb-true, eqb-false, eq-eqb, ne-eqb}
 use Rattle.basics.specs.Inputs.{on}
 use Rattle.basics.proofs.laws.Bits.{test}
 use Rattle.rules.specs.Lines.{Lines}
-use Rattle.rules.specs.Core.{Act, move, raise, lower, poll, clear, setMask, setIsr, store, setVector, turn, turns}
+use Rattle.rules.specs.Core.{Act, move, raise, lower, poll, clear, setMask, setIsr, store, setVector}
 use Rattle.rules.specs.Account.{tally}
 use Rattle.rules.specs.Device.{Device, WellFormed, Call, actsOf, acted}
 use Rattle.rules.specs.Device as device
-use Rattle.rules.proofs.laws.Counts.{tally-append, tally-nil}
-use Rattle.rules.proofs.laws.Steps.{acted-one, turns-one}
-use Rattle.histories.specs.Demands.{Each, done, also}
+use Rattle.rules.proofs.laws.Steps.{acted-one}
+use Rattle.histories.specs.Demands.{done, also}
 use Rattle.histories.proofs.laws.Reach.{each-so, ReturnsNone, write-returns-none}
 use Rattle.histories.proofs.laws.WellFormed.{step-well}
-use Rattle.plain.specs.Events.{Note}
 use Rattle.plain.specs.Machine.{Machine}
 use Rattle.plain.specs.Plain.{Engine}
 use Rattle.plain.specs.Sequence.{Item, call, load, refused, notesOf, takes}
 use Rattle.plain.proofs.laws.Same.{Run, Same}
 use Rattle.plain.proofs.laws.Following.{stepped, countedRun, like-call, sized, same-counted}
 use Rattle.sheets.specs.Day.{Moment, after, number, made, moments}
-use Rattle.sheets.specs.Waits.{movesLevel, isLevel, raises, isIdle, begins, assertOf, asserts, takesBack, End, answered, withdrawn, stillOpen, endFrom, waits, isWithdrawn, isOpen, lasted, greatest}
-use Rattle.tallies.specs.Marks.{Mark, idleIn, actMarks, marksOf, itemMarks, itemAfter, dayMarks}
+use Rattle.sheets.specs.Waits.{movesLevel, isIdle, begins, assertOf, asserts, takesBack, End, answered, withdrawn, endFrom, waits, isWithdrawn, isOpen, greatest}
+use Rattle.tallies.specs.Marks.{Mark, idleIn, actMarks, marksOf, itemMarks, dayMarks}
 use Rattle.passes.specs.Slots.{NoLoad, Slot, settle, takeBack, startAt, slotAll, notesIn}
 use Rattle.passes.proofs.laws.Acting.{slot-append, notes-of-acts, NotRaise, step, Latched, Some, Gone, kept-step, over-step, acts-step, raise-step}
 

@@ -13,7 +13,7 @@ use Rattle.rules.specs.Ring.{capacity, stop, Event, Ring, offer, drawn, offered
 use Rattle.rules.specs.Device as device
 use Rattle.basics.proofs.laws.Bits.{test}
 use Rattle.plain.specs.Events.{Source, Offered, Queue, keptIn, droppedIn, waiting, dropCount, hasRoom, withDrained, asLoaded, kept, Note, returned, input}
-use Rattle.plain.specs.Plain.{Engine, withQueue, Heard, noted, returns, offers, eachHeard}
+use Rattle.plain.specs.Plain.{Engine, withQueue, Heard, returns, offers, eachHeard}
 use Rattle.plain.specs.Events as events
 use Rattle.plain.specs.Sequence.{noteOf, fateIn, ringWith, notesOf, asMade, listedAs, inList, listed}
 use Rattle.plain.proofs.laws.Machines.{madeBy}

@@ -3,11 +3,10 @@ use mathlib.Core.Path.{_≡_, refl, sym, ap, subst, _∙_}
 use mathlib.Core.Bool.{Bool, true, false}
 use mathlib.Core.List.{List, [], _∷_, _++_, map, append-nil, append-assoc}
 use Prim.Native.Nat.{ℕ, _<_}
-use Rattle.basics.specs.Inputs.{half, withHalf}
+use Rattle.basics.specs.Inputs.{withHalf}
 use Rattle.rules.specs.Lines.{Made, Turn, withIsr, leave, masked}
 use Rattle.rules.specs.Ring.{Event, Ring, RingAct, Drawn, ringRun, dropped}
 use Rattle.rules.specs.Core.{Stored, CoreTurn, Move, Act, move, setIsr, setMask, moved, lineTurn, vectorsAfter, storedAfter, turn, turns}
-use Rattle.rules.specs.Access.{byte}
 use Rattle.rules.specs.Device.{Device, acted}
 use Rattle.rules.specs.Device as device
 use Rattle.rules.proofs.laws.Rings.{run-append, dropped-append}
@@ -17,7 +16,6 @@ use Rattle.plain.specs.Events.{Note}
 use Rattle.plain.specs.Machine.{Machine}
 use Rattle.plain.specs.Plain.{Engine, heardFrom, heard, Steps, stepping, returns, offers, withMachines}
 use Rattle.plain.specs.Plain.{brings, unmaskedBy, maskedBy, wakable, Found, lowestFrom, remaskedBy, remasked}
-use Rattle.plain.specs.Plain.{number}
 use Rattle.plain.specs.Sequence.{notesOf}
 use Rattle.plain.proofs.laws.Machines.{machine, oneOf, madeBy, heard-ext, Steps-are, lowest-ext}
 use Rattle.plain.proofs.laws.Machines.{wokenIn, middle, unmask-made, mask-after, mask-made, masked-is, new, begun, leaving}

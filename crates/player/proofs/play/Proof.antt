@@ -1,8 +1,8 @@
 -- `play`: each refusal leaves where the order of the tests puts it; else the image is reset, and the records are played on it.
-use mathlib.Core.Path.{_≡_, refl, sym, ap, _∙_}
+use mathlib.Core.Path.{_≡_, sym, ap, _∙_}
 use native.Mathlib.Omega.{arith}
 use borrow.Author.Needs.{needs}
-use Prim.Native.Nat.{ℕ, _*_, _≤_, _<_}
+use Prim.Native.Nat.{_*_, _≤_}
 use lib.ListN.{length}
 use Rattle.images.specs.Form.{known, formOf}
 use Rattle.traces.specs.Trace.{good, traceTest}

@@ -1,7 +1,7 @@
 -- Every image along a play is accepted: from reset, and after each record.
 use mathlib.Core.Path.{_≡_, sym, ap, subst, _∙_}
 use mathlib.Core.List.{List}
-use Prim.Native.Nat.{ℕ, zero, suc, zero-le}
+use Prim.Native.Nat.{ℕ, zero, suc}
 use lib.ListN.{length}
 use Rattle.basics.specs.Numbers.{Bytes}
 use Rattle.rules.specs.Device.{reset}

@@ -1,19 +1,19 @@
 -- What the exported call leaves (02, C-11): refused, not a byte of image, answers and events changes, and 7 writes none at all; done, all is as the calls one after another leave it.
 use mathlib.Core.Path.{_≡_, refl, sym, ap, _∙_}
 use mathlib.Core.Bool.{Bool, true, false, cond}
-use mathlib.Core.List.{List, _++_}
-use Prim.Native.Nat.{ℕ, _+_, _*_, _<_, _≤_}
+use mathlib.Core.List.{List}
+use Prim.Native.Nat.{ℕ, _*_, _<_, _≤_}
 use native.Mathlib.Omega.{arith}
-use lib.Dec.{eqb, leb}
-use lib.ListN.{length, take, drop, length-append, length-take}
+use lib.Dec.{leb}
+use lib.ListN.{length, take, length-take}
 use borrow.Author.Tests.{eq-eqb}
-use Rattle.rules.specs.Device.{none, some}
+use Rattle.rules.specs.Device.{some}
 use Rattle.calls.specs.Calls.{answerLength, answered}
 use Rattle.basics.proofs.laws.Bits.{test}
 use Rattle.basics.specs.Numbers.{part}
 use Rattle.images.specs.Form.{Known, unknown, known, formOf}
 use Rattle.traces.specs.Trace.{recordCount, nth, TraceTest, good, wrongContents, badRecord, traceTest}
-use Rattle.traces.specs.Played.{Played, playedOn, played}
+use Rattle.traces.specs.Played.{playedOn, played}
 use Rattle.traces.proofs.demands.Play.{answers-in-all}
 use Rattle.plays.proofs.laws.InFront.{part-front}
 use Rattle.plays.proofs.demands.AfterEach.{its-answer, first-events}

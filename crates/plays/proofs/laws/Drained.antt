@@ -1,11 +1,9 @@
 -- What a drain of all leaves of an accepted image, whatever the bytes were that it was lent; and what any call leaves in an answer area of its own.
 use mathlib.Core.Path.{_≡_, refl, sym, ap, _∙_}
-use mathlib.Core.Bool.{true, cond}
-use mathlib.Core.List.{List, [], _++_}
+use mathlib.Core.List.{List, _++_}
 use Prim.Native.Nat.{ℕ, _+_, _-_, _*_, _/_, _≤_, zero-le}
 use native.Mathlib.Nat.{zero-add}
 use native.Mathlib.Omega.{arith}
-use lib.Dec.{eqb, leb}
 use lib.ListN.{length, take, drop, replicate, drop-of-length-le}
 use lib.Seq.{take-at}
 use borrow.Author.Tests.{le-leb}
@@ -13,9 +11,9 @@ use Rattle.basics.specs.Numbers.{Bytes}
 use Rattle.rules.specs.Ring.{capacity}
 use Rattle.rules.specs.Device.{Device, WellFormed, Value, value, step}
 use Rattle.rules.specs.Device as device
-use Rattle.rules.specs.Numbering.{Numbers, WellNumbered, Numbered, drainedLength, quadsOf, numbersAfter, drainedWith, valueWith}
+use Rattle.rules.specs.Numbering.{WellNumbered, Numbered, drainedLength, quadsOf, numbersAfter, drainedWith, valueWith}
 use Rattle.images.specs.Image.{accepted, imageTest, encodeLike, decode, numbersIn}
-use Rattle.calls.specs.Calls.{pass, Request, answerLength, answered, valueIn, bufferOf, placeOf, written, Ending, ending, settled, Outcome, outcome}
+use Rattle.calls.specs.Calls.{pass, Request, answerLength, answered, bufferOf, placeOf, written, Ending, ending, settled, Outcome, outcome}
 use Rattle.rules.specs.Device.{amount}
 use Rattle.calls.specs.Calls as request
 use Rattle.laws.proofs.laws.Images.{decode-well-formed, numbers-well}

@@ -12,7 +12,7 @@ use Rattle.calls.specs.Calls as request
 use Rattle.exported.specs.Exported.{isReset}
 use Rattle.exported.proofs.demands.LeavesAccepted.{leaves-accepted}
 use Rattle.traces.specs.Trace.{Record}
-use Rattle.traces.specs.Played.{drainRoom, requestOf, playedOn}
+use Rattle.traces.specs.Played.{requestOf, playedOn}
 
 -- a call of a record: no reset, and a drain begins at the front
 record Made (q : Request) : Type 0 where

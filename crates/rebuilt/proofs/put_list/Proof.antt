@@ -1,6 +1,5 @@
 -- `put_list`: an entry for each block that is not kept.
 use mathlib.Core.Path.{sym, _∙_}
-use mathlib.Core.Bool.{not}
 use mathlib.Core.Logic.{⊎-elim}
 use Prim.Native.Nat.{ℕ, _+_, _-_, _<_, _≤_}
 use native.Mathlib.Omega.{arith}

@@ -1,5 +1,4 @@
 -- `step`: a drain has its sixty-four bytes of the events; any other record leaves them.
-use mathlib.Core.Path.{_≡_, refl}
 use native.Mathlib.Omega.{arith}
 use borrow.Author.Needs.{needs}
 use Prim.Native.Nat.{_≤_}

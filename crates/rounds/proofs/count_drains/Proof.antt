@@ -3,7 +3,6 @@ use mathlib.Core.Path.{_≡_, ap, _∙_}
 use mathlib.Core.Logic.{⊎-elim}
 use Prim.Native.Nat.{ℕ, _-_, _≤_}
 use native.Mathlib.Omega.{arith}
-use borrow.Author.Needs.{needs}
 use Rattle.traces.specs.Played.{recordsFrom}
 use Rattle.plays.specs.Playing.{drainsIn}
 use Rattle.view.specs.Shown.{recordView}

@@ -1,9 +1,8 @@
 -- `play_all`: a record in each round.
-use mathlib.Core.Path.{_≡_, refl, sym, ap, subst, _∙_}
-use Prim.Native.Nat.{ℕ, _+_, _-_, _*_, _≤_}
+use mathlib.Core.Path.{_≡_, refl, subst}
+use Prim.Native.Nat.{ℕ, _+_, _-_, _*_}
 use native.Mathlib.Omega.{arith}
 use borrow.Author.Needs.{needs}
-use lib.ListN.{length}
 use Rattle.image.specs.Shown.{formView}
 use Rattle.view.specs.Shown.{recordView}
 use Rattle.rounds.proofs.Counting.{few-counted}

@@ -1,15 +1,15 @@
 -- The numbers of events beside the device: they stay in step with its ring, whatever is made and drained.
 use mathlib.Core.Path.{_≡_, refl, sym, ap, _∙_}
-use mathlib.Core.Bool.{Bool, true, false, cond}
+use mathlib.Core.Bool.{true, false}
 use mathlib.Core.List.{List, [], _∷_, _++_}
-use Prim.Native.Nat.{ℕ, zero, suc, _+_, _-_, _%_, _^_, _<_, _≤_}
+use Prim.Native.Nat.{ℕ, zero, suc, _+_, _-_, _^_, _<_}
 use native.Mathlib.Omega.{arith}
 use lib.Dec.{ltb, lit<}
 use lib.ListN.{length, drop, getD, length-append, length-drop}
 use lib.Seq.{getD-drop}
 use Rattle.rules.specs.Lines.{Made}
-use Rattle.rules.specs.Ring.{capacity, Event, Ring, RingAct, offer, Drawn, offered, drawn, ringStep, ringRun}
-use Rattle.rules.specs.Device.{Device, Call, level, poll, read, write, drain, withRing, offers, draws, acted, actsOf, step}
+use Rattle.rules.specs.Ring.{capacity, Event, Ring, offered, drawn, ringStep, ringRun}
+use Rattle.rules.specs.Device.{Device, Call, level, poll, read, write, drain, offers, acted, actsOf, step}
 use Rattle.rules.specs.Core.{turns}
 use Rattle.rules.specs.Access.{Width}
 use Rattle.rules.specs.Numbering.{Numbers, WellNumbered, following, takes, takesAll, roomOf, fewer, numbersAfter}

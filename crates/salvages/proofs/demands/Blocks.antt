@@ -1,6 +1,6 @@
 -- What is kept (02, C-23): the blocks that are all good, byte for byte in the old order, in a trace that is good; a good trace comes out unchanged, and so does the outcome.
 use mathlib.Core.Path.{_≡_, sym, ap, subst, _∙_}
-use mathlib.Core.Bool.{true, false, cond, not, false≢true}
+use mathlib.Core.Bool.{true, false, cond, false≢true}
 use mathlib.Core.List.{List, []}
 use Prim.Native.Nat.{ℕ, _+_, _*_, _≤_}
 use native.Mathlib.Omega.{arith}

@@ -4,14 +4,13 @@ use mathlib.Core.Bool.{true, _&&_}
 use mathlib.Core.List.{List, [], _∷_, _++_}
 use Prim.Native.Nat.{ℕ, suc, _+_, _*_, _<_, _≤_}
 use native.Mathlib.Omega.{arith}
-use lib.Dec.{eqb, leb}
 use lib.ListN.{length, take, drop, length-append}
 use lib.Seq.{take-at, drop-at, drop-drop}
 use borrow.Author.Tests.{eq-eqb, le-leb}
-use Rattle.basics.specs.Numbers.{numberOf, bytesOf, part}
+use Rattle.basics.specs.Numbers.{numberOf, part}
 use Rattle.basics.proofs.laws.Bytes.{numberOf-bytesOf}
 use Rattle.basics.proofs.laws.Lists.{Each}
-use Rattle.traces.specs.Trace.{mostBlocks, mostRecords, recordLength, blockCount, listedAt, Block, blockAt, blocksFrom, recordsIn, backToBack, recordCount, contentsGood}
+use Rattle.traces.specs.Trace.{mostBlocks, mostRecords, recordLength, blockCount, listedAt, blockAt, blocksFrom, recordsIn, backToBack, recordCount, contentsGood}
 use Rattle.traces.proofs.laws.Blocks.{records-none, records-front, stand-none, stand-next}
 use Rattle.traces.proofs.laws.Contents.{contents-are}
 use Rattle.salvages.proofs.laws.Computed as computed

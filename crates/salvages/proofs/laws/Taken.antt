@@ -5,8 +5,8 @@ use mathlib.Core.List.{List, [], _∷_, _++_}
 use Prim.Native.Nat.{ℕ, zero, suc, _+_, _-_, _*_, _/_, _<_, _≤_}
 use native.Mathlib.Nat.{zero-add}
 use native.Mathlib.Omega.{arith}
-use lib.Dec.{eqb, ltb}
-use lib.ListN.{length, take, drop}
+use lib.Dec.{ltb}
+use lib.ListN.{length, take}
 use lib.Seq.{take-all, take-add}
 use borrow.Author.Tests.{eq-eqb, eqb-true, ltb-true, ltb-false, not-false, not-true}
 use Rattle.basics.specs.Numbers.{bytesOf, part, Bytes}

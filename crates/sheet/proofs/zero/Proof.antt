@@ -8,7 +8,7 @@ use native.Mathlib.Nat.{lt-of-le-of-lt}
 use borrow.Author.Needs.{needs}
 use Rattle.basics.specs.Inputs.{on, inputs}
 use lib.ListN.{length}
-use mathlib.Core.Path.{_≡_, refl, _∙_}
+use mathlib.Core.Path.{_≡_, refl}
 use Rattle.sheet.proofs.zero.Statement.{statement}
 use Rattle.sheet.proofs.zero.Tie as tie
 use Rattle.sheet.proofs.zero.Reads as reads

@@ -5,7 +5,7 @@ use Prim.Native.Nat.{_-_, _≤_}
 use Rattle.tallies.specs.Grid.{Becomes}
 use native.Mathlib.Omega.{arith}
 use lib.ListN.{length}
-use mathlib.Core.Path.{_≡_, refl, _∙_}
+use mathlib.Core.Path.{_≡_, refl}
 use Rattle.sheet.proofs.zero_row.Statement.{statement}
 use Rattle.sheet.proofs.zero_row.Tie as tie
 use Rattle.sheet.proofs.zero_row.Reads as reads

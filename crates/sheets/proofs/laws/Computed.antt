@@ -5,8 +5,8 @@ use mathlib.Core.List.{List, [], _∷_, map}
 use Prim.Native.Nat.{ℕ}
 use lib.ListN.{drop, replicate}
 use Rattle.rules.specs.Map.{cellAt}
-use Rattle.rules.specs.Access.{byte, word, dword}
-use Rattle.rules.specs.Device.{level, poll, write}
+use Rattle.rules.specs.Access.{byte, dword}
+use Rattle.rules.specs.Device.{level, write}
 use Rattle.rules.specs.Account.{tally}
 use Rattle.plain.specs.Events.{asLoaded}
 use Rattle.plain.specs.Plain.{Engine}
@@ -16,7 +16,7 @@ use Rattle.traces.specs.Trace.{recordOf}
 use Rattle.traces.specs.Played.{requestOf}
 use Rattle.sheets.specs.Day.{itemOf, begun, moments, dayFrom}
 use Rattle.sheets.specs.Waits.{End, endFrom, waits, greatest, answered, withdrawn, stillOpen}
-use Rattle.sheets.specs.Sheet.{Row, rowOf, emptyRow, totalBelow, rowsBelow, bytesOfRow, sheetBytes}
+use Rattle.sheets.specs.Sheet.{Row, rowOf, totalBelow, rowsBelow, bytesOfRow, sheetBytes}
 
 -- one name that opens what has to compute
 unfoldable pub sheeted : ℕ

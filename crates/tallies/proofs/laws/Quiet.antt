@@ -1,10 +1,9 @@
 -- Acts that the pass does not heed, a half of ISR, and a Byte as a half of its register.
 use mathlib.Core.Path.{_≡_, refl, sym, ap, subst, _∙_}
-use mathlib.Core.Bool.{Bool, true, false, cond}
+use mathlib.Core.Bool.{Bool, true, false}
 use mathlib.Core.List.{List, [], _∷_, _++_}
 use Prim.Native.Nat.{ℕ, _+_, _-_, _^_, _<_}
 use lib.Bits.{bitAnd}
-use lib.ListN.{length}
 use Rattle.basics.specs.Numbers.{byteOf, withByte}
 use Rattle.basics.specs.Inputs.{half, withHalf}
 use Rattle.basics.proofs.laws.Bits.{test}
@@ -12,13 +11,13 @@ use Rattle.rules.specs.Lines.{Lines, withIsr}
 use Rattle.rules.specs.Ring.{ringRun}
 use Rattle.rules.specs.Core.{Core, Act, Store, setRoute, setIsr, store, setVector, turns, lineTurn, vectorsAfter, storedAfter}
 use Rattle.rules.specs.Map as map
-use Rattle.rules.specs.Map.{Register, Cell, halfOf, bytes, nothing, cellAt, inRoutes, inVectors, inByteArea}
+use Rattle.rules.specs.Map.{Register, Cell, halfOf, bytes, cellAt, inRoutes, inVectors, inByteArea}
 use Rattle.rules.specs.Access.{valueOf, readCell, readDword, registerActs, entryActs, cellActs, dwordActs, byteActs}
-use Rattle.rules.specs.Device.{Device, offers, acted}
+use Rattle.rules.specs.Device.{offers, acted}
 use Rattle.laws.proofs.laws.Writes.{byte-acts-inside, byte-acts-outside, dword-acts-of}
 use Rattle.plain.specs.Sequence.{notesOf}
 use Rattle.tallies.specs.Marks.{marksOf}
-use Rattle.tallies.specs.Following.{Stands, Takes, Follows, heeded, ReadsAs}
+use Rattle.tallies.specs.Following.{Stands, Takes, Follows, ReadsAs}
 use Rattle.tallies.proofs.laws.Taking.{takes-none, follows-none, follows-then}
 
 pub follows-same : {l : Lines} {w : ℕ} {m : Lines} {u : ℕ} {b a : List ℕ} (k : ℕ) (xs ys : Core → List Act) → ((c : Core) → c .lines ≡ l → xs c ≡ ys c) → Follows l w m u b a k xs → Follows l w m u b a k ys

@@ -1,24 +1,22 @@
 -- Events made one after another, turns of the lines, and a move of the lines as an act.
-use mathlib.Core.Path.{_≡_, refl, sym, ap, subst, _∙_}
-use mathlib.Core.Bool.{Bool, true, false, cond}
+use mathlib.Core.Path.{_≡_, sym, ap, subst, _∙_}
+use mathlib.Core.Bool.{Bool, true, false}
 use mathlib.Core.List.{List, [], _∷_, _++_, map, map-append}
 use Prim.Native.Nat.{ℕ, _+_, _<_, _≤_}
 use native.Mathlib.Omega.{arith}
-use lib.Dec.{ltb}
 use lib.ListN.{length, length-append}
 use borrow.Author.Tests.{lt-ltb, le-ltb}
-use Rattle.rules.specs.Lines.{Lines, Made, Turn, andThen, event, withIsr}
-use Rattle.rules.specs.Ring.{Event, Ring, RingAct, Drawn, ringStep, ringRun, offered}
-use Rattle.rules.specs.Core.{Core, Act, Move, move, moved, lineTurn, setIsr}
+use Rattle.rules.specs.Lines.{Lines, Made, Turn, andThen, event}
+use Rattle.rules.specs.Ring.{Ring, RingAct, Drawn, ringStep, ringRun}
+use Rattle.rules.specs.Core.{Move, move, moved, lineTurn}
 use Rattle.rules.specs.Device.{Device, offers, acted}
 use Rattle.rules.proofs.laws.Rings.{run-append, offered-room, offered-full}
 use Rattle.rules.proofs.laws.Acts.{offers-append}
-use Rattle.basics.specs.Inputs.{withHalf}
-use Rattle.laws.proofs.laws.Writes.{acted-move, acted-isr}
-use Rattle.plain.specs.Events.{returned, kept, dropped, Note}
+use Rattle.laws.proofs.laws.Writes.{acted-move}
+use Rattle.plain.specs.Events.{returned, kept, dropped}
 use Rattle.plain.specs.Sequence.{notesOf}
 use Rattle.plain.proofs.laws.Queues.{notes-append}
-use Rattle.tallies.specs.Marks.{Mark, happened, allMarked, besides, marksOf}
+use Rattle.tallies.specs.Marks.{happened, allMarked, besides, marksOf}
 use Rattle.tallies.specs.Following.{Stands, Takes, Offers, Turns, Follows}
 use Rattle.tallies.proofs.laws.Taking.{takes-none, takes-then, takes-same, marks-one}
 

@@ -1,5 +1,4 @@
 -- `test`: wrong contents, then the first bad record.
-use native.Mathlib.Omega.{arith}
 use borrow.Author.Needs.{needs}
 use Rattle.trace.proofs.Whole.{told-wrong, few-placed, placed-within, told-bad, told-good}
 use Rattle.trace.proofs.test.Statement.{statement}

@@ -1,17 +1,16 @@
 -- What 02, C-11 says of playing: from reset, a refused call counting as one that did nothing; and sixteen answer bytes for each record.
-use mathlib.Core.Path.{_≡_, refl, ap, _∙_}
-use mathlib.Core.Bool.{true, false, cond}
+use mathlib.Core.Path.{_≡_, refl, ap}
+use mathlib.Core.Bool.{cond}
 use mathlib.Core.List.{List, []}
-use Prim.Native.Nat.{ℕ, zero, suc, _+_, _*_, _≤_}
+use Prim.Native.Nat.{ℕ, zero, suc, _*_}
 use native.Mathlib.Omega.{arith}
-use lib.Dec.{eqb, lit≤}
 use lib.ListN.{length, take, replicate, length-append}
 use borrow.Author.Tests.{ne-eqb}
 use Rattle.rules.specs.Device.{reset}
 use Rattle.rules.specs.Numbering.{drainedLength, fromZero}
 use Rattle.images.specs.Form.{Form, known, formOf}
 use Rattle.images.specs.Image.{encodeLike}
-use Rattle.calls.specs.Calls.{Request, answerLength, answered, valueIn, hasRoom, Ending, ending, settled, Outcome, outcome}
+use Rattle.calls.specs.Calls.{Request, answerLength, answered, valueIn, hasRoom, Ending, outcome}
 use Rattle.calls.specs.Calls as request
 use Rattle.basics.proofs.laws.Bits.{test}
 use Rattle.calls.proofs.laws.Outcomes.{reset-done}

@@ -1,5 +1,4 @@
 -- `fields`: each field is the number of its bytes; two of them fit 16 bits, and four 32.
-use Prim.Native.Nat.{_<_}
 use native.Mathlib.Omega.{arith}
 use lib.ListN.{getD}
 use borrow.Author.Needs.{needs}
