@@ -8,6 +8,15 @@ use borrow.Author.Needs.{needs}
 use Rattle.counts.proofs.bring.Statement.{statement}
 use Rattle.counts.proofs.bring.Tie as tie
 
+-- only a call that is done counts: it stands first, so that a refused one that counts is refused here
+counted : tie.Need-returns-3
+counted c =
+    let r = c .before .before in
+    let f = r .before .before .before .before .before in
+    let k = f .before .before .before in
+    let s = k .before in
+    done-counts (s .args .number) (s .args .image .now) (s .args .board .now) (f .before .if1 .left) (s .pre .0) (λ n. k .shared-slice-known .given n .fits) (r .recount .ensures)
+
 pub bring-spec : {M : Type 1} → statement M
 bring-spec =
     tie.close
@@ -21,5 +30,4 @@ bring-spec =
     (λ c κs. let e = c .before .before in let f = e .before .before in let s = f .before .before .before .before in
     (form-known forms _ _ (sym (f .form-of .ensures) ∙ ap formKnown (e .form .given .1)), s .pre .1))
     (λ c. search needs)
-    (λ c. let r = c .before .before in let f = r .before .before .before .before .before in let k = f .before .before .before in let s = k .before in
-    done-counts (s .args .number) (s .args .image .now) (s .args .board .now) (f .before .if1 .left) (s .pre .0) (λ n. k .shared-slice-known .given n .fits) (r .recount .ensures)))
+    counted)
