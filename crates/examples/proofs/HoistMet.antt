@@ -19,8 +19,8 @@ use Rattle.exported.proofs.laws.Chains.{faithful-at-load}
 use Rattle.hoists.specs.HoistCalls.{hoistReset, endStartup}
 use Rattle.hoists.specs.Hoisted.{Asks, resets, reads, writes, ends, levels, polls, drains, Hoisted, leftBy, isDone, plainCalls, returnedUnder, drainedUnder, isReset, HandedOn, leftAfter}
 use Rattle.hoists.proofs.laws.Computed.{hoisting}
-use Rattle.hoists.proofs.demands.DemandThree.{account-of-a-guest, service-under-profile}
-use Rattle.hoists.proofs.demands.Handed.{handed-on-is-no-load}
+use Rattle.under_profile.proofs.demands.DemandThree.{account-of-a-guest, service-under-profile}
+use Rattle.under_profile.proofs.demands.Handed.{handed-on-is-no-load}
 use Rattle.examples.proofs.PremisesMet.{all-spared, begun}
 use Rattle.examples.proofs.ExportedMet.{imageOf, left-bytes, left-accepted}
 

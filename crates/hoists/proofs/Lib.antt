@@ -1,3 +1,2 @@
--- What is proved of the hoist profile: laws that the proofs of its code cite, and the demands.
+-- What is proved of the hoist profile: laws that the proofs of its code, and what was asked of it (under_profile), cite.
 pub mod laws
-pub mod demands

@@ -21,9 +21,9 @@ use Rattle.histories.proofs.laws.Folds.{along-append}
 use Rattle.exported.proofs.laws.Chains.{faithful-after-reset}
 use Rattle.exported.proofs.demands.FromCalls.{image-holds-device}
 use Rattle.exported.proofs.demands.HandedBack.{account-under-way, account-of-calls, account-without-drops, service-of-calls, service-once-raised, order-of-calls, drops-of-calls}
 use Rattle.hoists.specs.Hoisted.{resets, Hoisted, leftBy, isDone, exportedAs, plainCall, plainCalls, returnedUnder, drainedUnder, BalancesUnder, HandedOn, leftAfter}
-use Rattle.hoists.proofs.demands.Under.{PlainIs, none, one, plain-is, reads-full, all-admitted}
-use Rattle.hoists.proofs.demands.Handed.{handed-on-is-no-load, left-through, a-reset-begins-under}
+use Rattle.under_profile.proofs.demands.Under.{PlainIs, none, one, plain-is, reads-full, all-admitted}
+use Rattle.under_profile.proofs.demands.Handed.{handed-on-is-no-load, left-through, a-reset-begins-under}
 
 -- ---- the account
 

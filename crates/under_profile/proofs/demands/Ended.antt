@@ -17,13 +17,13 @@ use Rattle.calls.specs.Calls as request
 use Rattle.calls.proofs.demands.Refused.{refused-changes-nothing}
 use Rattle.basics.proofs.laws.Bits.{test}
 use Rattle.histories.specs.Premises.{isIsr}
 use Rattle.hoists.specs.Profile.{running, alignedDword, forbidden}
 use Rattle.hoists.specs.HoistCalls.{hoistRoom, hoistWrite, PhaseLeft, hoistReset, cannotEnd, endTold, endStartup}
 use Rattle.hoists.specs.Hoisted.{unphased}
-use Rattle.hoists.proofs.demands.Answers.{forbidden-is-15}
-use Rattle.hoists.proofs.demands.Under.{reset-is-full}
-use Rattle.hoists.proofs.demands.Handed.{end-keeps-image}
-use Rattle.hoists.proofs.demands.Phases.{after-runs, done-end, refused-end-keeps, refused-reset-keeps}
+use Rattle.under_profile.proofs.demands.Answers.{forbidden-is-15}
+use Rattle.under_profile.proofs.demands.Under.{reset-is-full}
+use Rattle.under_profile.proofs.demands.Handed.{end-keeps-image}
+use Rattle.under_profile.proofs.demands.Phases.{after-runs, done-end, refused-end-keeps, refused-reset-keeps}
 
 -- ---- refused
 

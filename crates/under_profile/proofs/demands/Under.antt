@@ -20,13 +20,13 @@ use Rattle.exported.specs.Exported as full
 use Rattle.basics.proofs.laws.Bits.{test}
 use Rattle.exported.proofs.laws.Chains.{passed, left-holds, handed, done-call, carried-on, faithful-kept}
 use Rattle.exported.proofs.laws.Readings.{access-is, input-is, asked-is}
 use Rattle.hoists.specs.Profile.{running, Verdict, passes, unaligned, unfit, verdict}
 use Rattle.hoists.specs.HoistCalls.{judged, endsBy, hoistEnding, hoistRoom, hoistRead, hoistWrite, hoistReset}
 use Rattle.hoists.specs.Hoisted.{Asks, resets, reads, writes, ends, levels, polls, drains, Hoisted, unphased, leftUnder, leftBy, isDone, requestOf, exportedAs, plainCall, plainCalls}
 use Rattle.hoists.specs.Hoisted.{returnedOf, drainedOf, returnedUnder, drainedUnder}
 use Rattle.hoists.proofs.laws.Judged.{then-verdict}
-use Rattle.hoists.proofs.demands.Admits.{passed-is-admitted}
-use Rattle.hoists.proofs.demands.Answers.{done-write-is-full, done-read-is-full}
+use Rattle.under_profile.proofs.demands.Admits.{passed-is-admitted}
+use Rattle.under_profile.proofs.demands.Answers.{done-write-is-full, done-read-is-full}
 
 -- ---- one call
 

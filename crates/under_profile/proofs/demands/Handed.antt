@@ -21,12 +21,12 @@ use Rattle.basics.proofs.laws.Lists.{equal-same}
 use Rattle.calls.proofs.demands.Refused.{refused-changes-nothing}
 use Rattle.exported.proofs.laws.Chains.{left-last}
 use Rattle.exported.proofs.demands.FromCalls.{a-reset-begins}
 use Rattle.hoists.specs.Profile.{running}
 use Rattle.hoists.specs.HoistCalls.{hoistRoom, cannotEnd, endTold, hoistReset, endStartup}
 use Rattle.hoists.specs.Hoisted.{Asks, resets, reads, writes, ends, levels, polls, drains, Hoisted, leftUnder, leftBy, isDone, requestOf, exportedAs, plainCall, plainCalls}
 use Rattle.hoists.specs.Hoisted.{isReset, HandedOn, leftAfter}
-use Rattle.hoists.proofs.demands.Answers.{refused-write-untouched, refused-read-untouched}
-use Rattle.hoists.proofs.demands.Under.{reset-is-full, done-is-full, PlainIs, none, one, plain-is, plain-done}
+use Rattle.under_profile.proofs.demands.Answers.{refused-write-untouched, refused-read-untouched}
+use Rattle.under_profile.proofs.demands.Under.{reset-is-full, done-is-full, PlainIs, none, one, plain-is, plain-done}
 
 -- ---- a call that is none of the full device's leaves the image
 

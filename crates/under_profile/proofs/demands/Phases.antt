@@ -20,12 +20,12 @@ use Rattle.exported.specs.Exported.{Underway, carriedThrough, NoLoads, doneCall
 use Rattle.basics.proofs.laws.Bits.{test}
 use Rattle.histories.proofs.laws.Folds.{fold-calls}
 use Rattle.exported.proofs.demands.FromCalls.{image-holds-device, image-holds-history}
 use Rattle.hoists.specs.Profile.{running, inStartUp, afterStartUp, anyServed, forbidden, passes, unaligned, unfit, verdict}
 use Rattle.hoists.specs.HoistCalls.{hoistRoom, PhaseLeft, phaseLeaves, hoistReset, cannotEnd, endEnding, endStartup}
 use Rattle.hoists.specs.Hoisted.{Hoisted, plainCalls}
 use Rattle.hoists.proofs.laws.Vectors.{no-vector-written}
-use Rattle.hoists.proofs.demands.Admits.{allowed, passed, no-verdict}
-use Rattle.hoists.proofs.demands.Under.{EachCall, along-under}
+use Rattle.under_profile.proofs.demands.Admits.{allowed, passed, no-verdict}
+use Rattle.under_profile.proofs.demands.Under.{EachCall, along-under}
 
 -- ---- the end of start-up
 

@@ -1,0 +1,2 @@
+-- What is proved of calls under the hoist profile.
+pub mod demands
