@@ -8,7 +8,7 @@ use borrow.Author.Needs.{needs}
 use Rattle.images.specs.Form.{pairs, numbers, has}
 use Rattle.image.specs.Shown.{formView}
 use Rattle.image.proofs.Forms.{placed, always-within, field-within, has-numbers, no-numbers}
-use Rattle.events_out.proofs.Weaving.{with-numbers, from-zero}
+use Rattle.events_out.proofs.Copying.{with-numbers, from-zero}
 use Rattle.events_out.proofs.copy_out.Statement.{statement}
 use Rattle.events_out.proofs.copy_out.Tie as tie
 

@@ -9,7 +9,7 @@ use Rattle.sheet.proofs.make.Reads as reads
 use Rattle.sheet.proofs.make.Lts as lts
 use Rattle.answer.proofs.done.Reads as done-reads
 use Rattle.sheet.proofs.follow.Reads as follow-reads
-use Rattle.sheet.proofs.join_all.Reads as join-all-reads
+use Rattle.totals.proofs.join_all.Reads as join-all-reads
 use Rattle.sheet.proofs.zero.Reads as zero-reads
 use Rattle.sheet.proofs.zero_row.Reads as zero-row-reads
 use Rattle.trace.proofs.test.Reads as test-reads

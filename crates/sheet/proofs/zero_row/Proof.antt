@@ -1,4 +1,5 @@
-use Rattle.sheet.proofs.Loops.{zero-none, zero-next, all-done}
+use Rattle.sheet.proofs.Loops.{zero-none, zero-next}
+use Rattle.totals.proofs.Rows.{all-done}
 use borrow.Author.Needs.{needs}
 use Rattle.passes.specs.Finish.{rowCleared}
 use Prim.Native.Nat.{_-_, _≤_}

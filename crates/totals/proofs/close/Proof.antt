@@ -1,8 +1,8 @@
 -- `close`: the last column becomes whether a wait is not over.
-use Rattle.sheet.proofs.Loops.{shuts}
+use Rattle.totals.proofs.Rows.{shuts}
 use borrow.Author.Needs.{needs}
-use Rattle.sheet.proofs.close.Statement.{statement}
-use Rattle.sheet.proofs.close.Tie as tie
+use Rattle.totals.proofs.close.Statement.{statement}
+use Rattle.totals.proofs.close.Tie as tie
 
 returns : tie.Need-returns
 returns c =

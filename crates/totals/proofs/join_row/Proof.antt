@@ -1,5 +1,5 @@
 -- `join_row`: after each turn, the columns so far are joined.
-use Rattle.sheet.proofs.Loops.{row-none, row-next, all-done}
+use Rattle.totals.proofs.Rows.{row-none, row-next, all-done}
 use borrow.Author.Needs.{needs}
 use Rattle.passes.specs.Finish.{rowJoined}
 use Prim.Native.Nat.{_-_, _≤_}
@@ -7,8 +7,8 @@ use Rattle.tallies.specs.Grid.{Becomes}
 use native.Mathlib.Omega.{arith}
 use lib.ListN.{length}
 use mathlib.Core.Path.{_≡_, refl}
-use Rattle.sheet.proofs.join_row.Statement.{statement}
-use Rattle.sheet.proofs.join_row.Tie as tie
+use Rattle.totals.proofs.join_row.Statement.{statement}
+use Rattle.totals.proofs.join_row.Tie as tie
 
 abbrev Inv-loop : tie.InvT-loop
 Inv-loop sheet₀ n c₀ sheet c = (c ≤ 10) × Becomes sheet₀ sheet (λ f. rowJoined f n c) × (length sheet ≡ length sheet₀)

@@ -1,5 +1,5 @@
 -- `join_all`: after each turn, the rows so far are shut and joined.
-use Rattle.sheet.proofs.Loops.{finished-none, finished-next, all-done}
+use Rattle.totals.proofs.Rows.{finished-none, finished-next, all-done}
 use borrow.Author.Needs.{needs}
 use Rattle.passes.specs.Finish.{finished}
 use Prim.Native.Nat.{_-_, _≤_}
@@ -7,8 +7,8 @@ use Rattle.tallies.specs.Grid.{Becomes}
 use native.Mathlib.Omega.{arith}
 use lib.ListN.{length}
 use mathlib.Core.Path.{_≡_, refl}
-use Rattle.sheet.proofs.join_all.Statement.{statement}
-use Rattle.sheet.proofs.join_all.Tie as tie
+use Rattle.totals.proofs.join_all.Statement.{statement}
+use Rattle.totals.proofs.join_all.Tie as tie
 
 abbrev Inv-loop : tie.InvT-loop
 Inv-loop sheet₀ n₀ sheet n = (n ≤ 64) × Becomes sheet₀ sheet (λ f. finished f n) × (length sheet ≡ length sheet₀)

@@ -1,7 +1,7 @@
 -- `is_on`: 1 where it is not 0.
 use borrow.Author.Tests.{eq-eqb, ne-eqb}
-use Rattle.sheet.proofs.is_on.Statement.{statement}
-use Rattle.sheet.proofs.is_on.Tie as tie
+use Rattle.totals.proofs.is_on.Statement.{statement}
+use Rattle.totals.proofs.is_on.Tie as tie
 
 returns : tie.Need-returns
 returns c =

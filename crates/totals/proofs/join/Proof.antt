@@ -1,8 +1,8 @@
 -- `join`: the number read is joined to the total.
-use Rattle.sheet.proofs.Loops.{joins}
+use Rattle.totals.proofs.Rows.{joins}
 use borrow.Author.Needs.{needs}
-use Rattle.sheet.proofs.join.Statement.{statement}
-use Rattle.sheet.proofs.join.Tie as tie
+use Rattle.totals.proofs.join.Statement.{statement}
+use Rattle.totals.proofs.join.Tie as tie
 
 returns : tie.Need-returns
 returns c =

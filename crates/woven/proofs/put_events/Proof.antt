@@ -3,9 +3,9 @@ use mathlib.Core.Path.{refl, sym, _∙_}
 use Prim.Native.Nat.{_-_, _≤_}
 use native.Mathlib.Omega.{arith}
 use lib.ListN.{length-set}
-use Rattle.events_out.proofs.Weaving.{Weaving, weaving-next, weaving-done}
-use Rattle.events_out.proofs.put_events.Statement.{statement}
-use Rattle.events_out.proofs.put_events.Tie as tie
+use Rattle.woven.proofs.Weaving.{Weaving, weaving-next, weaving-done}
+use Rattle.woven.proofs.put_events.Statement.{statement}
+use Rattle.woven.proofs.put_events.Tie as tie
 
 abbrev Inv-loop : tie.InvT-loop
 Inv-loop out₀ pairs numbers n k₀ out k = (k ≤ n) × Weaving pairs numbers out n k

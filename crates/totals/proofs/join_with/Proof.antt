@@ -1,8 +1,8 @@
 -- `join_with`: the greater of two waits, and of all else the sum, as four bytes hold it.
-use Rattle.sheet.proofs.Loops.{joined-greatest, joined-other}
+use Rattle.totals.proofs.Rows.{joined-greatest, joined-other}
 use borrow.Author.Needs.{needs}
-use Rattle.sheet.proofs.join_with.Statement.{statement}
-use Rattle.sheet.proofs.join_with.Tie as tie
+use Rattle.totals.proofs.join_with.Statement.{statement}
+use Rattle.totals.proofs.join_with.Tie as tie
 
 returns : tie.Need-returns
 returns c =

@@ -1,0 +1,2 @@
+-- What is promised of pairs and numbers that come together.
+pub mod Weave
