@@ -103,7 +103,7 @@ pub fn read_dword(image: &[u8], form: Form, offset: usize) -> u32
     requires { ⌜ length (now image) ≡ formLength (formView form) ⌝ }
     ensures { λ r. ⌜ Reads (now (image .entry)) r (λ d. readDword (d .core) offset) ⌝ }
 {
-    match map::low::decode_low(offset) {
+    match map_low::decode_low(offset) {
         Cell::Half(register, high) => bits::half(value_of(&*image, form, register), high),
         Cell::Bytes => read_four(&*image, form, offset),
         Cell::Nothing => 0,
@@ -114,7 +114,7 @@ pub fn write_dword(image: &mut [u8], form: Form, offset: usize, val: u32) -> u32
     requires { ⌜ length (now image) ≡ formLength (formView form) ⌝ }
     ensures { λ r. ⌜ (r ≤ 65) × Writes (now (image .entry)) (now (image .exit)) r (λ c. dwordActs offset val) ⌝ }
 {
-    match map::low::decode_low(offset) {
+    match map_low::decode_low(offset) {
         Cell::Half(register, high) => write_half(image, form, register, val, high),
         Cell::Bytes => {
             write_four(image, form, offset, val);

@@ -1,6 +1,4 @@
 // The register map, after loongarch_pch_pic.rs of axdevice 0.8.5: what stands at an offset, for whoever reads or writes there.
-pub mod low;
-
 use state::PchPicState;
 ghost use mathlib.Core.Path.{_≡_};
 ghost use Rattle.rules.specs.Map.{cellAt};

@@ -119,7 +119,7 @@ fn put_row(table: &[[u8; 32]; 32], start: usize, end: usize)
 }
 
 fn main() {
-    let table = table::whole();
+    let table = table_numbers::whole();
     put(b"offsets       register  half  bytes of the half, or inputs\n");
     let mut at = 0;
     while at < 1024 {

@@ -1,5 +1,3 @@
 -- The laws that the proofs of this crate cite.
-pub mod Same
-pub mod Once
 pub mod Laws
 pub mod Meant

@@ -1,6 +1,4 @@
-// The register map as a table: for each byte offset what the byte belongs to.
-pub mod rows;
-
+// The register map as a table: what a number of it tells, and so what stands at an offset of whatever table agrees with the map.
 use map::Plain;
 use map::Register;
 ghost use mathlib.Core.Path.{_≡_};
@@ -17,12 +15,8 @@ pub enum Place {
     Nothing,
 }
 
-// The whole table. A caller lends it on: an array that is named again is copied again.
-pub fn whole() -> [[u8; 32]; 32]
-    ensures { λ r. ⌜ Agrees r ⌝ }
-{
-    rows::TABLE
-}
+// The registers from here on are silent to Byte and Word: IRR.
+const SILENT: u8 = 0x70;
 
 // A byte of a register, by the table's number for it.
 fn part_of(register: Register, entry: u8) -> Place
@@ -32,7 +26,7 @@ fn part_of(register: Register, entry: u8) -> Place
         register,
         entry / 4 % 2 == 1,
         (entry % 4) as usize,
-        entry >= rows::SILENT,
+        entry >= SILENT,
     )
 }
 

@@ -34,7 +34,7 @@ pub fn read(image: &[u8], base: u64, size: u64, address: u64, width: u64) -> Tol
     let Located::At(offset) = window::locate(base, size, address, width) else {
         return outside(address);
     };
-    let table = table::whole();
+    let table = table_numbers::whole();
     let value = table_access::read_access(image, form, &table, known, offset);
     done(Value::Present(value))
 }
@@ -55,7 +55,7 @@ pub fn write(image: &mut [u8], base: u64, size: u64, address: u64, width: u64, v
     let Located::At(offset) = window::locate(base, size, address, width) else {
         return outside(address);
     };
-    let table = table::whole();
+    let table = table_numbers::whole();
     let dropped = table_access::write_access(image, form, &table, known, offset, value);
     done(Value::Present(dropped as u64))
 }

@@ -1,7 +1,7 @@
 // Register writes as a pass takes them: of each width at most two halves of a register, of which it heeds MASK, CLEAR and ISR.
 use map::Cell;
 use map::Register;
-use map::low::decode_low;
+use map_low::decode_low;
 use watch::Watched;
 use watch::write_clear;
 use watch::write_mask;

@@ -11,7 +11,7 @@ use Rattle.watch_write.proofs.write_piece.Statement.{statement}
 use Rattle.watch_write.proofs.write_piece.Tie as tie
 use Rattle.watch_write.proofs.write_piece.Reads as reads
 use Rattle.watch_write.proofs.write_piece.Lts as lts
-use Rattle.map.proofs.low.decode_low.Reads as decode-low-reads
+use Rattle.map_low.proofs.decode_low.Reads as decode-low-reads
 use Rattle.watch_write.proofs.in_byte_area.Reads as in-byte-area-reads
 use Rattle.watch_write.proofs.place_of.Reads as place-of-reads
 use Rattle.watch_write.proofs.value_in.Reads as value-in-reads

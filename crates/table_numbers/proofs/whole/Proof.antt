@@ -1,10 +1,10 @@
 -- `whole`: the table's rule, computed once over all of its entries.
 use mathlib.Core.Path.{refl}
 use Rattle.rules.specs.Map.{cellAt}
 use Rattle.table.specs.Meaning.{reading, meant}
-use Rattle.table.proofs.Once.{agrees}
-use Rattle.table.proofs.whole.Statement.{statement}
-use Rattle.table.proofs.whole.Tie as tie
+use Rattle.table_numbers.proofs.Once.{agrees}
+use Rattle.table_numbers.proofs.whole.Statement.{statement}
+use Rattle.table_numbers.proofs.whole.Tie as tie
 
 pub whole-spec : {M : Type 1} → statement M
 unfolding reading meant cellAt

@@ -7,8 +7,8 @@ use native.Mathlib.Nat.{add-zero, add-suc, suc-add, le-of-suc-le-suc, not-suc-le
 use native.Mathlib.Omega.{arith}
 use lib.Dec.{T, eqb, eqb→eq}
 use lib.ListN.{length, getD}
 use Rattle.table.specs.Meaning.{reading, meant, entryAt, Agrees}
-use Rattle.table.proofs.Same.{both, both-left, both-right, same, same-meaning}
+use Rattle.table_numbers.proofs.Same.{both, both-left, both-right, same, same-meaning}
 
 -- the test f passes at each entry of a row and its place, counted from i
 abbrev pub every : (ℕ → ℕ → Bool) → ℕ → List ℕ → Bool

@@ -8,8 +8,8 @@ use borrow.Author.Needs.{needs}
 use Rattle.rules.specs.Map.{Register, id, mask, clear, irr, isr, plain, halfOf, table, cellAt}
 use Rattle.rules.specs.Core.{htmsiEn, edge, pol, auto0, auto1}
 use Rattle.laws.proofs.laws.Maps.{MissedLow, lowOf, halves-missed, half-of, below, between, beyond, unlisted-route, unlisted-vector, unlisted-elsewhere}
-use Rattle.map.proofs.low.decode_low.Statement.{statement}
-use Rattle.map.proofs.low.decode_low.Tie as tie
+use Rattle.map_low.proofs.decode_low.Statement.{statement}
+use Rattle.map_low.proofs.decode_low.Tie as tie
 
 -- an arm that lists the low half
 arm : (o l x : ℕ) (b : Bool) (r : Register) → cellAt l ≡ halfOf r false → cellAt (l + 4) ≡ halfOf r true → b ≡ eqb (o / 4 % 2) 1 → x ≡ lowOf o → x ≡ l → halfOf r b ≡ cellAt o

@@ -1,13 +1,13 @@
 // The map by the low half alone, since every high half stands 4 above its low one: ten arms and not twenty, for the calls in place.
-use crate::Cell;
-use crate::Plain;
-use crate::Register;
+use map::Cell;
+use map::Plain;
+use map::Register;
 use state::PchPicState;
 ghost use mathlib.Core.Path.{_≡_};
 ghost use Prim.Native.Nat.{_*_, _-_, _/_, _%_};
 ghost use lib.Dec.{eqb};
 ghost use Rattle.rules.specs.Map.{cellAt};
 ghost use Rattle.map.specs.Views.{cellView};
 
 // The offset of the low half, of a register whose half stands at an offset.
 fn low_offset(offset: usize) -> usize

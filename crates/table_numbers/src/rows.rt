@@ -23,9 +23,6 @@ const ISR: u8 = 0x40;
 
 const POL: u8 = 0x48;
 
-// The registers from here on are silent to Byte and Word: IRR.
-pub const SILENT: u8 = 0x70;
-
 const IRR: u8 = 0x70;
 
 // An input's route byte, and its vector byte: the number of the first input's and the input.
