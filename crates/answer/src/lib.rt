@@ -1,6 +1,8 @@
 // The answer area: the refusal, whether a value is present, and the value.
-use bytes::put_word;
-use bytes::put_zeros;
+pub mod refusals;
+
+use bits::bytes::put_word;
+use bits::bytes::put_zeros;
 ghost use mathlib.Core.Path.{_≡_};
 ghost use Prim.Native.Nat.{_≤_};
 ghost use lib.ListN.{length};

@@ -1,1 +1,2 @@
 -- The contracts cite the definitions of rules alone.
+pub mod bytes

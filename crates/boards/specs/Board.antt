@@ -10,7 +10,7 @@ use Rattle.rules.specs.Core.{Core}
 use Rattle.rules.specs.Device.{upFrom}
 use Rattle.rules.specs.Account.{servedWith, carries, carrying}
 use Rattle.images.specs.Image.{decode}
-use Rattle.exported.specs.Exported.{Exported, leftBy, isDone, isLoad, Underway, carriedOn}
+use Rattle.histories.specs.exported.Exported.{Exported, leftBy, isDone, isLoad, Underway, carriedOn}
 
 -- a board has a count for each of the 256 vectors (02, C-20)
 abbrev pub boardLength : ℕ

@@ -8,7 +8,7 @@ use Rattle.rules.specs.Core.{Core}
 use Rattle.rules.specs.Device.{some}
 use Rattle.images.specs.Image.{decode}
 use Rattle.calls.specs.Calls.{Request, refusalNumber, noRoom, answerLength, answered, bufferOf, Outcome, leaves, outcome}
-use Rattle.exported.specs.Exported.{Exported}
+use Rattle.histories.specs.exported.Exported.{Exported}
 use Rattle.boards.specs.Board.{boardLength, recount}
 
 -- ---- the first board: each call is the call without board, and then the board is right

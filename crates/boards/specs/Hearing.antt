@@ -11,7 +11,7 @@ use Rattle.rules.specs.Numbering.{Numbered}
 use Rattle.rules.specs.History.{fromReset}
 use Rattle.histories.specs.Premises.{Along, Admitted}
 use Rattle.histories.specs.Demands.{asEvent}
-use Rattle.exported.specs.Exported.{Exported, Underway, carriedThrough, NoLoads, doneCalls, inImage}
+use Rattle.histories.specs.exported.Exported.{Exported, Underway, carriedThrough, NoLoads, doneCalls, inImage}
 use Rattle.boards.specs.Board.{boardLength}
 use Rattle.boards.specs.Boarding.{hearing}
 

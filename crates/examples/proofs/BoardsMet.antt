@@ -17,15 +17,15 @@ use Rattle.images.specs.Form.{numbered}
 use Rattle.images.specs.Image.{encodeAs, decode}
 use Rattle.calls.specs.Calls.{Request}
 use Rattle.calls.specs.Calls as request
-use Rattle.exported.specs.Exported.{Exported, leftBy, isDone, Underway, carriedOn, carriedThrough, NoLoads, doneCalls, inImage, afterReset}
+use Rattle.histories.specs.exported.Exported.{Exported, leftBy, isDone, Underway, carriedOn, carriedThrough, NoLoads, doneCalls, inImage, afterReset}
 use Rattle.order.specs.Read.{returnedRead, drainedRead}
 use Rattle.rules.specs.Account.{carrying}
 use Rattle.boards.specs.Board.{countsBy, recount, Touching}
 use Rattle.boards.specs.Boarding.{boarding, boardBy, boardThrough, hearing}
 use Rattle.boards.specs.Hearing.{blank, heardThrough, Complete, Interleaves, neither, first, second, inserted, byNumber}
 use Rattle.calls.proofs.laws.Computing.{computing}
-use Rattle.exported.proofs.laws.Chains.{faithful-after-reset}
-use Rattle.exported.proofs.demands.FromCalls.{handed-on-is-no-load, image-holds-history}
+use Rattle.histories.proofs.exported.laws.Chains.{faithful-after-reset}
+use Rattle.histories.proofs.exported.demands.FromCalls.{handed-on-is-no-load, image-holds-history}
 use Rattle.boards.proofs.laws.Counts.{counts-length}
 use Rattle.boards.proofs.demands.Kept.{only-touched-change}
 use Rattle.boards.proofs.demands.Second.{by-number-equals-first}

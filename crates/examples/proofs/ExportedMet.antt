@@ -23,21 +23,21 @@ use Rattle.rules.specs.Copy.{copyActed, copyThrough}
 use Rattle.histories.specs.Premises.{Along, Admitted}
 use Rattle.rules.specs.Account.{tally, asserts, deasserts, carrying, assertsAmong, deassertsAmong}
 use Rattle.histories.specs.Demands.{inService, someAct, ringActs}
-use Rattle.exported.specs.Exported.{Exported, leftBy, isReset, isLoad, Underway, carriedOn, carriedThrough, NoLoads, HandedOn, doneCalls}
-use Rattle.exported.specs.Exported.{leftAfter, inImage, Faithful, numbersThrough, afterReset, atLoad, returnedBy, drainedBy, lossesRead, Balances}
-use Rattle.exported.specs.Alike.{Asking, madeOn, NoFifth, AllAlike, AllAlikeBut}
+use Rattle.histories.specs.exported.Exported.{Exported, leftBy, isReset, isLoad, Underway, carriedOn, carriedThrough, NoLoads, HandedOn, doneCalls}
+use Rattle.histories.specs.exported.Exported.{leftAfter, inImage, Faithful, numbersThrough, afterReset, atLoad, returnedBy, drainedBy, lossesRead, Balances}
+use Rattle.histories.specs.exported.Alike.{Asking, madeOn, NoFifth, AllAlike, AllAlikeBut}
 use Rattle.calls.proofs.laws.Computing.{computing}
 use Rattle.histories.proofs.laws.WellFormed.{history-well}
-use Rattle.exported.proofs.laws.Chains.{faithful-after-reset, faithful-at-load, through-numbered}
+use Rattle.histories.proofs.exported.laws.Chains.{faithful-after-reset, faithful-at-load, through-numbered}
 use Rattle.laws.proofs.demands.RoundTrip.{saved-is-bytes, saved-is-accepted, saved-and-loaded, numbers-not-saved, reset-can-be-saved}
 use Rattle.laws.proofs.demands.Convert.{can-be-converted}
-use Rattle.exported.proofs.demands.FromCalls.{handed-on-is-no-load}
-use Rattle.exported.proofs.demands.HandedBack.{account-from-load, drops-of-calls, service-of-calls, service-once-raised, account-since-load, account-under-way}
-use Rattle.exported.proofs.demands.Losses.{losses-of-calls, losses-below-the-stop, losses-up-to-the-stop, losses-from-load}
-use Rattle.exported.proofs.demands.ClearedCalls.{cleared-polled-in-vain, cleared-asserts-had-waited}
-use Rattle.exported.proofs.demands.Copy.{copy-of-calls}
-use Rattle.exported.proofs.demands.Convert.{numbers-within-each-call, converted-answers-alike, converted-answers-alike-but-for-numbers}
-use Rattle.exported.proofs.demands.ReadAlike.{converted-read-alike}
+use Rattle.histories.proofs.exported.demands.FromCalls.{handed-on-is-no-load}
+use Rattle.histories.proofs.exported.demands.HandedBack.{account-from-load, drops-of-calls, service-of-calls, service-once-raised, account-since-load, account-under-way}
+use Rattle.histories.proofs.exported.demands.Losses.{losses-of-calls, losses-below-the-stop, losses-up-to-the-stop, losses-from-load}
+use Rattle.histories.proofs.exported.demands.ClearedCalls.{cleared-polled-in-vain, cleared-asserts-had-waited}
+use Rattle.histories.proofs.exported.demands.Copy.{copy-of-calls}
+use Rattle.histories.proofs.exported.demands.Convert.{numbers-within-each-call, converted-answers-alike, converted-answers-alike-but-for-numbers}
+use Rattle.histories.proofs.exported.demands.ReadAlike.{converted-read-alike}
 use Rattle.calls.proofs.demands.Refused.{Unchanged, refused-changes-nothing}
 use Rattle.examples.proofs.PremisesMet.{all-admitted, all-spared, all-undisturbed, all-unraised, all-carried-alone, begun, seventeen}
 

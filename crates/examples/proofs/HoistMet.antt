@@ -14,13 +14,13 @@ use Rattle.rules.specs.Account.{carrying, assertsAmong, deassertsAmong}
 use Rattle.images.specs.Form.{two}
 use Rattle.images.specs.Image.{decode}
 use Rattle.histories.specs.Demands.{inService, ringActs}
-use Rattle.exported.specs.Exported.{Underway, carriedThrough, doneCalls, inImage, atLoad}
-use Rattle.exported.proofs.laws.Chains.{faithful-at-load}
+use Rattle.histories.specs.exported.Exported.{Underway, carriedThrough, doneCalls, inImage, atLoad}
+use Rattle.histories.proofs.exported.laws.Chains.{faithful-at-load}
 use Rattle.hoists.specs.HoistCalls.{hoistReset, endStartup}
 use Rattle.hoists.specs.Hoisted.{Asks, resets, reads, writes, ends, levels, polls, drains, Hoisted, leftBy, isDone, plainCalls, returnedUnder, drainedUnder, isReset, HandedOn, leftAfter}
 use Rattle.hoists.proofs.laws.Computed.{hoisting}
-use Rattle.under_profile.proofs.demands.DemandThree.{account-of-a-guest, service-under-profile}
-use Rattle.under_profile.proofs.demands.Handed.{handed-on-is-no-load}
+use Rattle.hoists.proofs.under_profile.demands.DemandThree.{account-of-a-guest, service-under-profile}
+use Rattle.hoists.proofs.under_profile.demands.Handed.{handed-on-is-no-load}
 use Rattle.examples.proofs.PremisesMet.{all-spared, begun}
 use Rattle.examples.proofs.ExportedMet.{imageOf, left-bytes, left-accepted}
 

@@ -15,7 +15,7 @@ use Rattle.images.specs.Form.{numbered}
 use Rattle.images.specs.Image.{encodeAs, decode, numbersIn}
 use Rattle.calls.specs.Calls.{Request}
 use Rattle.calls.specs.Calls as request
-use Rattle.exported.specs.Exported.{Exported, leftBy, isDone, doneCalls, leftAfter}
+use Rattle.histories.specs.exported.Exported.{Exported, leftBy, isDone, doneCalls, leftAfter}
 use Rattle.difference.specs.Difference.{differenceOf}
 use Rattle.order.specs.Fates.{Placed, isDropped, placed, placedFrom, eventsMade, withFate}
 use Rattle.order.specs.Numbered.{allFrom, waitingWith, someHas, InOrder}

@@ -20,14 +20,14 @@ use Rattle.calls.specs.Calls as request
 use Rattle.rules.specs.History.{history, fromReset}
 use Rattle.rules.specs.Account.{tally}
 use Rattle.histories.specs.Demands.{inService, assertsOf, returnedIn}
-use Rattle.exported.specs.Exported.{Exported, leftBy, HandedOn, leftAfter, Underway, doneCall, doneCalls, atLoad, returnedBy, drainedBy}
+use Rattle.histories.specs.exported.Exported.{Exported, leftBy, HandedOn, leftAfter, Underway, doneCall, doneCalls, atLoad, returnedBy, drainedBy}
 use Rattle.sweep.specs.Sweeps.{sweeping, isPoll, everyCall, someCall, Sweep, WakesAll}
 use Rattle.sweep.specs.Handed.{WakesAllRead, pollsFrom, pollsAll}
 use Rattle.calls.proofs.laws.Computing.{computing}
 use Rattle.laws.proofs.demands.RoundTrip.{saved-is-bytes, saved-is-accepted, reset-can-be-saved}
-use Rattle.exported.proofs.laws.Chains.{faithful-at-load, calls-split}
-use Rattle.exported.proofs.demands.FromCalls.{handed-on-is-no-load}
-use Rattle.exported.proofs.demands.HandedBack.{returned-is-read, drained-is-read}
+use Rattle.histories.proofs.exported.laws.Chains.{faithful-at-load, calls-split}
+use Rattle.histories.proofs.exported.demands.FromCalls.{handed-on-is-no-load}
+use Rattle.histories.proofs.exported.demands.HandedBack.{returned-is-read, drained-is-read}
 use Rattle.sweep.proofs.laws.Polls.{polls-done}
 use Rattle.sweep.proofs.demands.WakesAll.{one-sweep-wakes-all}
 use Rattle.sweep.proofs.demands.OfCalls.{sweep-of-an-image, polls-are-a-sweep, polls-wake-all}

@@ -9,10 +9,10 @@ use Rattle.basics.proofs.laws.Bytes.{bytes-known}
 use Rattle.calls.specs.Calls.{answered, valueIn}
 use Rattle.traces.specs.Trace.{good, traceTest}
 use Rattle.traces.proofs.laws.Computed.{tracing}
-use Rattle.plays.specs.Playing.{inFront}
-use Rattle.salvages.specs.Salvaging.{SalvageLeft, salvageLeaves, salvaging}
-use Rattle.salvages.proofs.laws.Computed.{computed}
-use Rattle.salvages.proofs.demands.Left.{good-left, again-left}
+use Rattle.traces.specs.plays.Playing.{inFront}
+use Rattle.traces.specs.salvages.Salvaging.{SalvageLeft, salvageLeaves, salvaging}
+use Rattle.traces.proofs.salvages.laws.Computed.{computed}
+use Rattle.traces.proofs.salvages.demands.Left.{good-left, again-left}
 
 abbrev raise : ℕ → List ℕ
 raise n = 1 ∷ n ∷ replicate 14 0

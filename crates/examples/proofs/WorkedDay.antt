@@ -14,7 +14,7 @@ use Rattle.images.specs.Image.{encodeAs}
 use Rattle.calls.specs.Calls.{answered}
 use Rattle.calls.specs.Calls as request
 use Rattle.rules.specs.History.{fromReset}
-use Rattle.exported.specs.Exported.{Exported, leftBy, isDone, isLoad, carriedOn, afterReset}
+use Rattle.histories.specs.exported.Exported.{Exported, leftBy, isDone, isLoad, carriedOn, afterReset}
 use Rattle.calls.proofs.laws.Computing.{computing}
 use Rattle.images.proofs.laws.Saved.{from-zero-well}
 use Rattle.laws.proofs.demands.RoundTrip.{saved-is-bytes, reset-can-be-saved}

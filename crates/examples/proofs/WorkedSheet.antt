@@ -15,8 +15,8 @@ use Rattle.sheets.specs.Day.{items, dayOf}
 use Rattle.sheets.specs.Waits.{waits, answered}
 use Rattle.sheets.specs.Sheet.{rowOf}
 use Rattle.sheets.proofs.laws.Computed.{sheeted}
-use Rattle.days.specs.Accounts.{NoIsrWrite, drainedIn, atLast}
-use Rattle.days.proofs.demands.Service.{asserts-less-deasserts}
+use Rattle.passes.specs.days.Accounts.{NoIsrWrite, drainedIn, atLast}
+use Rattle.passes.proofs.days.demands.Service.{asserts-less-deasserts}
 
 abbrev asBytes : (kind byte offset value : ℕ) → List ℕ
 asBytes kind byte offset value = kind ∷ byte ∷ (bytesOf 2 offset ++ (replicate 4 0 ++ bytesOf 8 value))

@@ -9,7 +9,7 @@ use Rattle.rules.specs.Device.{Device}
 use Rattle.rules.specs.Account.{carrying, assertsAmong, deassertsAmong}
 use Rattle.calls.specs.Calls.{Request, Outcome, leaves, outcome}
 use Rattle.calls.specs.Calls as request
-use Rattle.exported.specs.Exported.{Exported, returnedTo, drainedTo}
+use Rattle.histories.specs.exported.Exported.{Exported, returnedTo, drainedTo}
 use Rattle.hoists.specs.HoistCalls.{hoistRead, hoistWrite, PhaseLeft, hoistReset, endStartup}
 
 -- what a host asks under the profile: its four calls, and the plain ones on inputs and the ring

@@ -1,9 +1,11 @@
 // Prints the register map from the table: a row for each half, for the route bytes, for the vector bytes and for what lies between. The rows are found,
 // and proved, in `map_rows`; here bytes are written, and what is written cannot be in a contract. A write that fails is told on standard error.
+use device::map::Plain;
+use device::map::Register;
 use libc::STDOUT_FILENO;
-use map::Plain;
-use map::Register;
 use table::Place;
+use table::map_rows;
+use table::table_rows;
 ghost use Prim.Native.Nat.{_<_, _≤_};
 ghost use Rattle.table.specs.Meaning.{Agrees};
 
@@ -119,7 +121,7 @@ fn put_row(table: &[[u8; 32]; 32], start: usize, end: usize)
 }
 
 fn main() {
-    let table = table_numbers::whole();
+    let table = table_rows::whole();
     put(b"offsets       register  half  bytes of the half, or inputs\n");
     let mut at = 0;
     while at < 1024 {

@@ -7,7 +7,7 @@ use lib.ListN.{drop}
 use Rattle.rules.specs.Numbering.{Numbered, quadsIn}
 use Rattle.calls.specs.Calls.{Request, presentIn, valueIn}
 use Rattle.calls.specs.Calls as request
-use Rattle.exported.specs.Exported.{Exported, leftBy, isDone}
+use Rattle.histories.specs.exported.Exported.{Exported, leftBy, isDone}
 
 -- the event in an answer area, if it has one: an assert (true) or a deassert, the vector in the low byte of the value and the number in its bits 16 to 31 (02, C-19)
 abbrev pub inAnswer : Bool → List ℕ → List Numbered

@@ -1,2 +1,4 @@
 -- That the marks of a day come to its sheet.
 pub mod laws
+pub mod tallies
+pub mod days

@@ -6,8 +6,8 @@ use lib.Dec.{eqb}
 use Rattle.basics.specs.Inputs.{on, inputs}
 use Rattle.rules.specs.Device.{Device}
 use Rattle.plain.specs.Sequence.{Item}
-use Rattle.tallies.specs.Grid.{Grid, put}
-use Rattle.tallies.specs.Marks.{itemAfter}
+use Rattle.passes.specs.tallies.Grid.{Grid, put}
+use Rattle.passes.specs.tallies.Marks.{itemAfter}
 
 -- the device after some records
 unfoldable pub afterItems : Device → List Item → Device

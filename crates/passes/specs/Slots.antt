@@ -6,8 +6,8 @@ use Prim.Native.Nat.{ℕ, _+_, _-_, _%_, _^_, _<_, max}
 use lib.Dec.{eqb}
 use Rattle.plain.specs.Events.{Note}
 use Rattle.plain.specs.Sequence.{Item, call, load, refused}
-use Rattle.tallies.specs.Grid.{Grid}
-use Rattle.tallies.specs.Marks.{Mark, raised, lowered, began, takenBack, happened}
+use Rattle.passes.specs.tallies.Grid.{Grid}
+use Rattle.passes.specs.tallies.Marks.{Mark, raised, lowered, began, takenBack, happened}
 
 -- no record is a load
 abbrev pub NoLoad : List Item → Type 0

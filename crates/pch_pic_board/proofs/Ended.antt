@@ -12,7 +12,7 @@ use Rattle.answer.specs.Given.{ends}
 use Rattle.answer.specs.declared.Told.{Told}
 use Rattle.pch_pic_board.specs.Finished.{Finishing, Finished}
 use Rattle.boards.proofs.laws.Fronts.{done-leaves-accepted, board-with-room}
-use Rattle.fronts.proofs.Told.{told, told-behind}
+use Rattle.answer.proofs.fronts.Told.{told, told-behind}
 
 module _ (i b a : List ℕ) (bytes : Bytes i) (roomy : 16 ≤ length a) (wide : 256 ≤ length b) (t : Told) where
   module _ (q : Request) (within : placeOf q ≤ length (bufferOf q)) {j e : List ℕ} (d : ends t j e ≡ ending q i) where

@@ -1,8 +1,13 @@
 // The calls with a board, for a host: each is in every other byte the call without, and then the board has the fresh counts of the image that it left. None requires
 // anything: every input has its outcome. Here is what lacks room, refusal 7, which comes first; the crates below make the call and count.
+pub mod counts;
+
 use answer::Told;
 use answer::Value;
 use answer::done;
+use six_calls::reset_drain;
+use six_calls::tested_access;
+use six_calls::tested_input;
 ghost use mathlib.Core.Path.{_≡_};
 ghost use mathlib.Core.List.{[]};
 ghost use Rattle.calls.specs.Calls as asked;
@@ -30,7 +35,7 @@ pub extern "C" fn pch_pic_board_reset(image: &mut [u8], board: &mut [u8], answer
     if board.len() < 256 {
         return 7;
     }
-    let told = whole::reset(image);
+    let told = reset_drain::reset(image);
     finish(image, board, answer, told)
 }
 
@@ -53,7 +58,7 @@ pub extern "C" fn pch_pic_board_read(
     if board.len() < 256 {
         return 7;
     }
-    let told = accesses::read(image, base, size, address, width);
+    let told = tested_access::read(image, base, size, address, width);
     finish(image, board, answer, told)
 }
 
@@ -77,7 +82,7 @@ pub extern "C" fn pch_pic_board_write(
     if board.len() < 256 {
         return 7;
     }
-    let told = accesses::write(image, base, size, address, width, value);
+    let told = tested_access::write(image, base, size, address, width, value);
     finish(image, board, answer, told)
 }
 
@@ -98,7 +103,7 @@ pub extern "C" fn pch_pic_board_level(
     if board.len() < 256 {
         return 7;
     }
-    let told = inputs::level(image, input, level);
+    let told = tested_input::level(image, input, level);
     finish(image, board, answer, told)
 }
 
@@ -118,7 +123,7 @@ pub extern "C" fn pch_pic_board_poll(
     if board.len() < 256 {
         return 7;
     }
-    let told = inputs::poll(image, input);
+    let told = tested_input::poll(image, input);
     finish(image, board, answer, told)
 }
 
@@ -142,7 +147,7 @@ pub extern "C" fn pch_pic_board_drain(
     if events.len() < place {
         return 7;
     }
-    let told = whole::drain(image, &mut events[place..]);
+    let told = reset_drain::drain(image, &mut events[place..]);
     finish(image, board, answer, told)
 }
 

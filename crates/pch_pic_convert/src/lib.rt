@@ -1,5 +1,12 @@
 // The call that moves a lent image to another form (02, C-17). It requires nothing: every input has its outcome. It stands apart from the six, so that the code which saves a state has one caller in
 // each object and becomes part of it: a reset is then a block of constants.
+pub mod convert;
+pub mod load_numbers;
+pub mod load_ring;
+pub mod load_state;
+pub mod load_tables;
+pub mod load_words;
+
 ghost use mathlib.Core.Path.{_≡_};
 ghost use mathlib.Core.List.{[]};
 ghost use Rattle.calls.specs.Calls.{leaves};

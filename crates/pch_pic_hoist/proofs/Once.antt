@@ -4,7 +4,7 @@ use mathlib.Core.List.{List, []}
 use Prim.Native.Nat.{ℕ}
 use Rattle.calls.specs.Calls.{read, write, Outcome, leaves, outcome}
 use Rattle.hoists.specs.HoistCalls.{hoistRead, hoistWrite, PhaseLeft, phaseLeaves}
-use Rattle.under_profile.proofs.demands.Answers.{done-read-is-full, done-write-is-full}
+use Rattle.hoists.proofs.under_profile.demands.Answers.{done-read-is-full, done-write-is-full}
 
 -- two runs whose contract holds leave the same number and the same bytes: of a read or a write, and of a call that stores the phase
 pub one-access : {x : Outcome} (r s : ℕ) (i j a b : List ℕ) → leaves r i a [] ≡ x → leaves s j b [] ≡ x → (r ≡ s) × (i ≡ j) × (a ≡ b)

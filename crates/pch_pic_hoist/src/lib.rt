@@ -1,6 +1,13 @@
 // The calls of the hoist profile, for a host, over a lent image, the phase's byte beside it, numbers and a lent answer area. None requires anything: every input
 // has its outcome.
 // Here is what lacks room, refusal 7; the crates below make the call and store the phase, and what is told goes into the answer area.
+pub mod accepted_dword;
+pub mod judge;
+pub mod phases;
+pub mod profile;
+pub mod tested_dword;
+
+use six_calls::reset_drain;
 ghost use mathlib.Core.Path.{_≡_};
 ghost use mathlib.Core.List.{[]};
 ghost use Rattle.calls.specs.Calls.{leaves};
@@ -18,7 +25,7 @@ pub extern "C" fn pch_pic_hoist_reset(image: &mut [u8], phase: &mut [u8], answer
     if phase.len() < 1 {
         return 7;
     }
-    let told = whole::reset(image);
+    let told = reset_drain::reset(image);
     let number = told.number;
     phases::begin_startup(phase, number);
     answer::tell(answer, told)
@@ -39,7 +46,7 @@ pub extern "C" fn pch_pic_hoist_read(
     if answer.len() < 16 {
         return 7;
     }
-    let told = hoist_calls::read(image, base, size, address, width);
+    let told = tested_dword::read(image, base, size, address, width);
     answer::tell(answer, told)
 }
 
@@ -64,7 +71,7 @@ pub extern "C" fn pch_pic_hoist_write(
         return 7;
     }
     let running = phases::is_running(phase);
-    let told = hoist_calls::write(image, running, base, size, address, width, value);
+    let told = tested_dword::write(image, running, base, size, address, width, value);
     answer::tell(answer, told)
 }
 
@@ -81,7 +88,7 @@ pub extern "C" fn pch_pic_hoist_end_startup(image: &[u8], phase: &mut [u8], answ
         return 7;
     }
     let running = phases::is_running(phase);
-    let told = hoist_calls::end_startup(image, running);
+    let told = tested_dword::end_startup(image, running);
     let number = told.number;
     phases::end_startup(phase, number);
     answer::tell(answer, told)

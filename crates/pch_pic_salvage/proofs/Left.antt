@@ -5,11 +5,11 @@ use Prim.Native.Nat.{ℕ, _<_, _≤_}
 use lib.ListN.{length}
 use borrow.Author.Tests.{le-leb, lt-leb}
 use Rattle.calls.specs.Calls.{answerLength, answered}
-use Rattle.salvages.specs.Salvaging.{salvageEnding, salvageLeaves, salvageSettled, salvaging}
-use Rattle.plays.proofs.laws.Late.{late-seven, told-late}
+use Rattle.traces.specs.salvages.Salvaging.{salvageEnding, salvageLeaves, salvageSettled, salvaging}
+use Rattle.traces.proofs.plays.laws.Late.{late-seven, told-late}
 use Rattle.answer.specs.Given.{valueView}
 use Rattle.answer.specs.declared.Told.{Told}
-use Rattle.salvage.specs.Ends.{ends}
+use Rattle.pch_pic_salvage.specs.salvage.Ends.{ends}
 
 module _ (l ks ds a : List ℕ) where
   pub answer-short : length a < answerLength → salvageLeaves 7 ks ds a ≡ salvaging l ks ds a

@@ -1,8 +1,12 @@
 // The call that salvages a lent trace. It requires nothing: every input has its outcome. Here is what lacks room, refusal 7, which writes no byte; the
 // crates below test and write.
-use trace_refusals::NO_ROOM;
+pub mod rebuilt;
+pub mod salvage;
+pub mod torn;
+
+use trace::trace_refusals::NO_ROOM;
 ghost use mathlib.Core.Path.{_≡_};
-ghost use Rattle.salvages.specs.Salvaging.{salvageLeaves, salvaging};
+ghost use Rattle.traces.specs.salvages.Salvaging.{salvageLeaves, salvaging};
 
 // The blocks whose records are all good, as a new trace; and of each dropped block the number and the first bad record in it.
 #[no_mangle]

@@ -12,7 +12,7 @@ use Rattle.sheets.specs.Sheet.{sheetLength}
 use Rattle.sheets.specs.Sheeting.{SheetLeft, sheetLeaves, sheetSettled, sheeting}
 use Rattle.answer.specs.Given.{valueView}
 use Rattle.answer.specs.declared.Told.{Told}
-use Rattle.sheet.specs.Made.{Made, told, madeBy, madeOf}
+use Rattle.pch_pic_sheet.specs.sheet.Made.{Made, told, madeBy, madeOf}
 
 -- what is made, put into the answer area
 settled : Made → List ℕ → SheetLeft

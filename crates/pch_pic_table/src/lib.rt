@@ -1,4 +1,9 @@
 // Reads and writes that are decoded by the table, for a host: in every byte as pch_pic_read and pch_pic_write. Neither requires anything.
+pub mod table_bytes;
+pub mod table_dwords;
+pub mod table_widths;
+pub mod tested_access;
+
 ghost use mathlib.Core.Path.{_≡_};
 ghost use mathlib.Core.List.{[]};
 ghost use Rattle.calls.specs.Calls.{leaves, outcome};
@@ -19,7 +24,7 @@ pub extern "C" fn pch_pic_table_read(
     if answer.len() < 16 {
         return 7;
     }
-    let told = table_accesses::read(image, base, size, address, width);
+    let told = tested_access::read(image, base, size, address, width);
     answer::tell(answer, told)
 }
 
@@ -39,6 +44,6 @@ pub extern "C" fn pch_pic_table_write(
     if answer.len() < 16 {
         return 7;
     }
-    let told = table_accesses::write(image, base, size, address, width, value);
+    let told = tested_access::write(image, base, size, address, width, value);
     answer::tell(answer, told)
 }

@@ -5,11 +5,11 @@ use Prim.Native.Nat.{ℕ, _<_, _≤_}
 use lib.ListN.{length}
 use borrow.Author.Tests.{le-leb, lt-leb}
 use Rattle.calls.specs.Calls.{answerLength, answered}
-use Rattle.plays.specs.Playing.{playEnding, playLeaves, playSettled, playing}
-use Rattle.plays.proofs.laws.Late.{late-seven, told-late}
+use Rattle.traces.specs.plays.Playing.{playEnding, playLeaves, playSettled, playing}
+use Rattle.traces.proofs.plays.laws.Late.{late-seven, told-late}
 use Rattle.answer.specs.Given.{valueView}
 use Rattle.answer.specs.declared.Told.{Told}
-use Rattle.player.specs.Plays.{ends}
+use Rattle.pch_pic_trace.specs.play_trace.Plays.{ends}
 
 module _ (l i bs es a : List ℕ) where
   pub answer-short : length a < answerLength → playLeaves 7 i bs es a ≡ playing l i bs es a

@@ -1,7 +1,12 @@
 // The calls on a lent trace. None requires anything: every input has its outcome. Here is what lacks room, refusal 7, which writes no byte; the crates below test and play.
-use trace_refusals::NO_ROOM;
+pub mod play_records;
+pub mod play_trace;
+pub mod record_call;
+pub mod record_step;
+
+use trace::trace_refusals::NO_ROOM;
 ghost use mathlib.Core.Path.{_≡_};
-ghost use Rattle.plays.specs.Playing.{playLeaves, playing};
+ghost use Rattle.traces.specs.plays.Playing.{playLeaves, playing};
 
 // A trace played from reset on the image: each record's sixteen answer bytes, and the drained events back to back.
 #[no_mangle]
@@ -18,7 +23,7 @@ pub extern "C" fn pch_pic_play(
     if answer.len() < 16 {
         return NO_ROOM;
     }
-    let told = player::play(trace, image, answers, events);
+    let told = play_trace::play(trace, image, answers, events);
     let number = told.number;
     if number == NO_ROOM {
         return NO_ROOM;

@@ -5,7 +5,7 @@ use mathlib.Core.Path.{_≡_}
 use Rattle.rules.specs.Device as device
 use Rattle.images.specs.Image.{encodeLike, decode, numbersIn}
 use Rattle.calls.specs.Calls.{pass, refuse, Asked, afresh, calls, askedBy, answered, bufferOf, placeOf, written}
-use Rattle.exported.specs.Exported.{Exported, leftBy, isDone, answerWithout, eventsWithout, unnumbered, isReset, isLoad, Underway, carriedOn}
+use Rattle.histories.specs.exported.Exported.{Exported, leftBy, isDone, answerWithout, eventsWithout, unnumbered, isReset, isLoad, Underway, carriedOn}
 use Rattle.plain.specs.Plain.{Engine, counted, Gave, idle, gives}
 use Rattle.plain.specs.Sequence.{loadOf, shown}
 

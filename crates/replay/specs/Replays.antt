@@ -4,9 +4,9 @@ use mathlib.Core.Bool.{true}
 use mathlib.Core.List.{List, _++_}
 use Prim.Native.Nat.{ℕ, _<_}
 use lib.ListN.{take, getD, set, replicate}
-use Rattle.records.specs.Records.{wordAt, kindOf, agreed}
-use Rattle.records.specs.declared.Verdict.{Verdict}
-use Rattle.replay_call.specs.Recorded.{Recorded}
+use Rattle.replay.specs.records.Records.{wordAt, kindOf, agreed}
+use Rattle.replay.specs.declared.records.Verdict.{Verdict}
+use Rattle.replay.specs.replay_call.Recorded.{Recorded}
 
 -- the image buffer that a recorded image makes
 abbrev pub loaded : List ℕ → List ℕ

@@ -1,13 +1,14 @@
 // One record of the file, with the bytes of the five that stand behind an image's, replayed on the image buffer.
-use bytes::copy;
-use bytes::put_zeros;
-use bytes::word_at;
-use records::Verdict;
+use crate::records::Verdict;
+use crate::replay_call;
+use bits::bytes::copy;
+use bits::bytes::put_zeros;
+use bits::bytes::word_at;
 ghost use mathlib.Core.Path.{_≡_};
 ghost use mathlib.Core.Bool.{true};
 ghost use Prim.Native.Nat.{_<_};
 ghost use lib.ListN.{length, take};
-ghost use Rattle.records.specs.Records.{agreed, wordAt};
+ghost use Rattle.replay.specs.records.Records.{agreed, wordAt};
 ghost use Rattle.replay.specs.Replays.{loaded, damagedBy, Replays};
 
 // The buffer becomes a recorded image, with zeros behind it.

@@ -1,10 +1,12 @@
 // Replays the recorded answers of the published Rust, data/answers.bin, through the six exported calls. The form of that file is told in
 // tools/harness/records.rs. The last line written is 'N passed, M failed'.
 mod each;
+mod records;
+mod replay_call;
 mod say;
 
-use bytes::number;
-use records::Verdict;
+use crate::records::Verdict;
+use bits::bytes::number;
 ghost use mathlib.Core.Path.{_≡_};
 ghost use Prim.Native.Nat.{_+_, _^_, _<_, _≤_};
 ghost use lib.ListN.{length};

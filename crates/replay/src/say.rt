@@ -1,6 +1,6 @@
 // What the program writes.
+use crate::records::Verdict;
 use libc::STDOUT_FILENO;
-use records::Verdict;
 
 pub fn text(bytes: &[u8]) {
     io::write_all(STDOUT_FILENO, bytes);

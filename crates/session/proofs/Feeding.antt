@@ -11,13 +11,13 @@ use borrow.Rule.Slice.PartMut.{putMid}
 use Rattle.rules.specs.Device.{Device}
 use Rattle.sessions.specs.Session as session
 use Rattle.sessions.specs.Session.{newline, played, linesOf, answers}
-use Rattle.state.specs.View.{view}
-use Rattle.play.specs.Plays.{Plays}
-use Rattle.ended.specs.Ended.{ended}
+use Rattle.device.specs.state.View.{view}
+use Rattle.session.specs.play_line.Plays.{Plays}
+use Rattle.session.specs.line_end.Ended.{ended}
 use Rattle.session.specs.Feeds.{Unended, Starts, Ready, toSay, Feeds}
-use Rattle.play.specs.declared.Played.{Played}
+use Rattle.session.specs.declared.play_line.Played.{Played}
 use Rattle.session.specs.declared.Session.{Session}
-use Rattle.reply.proofs.Writing.{filled, put-part, size, says}
+use Rattle.session.proofs.reply.Writing.{filled, put-part, size, says}
 use Rattle.session.proofs.Splitting.{unended-more, lines-ended, lines-last, byte-lost}
 
 -- the start is ready for an input

@@ -8,9 +8,9 @@ use lib.Dec.{eqb}
 use lib.ListN.{length, drop, length-append, length-drop}
 use Rattle.rules.specs.Device.{Device, Value, none, some}
 use Rattle.sessions.specs.Session.{newline, letter-l, letter-p, letter-r, letter-w, letter-d, wrong, joined, fields, Line, unknown, ifRight, levelLine, pollLine, readLine, writeLine, drainLine, lineOf, playedLine, played, inFront, linesOf, answers}
-use Rattle.hex.specs.Reads.{fieldOf}
+use Rattle.session.specs.hex.Reads.{fieldOf}
 use Rattle.session.specs.Feeds.{Unended}
-use Rattle.request.proofs.Fields.{first-field, goes-on}
+use Rattle.session.proofs.request.Fields.{first-field, goes-on}
 
 -- ---- a line that goes on
 

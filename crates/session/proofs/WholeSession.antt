@@ -6,8 +6,8 @@ use Prim.Native.Nat.{ℕ, _≤_}
 use lib.ListN.{length, take}
 use lib.Seq.{take-at}
 use Rattle.sessions.specs.Session.{linesOf, answers, session}
-use Rattle.state.specs.View.{view}
-use Rattle.reply.specs.Says.{Says}
+use Rattle.device.specs.state.View.{view}
+use Rattle.session.specs.reply.Says.{Says}
 use Rattle.session.specs.Feeds.{Starts, Ready, toSay, Feeds}
 use Rattle.session.specs.declared.Session.{Session}
 use Rattle.session.proofs.Feeding.{start-ready}

@@ -7,8 +7,8 @@ use lib.Dec.{eqb}
 use lib.ListN.{length, take}
 use Rattle.rules.specs.Device.{reset}
 use Rattle.sessions.specs.Session.{newline, linesOf, answers}
-use Rattle.state.specs.View.{view, Well, Is}
-use Rattle.reply.specs.Says.{Says}
+use Rattle.device.specs.state.View.{view, Well, Is}
+use Rattle.session.specs.reply.Says.{Says}
 use Rattle.session.specs.declared.Session.{Session}
 use Rattle.session.specs.declared.Step.{Step}
 use Rattle.session.specs.declared.Fed.{Fed}

@@ -1,10 +1,16 @@
 // The input, in chunks of any size: its lines are put together and played, and each answer is written with its ending.
-use state::PchPicState;
+pub mod hex;
+pub mod line_end;
+pub mod play_line;
+pub mod reply;
+pub mod request;
+
+use device::state::PchPicState;
 ghost use Prim.Native.Nat.{_≤_};
 ghost use lib.ListN.{length, take};
 ghost use Rattle.sessions.specs.Session.{linesOf, answers};
-ghost use Rattle.state.specs.View.{view};
-ghost use Rattle.reply.specs.Says.{Says};
+ghost use Rattle.device.specs.state.View.{view};
+ghost use Rattle.session.specs.reply.Says.{Says};
 ghost use Rattle.session.specs.Feeds.{Starts, Ready, FeedsByte, FeedsChunk};
 
 // Between two bytes of the input: the state, and how many bytes of the line so far stand at the front of the line buffer.
@@ -36,7 +42,7 @@ fn feed_byte(session: Session, line: &mut [u8], byte: u8, out: &mut [u8]) -> Ste
     let state = session.state;
     let kept = session.kept;
     if byte == b'\n' {
-        let played = ended::play_line(state, &line[..kept], out);
+        let played = line_end::play_line(state, &line[..kept], out);
         let next = played.state;
         let fresh = Session {
             state: next,
@@ -98,11 +104,11 @@ pub fn close(session: Session, line: &[u8], out: &mut [u8]) -> usize
     let state = session.state;
     let kept = session.kept;
     if kept == 0 {
-        return ended::end(state, out);
+        return line_end::end(state, out);
     }
-    let played = ended::play_line(state, &line[..kept], out);
+    let played = line_end::play_line(state, &line[..kept], out);
     let next = played.state;
     let len = played.len;
-    let more = ended::end(next, &mut out[len..]);
+    let more = line_end::end(next, &mut out[len..]);
     len + more
 }

@@ -11,7 +11,7 @@ use Rattle.calls.specs.Calls.{Request, presentIn}
 use Rattle.calls.specs.Calls as request
 use Rattle.rules.specs.Account.{tally}
 use Rattle.histories.specs.Demands.{inService, Eligible}
-use Rattle.exported.specs.Exported.{Exported, leftBy, isDone, returnedBy, drainedBy}
+use Rattle.histories.specs.exported.Exported.{Exported, leftBy, isDone, returnedBy, drainedBy}
 use Rattle.sweep.specs.Sweeps.{wakes}
 
 -- ---- what a host reads

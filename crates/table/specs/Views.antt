@@ -1,5 +1,5 @@
 -- What the code finds in the table, as the definitions have it.
-use Rattle.map.specs.Views.{registerView}
+use Rattle.device.specs.map.Views.{registerView}
 use Rattle.table.specs.Meaning.{Meaning}
 use Rattle.table.specs.Meaning as meaning
 use Rattle.table.specs.declared.Place.{Place}

@@ -1,8 +1,11 @@
 // The register map as a table: what a number of it tells, and so what stands at an offset of whatever table agrees with the map.
-use map::Plain;
-use map::Register;
+pub mod map_rows;
+pub mod table_rows;
+
+use device::map::Plain;
+use device::map::Register;
 ghost use mathlib.Core.Path.{_≡_};
-ghost use Rattle.map.specs.Views.{registerView};
+ghost use Rattle.device.specs.map.Views.{registerView};
 ghost use Rattle.table.specs.Meaning.{partOf, reading, meant, Agrees};
 ghost use Rattle.table.specs.Views.{placeView};
 

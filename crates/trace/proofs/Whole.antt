@@ -10,9 +10,9 @@ use Rattle.traces.specs.Trace.{mostRecords, recordLength, firstPlace, recordCou
 use Rattle.traces.specs.Trace.{Record, recordAt, isGood, firstBad, good, wrongContents, badRecord, foundBad, traceTest}
 use Rattle.traces.proofs.laws.Contents.{contents-have}
 use Rattle.traces.proofs.laws.Firsts.{first-end, first-here, first-on}
-use Rattle.contents.specs.declared.Contents.{Contents}
-use Rattle.contents.specs.declared.Contents.the-variants.{Good, Wrong}
-use Rattle.contents.specs.Found.{contentsIf, contentsAs}
+use Rattle.trace.specs.declared.contents.Contents.{Contents}
+use Rattle.trace.specs.declared.contents.Contents.the-variants.{Good, Wrong}
+use Rattle.trace.specs.contents.Found.{contentsIf, contentsAs}
 use Rattle.trace.specs.Found.{badFrom}
 
 -- ---- the first bad record

@@ -1,9 +1,16 @@
 // A trace tested: its contents, and then its records, of which the first bad one is told.
-use contents::Contents;
-use contents::contents_of;
-use good_record::is_good;
-use held::record_at;
-use view::LENGTH;
+pub mod blocks;
+pub mod contents;
+pub mod good_record;
+pub mod record_bytes;
+pub mod record_view;
+pub mod trace_refusals;
+
+use crate::contents::Contents;
+use crate::contents::contents_of;
+use crate::good_record::is_good;
+use crate::record_bytes::LENGTH;
+use crate::record_view::record_at;
 ghost use mathlib.Core.Path.{_≡_};
 ghost use Prim.Native.Nat.{_+_, _*_, _≤_};
 ghost use lib.ListN.{length};

@@ -2,3 +2,5 @@
 pub mod Trace
 pub mod Blocks
 pub mod Played
+pub mod plays
+pub mod salvages

@@ -8,7 +8,7 @@ use borrow.Rule.Slice.PartMut.{putMid}
 use Rattle.basics.specs.Numbers.{bytesOf, part}
 use Rattle.calls.specs.Calls.{answerLength, answered}
 use Rattle.basics.proofs.laws.Parts.{Filled, start, put-this, length-next}
-use Rattle.bytes.proofs.Putting.{word-put}
+use Rattle.bits.proofs.bytes.Putting.{word-put}
 use borrow.Author.Needs.{needs}
 use Rattle.answer.proofs.put_answer.Statement.{statement}
 use Rattle.answer.proofs.put_answer.Tie as tie

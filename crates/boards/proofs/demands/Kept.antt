@@ -13,13 +13,13 @@ use Rattle.rules.specs.Account.{carrying}
 use Rattle.rules.specs.History.{history}
 use Rattle.images.specs.Image.{decode}
 use Rattle.calls.specs.Calls.{afresh, askedBy}
-use Rattle.exported.specs.Exported.{Exported, leftBy, isDone, isLoad, Underway, carriedOn, carriedThrough, GivenBytes, inImage, Faithful, afterReset}
+use Rattle.histories.specs.exported.Exported.{Exported, leftBy, isDone, isLoad, Underway, carriedOn, carriedThrough, GivenBytes, inImage, Faithful, afterReset}
 use Rattle.boards.specs.Board.{recount, keptOn, keptThrough, Touching}
 use Rattle.boards.specs.Boarding.{boarding, boardBy, boardThrough}
 use Rattle.boards.specs.Hearing.{blank}
 use Rattle.basics.proofs.laws.Bits.{test}
-use Rattle.exported.proofs.laws.Chains.{handed, faithful-on, faithful-after-reset, left-holds}
-use Rattle.exported.proofs.demands.FromCalls.{a-reset-begins}
+use Rattle.histories.proofs.exported.laws.Chains.{handed, faithful-on, faithful-after-reset, left-holds}
+use Rattle.histories.proofs.exported.demands.FromCalls.{a-reset-begins}
 use Rattle.boards.proofs.laws.Counts.{counts-get, touching-or-same}
 use Rattle.boards.proofs.laws.Boards.{call-is, board-done, board-refused, board-past, board-length, front-recounted, done-left, board-right, kept-right}
 use Rattle.boards.proofs.laws.Heard.{blank-right}

@@ -14,7 +14,7 @@ use Rattle.images.specs.Form.{Form, one, two, numbered, numbers, has, formLengt
 use Rattle.images.specs.Image.{numbersIn}
 use Rattle.calls.specs.Calls.{afresh, askedBy}
 use Rattle.histories.specs.Demands.{asEvent}
-use Rattle.exported.specs.Exported.{Exported, isDone, Underway, carriedOn, carriedThrough, doneCalls, inImage, afterReset, returnedBy, drainedBy}
+use Rattle.histories.specs.exported.Exported.{Exported, isDone, Underway, carriedOn, carriedThrough, doneCalls, inImage, afterReset, returnedBy, drainedBy}
 use Rattle.order.specs.Fates.{isReturned, isKept, isDropped, Placed, eventsMade, withFate}
 use Rattle.order.specs.Numbered.{numberAt, allFrom, numberedFrom, InOrder}
 use Rattle.order.specs.Read.{returnedRead, drainedRead}
@@ -22,9 +22,9 @@ use Rattle.boards.specs.Board.{recount}
 use Rattle.boards.specs.Boarding.{boardThrough}
 use Rattle.boards.specs.Hearing.{blank, heardThrough, inOrderOfMaking, Complete, Interleaves, byNumber}
 use Rattle.histories.proofs.demands.Order.{first-in-first-out, drops-counted}
-use Rattle.exported.proofs.laws.Chains.{left-length, left-holds, faithful-after-reset}
-use Rattle.exported.proofs.demands.FromCalls.{a-reset-begins, image-holds-history, image-holds-numbers}
-use Rattle.exported.proofs.demands.HandedBack.{returned-is-read, drained-is-read}
+use Rattle.histories.proofs.exported.laws.Chains.{left-length, left-holds, faithful-after-reset}
+use Rattle.histories.proofs.exported.demands.FromCalls.{a-reset-begins, image-holds-history, image-holds-numbers}
+use Rattle.histories.proofs.exported.demands.HandedBack.{returned-is-read, drained-is-read}
 use Rattle.order.proofs.demands.Made.{placed-as-made, positions-in-order, returned-by-fate, kept-by-fate, dropped-by-fate}
 use Rattle.order.proofs.demands.OfHistories.{none-with}
 use Rattle.order.proofs.demands.OfCalls.{numbers-of-calls}

@@ -10,12 +10,12 @@ use borrow.Author.Tests.{le-leb}
 use Rattle.rules.specs.Core.{Core}
 use Rattle.rules.specs.Account.{carrying}
 use Rattle.images.specs.Image.{decode}
-use Rattle.exported.specs.Exported.{Exported, leftBy, isDone, isLoad, Underway, carriedOn, inImage, Faithful}
+use Rattle.histories.specs.exported.Exported.{Exported, leftBy, isDone, isLoad, Underway, carriedOn, inImage, Faithful}
 use Rattle.boards.specs.Board.{recount, broughtBy, keptOn}
 use Rattle.calls.specs.Calls.{refusalNumber, noRoom, bufferOf}
 use Rattle.boards.specs.Boarding.{boardLeaves, recounted, boarding, boardBy}
 use Rattle.basics.proofs.laws.Bits.{test}
-use Rattle.exported.proofs.laws.Chains.{handed}
+use Rattle.histories.proofs.exported.laws.Chains.{handed}
 use Rattle.boards.proofs.laws.Counts.{counts-length, brought-right}
 
 -- ---- fresh counts in front of a board

@@ -12,13 +12,13 @@ use Rattle.rules.specs.Device.{reset, some}
 use Rattle.rules.specs.Numbering.{fromZero}
 use Rattle.images.specs.Image.{imageTest, accepted}
 use Rattle.calls.specs.Calls.{Request, Asked, afresh, calls, askedBy, answered, bufferOf, placeOf, Outcome, leaves, Ending, ending, outcome}
-use Rattle.exported.specs.Exported.{Exported, leftBy, isDone, isReset, atLoad}
+use Rattle.histories.specs.exported.Exported.{Exported, leftBy, isDone, isReset, atLoad}
 use Rattle.boards.specs.Boarding.{boardLeaves, boardAfter, boarding, heardCount, hears, hearing}
 use Rattle.basics.proofs.laws.Bits.{test}
 use Rattle.calls.proofs.laws.Outcomes.{room}
 use Rattle.laws.proofs.laws.Images.{accepted-encode, reset-well-formed, reset-numbered}
-use Rattle.exported.proofs.laws.Chains.{reset-leaves, done-accepted}
-use Rattle.exported.proofs.demands.LeavesAccepted.{leaves-accepted}
+use Rattle.histories.proofs.exported.laws.Chains.{reset-leaves, done-accepted}
+use Rattle.histories.proofs.exported.demands.LeavesAccepted.{leaves-accepted}
 
 -- ---- the image that a done call leaves is accepted
 

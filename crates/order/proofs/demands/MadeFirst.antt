@@ -14,7 +14,7 @@ use Rattle.rules.specs.Numbering.{Numbers, Numbered}
 use Rattle.images.specs.Form.{decided}
 use Rattle.images.specs.Image.{decode, numbersIn, imageTest, accepted}
 use Rattle.rules.specs.History.{history}
-use Rattle.exported.specs.Exported.{Exported, HandedOn, doneCalls, leftAfter}
+use Rattle.histories.specs.exported.Exported.{Exported, HandedOn, doneCalls, leftAfter}
 use Rattle.difference.specs.Difference.{differenceOf}
 use Rattle.order.specs.Fates.{Fate, Fate-discrete, isReturned, isKept, Placed, eventsMade, withFate}
 use Rattle.order.specs.Numbered.{numberAt, numberedFrom, allFrom, waitingWith, InOrder}

@@ -13,13 +13,13 @@ use Rattle.images.specs.Image.{encodeAs, decode, numbersIn, imageTest, accepted
 use Rattle.calls.specs.Calls.{Request, presentIn, afresh, askedBy}
 use Rattle.calls.specs.Calls as request
 use Rattle.rules.specs.History.{history}
-use Rattle.exported.specs.Exported.{Exported, leftBy, isDone, Underway, carriedThrough, NoLoads, HandedOn, doneCalls, leftAfter}
-use Rattle.exported.specs.Exported.{current, inImage, Faithful, atLoad, afterReset, returnedTo, drainedTo, returnedBy, drainedBy}
+use Rattle.histories.specs.exported.Exported.{Exported, leftBy, isDone, Underway, carriedThrough, NoLoads, HandedOn, doneCalls, leftAfter}
+use Rattle.histories.specs.exported.Exported.{current, inImage, Faithful, atLoad, afterReset, returnedTo, drainedTo, returnedBy, drainedBy}
 use Rattle.order.specs.Numbered.{InOrder}
 use Rattle.order.specs.Read.{numberedTo, quadsTo, returnedRead, drainedRead}
 use Rattle.basics.proofs.laws.Bits.{test}
-use Rattle.exported.proofs.laws.Chains.{current-well, left-length, left-holds, faithful-at-load, faithful-after-reset, reset-leaves}
-use Rattle.exported.proofs.demands.FromCalls.{image-holds-numbers, image-holds-history, numbers-run-through, handed-on-is-no-load, left-through}
+use Rattle.histories.proofs.exported.laws.Chains.{current-well, left-length, left-holds, faithful-at-load, faithful-after-reset, reset-leaves}
+use Rattle.histories.proofs.exported.demands.FromCalls.{image-holds-numbers, image-holds-history, numbers-run-through, handed-on-is-no-load, left-through}
 use Rattle.order.proofs.laws.Reading.{read-as}
 use Rattle.order.proofs.demands.OfHistories.{numbers-are-positions}
 

@@ -8,13 +8,13 @@ use lib.ListN.{length, length-append, length-map}
 use Rattle.rules.specs.Device.{Device, WellFormed, Call, step}
 use Rattle.rules.specs.Numbering.{Numbers, WellNumbered, Numbered, withNumbers, numbersAfter, drainedWith}
 use Rattle.rules.specs.History.{history}
-use Rattle.exported.specs.Exported.{numbersThrough}
+use Rattle.histories.specs.exported.Exported.{numbersThrough}
 use Rattle.order.specs.Fates.{isReturned, isKept, Placed, placed, placedFrom, eventsMade, withFate}
 use Rattle.order.specs.Numbered.{numberAt, allFrom, returnedThrough, drainedThrough, waitingWith, InOrder}
 use Rattle.rules.proofs.laws.Numbered.{fits}
 use Rattle.rules.proofs.demands.Numbered.{numbers-with}
 use Rattle.histories.proofs.laws.WellFormed.{step-well}
-use Rattle.exported.proofs.laws.Chains.{through-numbered}
+use Rattle.histories.proofs.exported.laws.Chains.{through-numbered}
 use Rattle.order.proofs.laws.Positions.{first-number, all-events, all-positions, from-append}
 use Rattle.order.proofs.laws.Standing.{Stands, call-stands, call-waits}
 use Rattle.order.proofs.laws.Returned.{call-returns}

@@ -12,7 +12,7 @@ use Rattle.rules.specs.Numbering.{fromZero}
 use Rattle.images.specs.Form.{numbered}
 use Rattle.images.specs.Image.{encodeAs}
 use Rattle.calls.specs.Calls as request
-use Rattle.exported.specs.Exported.{Exported, leftBy}
+use Rattle.histories.specs.exported.Exported.{Exported, leftBy}
 use Rattle.order.specs.Fates.{isReturned, isKept, isDropped, placed, placedFrom, eventsMade}
 use Rattle.order.specs.Numbered.{allFrom, inValue, returnedThrough, drainedThrough}
 use Rattle.order.specs.Read.{inAnswer, quadsTo, returnedRead}

@@ -16,16 +16,16 @@ use Rattle.calls.specs.Calls.{pass, widthTest, addressTest, Request, calls, ask
 use Rattle.rules.specs.Device.{amount}
 use Rattle.calls.specs.Calls as request
 use Rattle.rules.specs.History.{history}
-use Rattle.exported.specs.Exported.{Exported, leftBy, isDone, isLoad, Underway, carriedOn, NoLoads, doneCall, doneCalls, current, Faithful, numbersThrough}
+use Rattle.histories.specs.exported.Exported.{Exported, leftBy, isDone, isLoad, Underway, carriedOn, NoLoads, doneCall, doneCalls, current, Faithful, numbersThrough}
 use Rattle.order.specs.Numbered.{inValue, returnedOf, returnedThrough, drainedThrough}
 use Rattle.order.specs.Read.{inAnswer, numberedTo, quadsTo, returnedRead, drainedRead}
 use Rattle.basics.proofs.laws.Bits.{test}
 use Rattle.basics.proofs.laws.Lists.{Each}
 use Rattle.calls.proofs.laws.Answers.{none-read, some-read, value-read, quads-read}
 use Rattle.histories.proofs.laws.WellFormed.{step-events}
-use Rattle.exported.proofs.laws.Chains.{passed, current-well, handed, carried-on, faithful-kept}
-use Rattle.exported.proofs.laws.Readings.{level-single, poll-single, returned-below, access-is, input-is, asked-is, drained-told}
-use Rattle.exported.proofs.demands.FromCalls.{image-holds-numbers}
+use Rattle.histories.proofs.exported.laws.Chains.{passed, current-well, handed, carried-on, faithful-kept}
+use Rattle.histories.proofs.exported.laws.Readings.{level-single, poll-single, returned-below, access-is, input-is, asked-is, drained-told}
+use Rattle.histories.proofs.exported.demands.FromCalls.{image-holds-numbers}
 use Rattle.order.proofs.laws.Computed as computed
 
 -- ---- one call

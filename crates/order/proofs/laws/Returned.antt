@@ -16,7 +16,7 @@ use Rattle.histories.specs.Demands.{asEvent, returnedIn}
 use Rattle.order.specs.Fates.{isReturned, Placed, placed, withFate}
 use Rattle.order.specs.Numbered.{allFrom, inValue, returnedOf}
 use Rattle.histories.proofs.laws.WellFormed.{ByteEvents, step-events}
-use Rattle.exported.proofs.laws.Readings.{Single, nothing, one, level-single, poll-single, write-returns}
+use Rattle.histories.proofs.exported.laws.Readings.{Single, nothing, one, level-single, poll-single, write-returns}
 use Rattle.order.proofs.laws.Standing.{Stands}
 use Rattle.order.proofs.laws.Fates.{returned-ones}
 

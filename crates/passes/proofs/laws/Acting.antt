@@ -22,8 +22,8 @@ use Rattle.plain.specs.Events.{Note}
 use Rattle.plain.specs.Sequence.{ringWith, notesOf}
 use Rattle.plain.proofs.laws.Queues.{ringAfter, notes-append}
 use Rattle.sheets.specs.Waits.{assertOf}
-use Rattle.tallies.specs.Marks.{Mark, began, takenBack, happened, idleIn, besides, actMarks, marksOf}
-use Rattle.tallies.specs.Marks as marks
+use Rattle.passes.specs.tallies.Marks.{Mark, began, takenBack, happened, idleIn, besides, actMarks, marksOf}
+use Rattle.passes.specs.tallies.Marks as marks
 use Rattle.passes.specs.Slots.{Slot, settle, takeBack, startAt, slotAfter, slotAll, notesIn}
 use Rattle.passes.proofs.laws.Marking.{eqb-sym}
 

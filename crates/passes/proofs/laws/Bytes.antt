@@ -7,7 +7,7 @@ use lib.ListN.{drop}
 use Rattle.basics.specs.Numbers.{bytesOf, part}
 use Rattle.basics.proofs.laws.Lists.{part-add, part-then}
 use Rattle.sheets.specs.Sheet.{Row, columnOf, totalBelow, bytesOfRow, rowsBelow, sheetBytes}
-use Rattle.tallies.specs.Grid.{Grid, cellPlace, Holds}
+use Rattle.passes.specs.tallies.Grid.{Grid, cellPlace, Holds}
 
 -- the bytes of the first k of them
 numbersBelow : ℕ → (ℕ → ℕ) → List ℕ

@@ -19,7 +19,7 @@ use Rattle.plain.specs.Sequence.{Item, call, load, refused, takes, notesOf, Por
 use Rattle.sheets.specs.Day.{Moment, moments}
 use Rattle.sheets.specs.Waits.{movesLevel, isLevel, assertOf, deassertOf}
 use Rattle.sheets.specs.Sheet.{isReturned, isDropped, returnedOf, offeredOf, droppedOf}
-use Rattle.tallies.specs.Marks.{Mark, raised, lowered, began, takenBack, happened, kindColumn, fateColumns, idleIn, besides, actMarks, marksOf, dayMarks}
+use Rattle.passes.specs.tallies.Marks.{Mark, raised, lowered, began, takenBack, happened, kindColumn, fateColumns, idleIn, besides, actMarks, marksOf, dayMarks}
 use Rattle.passes.specs.Slots.{NoLoad, notesIn}
 use Rattle.passes.proofs.laws.Marking.{addedBy, addedIn, added-append}
 use Rattle.passes.proofs.laws.Acting.{notes-in-append, notes-of-acts}

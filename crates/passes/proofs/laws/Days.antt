@@ -16,7 +16,7 @@ use Rattle.plain.specs.Sequence.{Item, call, load, refused}
 use Rattle.traces.specs.Trace.{Record, nth}
 use Rattle.traces.specs.Played.{requestOf, recordsFrom}
 use Rattle.sheets.specs.Day.{asItem, itemOf}
-use Rattle.tallies.specs.Marks.{Mark, itemMarks, itemAfter, dayMarks}
+use Rattle.passes.specs.tallies.Marks.{Mark, itemMarks, itemAfter, dayMarks}
 use Rattle.passes.specs.Slots.{NoLoad}
 use Rattle.passes.specs.Finish.{afterItems}
 

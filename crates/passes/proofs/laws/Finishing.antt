@@ -8,7 +8,7 @@ use lib.Dec.{eqb}
 use borrow.Author.Tests.{eqb-true, eqb-false, eq-eqb, ne-eqb}
 use Rattle.basics.specs.Inputs.{on, from}
 use Rattle.basics.proofs.laws.Bits.{test, on-not, on-none}
-use Rattle.tallies.specs.Grid.{Grid, put}
+use Rattle.passes.specs.tallies.Grid.{Grid, put}
 use Rattle.passes.specs.Finish.{rowCleared, cleared, allInputs, isOn, shut, joined, rowJoined, finished}
 
 nearer : (n k : ℕ) → (n ≡ k → ⊥) → n < suc k → n < k

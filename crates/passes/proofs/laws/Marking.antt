@@ -10,8 +10,8 @@ use borrow.Author.Tests.{eqb-true, eqb-false, eq-eqb, ne-eqb}
 use Rattle.basics.proofs.laws.Bits.{test}
 use Rattle.rules.specs.Account.{tally}
 use Rattle.plain.specs.Events.{Fate, returned, kept, dropped}
-use Rattle.tallies.specs.Grid.{Grid, put, bump}
-use Rattle.tallies.specs.Marks.{Mark, raised, lowered, began, takenBack, happened, inputOf, kindColumn, fateColumns, grown, bumped, settled, withdrawn, waited, marked, allMarked}
+use Rattle.passes.specs.tallies.Grid.{Grid, put, bump}
+use Rattle.passes.specs.tallies.Marks.{Mark, raised, lowered, began, takenBack, happened, inputOf, kindColumn, fateColumns, grown, bumped, settled, withdrawn, waited, marked, allMarked}
 use Rattle.passes.specs.Slots.{Slot, settle, takeBack, startAt, slotAfter, slotAll, Rows}
 
 pub eqb-sym : (a b : ℕ) → eqb a b ≡ eqb b a

@@ -25,9 +25,9 @@ use Rattle.plain.proofs.demands.History.{same-history}
 use Rattle.sheets.specs.Day.{begun, moments, Day, dayFrom}
 use Rattle.sheets.specs.Waits.{assertOf, deassertOf, waits, greatest, isOpen}
 use Rattle.sheets.specs.Sheet.{columnOf, Row, returnedOf, offeredOf, droppedOf, rowOf, emptyRow, together, totalBelow, sheetBytes}
-use Rattle.tallies.specs.Grid.{Grid, Holds}
-use Rattle.tallies.specs.Marks.{Mark, happened, takenBack, idleIn, allMarked, besides, actMarks, marksOf, dayMarks}
-use Rattle.tallies.proofs.laws.Grids.{low-four}
+use Rattle.passes.specs.tallies.Grid.{Grid, Holds}
+use Rattle.passes.specs.tallies.Marks.{Mark, happened, takenBack, idleIn, allMarked, besides, actMarks, marksOf, dayMarks}
+use Rattle.passes.proofs.tallies.laws.Grids.{low-four}
 use Rattle.passes.specs.Slots.{NoLoad, Slot, slotAll, notesIn, Rows}
 use Rattle.passes.specs.Finish.{rowCleared, cleared, allInputs, isOn, joined, finished}
 use Rattle.passes.proofs.laws.Marking.{addedIn, all-marked-at, AllSoon, rows-marked}

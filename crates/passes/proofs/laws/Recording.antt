@@ -26,7 +26,7 @@ use Rattle.plain.proofs.laws.Same.{Run, Same}
 use Rattle.plain.proofs.laws.Following.{stepped, countedRun, like-call, sized, same-counted}
 use Rattle.sheets.specs.Day.{Moment, after, number, made, moments}
 use Rattle.sheets.specs.Waits.{movesLevel, isIdle, begins, assertOf, asserts, takesBack, End, answered, withdrawn, endFrom, waits, isWithdrawn, isOpen, greatest}
-use Rattle.tallies.specs.Marks.{Mark, idleIn, actMarks, marksOf, itemMarks, dayMarks}
+use Rattle.passes.specs.tallies.Marks.{Mark, idleIn, actMarks, marksOf, itemMarks, dayMarks}
 use Rattle.passes.specs.Slots.{NoLoad, Slot, settle, takeBack, startAt, slotAll, notesIn}
 use Rattle.passes.proofs.laws.Acting.{slot-append, notes-of-acts, NotRaise, step, Latched, Some, Gone, kept-step, over-step, acts-step, raise-step}
 

@@ -1,7 +1,7 @@
 -- `pch_pic_convert`: 7 where the answer area is short; else what the call tells stands there.
 use mathlib.Core.Path.{sym}
 use Rattle.calls.proofs.laws.Conversions.{conversion-short}
-use Rattle.fronts.proofs.Told.{told-of-convert}
+use Rattle.answer.proofs.fronts.Told.{told-of-convert}
 use borrow.Author.Needs.{needs}
 use Rattle.pch_pic_convert.proofs.pch_pic_convert.Statement.{statement}
 use Rattle.pch_pic_convert.proofs.pch_pic_convert.Tie as tie

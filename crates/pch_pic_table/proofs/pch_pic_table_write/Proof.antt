@@ -3,7 +3,7 @@ use mathlib.Core.Path.{sym}
 use Prim.Native.Nat.{zero-le}
 use Rattle.calls.specs.Calls as asked
 use Rattle.calls.proofs.laws.Outcomes.{answer-short}
-use Rattle.fronts.proofs.Told.{told}
+use Rattle.answer.proofs.fronts.Told.{told}
 use borrow.Author.Needs.{needs}
 use Rattle.pch_pic_table.proofs.pch_pic_table_write.Statement.{statement}
 use Rattle.pch_pic_table.proofs.pch_pic_table_write.Tie as tie

@@ -15,16 +15,16 @@ use Rattle.images.specs.Form.{Form, Known, unknown, known, formOf}
 use Rattle.images.specs.Image.{imageTest, accepted, encodeAs, encodeLike, decode, numbersIn}
 use Rattle.calls.specs.Calls.{pass, Asked, afresh, calls, askedBy, Done, performed, wrongLength, answered, bufferOf, placeOf, written, Outcome, settled, ended}
 use Rattle.rules.specs.History.{history}
-use Rattle.exported.specs.Exported.{Exported, leftBy, isDone, unnumbered, isReset, isLoad, callOf, doneCall, Underway, carriedOn, carriedThrough}
-use Rattle.exported.specs.Exported.{GivenBytes, current, inImage, Faithful, afterReset, atLoad}
+use Rattle.histories.specs.exported.Exported.{Exported, leftBy, isDone, unnumbered, isReset, isLoad, callOf, doneCall, Underway, carriedOn, carriedThrough}
+use Rattle.histories.specs.exported.Exported.{GivenBytes, current, inImage, Faithful, afterReset, atLoad}
 use Rattle.basics.proofs.laws.Bits.{test}
 use Rattle.laws.proofs.laws.Images.{decode-well-formed, reset-well-formed, reset-numbered}
 use Rattle.histories.proofs.laws.Folds.{history-append}
 use Rattle.histories.proofs.laws.WellFormed.{step-well}
-use Rattle.exported.proofs.laws.Chains.{never, passed, did-pass, current-well, handed, faithful-on, carried-on, reset-leaves, reset-begins, done-call, own-image, load-begins}
-use Rattle.exported.proofs.laws.Chains.{faithful-after-reset, faithful-at-load}
-use Rattle.exported.proofs.laws.Without.{own-numbers, handed-image, handed-answer, handed-events, reset-answer, reset-events}
-use Rattle.exported.proofs.demands.FromCalls.{image-holds-device, history-since-load}
+use Rattle.histories.proofs.exported.laws.Chains.{never, passed, did-pass, current-well, handed, faithful-on, carried-on, reset-leaves, reset-begins, done-call, own-image, load-begins}
+use Rattle.histories.proofs.exported.laws.Chains.{faithful-after-reset, faithful-at-load}
+use Rattle.histories.proofs.exported.laws.Without.{own-numbers, handed-image, handed-answer, handed-events, reset-answer, reset-events}
+use Rattle.histories.proofs.exported.demands.FromCalls.{image-holds-device, history-since-load}
 use Rattle.plain.specs.Plain.{Engine, counted, Gave, idle, gives}
 use Rattle.plain.specs.Sequence.{loadOf, shown, notesOf, asMade}
 use Rattle.plain.specs.Beside.{givesTo, meets, Agrees, AllAgree, afterCalls}

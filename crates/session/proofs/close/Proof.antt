@@ -5,9 +5,9 @@ use native.Mathlib.Omega.{arith}
 use lib.ListN.{length, take}
 use lib.Seq.{length-take-le}
 use borrow.Author.Needs.{needs}
-use Rattle.state.specs.View.{view}
-use Rattle.reply.specs.Says.{Says}
-use Rattle.reply.proofs.Writing.{filled, put-part, says}
+use Rattle.device.specs.state.View.{view}
+use Rattle.session.specs.reply.Says.{Says}
+use Rattle.session.proofs.reply.Writing.{filled, put-part, says}
 use Rattle.session.proofs.Feeding.{none-kept, last-line}
 use Rattle.session.proofs.close.Statement.{statement}
 use Rattle.session.proofs.close.Tie as tie

@@ -4,7 +4,7 @@ use native.Mathlib.Omega.{arith}
 use lib.ListN.{length, drop, length-drop}
 use lib.Seq.{length-take-le}
 use borrow.Author.Tests.{leb-true, leb-false}
-use Rattle.reply.proofs.Writing.{fits}
+use Rattle.session.proofs.reply.Writing.{fits}
 use Rattle.session.proofs.Feeding.{Feeding, feed-start, feed-next}
 use Rattle.session.proofs.feed.Statement.{statement}
 use Rattle.session.proofs.feed.Tie as tie

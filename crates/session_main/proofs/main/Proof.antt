@@ -5,7 +5,7 @@ use native.Mathlib.Omega.{arith}
 use lib.ListN.{length}
 use lib.Seq.{length-take-le}
 use borrow.Author.Needs.{needs}
-use Rattle.reply.proofs.Writing.{fits}
+use Rattle.session.proofs.reply.Writing.{fits}
 use Rattle.session_main.proofs.main.Statement.{statement}
 use Rattle.session_main.proofs.main.Tie as tie
 

@@ -15,15 +15,15 @@ use Rattle.calls.specs.Calls.{Request, askedBy, answered, presentIn, valueIn, O
 use Rattle.calls.specs.Calls as request
 use Rattle.rules.specs.History.{history}
 use Rattle.histories.specs.Demands.{pollsOrRaises}
-use Rattle.exported.specs.Exported.{Exported, leftBy, isDone, isReset, Underway, carriedThrough, NoLoads, HandedOn, doneCalls}
-use Rattle.exported.specs.Exported.{leftAfter, current, inImage, Faithful, atLoad}
+use Rattle.histories.specs.exported.Exported.{Exported, leftBy, isDone, isReset, Underway, carriedThrough, NoLoads, HandedOn, doneCalls}
+use Rattle.histories.specs.exported.Exported.{leftAfter, current, inImage, Faithful, atLoad}
 use Rattle.sweep.specs.Sweeps.{sweeping, Sweep}
 use Rattle.sweep.specs.Handed.{asksFor, readsAssert, WakesAllRead, pollsAll}
 use Rattle.calls.proofs.laws.Answers.{value-read}
 use Rattle.laws.proofs.laws.Images.{decode-well-formed, numbers-well}
-use Rattle.exported.proofs.laws.Chains.{faithful-at-load, done-call}
-use Rattle.exported.proofs.laws.Readings.{read-as}
-use Rattle.exported.proofs.demands.FromCalls.{image-holds-device, image-holds-history, handed-on-is-no-load, left-through}
+use Rattle.histories.proofs.exported.laws.Chains.{faithful-at-load, done-call}
+use Rattle.histories.proofs.exported.laws.Readings.{read-as}
+use Rattle.histories.proofs.exported.demands.FromCalls.{image-holds-device, image-holds-history, handed-on-is-no-load, left-through}
 use Rattle.sweep.proofs.laws.Announcing.{call-announces, vector-answered}
 use Rattle.sweep.proofs.laws.Reading.{returned-silent, asserts-read, asks-is}
 use Rattle.sweep.proofs.laws.Polls.{all-polled, polls-done}

@@ -15,14 +15,14 @@ use Rattle.rules.specs.Numbering.{numbersAfter, valueWith}
 use Rattle.images.specs.Image.{decode, numbersIn, imageTest, accepted}
 use Rattle.calls.specs.Calls.{performed, answerLength, answered, outcome}
 use Rattle.calls.specs.Calls as request
-use Rattle.exported.specs.Exported.{Exported, leftBy, isDone, HandedOn, doneCall, doneCalls}
+use Rattle.histories.specs.exported.Exported.{Exported, leftBy, isDone, HandedOn, doneCall, doneCalls}
 use Rattle.sweep.specs.Sweeps.{sweeping, isPoll, everyCall, someCall, Sweep}
 use Rattle.sweep.specs.Handed.{pollsFrom}
 use Rattle.rules.proofs.laws.Numbered.{numbers-step}
 use Rattle.images.proofs.laws.Saved.{bytes-encode}
 use Rattle.laws.proofs.laws.Images.{accepted-has, encode-as, encode-decode, decode-well-formed, numbers-well, accepted-encode}
 use Rattle.histories.proofs.laws.WellFormed.{step-well}
-use Rattle.exported.proofs.demands.FromCalls.{a-call-is-a-step}
+use Rattle.histories.proofs.exported.demands.FromCalls.{a-call-is-a-step}
 
 -- ---- their calls
 

@@ -18,14 +18,14 @@ use Rattle.calls.specs.Calls as request
 use Rattle.rules.specs.History.{history}
 use Rattle.rules.specs.Account.{tally}
 use Rattle.histories.specs.Demands.{pollsOrRaises, assertsOf, returnedIn}
-use Rattle.exported.specs.Exported.{Exported, leftBy, isDone, isLoad, callOf, Underway, carriedOn, NoLoads, doneCall, doneCalls, current, Faithful}
+use Rattle.histories.specs.exported.Exported.{Exported, leftBy, isDone, isLoad, callOf, Underway, carriedOn, NoLoads, doneCall, doneCalls, current, Faithful}
 use Rattle.sweep.specs.Sweeps.{sweeping, everyCall, deassertsIn}
 use Rattle.sweep.specs.Handed.{asksFor, readsAssert, assertsRead}
 use Rattle.basics.proofs.laws.Bits.{test}
 use Rattle.rules.proofs.laws.Counts.{tally-append, tally-nil}
 use Rattle.histories.proofs.laws.Folds.{history-append}
-use Rattle.exported.proofs.laws.Chains.{passed, handed, faithful-on, carried-on}
-use Rattle.exported.proofs.laws.Readings.{access-is, input-is, asked-is}
+use Rattle.histories.proofs.exported.laws.Chains.{passed, handed, faithful-on, carried-on}
+use Rattle.histories.proofs.exported.laws.Readings.{access-is, input-is, asked-is}
 use Rattle.sweep.proofs.laws.Announcing.{call-announces, read-is-asserted}
 
 -- ---- deasserts

@@ -1,1 +1,0 @@
--- The contracts cite the definitions of rules, inplace and answer alone.

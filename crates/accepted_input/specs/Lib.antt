@@ -1,2 +1,0 @@
--- What the functions of this crate promise, in the rules' terms.
-pub mod Returned

@@ -1,0 +1,2 @@
+-- Reads and writes of what stands at an offset, in place.
+pub mod cells

@@ -1,0 +1,2 @@
+-- answer
+pub mod fronts

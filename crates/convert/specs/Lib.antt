@@ -1,1 +1,0 @@
--- The contract cites the definitions of rules and answer alone.

@@ -1,1 +1,0 @@
-// What holds of the sheet of a day has no code: see proofs/.

@@ -1,8 +1,0 @@
--- `pending` is right bit by bit.
-use borrow.Author.Needs.{needs}
-use Rattle.decide.proofs.Deciding.{pending-is}
-use Rattle.decide.proofs.pending.Statement.{statement}
-use Rattle.decide.proofs.pending.Tie as tie
-
-pub pending-spec : {M : Type 1} → statement M
-pending-spec = tie.close (tie.spec (λ c. let a = c .args in pending-is (a .set) (a .irr) (a .mask) (a .isr) (search needs) (search needs) (search needs)))

@@ -1,8 +1,0 @@
--- `served` is right bit by bit.
-use borrow.Author.Needs.{needs}
-use Rattle.decide.proofs.Deciding.{served-is}
-use Rattle.decide.proofs.served.Statement.{statement}
-use Rattle.decide.proofs.served.Tie as tie
-
-pub served-spec : {M : Type 1} → statement M
-served-spec = tie.close (tie.spec (λ c. let a = c .args in served-is (a .set) (a .isr) (search needs)))

@@ -1,0 +1,7 @@
+-- `fitting`: the fewer of the two.
+use native.Mathlib.Omega.{arith}
+use Rattle.drain.proofs.drains.fitting.Statement.{statement}
+use Rattle.drain.proofs.drains.fitting.Tie as tie
+
+pub fitting-spec : {M : Type 1} → statement M
+fitting-spec = tie.close (tie.spec (λ c. omega arith) (λ c. omega arith))

@@ -1,0 +1,6 @@
+// The drain of an image in place.
+pub mod drains;
+pub mod events_out;
+pub mod move_up;
+pub mod shifts;
+pub mod weave;

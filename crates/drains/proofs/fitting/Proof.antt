@@ -1,7 +1,0 @@
--- `fitting`: the fewer of the two.
-use native.Mathlib.Omega.{arith}
-use Rattle.drains.proofs.fitting.Statement.{statement}
-use Rattle.drains.proofs.fitting.Tie as tie
-
-pub fitting-spec : {M : Type 1} → statement M
-fitting-spec = tie.close (tie.spec (λ c. omega arith) (λ c. omega arith))

@@ -1,0 +1,2 @@
+-- The fields of an image, read and written in place.
+pub mod inplace

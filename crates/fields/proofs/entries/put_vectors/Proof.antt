@@ -1,0 +1,23 @@
+-- `put_vectors`: the bytes from the input's place on are replaced.
+use mathlib.Core.Path.{refl}
+use native.Mathlib.Omega.{arith}
+use Rattle.images.specs.Form.{vectors}
+use Rattle.image.specs.Shown.{formView}
+use Rattle.image.proofs.Forms.{placed, always-fits}
+use Rattle.fields.proofs.entries.Tables.{vectors-stored}
+use borrow.Author.Needs.{needs}
+use Rattle.fields.proofs.entries.put_vectors.Statement.{statement}
+use Rattle.fields.proofs.entries.put_vectors.Tie as tie
+
+pub put-vectors-spec : {M : Type 1} → statement M
+put-vectors-spec =
+    tie.close
+    (tie.spec
+    (λ c κs. search needs)
+    (λ c. (let p = c .before .before in omega (arith, placed (p .places-of .ensures) vectors refl, always-fits (formView (p .before .before .args .form)) vectors refl)))
+    (λ c κs. (let p = c .before .before in omega (arith, placed (p .places-of .ensures) vectors refl, always-fits (formView (p .before .before .args .form)) vectors refl)))
+    (λ c. search needs)
+    (λ c. let q = c .before .before in
+    let p = q .before .before .before in
+    let s = p .before .before in
+    vectors-stored (formView (s .args .form)) (s .args .image .now) (s .pre .0) (s .args .input) (s .args .n) (s .args .x) (s .pre .1) (q .put-bytes .ensures) (placed (p .places-of .ensures) vectors refl)))

@@ -1,0 +1,12 @@
+-- `from_zero`: the same bytes by computing.
+use mathlib.Core.Path.{refl}
+use Rattle.rules.specs.Device.{upFrom}
+use Rattle.fields.proofs.number_bytes.from_zero.Statement.{statement}
+use Rattle.fields.proofs.number_bytes.from_zero.Tie as tie
+
+returns : tie.Need-returns
+unfolding upFrom
+returns c = refl
+
+pub from-zero-spec : {M : Type 1} → statement M
+from-zero-spec = tie.close (tie.spec returns)

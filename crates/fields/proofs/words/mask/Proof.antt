@@ -1,0 +1,21 @@
+-- `mask`: the eight bytes from its place on spell it.
+use mathlib.Core.Path.{refl}
+use native.Mathlib.Omega.{arith}
+use Rattle.images.specs.Form.{mask, word}
+use Rattle.image.specs.Shown.{formView}
+use Rattle.image.proofs.Forms.{placed}
+use Rattle.fields.proofs.words.Registers.{word-within, word-read}
+use borrow.Author.Needs.{needs}
+use Rattle.fields.proofs.words.mask.Statement.{statement}
+use Rattle.fields.proofs.words.mask.Tie as tie
+
+pub mask-spec : {M : Type 1} → statement M
+mask-spec =
+    tie.close
+    (tie.spec
+    (λ c κs. search needs)
+    (λ c κs. let a = c .before .before .args in
+    omega (arith, word-within (formView (a .form)) mask (placed (c .places-of .ensures) (word mask) refl) refl))
+    (λ c. let p = c .before in
+    let s = p .before .before in
+    word-read (formView (s .args .form)) (s .args .image .now) (s .pre) mask (placed (p .places-of .ensures) (word mask) refl) refl (c .word-at .ensures)))

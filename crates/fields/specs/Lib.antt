@@ -1,0 +1,4 @@
+-- The fields of an image, read and written in place.
+pub mod inplace
+pub mod number_bytes
+pub mod ring

@@ -1,1 +1,0 @@
--- The laws of this crate cite the definitions of rules and answer alone.

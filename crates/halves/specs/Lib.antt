@@ -1,1 +1,0 @@
--- The contracts cite the definitions of rules, map and inplace alone.

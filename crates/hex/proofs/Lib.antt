@@ -1,3 +1,0 @@
--- The laws that the proofs of this crate cite, and of the crates above it.
-pub mod Digits
-pub mod OneField

@@ -1,0 +1,4 @@
+-- The laws that the proofs of this module cite.
+pub mod Tested
+pub mod Rings
+pub mod Orders

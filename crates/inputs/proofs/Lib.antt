@@ -1,1 +1,0 @@
--- The laws that the proofs of this crate cite are those of rules, inplace and refusals.

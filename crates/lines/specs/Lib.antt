@@ -1,0 +1,3 @@
+-- What moves the lines of an image in place.
+pub mod service
+pub mod events

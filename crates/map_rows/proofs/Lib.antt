@@ -1,1 +1,0 @@
--- The proofs of this crate cite no law of their own.

@@ -1,7 +1,0 @@
--- `fitting`: in each way the smaller of the two. Written out, so that a wrong one is refused here, and not at what calls it.
-use borrow.Author.Needs.{needs}
-use Rattle.output.proofs.fitting.Statement.{statement}
-use Rattle.output.proofs.fitting.Tie as tie
-
-pub fitting-spec : {M : Type 1} → statement M
-fitting-spec = tie.close (tie.spec (λ c. search needs) (λ c. search needs))

@@ -1,0 +1,91 @@
+-- Events made one after another, turns of the lines, and a move of the lines as an act.
+use mathlib.Core.Path.{_≡_, sym, ap, subst, _∙_}
+use mathlib.Core.Bool.{Bool, true, false}
+use mathlib.Core.List.{List, [], _∷_, _++_, map, map-append}
+use Prim.Native.Nat.{ℕ, _+_, _<_, _≤_}
+use native.Mathlib.Omega.{arith}
+use lib.ListN.{length, length-append}
+use borrow.Author.Tests.{lt-ltb, le-ltb}
+use Rattle.rules.specs.Lines.{Lines, Made, Turn, andThen, event}
+use Rattle.rules.specs.Ring.{Ring, RingAct, Drawn, ringStep, ringRun}
+use Rattle.rules.specs.Core.{Move, move, moved, lineTurn}
+use Rattle.rules.specs.Device.{Device, offers, acted}
+use Rattle.rules.proofs.laws.Rings.{run-append, offered-room, offered-full}
+use Rattle.rules.proofs.laws.Acts.{offers-append}
+use Rattle.laws.proofs.laws.Writes.{acted-move}
+use Rattle.plain.specs.Events.{returned, kept, dropped}
+use Rattle.plain.specs.Sequence.{notesOf}
+use Rattle.plain.proofs.laws.Queues.{notes-append}
+use Rattle.passes.specs.tallies.Marks.{happened, allMarked, besides, marksOf}
+use Rattle.passes.specs.tallies.Following.{Stands, Takes, Offers, Turns, Follows}
+use Rattle.passes.proofs.tallies.laws.Taking.{takes-none, takes-then, takes-same, marks-one}
+
+-- ---- events
+
+pub offers-none : (b : List ℕ) (k w : ℕ) → Offers b b k w w (λ vs. [])
+unfolding offers ringRun notesOf
+offers-none b k w vs r h = (h, takes-none b)
+
+pub offers-then : {b c a : List ℕ} (k : ℕ) {w u v : ℕ} (g h : List ℕ → List Made) → Offers b c k w u g → Offers c a k u v h → Offers b a k w v (λ vs. g vs ++ h vs)
+offers-then k g h s t vs r e =
+    let one = s vs r e in
+    let middle = ringRun r (offers (g vs)) .after in
+    let two = t vs middle (one .0) in
+    let after : ringRun r (offers (g vs ++ h vs)) .after ≡ ringRun middle (offers (h vs)) .after =
+    ap (λ (os : List RingAct). ringRun r os .after) (offers-append (g vs) (h vs)) ∙ ap (λ (d : Drawn). d .after) (run-append r (offers (g vs)) (offers (h vs)))
+    in
+    let notes = ap (map happened) (notes-append k r (g vs) (h vs)) ∙ map-append happened (notesOf k r (g vs)) (notesOf k middle (h vs)) in
+    (ap (λ (q : Ring). length (q .waiting)) after ∙ two .0, takes-same (sym notes) (takes-then _ _ (one .1) (two .1)))
+
+-- one event is offered, and kept or dropped; or returned
+module _ {b a : List ℕ} (n k : ℕ) (t : Bool) where
+  pub offers-kept : {w : ℕ} → w < 16 → Takes b a (happened (record { input = n; call = k; vector = 0; asserted = t; fate = kept }) ∷ []) → Offers b a k w (w + 1) (λ vs. event vs true t n ∷ [])
+  unfolding offers ringRun ringStep notesOf allMarked
+  offers-kept {w} room s vs r e =
+      let lt : length (r .waiting) < 16 = omega (arith, e) in
+      let grown = ap (λ (q : Ring). length (q .waiting)) (offered-room r _ lt) ∙ length-append (r .waiting) _ in
+      (grown ∙ ap (λ j. j + 1) e, rw (lt-ltb (length (r .waiting)) 16 lt) s)
+
+  pub offers-dropped : {w : ℕ} → 16 ≤ w → Takes b a (happened (record { input = n; call = k; vector = 0; asserted = t; fate = dropped }) ∷ []) → Offers b a k w w (λ vs. event vs true t n ∷ [])
+  unfolding offers ringRun ringStep notesOf allMarked
+  offers-dropped {w} full s vs r e =
+      let ge : 16 ≤ length (r .waiting) = omega (arith, e) in
+      (ap (λ (q : Ring). length (q .waiting)) (offered-full r _ ge) ∙ e, rw (le-ltb (length (r .waiting)) 16 ge) s)
+
+  pub offers-returned : (w : ℕ) → Takes b a (happened (record { input = n; call = k; vector = 0; asserted = t; fate = returned }) ∷ []) → Offers b a k w w (λ vs. event vs false t n ∷ [])
+  unfolding offers ringRun notesOf allMarked
+  offers-returned w s vs r e = (e, s)
+
+pub offers-same : {b a : List ℕ} (k : ℕ) {w u : ℕ} (g h : List ℕ → List Made) → ((vs : List ℕ) → g vs ≡ h vs) → Offers b a k w u g → Offers b a k w u h
+offers-same {b} {a} k {w} {u} g h e s vs r z = subst (λ (ms : List Made). (length (ringRun r (offers ms) .after .waiting) ≡ u) × Takes b a (map happened (notesOf k r ms))) (e vs) (s vs r z)
+
+-- ---- turns
+
+pub turns-same : {m : Lines} {b a : List ℕ} (k : ℕ) {w u : ℕ} (g h : List ℕ → Turn) → ((vs : List ℕ) → g vs ≡ h vs) → Turns m b a k w u g → Turns m b a k w u h
+turns-same k g h e t = record {
+  lines = λ vs. ap (λ (x : Turn). x .after) (sym (e vs)) ∙ t .lines vs;
+  events = offers-same k (λ vs. g vs .made) (λ vs. h vs .made) (λ vs. ap (λ (x : Turn). x .made) (e vs)) (t .events);
+}
+
+pub turns-then : {m n : Lines} {b c a : List ℕ} (k : ℕ) {w u v : ℕ} (g : List ℕ → Turn) (h : List ℕ → Lines → Turn) → Turns m b c k w u g → Turns n c a k u v (λ vs. h vs m) → Turns n b a k w v (λ vs. andThen (g vs) (h vs))
+turns-then {m} k g h s t = record {
+  lines = λ vs. ap (λ (l : Lines). h vs l .after) (s .lines vs) ∙ t .lines vs;
+  events = offers-then k (λ vs. g vs .made) (λ vs. h vs (g vs .after) .made) (s .events) (offers-same k (λ vs. h vs m .made) (λ vs. h vs (g vs .after) .made) (λ vs. ap (λ (l : Lines). h vs l .made) (sym (s .lines vs))) (t .events));
+}
+
+-- ---- acts
+
+pub follows-move : (x : Move) {l m : Lines} {b c a : List ℕ} (k : ℕ) {w u : ℕ} → Takes b c (besides k l (move x)) → Turns m c a k w u (λ vs. moved vs l x) → Follows l w m u b a k (λ _. move x ∷ [])
+unfolding lineTurn
+follows-move x {l} {m} {b} {c} {a} k {w} {u} s t d h =
+    let vs = d .core .vectors in
+    let e = t .events vs (d .ring) (h .waiting) in
+    let same = ap (λ (z : Lines). moved vs z x) (h .lines) in
+    let its : Stands m u (acted d (move x ∷ [])) = record {
+      lines = ap (λ (z : Device). z .core .lines) (acted-move d x) ∙ ap (λ (z : Turn). z .after) same ∙ t .lines vs;
+      waiting = ap (λ (z : Device). length (z .ring .waiting)) (acted-move d x) ∙ ap (λ (z : Turn). length (ringRun (d .ring) (offers (z .made)) .after .waiting)) same ∙ e .0;
+    } in
+    let marks : besides k l (move x) ++ map happened (notesOf k (d .ring) (moved vs l x .made)) ≡ marksOf k d (move x ∷ []) =
+    (λ i. besides k (sym (h .lines) i) (move x) ++ map happened (notesOf k (d .ring) (moved vs (sym (h .lines) i) x .made))) ∙ sym (marks-one k d (move x))
+    in
+    (its, takes-same marks (takes-then _ _ s (e .1)))

@@ -1,0 +1,56 @@
+-- What the pass keeps of the device: its lines, and how many events wait.
+use mathlib.Core.Bool.{Bool, true, false}
+use mathlib.Core.List.{List, map}
+use mathlib.Core.Path.{_≡_}
+use Prim.Native.Nat.{ℕ}
+use lib.ListN.{length}
+use Rattle.rules.specs.Lines.{Lines, Made, Turn}
+use Rattle.rules.specs.Ring.{Ring, ringRun}
+use Rattle.rules.specs.Core.{Core, Act}
+use Rattle.rules.specs.Device.{Device, WellFormed, offers, acted}
+use Rattle.rules.specs.Map as map
+use Rattle.rules.specs.Map.{Register}
+use Rattle.rules.specs.Access.{valueOf}
+use Rattle.plain.specs.Sequence.{Item, notesOf}
+use Rattle.passes.specs.tallies.Grid.{Becomes}
+use Rattle.passes.specs.tallies.Marks.{Mark, happened, allMarked, marksOf, itemMarks, itemAfter}
+
+-- a device has these lines, and so many wait
+pub record Stands (l : Lines) (w : ℕ) (d : Device) : Type 0 where
+  pub lines : d .core .lines ≡ l
+  pub waiting : length (d .ring .waiting) ≡ w
+
+-- the sheet takes these marks
+abbrev pub Takes : (before after : List ℕ) → List Mark → Type 0
+Takes b a ms = Becomes b a (λ f. allMarked f ms)
+
+-- events are made as a part of the record k, by whatever vectors and into whatever ring with w waiting: then u wait, and the sheet has taken them
+abbrev pub Offers : (before after : List ℕ) → ℕ → (w u : ℕ) → (List ℕ → List Made) → Type 0
+Offers b a k w u g =
+    (vs : List ℕ) (r : Ring) → length (r .waiting) ≡ w → (length (ringRun r (offers (g vs)) .after .waiting) ≡ u) × Takes b a (map happened (notesOf k r (g vs)))
+
+-- a turn leaves these lines, by whatever vectors, and its events are made so
+pub record Turns (m : Lines) (before after : List ℕ) (k w u : ℕ) (g : List ℕ → Turn) : Type 0 where
+  pub lines : (vs : List ℕ) → g vs .after ≡ m
+  pub events : Offers before after k w u (λ vs. g vs .made)
+
+-- whatever device it was, what is kept stands for the device after these acts of the record k, and the sheet has taken their marks
+abbrev pub Follows : (l : Lines) (w : ℕ) (m : Lines) (u : ℕ) (before after : List ℕ) → ℕ → (Core → List Act) → Type 0
+Follows l w m u b a k xs = (d : Device) → Stands l w d → Stands m u (acted d (xs (d .core))) × Takes b a (marksOf k d (xs (d .core)))
+
+-- the same of a record, of a device that can be saved
+abbrev pub FollowsItem : (l : Lines) (w : ℕ) (m : Lines) (u : ℕ) (before after : List ℕ) → ℕ → Item → Type 0
+FollowsItem l w m u b a k x = (d : Device) → WellFormed d → Stands l w d → Stands m u (itemAfter d x) × Takes b a (itemMarks k d x)
+
+-- the registers that the pass heeds
+abbrev pub heeded : Register → Bool
+heeded map.id = false
+heeded map.mask = true
+heeded map.clear = true
+heeded map.irr = false
+heeded map.isr = true
+heeded (map.plain p) = false
+
+-- a number is such a register as it reads
+abbrev pub ReadsAs : Lines → ℕ → Register → Type 0
+ReadsAs l x r = heeded r ≡ true → (c : Core) → c .lines ≡ l → x ≡ valueOf c r

@@ -1,0 +1,2 @@
+-- The laws that the proofs of this module cite, and those who write what is left.
+pub mod Rounds

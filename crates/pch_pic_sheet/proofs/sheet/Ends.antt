@@ -1,0 +1,64 @@
+-- How it ends: refused, with the sheet as it was, or made.
+use mathlib.Core.Path.{_≡_, sym, ap, subst, _∙_}
+use mathlib.Core.List.{List, [], _∷_, _++_, map}
+use mathlib.Core.Logic.{⊎-elim}
+use Prim.Native.Nat.{ℕ, _+_, _≤_}
+use native.Mathlib.Omega.{arith}
+use types.Run.{OneOf}
+use denote.Enum.Declared.{tagOf}
+use lib.ListN.{length, drop}
+use Rattle.basics.specs.Numbers.{Bytes}
+use Rattle.rules.specs.Device.{Value, some, reset}
+use Rattle.traces.specs.Trace.{good, traceNumber, traceValue, traceTest}
+use Rattle.traces.specs.Played.{recordsFrom}
+use Rattle.traces.proofs.demands.Told.{AllGood, Means, test-told}
+use Rattle.traces.proofs.demands.Sizes.{few-records, trace-length}
+use Rattle.sheets.specs.Day.{itemOf, items, begun, dayFrom}
+use Rattle.sheets.specs.Sheet.{rowOf, sheetBytes, sheetLength}
+use Rattle.passes.specs.tallies.Grid.{Becomes}
+use Rattle.passes.specs.tallies.Marks.{dayMarks}
+use Rattle.passes.specs.tallies.Following.{Takes}
+use Rattle.passes.specs.Finish.{rowCleared, cleared, allInputs, finished}
+use Rattle.passes.proofs.laws.Passing.{pass-sheet}
+use Rattle.passes.proofs.laws.Days.{items-length, items-loadless}
+use Rattle.answer.specs.Given.{Tells}
+use Rattle.answer.specs.declared.Told.{Told}
+use Rattle.trace.specs.declared.Tested.{Tested}
+use Rattle.trace.specs.declared.Tested.the-variants.{Good, WrongContents, BadRecord}
+use Rattle.trace.proofs.Tested.{the-type}
+use Rattle.trace.specs.Found.{testedView}
+use Rattle.pch_pic_sheet.specs.sheet.Made.{Reaches, Made, told, madeBy, madeOf}
+use Rattle.pch_pic_sheet.proofs.sheet.Loops.{some-grid, holds-some}
+
+pub tells : (t : Told) {n : ℕ} {v : Value} → Tells t n v → {s : List ℕ} {x : Made} → record { number = n; value = v; sheet = s } ≡ x → told t s ≡ x
+tells t p {s} d = (λ i. record { number = p .0 i; value = p .1 i; sheet = s }) ∙ d
+
+module _ (l s : List ℕ) where
+  pub no-trace : (x : Tested) → OneOf (1 ∷ 2 ∷ []) (tagOf the-type x) → testedView x ≡ traceTest l → record { number = traceNumber (testedView x); value = traceValue (testedView x); sheet = s } ≡ madeOf l s
+  no-trace (Good first n) o e = absurd (not-good o)
+    where
+      not-good : OneOf (1 ∷ 2 ∷ []) 0 → ⊥
+      not-good o = ⊎-elim (λ z. omega (arith, z)) (λ z. omega (arith, z)) o
+  no-trace WrongContents o e = ap (λ t. madeBy t l s) e
+  no-trace (BadRecord m) o e = ap (λ t. madeBy t l s) e
+
+  module _ {first n : ℕ} (e : traceTest l ≡ good first n) where
+    all-good : AllGood l first n
+    all-good = subst (Means l) e (test-told l)
+
+    pub reaches : Reaches l first n
+    reaches =
+        let g = all-good in
+        record { place = g .place; few = omega (arith, g .count, few-records l (g .contents)); fits = omega (arith, g .place, g .count, trace-length l (g .contents)) }
+
+    pub is-made : Bytes s → sheetLength ≤ length s → {s₁ s₂ s₃ s₄ : List ℕ} → Becomes s s₁ (λ f. cleared f allInputs) → Takes s₁ s₂ (dayMarks 0 reset (map itemOf (recordsFrom l n 0)))
+        → Becomes s₂ s₃ (λ f. rowCleared f 64 10) → Becomes s₃ s₄ (λ f. finished f 64) → record { number = 0; value = some n; sheet = s₄ } ≡ madeOf l s
+    is-made b h {s₄ = s₄} p q r t =
+        let held = t _ _ (r _ _ (q _ _ (p (some-grid s) (drop sheetLength s) (holds-some s b h)))) in
+        let xs = map itemOf (recordsFrom l n 0) in
+        let few : length xs ≤ 4000 = omega (arith, items-length l n 0, reaches .few) in
+        let is : s₄ ≡ sheetBytes (rowOf (dayFrom begun xs)) ++ drop sheetLength s = pass-sheet xs (items-loadless (recordsFrom l n 0)) few (some-grid s) s₄ (drop sheetLength s) held in
+        let all : sheetBytes (rowOf (dayFrom begun xs)) ++ drop sheetLength s ≡ sheetBytes (rowOf (dayFrom begun (items l))) ++ drop sheetLength s =
+        ap (λ k. sheetBytes (rowOf (dayFrom begun (map itemOf (recordsFrom l k 0)))) ++ drop sheetLength s) (all-good .count)
+        in
+        (λ i. record { number = 0; value = some n; sheet = (is ∙ all) i }) ∙ ap (λ u. madeBy u l s) (sym e)

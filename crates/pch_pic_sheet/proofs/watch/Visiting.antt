@@ -1,0 +1,66 @@
+-- The loops over the inputs of a set, lowest first: what was done so far, and then what is left, is all.
+use mathlib.Core.Path.{_≡_, refl, sym, ap, subst, _∙_}
+use mathlib.Core.Bool.{true, false}
+use mathlib.Core.List.{List, [], _∷_, _++_, map, map-append, append-nil, append-assoc}
+use Prim.Native.Nat.{ℕ, suc, _-_, _^_, _<_}
+use native.Mathlib.Nat.{lt-of-le-of-lt}
+use lib.Bits.{bitAnd, and-le-l}
+use lib.Count.{trailingZeros}
+use lib.ListN.{length}
+use Rattle.basics.specs.Inputs.{on, inputs}
+use Rattle.rules.specs.Lines.{event}
+use Rattle.basics.proofs.laws.Inputs.{first-below, first-input, lowest-dropped, no-input}
+use Rattle.passes.specs.tallies.Marks.{takenBack}
+use Rattle.passes.specs.tallies.Following.{Takes, Offers}
+use Rattle.passes.proofs.tallies.laws.Taking.{takes-then, takes-same}
+use Rattle.passes.proofs.tallies.laws.Turning.{offers-then, offers-same}
+
+pub record Visiting (P : List ℕ → Type 0) (set left : ℕ) : Type 0 where
+  pub sofar : List ℕ
+  pub does : P sofar
+  pub rest : sofar ++ inputs (on left) ≡ inputs (on set)
+  pub below : left < 2 ^ 64
+
+module _ (P : List ℕ → Type 0) where
+  pub visiting-starts : (x : ℕ) → x < 2 ^ 64 → P [] → Visiting P x x
+  visiting-starts x h p = record { sofar = []; does = p; rest = refl; below = h }
+
+  module _ {set x : ℕ} (q : Visiting P set x) where
+    pub visited : x ≡ 0 → P (inputs (on set))
+    visited z = subst P (sym (append-nil (q .sofar)) ∙ ap (λ ns. q .sofar ++ ns) (sym (no-input x z)) ∙ q .rest) (q .does)
+
+    module _ (some : x ≡ 0 → ⊥) where
+      abbrev lowest : ℕ
+      lowest = trailingZeros 64 x
+
+      pub lowest-below : lowest < 64
+      lowest-below = first-below x (q .below) some
+
+      pub fewer : suc (length (inputs (on (bitAnd x (x - 1))))) ≡ length (inputs (on x))
+      fewer = ap (λ y. suc (length (inputs (on y)))) (lowest-dropped x (q .below) some) ∙ sym (ap length (first-input x (q .below) some))
+
+      pub visiting-next : (Q : List ℕ → Type 0) → Q (q .sofar ++ (lowest ∷ [])) → Visiting Q set (bitAnd x (x - 1))
+      visiting-next Q p = record {
+        sofar = q .sofar ++ (lowest ∷ []);
+        does = p;
+        rest =
+            append-assoc (q .sofar) (lowest ∷ []) (inputs (on (bitAnd x (x - 1))))
+            ∙ ap (λ ns. q .sofar ++ ns) (ap (λ y. lowest ∷ inputs (on y)) (lowest-dropped x (q .below) some) ∙ sym (first-input x (q .below) some)) ∙ q .rest;
+        below = lt-of-le-of-lt (and-le-l x (x - 1)) (q .below);
+      }
+
+-- ---- deasserts that are offered, and waits that are taken back
+
+abbrev pub Deasserted : (before after : List ℕ) → (k w u : ℕ) → List ℕ → Type 0
+Deasserted b a k w u ns = Offers b a k w u (λ vs. map (event vs true false) ns)
+
+pub deasserts-one : {b c a : List ℕ} (k : ℕ) {w u v : ℕ} (ns : List ℕ) (n : ℕ) → Deasserted b c k w u ns → Offers c a k u v (λ vs. event vs true false n ∷ []) → Deasserted b a k w v (ns ++ (n ∷ []))
+deasserts-one k ns n s t =
+    offers-same k (λ vs. map (event vs true false) ns ++ (event vs true false n ∷ [])) (λ vs. map (event vs true false) (ns ++ (n ∷ []))) (λ vs. sym (map-append (event vs true false) ns (n ∷ [])))
+    (offers-then k (λ vs. map (event vs true false) ns) (λ vs. event vs true false n ∷ []) s t)
+
+abbrev pub Withdrawn : (before after : List ℕ) → List ℕ → Type 0
+Withdrawn b a ns = Takes b a (map takenBack ns)
+
+pub withdraws-one : {b c a : List ℕ} (ns : List ℕ) (n : ℕ) → Withdrawn b c ns → Takes c a (takenBack n ∷ []) → Withdrawn b a (ns ++ (n ∷ []))
+withdraws-one ns n s t = takes-same (sym (map-append takenBack ns (n ∷ []))) (takes-then _ _ s t)

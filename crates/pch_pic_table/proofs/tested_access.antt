@@ -1,0 +1,1 @@
+-- The laws that the proofs of this module cite stand in accesses.

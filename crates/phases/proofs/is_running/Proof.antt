@@ -1,8 +1,0 @@
--- `is_running`: the first byte is not 0. Written out, so that another test is refused here.
-use mathlib.Core.Path.{refl}
-use borrow.Author.Needs.{needs}
-use Rattle.phases.proofs.is_running.Statement.{statement}
-use Rattle.phases.proofs.is_running.Tie as tie
-
-pub is-running-spec : {M : Type 1} → statement M
-is-running-spec = tie.close (tie.spec (λ c. search needs) (λ c. refl))

@@ -1,0 +1,2 @@
+-- The laws that the proof of this module cites.
+pub mod Behind

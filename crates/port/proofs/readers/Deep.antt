@@ -1,0 +1,16 @@
+-- A depth that is enough: for the four Bytes of a Dword among the bytes, and for a Word anywhere.
+use mathlib.Core.Path.{_≡_, sym, _∙_}
+use mathlib.Core.Bool.{true≢false}
+use Prim.Native.Nat.{ℕ, _-_, _≤_}
+use native.Mathlib.Omega.{arith}
+use Rattle.rules.specs.Map.{bytes, cellAt}
+use Rattle.laws.proofs.laws.Maps.{at-bytes, four-inside}
+use Rattle.port.specs.readers.Depths.{SplitDepth}
+
+pub four-deep : (o depth : ℕ) → cellAt o ≡ bytes → 2 ≤ depth → SplitDepth o 4 (depth - 1)
+four-deep o depth e h = record {
+  few = omega arith;
+  fits = omega (arith, at-bytes o e);
+  one = omega arith;
+  each = λ k l n. absurd (true≢false (sym (four-inside o e k l) ∙ n));
+}

@@ -1,2 +1,0 @@
--- The laws that the proof of this crate cites.
-pub mod Behind

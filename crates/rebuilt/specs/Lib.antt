@@ -1,2 +1,0 @@
--- What the functions of this crate are given, in the terms of salvages.
-pub mod Given

@@ -1,7 +1,0 @@
--- `sign` tests as the rule does.
-use borrow.Author.Tests.{eq-eqb, ne-eqb}
-use Rattle.reply.proofs.sign.Statement.{statement}
-use Rattle.reply.proofs.sign.Tie as tie
-
-pub sign-spec : {M : Type 1} → statement M
-sign-spec = tie.close (tie.spec (λ c. rw (eq-eqb _ _ (c .if1 .taken))) (λ c. rw (ne-eqb _ _ (c .if1 .left))))

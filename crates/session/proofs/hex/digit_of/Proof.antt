@@ -1,0 +1,23 @@
+-- `digit_of` is right since its two ranges are those of the rule, and every other byte lies outside both.
+use mathlib.Core.Path.{_≡_, sym, ap, _∙_}
+use Prim.Native.Nat.{_+_, _-_}
+use native.Mathlib.Omega.{arith}
+use borrow.Author.Needs.{needs}
+use Rattle.rules.specs.Device.{some}
+use Rattle.session.proofs.hex.Digits.{decimal, letter, no-digit}
+use Rattle.session.proofs.hex.digit_of.Statement.{statement}
+use Rattle.session.proofs.hex.digit_of.Tie as tie
+
+pub digit-of-spec : {M : Type 1} → statement M
+digit-of-spec =
+    tie.close
+    (tie.spec
+    (λ c. search needs)
+    (λ c. sym (decimal _ (c .before .if1 .left) (c .if2 .taken)))
+    (λ c.
+    let b = c .before .before .before .before .args .byte in
+    let e : b - 97 + 10 ≡ b - 0x57 = omega arith in
+    ap some e ∙ sym (letter b (c .before .if3 .left) (c .if4 .taken)))
+    (λ c. sym (no-digit (c .before .args .byte) (λ p q. omega arith) (λ p q. omega arith)))
+    (λ c. sym (no-digit (c .before .before .before .args .byte) (λ p q. omega arith) (λ p q. omega arith)))
+    (λ c. sym (no-digit (c .before .before .before .before .args .byte) (λ p q. omega arith) (λ p q. omega arith))))

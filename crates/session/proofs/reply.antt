@@ -1,0 +1,2 @@
+-- The laws that the proofs of this module cite, and of the crates above it.
+pub mod Writing

@@ -1,0 +1,2 @@
+-- The six calls on an image.
+pub mod accepted_input

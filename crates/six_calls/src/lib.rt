@@ -1,0 +1,6 @@
+// The six calls on an image.
+pub mod accepted_access;
+pub mod accepted_input;
+pub mod reset_drain;
+pub mod tested_access;
+pub mod tested_input;

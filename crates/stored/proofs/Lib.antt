@@ -1,0 +1,2 @@
+-- The state stored as an image.
+pub mod saves

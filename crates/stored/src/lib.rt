@@ -1,0 +1,5 @@
+// The state stored as an image.
+pub mod pairs;
+pub mod save_parts;
+pub mod save_state;
+pub mod save_words;

@@ -1,0 +1,63 @@
+// The ring's events as sixteen pairs of bytes, read and written: the oldest first, the unused ones zero.
+use bits::bytes::put_zeros;
+use device::state::Ring;
+use image::form::FLAG;
+use image::form::PAIR;
+ghost use mathlib.Core.Path.{_≡_};
+ghost use mathlib.Core.List.{_++_};
+ghost use Prim.Native.Nat.{_*_, _≤_};
+ghost use lib.ListN.{length, take, drop};
+ghost use Rattle.rules.specs.Ring.{capacity, flag, eventTwos, pairsOf};
+ghost use Rattle.images.specs.Image.{sixteen, eventsOf};
+ghost use Rattle.device.specs.state.View.{WellRing, IsRing, ringView};
+
+// The ring of the events that pairs spell, from the first slot on.
+pub fn ring_of(pairs: &[u8], len: usize, drops: u32) -> Ring
+    requires { ⌜ (length (now pairs) ≡ 2 * capacity) × (len ≤ capacity) ⌝ }
+    ensures { λ r. ⌜ IsRing r (record { waiting = eventsOf len (now (pairs .entry)); drops = drops }) ⌝ }
+{
+    let mut output_vectors = [0u8; 16];
+    let mut output_asserted = [false; 16];
+    let mut i = 0;
+    while i < 16 {
+        output_vectors[i] = pairs[PAIR * i];
+        output_asserted[i] = pairs[PAIR * i + FLAG] == 1;
+        i += 1;
+    }
+    Ring {
+        output_vectors,
+        output_asserted,
+        output_head: 0,
+        output_len: len,
+        output_drops: drops,
+    }
+}
+
+fn flag_byte(asserted: bool) -> u8
+    ensures { λ r. ⌜ r ≡ flag asserted ⌝ }
+{
+    if asserted { 1 } else { 0 }
+}
+
+// The n oldest events as pairs, from the front of dst; every other byte stays.
+fn put_events(dst: &mut [u8], ring: Ring, n: usize)
+    requires { ⌜ WellRing ring × (n ≤ ring .«output_len») × (2 * n ≤ length (now dst)) ⌝ }
+    ensures { λ _. ⌜ now (dst .exit) ≡ pairsOf (take n (ringView ring .waiting)) ++ drop (2 * n) (now (dst .entry)) ⌝ }
+{
+    let mut i = 0;
+    while i < n {
+        let at = (ring.output_head + i) % 16;
+        dst[PAIR * i] = ring.output_vectors[at];
+        dst[PAIR * i + FLAG] = flag_byte(ring.output_asserted[at]);
+        i += 1;
+    }
+}
+
+// All sixteen pairs: the unused ones are zeroed with the others, before the waiting ones are written.
+pub fn put_pairs(dst: &mut [u8], ring: Ring)
+    requires { ⌜ (length (now dst) ≡ 2 * capacity) × WellRing ring ⌝ }
+    ensures { λ _. ⌜ now (dst .exit) ≡ sixteen eventTwos (ringView ring .waiting) ⌝ }
+{
+    put_zeros(dst);
+    put_events(dst, ring, ring.output_len);
+}

@@ -1,0 +1,47 @@
+// What is saved word by word: the contents of an image, and its registers.
+use bits::bytes::put_word;
+use device::state::Lines;
+use device::state::Stored;
+use image::form::Form;
+use image::form::contents_of;
+use image::form::places_of;
+ghost use mathlib.Core.Path.{_≡_};
+ghost use mathlib.Core.List.{_++_};
+ghost use lib.ListN.{length, drop};
+ghost use Rattle.images.specs.Form.{formLength, contentsLength, contentsOf};
+ghost use Rattle.image.specs.Shown.{formView};
+ghost use Rattle.stored.specs.saves.Shown.{SavesLines, SavesStored};
+
+pub fn put_contents(image: &mut [u8], form: Form)
+    requires { ⌜ length (now image) ≡ formLength (formView form) ⌝ }
+    ensures { λ _. ⌜ now (image .exit) ≡ contentsOf (formView form) ++ drop (contentsLength (formView form)) (now (image .entry)) ⌝ }
+{
+    let c = contents_of(form);
+    put_word(image, 0, c.first);
+    put_word(image, 8, c.second);
+    put_word(image, 14, c.third);
+    put_word(image, c.last_at, c.last);
+}
+
+pub fn save_lines(image: &mut [u8], form: Form, lines: Lines)
+    requires { ⌜ length (now image) ≡ formLength (formView form) ⌝ }
+    ensures { λ _. ⌜ SavesLines (formView form) lines (now (image .entry)) (now (image .exit)) ⌝ }
+{
+    let p = places_of(form);
+    put_word(image, p.int_mask, lines.int_mask);
+    put_word(image, p.last_intirr, lines.intirr);
+    put_word(image, p.intirr, lines.intirr);
+    put_word(image, p.intisr, lines.intisr);
+}
+
+pub fn save_stored(image: &mut [u8], form: Form, stored: Stored)
+    requires { ⌜ length (now image) ≡ formLength (formView form) ⌝ }
+    ensures { λ _. ⌜ SavesStored (formView form) stored (now (image .entry)) (now (image .exit)) ⌝ }
+{
+    let p = places_of(form);
+    put_word(image, p.htmsi_en, stored.htmsi_en);
+    put_word(image, p.intedge, stored.intedge);
+    put_word(image, p.int_polarity, stored.int_polarity);
+    put_word(image, p.auto_ctrl0, stored.auto_ctrl0);
+    put_word(image, p.auto_ctrl1, stored.auto_ctrl1);
+}

@@ -1,0 +1,47 @@
+// The rows in which the map is printed: a register's half, the route bytes, the vector bytes, and what lies between.
+use crate::Place;
+use crate::look;
+ghost use mathlib.Core.Path.{_≡_};
+ghost use Prim.Native.Nat.{_<_};
+ghost use Rattle.table.specs.Meaning.{Agrees};
+ghost use Rattle.table.specs.Views.{placeView};
+ghost use Rattle.table.specs.map_rows.Rows.{isNothing, begins, Row};
+
+fn is_nothing(place: Place) -> bool
+    ensures { λ r. ⌜ r ≡ isNothing (placeView place) ⌝ }
+{
+    match place {
+        Place::Part(register, high, byte, silent) => false,
+        Place::Route(input) => false,
+        Place::Vector(input) => false,
+        Place::Nothing => true,
+    }
+}
+
+// Whether a row begins at a place, behind a row that began at another.
+fn begins(first: Place, next: Place) -> bool
+    ensures { λ r. ⌜ r ≡ begins (placeView first) (placeView next) ⌝ }
+{
+    match next {
+        Place::Part(register, high, byte, silent) => byte == 0,
+        Place::Route(input) => input == 0,
+        Place::Vector(input) => input == 0,
+        Place::Nothing => !is_nothing(first),
+    }
+}
+
+// Where the row ends that begins at an offset.
+pub fn row_end(table: &[[u8; 32]; 32], start: usize) -> usize
+    requires { ⌜ Agrees (now table) × (start < 1024) ⌝ }
+    ensures { λ r. ⌜ Row start r ⌝ }
+{
+    let first = look(table, start);
+    let mut at = start + 1;
+    while at < 1024 {
+        if begins(first, look(table, at)) {
+            return at;
+        }
+        at += 1;
+    }
+    at
+}

@@ -1,1 +1,0 @@
--- The laws that the proofs of this crate cite stand in narrow, wide and accesses.

@@ -1,2 +1,0 @@
--- What the functions of this crate find, in the terms of salvages.
-pub mod Found

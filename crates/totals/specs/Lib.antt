@@ -1,1 +1,0 @@
--- The contracts cite the definitions of sheets, tallies and passes alone.

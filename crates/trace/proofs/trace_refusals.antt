@@ -1,0 +1,1 @@
+-- The proofs of this module cite definitions alone.

@@ -1,1 +1,0 @@
--- The contracts cite the definitions of traces, trace and answer alone.

@@ -1,0 +1,44 @@
+-- Every image along a play is accepted: from reset, and after each record.
+use mathlib.Core.Path.{_≡_, sym, ap, subst, _∙_}
+use mathlib.Core.List.{List}
+use Prim.Native.Nat.{ℕ, zero, suc}
+use lib.ListN.{length}
+use Rattle.basics.specs.Numbers.{Bytes}
+use Rattle.rules.specs.Device.{reset}
+use Rattle.rules.specs.Numbering.{fromZero}
+use Rattle.images.specs.Form.{Form, forms, known, formOf}
+use Rattle.images.specs.Image.{accepted, imageTest}
+use Rattle.images.proofs.laws.Tests.{form-known}
+use Rattle.images.proofs.laws.Saved.{bytes-encode, length-encode}
+use Rattle.laws.proofs.laws.Images.{encode-as, accepted-encode, reset-well-formed, reset-numbered}
+use Rattle.traces.specs.Trace.{nth}
+use Rattle.traces.specs.Played.{Played, afresh}
+use Rattle.traces.proofs.demands.Play.{plays-from-reset}
+use Rattle.traces.specs.plays.Playing.{playedTo}
+use Rattle.traces.proofs.plays.laws.Prefixes.{played-more}
+use Rattle.traces.proofs.plays.laws.Keeps.{keeps-accepted}
+use Rattle.traces.proofs.plays.demands.AfterEach.{none-played}
+
+-- an accepted image, as long as another
+pub record Fit (i j : List ℕ) : Type 0 where
+  pub bytes : Bytes j
+  pub good : imageTest j ≡ accepted
+  pub size : length j ≡ length i
+
+module _ (i : List ℕ) {f : Form} (k : formOf (length i) ≡ known f) where
+  pub afresh-fits : Fit i (afresh i)
+  afresh-fits =
+      let sized = form-known forms (length i) f k in
+      let is = plays-from-reset i f k ∙ encode-as f i sized reset (fromZero 0) in
+      record {
+        bytes = subst Bytes (sym is) (bytes-encode reset reset-well-formed (fromZero 0) reset-numbered f);
+        good = ap imageTest is ∙ accepted-encode reset reset-well-formed (fromZero 0) reset-numbered f;
+        size = ap length is ∙ length-encode reset reset-well-formed (fromZero 0) reset-numbered f ∙ sym sized;
+      }
+
+  pub each-fits : (l : List ℕ) (n : ℕ) → Fit i (playedTo l n i .image)
+  each-fits l zero = subst (Fit i) (sym (ap (λ (p : Played). p .image) (none-played l i))) afresh-fits
+  each-fits l (suc n) =
+      let e = each-fits l n in
+      let q = keeps-accepted (playedTo l n i .image) (e .bytes) (e .good) (nth l n) in
+      subst (Fit i) (sym (ap (λ (p : Played). p .image) (played-more l n i))) (record { bytes = q .0; good = q .1; size = q .2 ∙ e .size })

@@ -1,6 +1,0 @@
--- A record by value, as the rules of traces see it.
-use Rattle.traces.specs.Trace as traces
-use Rattle.view.specs.declared.Record.{Record}
-
-abbrev pub recordView : Record → traces.Record
-recordView r = record { kind = r .kind; byte = r .byte; offset = r .offset; zeros = r .zeros; value = r .value }
