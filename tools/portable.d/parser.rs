@@ -383,14 +383,12 @@ impl Parser<'_> {
 
     fn binding(&mut self) -> Read<Statement> {
         let pattern = self.pattern()?;
-        if self.take(":") {
-            self.ty()?;
-        }
+        let ty = if self.take(":") { Some(self.ty()?) } else { None };
         self.want("=")?;
         let value = self.expr()?;
         let otherwise = if self.take("else") { Some(self.block()?) } else { None };
         self.want(";")?;
-        Ok(Statement::Let(Let { pattern, value, otherwise }))
+        Ok(Statement::Let(Let { pattern, ty, value, otherwise }))
     }
 
     // ---- expressions

@@ -95,6 +95,7 @@ pub enum Statement {
 
 pub struct Let {
     pub pattern: Pattern,
+    pub ty: Option<Type>,
     pub value: Expr,
     pub otherwise: Option<Block>,
 }

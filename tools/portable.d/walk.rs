@@ -63,6 +63,7 @@ pub fn block<'a>(this: &'a Block, visit: Visit<'_, 'a>) {
             Statement::Let(bound) => {
                 visit(Node::Let(bound));
                 pattern(&bound.pattern, visit);
+                bound.ty.iter().for_each(|of| ty(of, visit));
                 expr(&bound.value, visit);
                 bound.otherwise.iter().for_each(|inner| block(inner, visit));
             }
