@@ -15,6 +15,7 @@ use super::masking::write_mask;
 /// requires { ⌜ length (now image) ≡ formLength (formView form) ⌝ }
 /// ensures { λ r. ⌜ Reads (now (image .entry)) r (λ d. valueOf (d .core) (registerView register)) ⌝ }
 /// ```
+#[inline]
 pub fn value_of<const N: usize>(image: &[u8; N], register: Register) -> u64 {
     match register {
         Register::Id => 0x003f_0001_0700_0000,
@@ -32,6 +33,7 @@ pub fn value_of<const N: usize>(image: &[u8; N], register: Register) -> u64 {
 /// requires { ⌜ length (now image) ≡ formLength (formView form) ⌝ }
 /// ensures { λ _. ⌜ Writes (now (image .entry)) (now (image .exit)) 0 (λ c. setIsr high val ∷ []) ⌝ }
 /// ```
+#[inline]
 fn write_isr<const N: usize>(image: &mut [u8; N], val: u32, high: bool) {
     let old = words::isr(image);
     words::put_isr(image, bits::replace_u32(old, val, high));
@@ -41,6 +43,7 @@ fn write_isr<const N: usize>(image: &mut [u8; N], val: u32, high: bool) {
 /// requires { ⌜ length (now image) ≡ formLength (formView form) ⌝ }
 /// ensures { λ _. ⌜ Writes (now (image .entry)) (now (image .exit)) 0 (λ c. store (setPlain (plainView plain) high val) ∷ []) ⌝ }
 /// ```
+#[inline]
 fn write_plain<const N: usize>(image: &mut [u8; N], plain: Plain, val: u32, high: bool) {
     let old = words::plain(image, plain);
     words::put_plain(image, plain, bits::replace_u32(old, val, high));
@@ -52,6 +55,7 @@ fn write_plain<const N: usize>(image: &mut [u8; N], plain: Plain, val: u32, high
 /// requires { ⌜ length (now image) ≡ formLength (formView form) ⌝ }
 /// ensures { λ r. ⌜ (r ≤ 65) × Writes (now (image .entry)) (now (image .exit)) r (λ c. registerActs (registerView register) high val) ⌝ }
 /// ```
+#[inline]
 pub fn write_half<const N: usize>(
     image: &mut [u8; N],
     register: Register,

@@ -16,6 +16,7 @@ use super::watch::Watched;
 /// ensures { λ r. ⌜ Follows (linesOf w) (w .waiting) (linesOf r) (r .waiting) (now (sheet .entry)) (now (sheet .exit)) k
 ///     (λ c. registerActs (registerView register) high val) ⌝ }
 /// ```
+#[inline]
 fn write_half(
     sheet: &mut [u8],
     w: Watched,
@@ -45,6 +46,7 @@ fn write_half(
 /// ```text
 /// ensures { λ r. ⌜ ReadsAs (linesOf w) r (registerView register) ⌝ }
 /// ```
+#[inline]
 fn value_of(w: Watched, register: Register) -> u64 {
     match register {
         Register::Id => 0,
@@ -63,6 +65,7 @@ fn value_of(w: Watched, register: Register) -> u64 {
 /// ```text
 /// ensures { λ r. ⌜ r ≡ inByteArea offset ⌝ }
 /// ```
+#[inline]
 fn in_byte_area(offset: usize) -> bool {
     0x100 <= offset && offset < 0x3a0
 }
@@ -72,6 +75,7 @@ fn in_byte_area(offset: usize) -> bool {
 /// ```text
 /// ensures { λ r. ⌜ r ≡ cond narrow (placeOf offset) offset ⌝ }
 /// ```
+#[inline]
 fn place_of(offset: usize, narrow: bool) -> usize {
     if narrow { offset & !0x3 } else { offset }
 }
@@ -81,6 +85,7 @@ fn place_of(offset: usize, narrow: bool) -> usize {
 /// ```text
 /// ensures { λ r. ⌜ PutIn (linesOf w) (registerView register) high offset narrow x r ⌝ }
 /// ```
+#[inline]
 fn value_in(
     w: Watched,
     register: Register,
@@ -103,6 +108,7 @@ fn value_in(
 /// ensures { λ r. ⌜ Follows (linesOf w) (w .waiting) (linesOf r) (r .waiting) (now (sheet .entry)) (now (sheet .exit)) k
 ///     (λ c. writeActs c (pieceWidth narrow) offset x) ⌝ }
 /// ```
+#[inline]
 fn write_piece(
     sheet: &mut [u8],
     w: Watched,
@@ -134,6 +140,7 @@ fn write_piece(
 /// ensures { λ r. ⌜ Follows (linesOf w) (w .waiting) (linesOf r) (r .waiting) (now (sheet .entry)) (now (sheet .exit)) k
 ///     (λ c. writeActs c (widthOf width) offset value) ⌝ }
 /// ```
+#[inline]
 pub fn write(
     sheet: &mut [u8],
     w: Watched,
