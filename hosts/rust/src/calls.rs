@@ -1,0 +1,24 @@
+//! The 24 calls as C has them, over slices: `include/pch_pic.h` tells each. The rest of the crate is types around them.
+//!
+//! Each is lent an answer area of at least 16 bytes and hands back a number: 0 where it was done, else why it was refused ([`Error`](crate::Error) has the
+//! numbers). None requires anything of its bytes, numbers and lengths, and none panics, whatever they are. This is the one place that picks who does the work:
+//! [`built`](crate::built) tells it.
+//!
+//! ```
+//! use pch_pic::calls::{pch_pic_read, pch_pic_reset};
+//!
+//! let (mut image, mut answer) = ([0; pch_pic::IMAGE_LEN], [0; 16]);
+//! assert_eq!(pch_pic_reset(&mut image, &mut answer), 0);
+//! assert_eq!(pch_pic_read(&image, 0, 0x400, pch_pic::reg::ID, 4, &mut answer), 0);
+//! assert_eq!(answer[8..], [0, 0, 0, 7, 0, 0, 0, 0]);
+//! assert_eq!(pch_pic_read(&image, 0, 0x400, 0x400, 4, &mut answer), 1); // outside
+//! assert_eq!(pch_pic_read(&image[1..], 0, 0x400, 0, 4, &mut answer), 4); // no form has 258 bytes
+//! assert_eq!(pch_pic_read(&image, 0, 0x400, 0, 4, &mut []), 7); // no room for the answer
+//! ```
+
+#[cfg(feature = "archive")]
+#[doc(inline)]
+pub use crate::archive::*;
+#[cfg(not(feature = "archive"))]
+#[doc(inline)]
+pub use crate::proved::calls::*;
