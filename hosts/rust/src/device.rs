@@ -1,7 +1,8 @@
 //! The device: an image of its own, and the calls on it.
 
 use crate::{
-    contents, event, outcome, reg, Board, Error, Event, Events, Form, Image, Returned, Width, Window, EVENTS, EVENT_LEN, IMAGE2_NUMBERED_LEN,
+    contents, event, outcome, reg, Board, Error, Event, Events, Form, Image, Returned, Width, Window, EVENTS, EVENT_LEN,
+    IMAGE2_NUMBERED_LEN,
 };
 use core::fmt;
 

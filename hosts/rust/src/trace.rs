@@ -20,7 +20,8 @@
 //! ```
 
 use crate::{
-    contents, event, outcome, file, Error, Event, Form, Image, PchPic, DRAIN_ROOM, DROPPED_LEN, DROPPED_MAX, EVENT_LEN, RECORD_LEN, TRACE_MAX,
+    contents, event, file, outcome, Error, Event, Form, Image, PchPic, DRAIN_ROOM, DROPPED_LEN, DROPPED_MAX, EVENT_LEN, RECORD_LEN,
+    TRACE_MAX,
 };
 use core::fmt;
 use std::fs::File;
