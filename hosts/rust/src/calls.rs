@@ -1,8 +1,7 @@
-//! The 24 calls as C has them, over slices: `include/pch_pic.h` tells each. The rest of the crate is types around them.
+//! The 24 calls as C has them, over slices: `include/pch_pic.h` of the repository tells each. The rest of the crate is types around them.
 //!
 //! Each is lent an answer area of at least 16 bytes and hands back a number: 0 where it was done, else why it was refused ([`Error`](crate::Error) has the
-//! numbers). None requires anything of its bytes, numbers and lengths, and none panics, whatever they are. This is the one place that picks who does the work:
-//! [`built`](crate::built) tells it.
+//! numbers). None requires anything of its bytes, numbers and lengths, and none panics, whatever they are.
 //!
 //! ```
 //! use pch_pic::calls::{pch_pic_read, pch_pic_reset};
@@ -15,7 +14,10 @@
 //! assert_eq!(pch_pic_read(&image[1..], 0, 0x400, 0, 4, &mut answer), 4); // no form has 258 bytes
 //! assert_eq!(pch_pic_read(&image, 0, 0x400, 0, 4, &mut []), 7); // no room for the answer
 //! ```
+//!
+//! What a call is proved to do stands with it, as the proof has it: `ensures` says what holds after it.
 
+// The one place that picks who does the work; `built` tells it.
 #[cfg(feature = "archive")]
 #[doc(inline)]
 pub use crate::archive::*;

@@ -66,7 +66,7 @@
 //! # What does the work
 //!
 //! The device is written in Rattle, a Rust with contracts, and proved: every call leaves exactly the bytes that the rules give, on any input. This crate
-//! has that text as Rust, and adds types; [`calls`] are the calls themselves. [`built`] tells what was built in:
+//! has that text as Rust, and adds types; [`calls`] are the calls themselves. [`built()`] tells what does the work:
 //!
 //! - **By default** rustc compiles the text, for every 64-bit target. Beside the proof this takes rustc, and the rules by which the text became Rust.
 //! - **Feature `archive`** links `libpch_pic.a`, the machine code of the proved text, on x86-64 Linux in user space. Everything else stays the same. `unsafe`
@@ -114,7 +114,6 @@ pub mod history;
 mod hoist;
 mod outcome;
 #[cfg(not(feature = "archive"))]
-#[allow(missing_docs, dead_code, clippy::all)]
 #[rustfmt::skip]
 mod proved;
 #[cfg(feature = "std")]

@@ -260,7 +260,10 @@ mod days {
                     4 | 5 => day.set_level(input, value & 1 == 1).map(drop),
                     6 => day.poll(input).map(drop),
                     7 => day.close_block().map_err(|_| Error::Empty),
-                    _ => Ok(assert!(day.drain(&mut [Event::default(); EVENTS]) <= EVENTS)),
+                    _ => {
+                        assert!(day.drain(&mut [Event::default(); EVENTS]) <= EVENTS);
+                        Ok(())
+                    }
                 };
             }
             match day.recorder().finish() {
