@@ -15,6 +15,14 @@
 //! assert_eq!(pch_pic_read(&image, 0, 0x400, 0, 4, &mut []), 7); // no room for the answer
 //! ```
 //!
+//! - `pch_pic_reset`, `_read`, `_write`, `_level`, `_poll` and `_drain` are the device, on its image.
+//! - `pch_pic_board_reset` and so on are the same six with a board beside the image, and `pch_pic_board_event` counts an event on a board alone.
+//! - `pch_pic_table_read` and `_write` are decoded by the table of registers, and answer the same.
+//! - `pch_pic_hoist_reset`, `_read`, `_write` and `_end_startup` hold a guest to the hoist profile.
+//! - `pch_pic_convert` moves an image to another form.
+//! - `pch_pic_play`, `_salvage` and `_sheet` take a trace.
+//! - `pch_pic_difference` tells how far one number of an event is ahead of another.
+//!
 //! What a call is proved to do stands with it, as the proof has it: `ensures` says what holds after it.
 
 // The one place that picks who does the work; `built` tells it.

@@ -84,11 +84,13 @@
 //! # Panics
 //!
 //! No call of the crate panics, whatever the bytes, numbers and lengths are; only memory can run out where a [`Trace`] is made.
-//! `tests/hostile.rs` tries it.
+//! `tests/hostile` tries it.
 
 #![cfg_attr(not(any(feature = "std", test)), no_std)]
 #![cfg_attr(not(feature = "archive"), forbid(unsafe_code))]
 #![cfg_attr(feature = "archive", deny(unsafe_code))]
+// The pages speak of what is there with std.
+#![cfg_attr(not(feature = "std"), allow(rustdoc::broken_intra_doc_links))]
 
 // An offset in the guest's window has 64 bits, and the proved text keeps it as a usize: a shorter one would cut it, and an access far behind the registers
 // would meet one of them.
