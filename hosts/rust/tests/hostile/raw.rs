@@ -1,12 +1,24 @@
-//! The 24 calls as they are.
+//! The 24 calls as they are, each made twice: by what does the work in this build, and by the plain copy of the proved text. Both leave the same bytes.
 
 use crate::dice::{Dice, FORMS};
-use crate::ROUNDS;
-use pch_pic::calls::*;
+use crate::{proved, ROUNDS};
+use pch_pic::calls::{self, pch_pic_difference, pch_pic_read, pch_pic_reset, pch_pic_write};
 use pch_pic::{SHEET_LEN, VECTORS};
 
 /// The numbers that a call may hand back.
 const NUMBERS: [u8; 16] = [0, 1, 2, 3, 4, 5, 7, 8, 9, 10, 11, 12, 13, 14, 15, 16];
+
+/// A call that is lent these areas and one for its answer.
+trait Call<const N: usize>: FnOnce(&mut [Vec<u8>; N], &mut [u8]) -> u8 {}
+
+impl<const N: usize, F: FnOnce(&mut [Vec<u8>; N], &mut [u8]) -> u8> Call<N> for F {}
+
+/// The call of this build, and that of the plain copy.
+macro_rules! twice {
+    ($bench:ident, $name:literal, $areas:expr, |$lent:pat_param, $answer:ident| $call:ident($($word:expr),*)) => {
+        $bench.tried($name, $areas, |$lent, $answer| calls::$call($($word),*), |$lent, $answer| proved::calls::$call($($word),*))
+    };
+}
 
 struct Bench {
     dice: Dice,
@@ -39,16 +51,22 @@ impl Bench {
         }
     }
 
-    /// Makes the call and looks at what it left. Where the name ends so, the first area is an image that goes on.
-    fn tried(&mut self, name: &str, mut areas: Vec<Vec<u8>>, call: impl FnOnce(&mut [Vec<u8>], &mut [u8]) -> u8) {
+    /// Makes the call twice and looks at what it left. Where the name ends so, the first area is an image that goes on.
+    fn tried<const N: usize>(&mut self, name: &str, areas: [Vec<u8>; N], call: impl Call<N>, plain: impl Call<N>) {
         let len = if self.dice.once_in(8) { self.dice.of(&[0, 1, 15]) } else { self.dice.of(&[16, 17, 40]) };
-        let mut answer = self.dice.bytes(len);
-        let (before, unanswered) = (areas.clone(), answer.clone());
-        let number = call(&mut areas, &mut answer);
+        let unanswered = self.dice.bytes(len);
+        let [mut left, mut left_plain] = [areas.clone(), areas.clone()];
+        let [mut answer, mut answer_plain] = [unanswered.clone(), unanswered.clone()];
+        let number = call(&mut left, &mut answer);
+        let number_plain = plain(&mut left_plain, &mut answer_plain);
+        assert!(
+            (number, &left, &answer) == (number_plain, &left_plain, &answer_plain),
+            "{name} and the plain copy differ: {number}, {number_plain}"
+        );
         assert!(NUMBERS.contains(&number), "{name} handed back {number}");
         self.told[usize::from(number)] += 1;
         if number != 0 {
-            assert!(areas == before, "{name} was refused with {number} and changed something");
+            assert!(left == areas, "{name} was refused with {number} and changed something");
         }
         if number == 7 {
             assert_eq!(answer, unanswered, "{name}");
@@ -57,17 +75,18 @@ impl Bench {
             assert_eq!((answer[0], &answer[2..8], &answer[16..]), (number, &[0; 6][..], &unanswered[16..]), "{name}");
             assert!(answer[1] == 1 || (answer[1] == 0 && answer[8..16] == [0; 8]), "{name}");
         }
-        self.keep(name, number, areas.swap_remove(0));
+        let [first, ..] = &left[..] else { return };
+        self.keep(name, number, first);
     }
 
     /// What a done call leaves in an image is accepted, and the next calls are made on it.
-    fn keep(&mut self, name: &str, number: u8, image: Vec<u8>) {
+    fn keep(&mut self, name: &str, number: u8, image: &[u8]) {
         if number == 0 && name.ends_with(" image") {
-            assert_eq!(pch_pic_read(&image, 0, 0x400, 0, 4, &mut [0; 16]), 0, "{name} left an image that is refused");
+            assert_eq!(pch_pic_read(image, 0, 0x400, 0, 4, &mut [0; 16]), 0, "{name} left an image that is refused");
             let form = FORMS.iter().position(|len| *len == image.len()).expect("an image of a done call has a form");
             // A reset now and then, lest every image be one.
             if !name.contains("reset") || self.dice.once_in(8) {
-                self.good[form] = image;
+                self.good[form] = image.to_vec();
             }
         }
     }
@@ -76,22 +95,16 @@ impl Bench {
         let ([base, size, address], width, value) = (self.dice.access(), self.dice.width(), self.dice.any());
         let (input, level) = (self.dice.input(), self.dice.number());
         let place = self.dice.of(&[0, 0, 0, 1, 63, 64, 65, usize::MAX, usize::MAX - 1]);
-        let image = [(); 8].map(|()| self.image());
-        let [i0, i1, i2, i3, i4, i5, i6, i7] = image;
-        let events = self.dice.area(64);
-        self.tried("reset of an image", vec![i0], |a, answer| pch_pic_reset(&mut a[0], answer));
-        self.tried("read", vec![i1], |a, answer| pch_pic_read(&a[0], base, size, address, width, answer));
-        self.tried("write to an image", vec![i2], |a, answer| pch_pic_write(&mut a[0], base, size, address, width, value, answer));
-        self.tried("level of an image", vec![i3], |a, answer| pch_pic_level(&mut a[0], input, level, answer));
-        self.tried("poll of an image", vec![i4], |a, answer| pch_pic_poll(&mut a[0], input, answer));
-        self.tried("drain of an image", vec![i5, events], |a, answer| {
-            let (image, events) = a.split_at_mut(1);
-            pch_pic_drain(&mut image[0], &mut events[0], place, answer)
-        });
-        self.tried("table_read", vec![i6], |a, answer| pch_pic_table_read(&a[0], base, size, address, width, answer));
-        self.tried("table_write to an image", vec![i7], |a, answer| {
-            pch_pic_table_write(&mut a[0], base, size, address, width, value, answer)
-        });
+        let [a, b, c, d, e, f, g] = [(); 7].map(|()| [self.image()]);
+        let drained = [self.image(), self.dice.area(64)];
+        twice!(self, "reset of an image", a, |[image], answer| pch_pic_reset(image, answer));
+        twice!(self, "read", b, |[image], answer| pch_pic_read(image, base, size, address, width, answer));
+        twice!(self, "write to an image", c, |[image], answer| pch_pic_write(image, base, size, address, width, value, answer));
+        twice!(self, "level of an image", d, |[image], answer| pch_pic_level(image, input, level, answer));
+        twice!(self, "poll of an image", e, |[image], answer| pch_pic_poll(image, input, answer));
+        twice!(self, "drain of an image", drained, |[image, events], answer| pch_pic_drain(image, events, place, answer));
+        twice!(self, "table_read", f, |[image], answer| pch_pic_table_read(image, base, size, address, width, answer));
+        twice!(self, "table_write to an image", g, |[image], answer| pch_pic_table_write(image, base, size, address, width, value, answer));
     }
 
     fn board_calls(&mut self) {
@@ -99,37 +112,32 @@ impl Bench {
         let (input, level) = (self.dice.input(), self.dice.number());
         let place = self.dice.of(&[0, 0, 0, 1, 63, 64, 65, usize::MAX]);
         let (vector, flag) = (self.dice.number() as u8, self.dice.number() as u8);
-        let [a0, a1, a2, a3, a4] = [(); 5].map(|()| vec![self.image(), self.dice.area(VECTORS)]);
-        let drained = vec![self.image(), self.dice.area(VECTORS), self.dice.area(64)];
-        let heard = vec![self.dice.area(VECTORS)];
-        self.tried("board_reset of an image", a0, |a, answer| lent(a, |image, board| pch_pic_board_reset(image, board, answer)));
-        self.tried("board_read", a1, |a, answer| {
-            lent(a, |image, board| pch_pic_board_read(image, board, base, size, address, width, answer))
-        });
-        self.tried("board_write to an image", a2, |a, answer| {
-            lent(a, |image, board| pch_pic_board_write(image, board, base, size, address, width, value, answer))
-        });
-        self.tried("board_level of an image", a3, |a, answer| {
-            lent(a, |image, board| pch_pic_board_level(image, board, input, level, answer))
-        });
-        self.tried("board_poll of an image", a4, |a, answer| lent(a, |image, board| pch_pic_board_poll(image, board, input, answer)));
-        self.tried("board_drain of an image", drained, |a, answer| {
-            let (both, events) = a.split_at_mut(2);
-            lent(both, |image, board| pch_pic_board_drain(image, board, &mut events[0], place, answer))
-        });
-        self.tried("board_event", heard, |a, answer| pch_pic_board_event(&mut a[0], vector, flag, answer));
+        let [a, b, c, d, e] = [(); 5].map(|()| [self.image(), self.dice.area(VECTORS)]);
+        let drained = [self.image(), self.dice.area(VECTORS), self.dice.area(64)];
+        let heard = [self.dice.area(VECTORS)];
+        twice!(self, "board_reset of an image", a, |[image, board], answer| pch_pic_board_reset(image, board, answer));
+        twice!(self, "board_read", b, |[image, board], answer| pch_pic_board_read(image, board, base, size, address, width, answer));
+        twice!(self, "board_write to an image", c, |[image, board], answer| pch_pic_board_write(
+            image, board, base, size, address, width, value, answer
+        ));
+        twice!(self, "board_level of an image", d, |[image, board], answer| pch_pic_board_level(image, board, input, level, answer));
+        twice!(self, "board_poll of an image", e, |[image, board], answer| pch_pic_board_poll(image, board, input, answer));
+        twice!(self, "board_drain of an image", drained, |[image, board, events], answer| pch_pic_board_drain(
+            image, board, events, place, answer
+        ));
+        twice!(self, "board_event", heard, |[board], answer| pch_pic_board_event(board, vector, flag, answer));
     }
 
     fn hoist_calls(&mut self) {
         let ([base, size, address], width, value) = (self.dice.access(), self.dice.width(), self.dice.any());
-        let [a0, a1, a2] = [(); 3].map(|()| vec![self.image(), self.phase()]);
-        let read = vec![self.image()];
-        self.tried("hoist_reset of an image", a0, |a, answer| lent(a, |image, phase| pch_pic_hoist_reset(image, phase, answer)));
-        self.tried("hoist_read", read, |a, answer| pch_pic_hoist_read(&a[0], base, size, address, width, answer));
-        self.tried("hoist_write to an image", a1, |a, answer| {
-            lent(a, |image, phase| pch_pic_hoist_write(image, phase, base, size, address, width, value, answer))
-        });
-        self.tried("hoist_end_startup", a2, |a, answer| lent(a, |image, phase| pch_pic_hoist_end_startup(image, phase, answer)));
+        let [a, b, c] = [(); 3].map(|()| [self.image(), self.phase()]);
+        let read = [self.image()];
+        twice!(self, "hoist_reset of an image", a, |[image, phase], answer| pch_pic_hoist_reset(image, phase, answer));
+        twice!(self, "hoist_read", read, |[image], answer| pch_pic_hoist_read(image, base, size, address, width, answer));
+        twice!(self, "hoist_write to an image", b, |[image, phase], answer| pch_pic_hoist_write(
+            image, phase, base, size, address, width, value, answer
+        ));
+        twice!(self, "hoist_end_startup", c, |[image, phase], answer| pch_pic_hoist_end_startup(image, phase, answer));
     }
 
     fn phase(&mut self) -> Vec<u8> {
@@ -140,25 +148,16 @@ impl Bench {
     fn whole_calls(&mut self) {
         let trace = if self.dice.once_in(8) { self.image() } else { self.dice.trace() };
         let (image, target) = (self.image(), self.dice.of(&FORMS));
-        let (converted, sheet) = (vec![self.dice.area(target)], vec![self.dice.area(SHEET_LEN)]);
-        let played = vec![self.image(), self.dice.area(16 * 60), self.dice.area(64 * 60)];
-        let salvaged = vec![self.dice.area(trace.len()), self.dice.area(20)];
-        self.tried("convert to an image", converted, |a, answer| pch_pic_convert(&image, &mut a[0], answer));
-        self.tried("play on an image", played, |a, answer| {
-            let (both, events) = a.split_at_mut(2);
-            lent(both, |image, answers| pch_pic_play(&trace, image, answers, &mut events[0], answer))
-        });
-        self.tried("salvage", salvaged, |a, answer| lent(a, |kept, list| pch_pic_salvage(&trace, kept, list, answer)));
-        self.tried("sheet", sheet, |a, answer| pch_pic_sheet(&trace, &mut a[0], answer));
+        let (converted, sheet) = ([self.dice.area(target)], [self.dice.area(SHEET_LEN)]);
+        let played = [self.image(), self.dice.area(16 * 60), self.dice.area(64 * 60)];
+        let salvaged = [self.dice.area(trace.len()), self.dice.area(20)];
+        twice!(self, "convert to an image", converted, |[target], answer| pch_pic_convert(&image, target, answer));
+        twice!(self, "play on an image", played, |[image, answers, events], answer| pch_pic_play(&trace, image, answers, events, answer));
+        twice!(self, "salvage", salvaged, |[kept, list], answer| pch_pic_salvage(&trace, kept, list, answer));
+        twice!(self, "sheet", sheet, |[sheet], answer| pch_pic_sheet(&trace, sheet, answer));
         let (later, earlier) = (self.dice.any() as u16, self.dice.any() as u16);
         assert_eq!(pch_pic_difference(later, earlier), later.wrapping_sub(earlier) as i16);
     }
-}
-
-/// The first two areas, to be written both.
-fn lent(areas: &mut [Vec<u8>], call: impl FnOnce(&mut [u8], &mut [u8]) -> u8) -> u8 {
-    let (first, second) = areas.split_at_mut(1);
-    call(&mut first[0], &mut second[0])
 }
 
 /// Every refusal is met, so that what is tried is not the first test of each call alone.
