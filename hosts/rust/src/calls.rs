@@ -29,6 +29,27 @@
 #[cfg(feature = "archive")]
 #[doc(inline)]
 pub use crate::archive::*;
-#[cfg(not(feature = "archive"))]
+#[cfg(not(any(feature = "archive", feature = "plain")))]
+#[doc(inline)]
+pub use crate::fast::calls::*;
+#[cfg(all(feature = "plain", not(feature = "archive")))]
 #[doc(inline)]
 pub use crate::proved::calls::*;
+
+#[cfg(test)]
+mod tests {
+    use super::*;
+
+    /// The path of a function tells which module it stands in.
+    #[test]
+    fn the_one_that_was_asked_for_does_the_work() {
+        let wanted = match (cfg!(feature = "archive"), cfg!(feature = "plain")) {
+            (true, _) => "pch_pic::archive::",
+            (false, true) => "pch_pic::proved::",
+            (false, false) => "pch_pic::fast::",
+        };
+        for path in [core::any::type_name_of_val(&pch_pic_read), core::any::type_name_of_val(&pch_pic_sheet)] {
+            assert!(path.starts_with(wanted), "{path}");
+        }
+    }
+}

@@ -79,7 +79,7 @@
 //!
 //! - `std`, on by default: files, recorders and traces.
 //! - `archive`: the proved machine code does the work.
-//! - `plain`: the proved text line by line, without the steps that make it quick. It answers the same, in twice the time; it is there to be tested.
+//! - `plain`: the proved text line by line, without the steps that make it quick. It answers the same, in more than twice the time; it is there to be tested.
 //!
 //! # Panics
 //!
@@ -108,6 +108,9 @@ mod contents;
 mod device;
 mod error;
 mod event;
+#[cfg(not(any(feature = "archive", feature = "plain")))]
+#[rustfmt::skip]
+mod fast;
 #[cfg(feature = "std")]
 pub mod file;
 mod form;
@@ -115,7 +118,7 @@ mod form;
 pub mod history;
 mod hoist;
 mod outcome;
-#[cfg(not(feature = "archive"))]
+#[cfg(all(feature = "plain", not(feature = "archive")))]
 #[rustfmt::skip]
 mod proved;
 #[cfg(feature = "std")]
