@@ -14,14 +14,16 @@ function read_whole(path,    line, text) {
 function indent(line) { match(line, /^ */); return RLENGTH }
 
 # the item of a source text in which the character at a place stands
-function item_at(text, place,    n, i, lines, at, item, depth) {
+function item_at(text, place,    n, i, lines, at, item, depth, type) {
     n = split(text, lines, "\n")
     at = 1
     for (i = 1; i <= n; i++) {
+        if (lines[i] ~ /^impl /) { type = lines[i]; gsub(/^impl | *\{.*/, "", type); type = type "::" }
+        else if (lines[i] ~ /^}/) type = ""
         if (match(lines[i], /^ *(pub )?(extern "C" )?fn [a-z_0-9]+/)) {
             item = substr(lines[i], RSTART, RLENGTH)
             sub(/.*fn /, "", item)
-            item = "fn " crate "::" module item
+            item = "fn " crate "::" module type item
             depth = indent(lines[i])
         } else if (match(lines[i], /^ *(pub )?(const|struct|enum) [A-Za-z_0-9]+/) && (item !~ /^fn / || indent(lines[i]) <= depth)) {
             item = substr(lines[i], RSTART, RLENGTH)

@@ -2,14 +2,20 @@
 # counts where it is not proved and an error stands in its own proof, or where what it promises is not found. A function that is not proved for what it calls has
 # neither. And an error that only says that the proof has another shape shows nothing of the promise.
 
-# the function in whose proof a place stands: proofs/MODULE/../FUNCTION/FILE
-function owner(place,    path) {
+# The functions in whose proof a place stands: proofs/MODULE/../FUNCTION/FILE. Those that call one another have one proof: proofs/MODULE/+ONE+OTHER/FILE.
+function owners(place, names,    path, last, n, i) {
     path = place
-    if (path !~ /^proofs\//) return ""
-    sub(/^proofs\//, "", path)
+    if (path !~ /^proofs\//) return 0
+    sub(/^proofs\//, crate "/", path)
     sub(/\/[^\/]*$/, "", path)
+    last = path
+    sub(/.*\//, "", last)
+    sub(/[^\/]*$/, "", path)
     gsub(/\//, "::", path)
-    return crate "::" path
+    sub(/^\+/, "", last)
+    n = split(last, names, "+")
+    for (i = 1; i <= n; i++) names[i] = path names[i]
+    return n
 }
 
 /^[^ ]+:[0-9]+:[0-9]+: error/ {
@@ -18,10 +24,10 @@ function owner(place,    path) {
     if (first == "") first = place
     path = place
     sub(/:[0-9]+:[0-9]+$/, "", path)
-    name = owner(path)
-    if (name != "" && !(name in error)) {
-        error[name] = place
-        shape[name] = /that can be named from here/
+    for (i = owners(path, names); i > 0; i--) {
+        if (names[i] in error) continue
+        error[names[i]] = place
+        shape[names[i]] = /that can be named from here/
     }
 }
 /^fn .*: not proved/ {

@@ -5,12 +5,14 @@ FNR == 1 {
     sub(/\.rt$/, "", module)
     gsub(/\//, "::", module)
     module = module == "lib" || module == "main" ? "" : module "::"
-    item = ""
+    item = type = ""
 }
+/^impl / { type = $2 "::" }
+/^}/ { type = "" }
 match($0, /^ *(pub )?(extern "C" )?fn [a-z_0-9]+/) {
     item = substr($0, RSTART, RLENGTH)
     sub(/.*fn /, "", item)
-    item = "fn " crate "::" module item
+    item = "fn " crate "::" module type item
 }
 match($0, /^ ?(    )?(pub )?(const|struct|enum) [A-Za-z_0-9]+/) {
     item = substr($0, RSTART, RLENGTH)
