@@ -1,0 +1,56 @@
+# Reads what the prover said of an edited crate, and tells in a line whether the functions that the edit changes (CHANGED, their paths) are refused. Such a function
+# counts where it is not proved and an error stands in its own proof, or where what it promises is not found. A function that is not proved for what it calls has
+# neither. And an error that only says that the proof has another shape shows nothing of the promise.
+
+# the function in whose proof a place stands: proofs/MODULE/../FUNCTION/FILE
+function owner(place,    path) {
+    path = place
+    if (path !~ /^proofs\//) return ""
+    sub(/^proofs\//, "", path)
+    sub(/\/[^\/]*$/, "", path)
+    gsub(/\//, "::", path)
+    return crate "::" path
+}
+
+/^[^ ]+:[0-9]+:[0-9]+: error/ {
+    place = $1
+    sub(/:$/, "", place)
+    if (first == "") first = place
+    path = place
+    sub(/:[0-9]+:[0-9]+$/, "", path)
+    name = owner(path)
+    if (name != "" && !(name in error)) {
+        error[name] = place
+        shape[name] = /that can be named from here/
+    }
+}
+/^fn .*: not proved/ {
+    name = $2
+    sub(/:$/, "", name)
+    unproved[name] = 1
+}
+/^fn .*: no proof: .* does not close/ {
+    name = $2
+    sub(/:$/, "", name)
+    unproved[name] = 1
+    what = $0
+    sub(/.* does not close /, "", what)
+    if (!(name in error)) error[name] = what
+}
+/^logic=proved/ { proved = 1 }
+/^logic=not-proved/ { refused = 1 }
+
+END {
+    if (proved) { print "FAILED: it survives: the crate is still proved with it"; exit }
+    if (!refused) { print "FAILED: it does not reach the prover"; exit }
+    n = split(ENVIRON["CHANGED"], changed, "\n")
+    for (i = 1; i <= n; i++) {
+        name = changed[i]
+        if ((name in unproved) && (name in error)) {
+            if (shape[name]) print "FAILED: it shows nothing: at " error[name] " the proof only has another shape"
+            else print "refused in " name ", at " error[name]
+            exit
+        }
+    }
+    print "FAILED: it is refused elsewhere, first at " (first == "" ? "no place of the crate" : first) ", and not in " changed[1]
+}
