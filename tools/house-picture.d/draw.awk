@@ -167,8 +167,8 @@ function titled(heading,    colon) {
     return "<tspan font-weight=\"bold\">" substr(heading, 1, colon - 1) "</tspan>" substr(heading, colon)
 }
 
-function draw(    s, g, i, tall, total, a, b, x1, y1, x2, y2, mid, tint, label) {
-    split("#eef3fb #f3f0e6 #fbeee6 #eaf5ec #f5ecf6 #eeeeee", tint, " ")
+# draw: the two sides beside each other, on one ground line.
+function draw(    s, g, tall, total) {
     for (s = 1; s <= 2; s++) { total = side_rows[s] * STEP + below(s, 99) * LABEL + LABEL; if (total > tall) tall = total }
     origin[1] = 2 * MARGIN
     origin[2] = origin[1] + most[1] - least[1] + 4 * MARGIN
@@ -178,6 +178,17 @@ function draw(    s, g, i, tall, total, a, b, x1, y1, x2, y2, mid, tint, label) 
     print "<!-- Made by tools/house-picture from crates.txt. -->"
     print "<defs><marker id=\"head\" viewBox=\"0 0 8 8\" refX=\"7\" refY=\"4\" markerWidth=\"7\" markerHeight=\"7\" orient=\"auto\"><path d=\"M0 0 8 4 0 8z\" fill=\"#667\"/></marker></defs>"
     print "<rect width=\"100%\" height=\"100%\" fill=\"#fff\"/>"
+    bands()
+    curves()
+    for (g = 1; g <= groups; g++) print label[g]
+    boxes()
+    printf "<text x=\"%d\" y=\"%d\" font-size=\"11\" fill=\"#334\">An arrow: rests on. Left out is what follows from other arrows. 'and ..' names what a crate rests on across the two sides.</text>\n", origin[1] - MARGIN, tall + MARGIN + 22
+    print "</svg>"
+}
+
+# bands: the ground of each group; its name is kept for later, so that it stands over the arrows.
+function bands(    g, s, y1, y2, tint) {
+    split("#eef3fb #f3f0e6 #fbeee6 #eaf5ec #f5ecf6 #eeeeee", tint, " ")
     for (g = 1; g <= groups; g++) {
         s = g == 1 ? 1 : 2
         y1 = down(s, group_row[g] + group_rows[g] - 1) - HIGH / 2 - LABEL
@@ -185,6 +196,10 @@ function draw(    s, g, i, tall, total, a, b, x1, y1, x2, y2, mid, tint, label) 
         printf "<rect x=\"%d\" y=\"%d\" width=\"%d\" height=\"%d\" rx=\"8\" fill=\"%s\"/>\n", origin[s] - MARGIN, y1, most[s] - least[s] + 2 * MARGIN, y2 - y1, tint[g]
         label[g] = sprintf("<text x=\"%d\" y=\"%d\" font-size=\"12\" fill=\"#334\" stroke=\"%s\" stroke-width=\"5\" paint-order=\"stroke\">%s</text>", origin[s] - MARGIN + 8, y1 + 14, tint[g], titled(group_name[g]))
     }
+}
+
+# curves: each link from the lower edge of what rests to the upper edge of what it rests on, or from bend to bend.
+function curves(    i, a, b, x1, y1, x2, y2, mid) {
     for (i = 1; i <= links; i++) {
         a = upper[i]; b = lower[i]
         x1 = across(a); y1 = down(side[a], rowof(a)) + (a in known ? HIGH / 2 : 0)
@@ -192,7 +207,9 @@ function draw(    s, g, i, tall, total, a, b, x1, y1, x2, y2, mid, tint, label) 
         mid = (y1 + y2) / 2
         printf "<path d=\"M%.1f %.1fC%.1f %.1f %.1f %.1f %.1f %.1f\" fill=\"none\" stroke=\"#667\"%s/>\n", x1, y1, x1, mid, x2, mid, x2, y2, heads[i] ? " marker-end=\"url(#head)\"" : ""
     }
-    for (g = 1; g <= groups; g++) print label[g]
+}
+
+function boxes(    i, a, x1, y1) {
     for (i = 1; i <= crates; i++) {
         a = crate[i]
         x1 = across(a); y1 = down(side[a], row[a])
@@ -200,6 +217,4 @@ function draw(    s, g, i, tall, total, a, b, x1, y1, x2, y2, mid, tint, label) 
         printf "<text x=\"%.1f\" y=\"%.1f\" font-size=\"12\" text-anchor=\"middle\">%s</text>\n", x1, y1 + (beside[a] == "" ? 4 : -1), a
         if (beside[a] != "") printf "<text x=\"%.1f\" y=\"%.1f\" font-size=\"9\" text-anchor=\"middle\" fill=\"#556\">and %s</text>\n", x1, y1 + 11, beside[a]
     }
-    printf "<text x=\"%d\" y=\"%d\" font-size=\"11\" fill=\"#334\">An arrow: rests on. Left out is what follows from other arrows. 'and ..' names what a crate rests on across the two sides.</text>\n", origin[1] - MARGIN, tall + MARGIN + 22
-    print "</svg>"
 }

@@ -4,11 +4,11 @@
 #   link      where a link leads, as it is written
 #   edit      an edit that must be refused, as CRATE/EDIT
 #   theorem   THEOREM FILE, of a list item that ends with 'In `FILE`.'
-#   sentence  a sentence of more than LONGEST words (SHORTEST for a page of short sentences), with how many
-#   cell      a cell of a table with more than WIDEST characters, of PROMISES.md
+#   sentence  a sentence with too many words, and how many
+#   cell      how many characters a cell of a table in PROMISES.md has, where they are more than WIDEST
 #   crate     the name in the first cell of a row of ARCHITECTURE.md's tables of crates, and then its modules
 #
-# crates is a list of the crates' names with blanks around each; long and short are the bounds of sentences.
+# crates is a list of the crates' names with blanks around each; a sentence has at most long words, in LOAD-SAMPLES.md at most short.
 
 BEGIN { WIDEST = 120 }
 
