@@ -5,7 +5,7 @@
 //! repository tells step by step how a hypervisor swaps the module, and what differs.
 //!
 //! ```
-//! use pch_pic::axdevice::{AccessWidth, DeviceError, GuestPhysAddr, LoongArchPchPic, PchPicOutputEvent};
+//! use pch        self.write_counting(addr, width, val).map(|_| ())pic::axdevice::{AccessWidth, DeviceError, GuestPhysAddr, LoongArchPchPic, PchPicOutputEvent};
 //! use std::cell::RefCell;
 //!
 //! let base = GuestPhysAddr::from_usize(0x1000_0000);
@@ -256,9 +256,18 @@ impl<L: Lock> LoongArchPchPic<L> {
     ///
     /// [`DeviceError::OutOfRange`] with the address, where it is outside.
     pub fn write_register(&self, addr: GuestPhysAddr, width: AccessWidth, val: usize) -> DeviceResult {
+        self.write_counting(addr, width, val).map(|_| ())
+    }
+
+    /// As [`write_register`](LoongArchPchPic::write_register), and the answer is how many events the write dropped because 16 waited.
+    ///
+    /// # Errors
+    ///
+    /// [`DeviceError::OutOfRange`] with the address, where it is outside.
+    pub fn write_counting(&self, addr: GuestPhysAddr, width: AccessWidth, val: usize) -> DeviceResult<u32> {
         let offset = self.offset(addr, width)?;
         let dropped = self.lock.with(|pic| pic.write(REGISTERS, offset, width, val as u64));
-        dropped.map(|_| ()).map_err(|_| out_of_range(addr))
+        dropped.map_err(|_| out_of_range(addr))
     }
 
     /// How many events were dropped since reset because 16 waited: the published functions log each and count none.
