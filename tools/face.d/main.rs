@@ -19,7 +19,7 @@ use chance::Chance;
 use compare::{Difference, Sides, Tally};
 use module::{HostLock, Module};
 use pch_pic::PchPic;
-use pch_pic::axdevice::LoongArchPchPic;
+use pch_pic::axdevice::{AccessWidth, LoongArchPchPic};
 use std::cell::RefCell;
 use std::process::exit;
 use std::sync::Mutex;
@@ -104,6 +104,26 @@ fn fronts_tell(score: &mut Score, seed: u64) {
     }
 }
 
+/// The far end, where the published text panics or goes round: the face has an answer, and it is told beside the published one.
+fn far_end(score: &mut Score) {
+    for addr in [usize::MAX - 3, usize::MAX - 2, usize::MAX - 1] {
+        let published = match caught::caught(|| published::Direct::new(0, usize::MAX).read_register(addr, AccessWidth::Qword)) {
+            Ok(Ok(value)) => format!("{value:#x}"),
+            Ok(Err(refused)) => format!("{refused:x?}"),
+            Err(words) => format!("panics, '{words}'"),
+        };
+        let pic = face::<RefCell<PchPic>>(0, usize::MAX);
+        let here =
+            (Module::read_register(&pic, addr, AccessWidth::Qword), Module::write_register(&pic, addr, AccessWidth::Qword, usize::MAX));
+        if here == (Ok(0), Ok(())) && pic.snapshot() == PchPic::new() {
+            score.passed += 1;
+            println!("a Qword at {addr:#x}, base 0: published: {published}; the face: 0x0");
+        } else {
+            score.fails("a Qword at the far end", &format!("{here:x?}"));
+        }
+    }
+}
+
 fn number(word: Option<String>) -> u64 {
     word.and_then(|word| word.parse().ok()).unwrap_or_else(|| {
         eprintln!("face: it wants a seed and a number of calls");
@@ -129,6 +149,7 @@ fn main() {
     score.agrees("the module after the swap", run(published::Direct::new, swapped_module::Direct::new, long));
     score.agrees("its bus front, with a sink", run(published::Front::new, swapped_module::Front::new, short));
     fronts_tell(&mut score, seed);
+    far_end(&mut score);
     for fault in FAULTS {
         score.caught(&format!("{fault:?}"), run(published::Direct::new, |base, size| Broken::new(base, size, fault), long));
     }
