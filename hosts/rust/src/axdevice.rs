@@ -5,7 +5,7 @@
 //! repository tells step by step how a hypervisor swaps the module, and what differs.
 //!
 //! ```
-//! use pch        self.write_counting(addr, width, val).map(|_| ())pic::axdevice::{AccessWidth, DeviceError, GuestPhysAddr, LoongArchPchPic, PchPicOutputEvent};
+//! use pch_pic::axdevice::{AccessWidth, DeviceError, GuestPhysAddr, LoongArchPchPic, PchPicOutputEvent};
 //! use std::cell::RefCell;
 //!
 //! let base = GuestPhysAddr::from_usize(0x1000_0000);
