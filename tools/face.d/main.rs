@@ -151,7 +151,10 @@ fn main() {
     fronts_tell(&mut score, seed);
     far_end(&mut score);
     for fault in FAULTS {
-        score.caught(&format!("{fault:?}"), run(published::Direct::new, |base, size| Broken::new(base, size, fault), long));
+        score.caught(
+            &format!("{fault:?}"),
+            run(published::Direct::new, |base, size| Broken::new(base, size, fault), (seed, calls.max(100_000))),
+        );
     }
     println!("{} passed, {} failed", score.passed, score.failed);
     exit(i32::from(score.failed > 0));
