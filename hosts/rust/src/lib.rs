@@ -70,6 +70,7 @@
 compile_error!("pch-pic serves 64-bit hosts only");
 
 mod access;
+pub mod axdevice;
 mod board;
 mod contents;
 mod device;
