@@ -11,12 +11,10 @@ mod stop;
 // The quick layer where the repository has one, else the plain copy.
 #[cfg(fast)]
 #[path = "../rust/src/fast/mod.rs"]
-#[allow(dead_code)]
 #[forbid(unsafe_code)]
 mod fast;
 #[cfg(not(fast))]
 #[path = "../rust/src/proved/mod.rs"]
-#[allow(dead_code)]
 #[forbid(unsafe_code)]
 mod proved;
 
