@@ -16,6 +16,7 @@ board_targets() {
 loongarch64-unknown-none-softfloat  LoongArch, kernels and hypervisors: no floating-point register is used
 loongarch64-unknown-linux-gnu       LoongArch, Linux
 aarch64-unknown-linux-gnu           AArch64, Linux
+aarch64-unknown-none-softfloat      AArch64, kernels and hypervisors: no floating-point register is used
 riscv64gc-unknown-none-elf          RISC-V of 64 bits, kernels and hypervisors
 x86_64-unknown-none                 x86-64, kernels and hypervisors: no SSE register, no red zone
 x86_64-unknown-linux-gnu            x86-64, Linux, for comparison with the proved archive
@@ -55,7 +56,8 @@ fetched_rust() {
         made_by="$("$compiler/bin/rustc" --version | cut -d' ' -f1,2) of Debian's rustc-web, with core built from its source"
         return 0
     fi
-    why="core for $1 cannot be had: $(grep . "$log" | tail -n 1 || echo "its packages could not be fetched within the last hour")"
+    why=$(tail -n 1 "$log")
     rm "$log"
+    why="core for $1 cannot be had: ${why:-its packages could not be fetched within the last hour}"
     return 1
 }
