@@ -1,4 +1,4 @@
-//! The library under test where its Rattle sources are read as Rust (tools/harness/as-rust): the C shape of the exported calls, over slices.
+//! The library under test where its Rattle sources are read as Rust, plain (tools/harness/as-rust) or as they ship (--portable): the C shape of the exported calls, over slices.
 
 /// SAFETY: the pointer has so many bytes, or is null and has none.
 unsafe fn area<'a>(pointer: *mut u8, len: usize) -> &'a mut [u8] {

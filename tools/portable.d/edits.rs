@@ -11,6 +11,12 @@ impl Edits {
         self.changes.push((span, with.into()));
     }
 
+    /// In place of a part, and of all changes within it.
+    pub fn overwrite(&mut self, span: Span, with: impl Into<String>) {
+        self.changes.retain(|(other, _)| !(span.start <= other.start && other.end <= span.end));
+        self.replace(span, with);
+    }
+
     pub fn insert(&mut self, at: usize, text: impl Into<String>) {
         self.replace(Span { start: at, end: at }, text);
     }

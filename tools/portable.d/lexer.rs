@@ -7,6 +7,13 @@ pub struct Span {
     pub end: usize,
 }
 
+impl Span {
+    /// Whether another stands within it.
+    pub fn holds(&self, other: Span) -> bool {
+        self.start <= other.start && other.end <= self.end
+    }
+}
+
 /// What is refused, with its place in the text.
 #[derive(Debug)]
 pub struct Refused {

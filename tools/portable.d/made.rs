@@ -5,6 +5,7 @@ use std::path::{Path, PathBuf};
 
 use crate::house::{House, Told};
 use crate::plain::{self, Made};
+use crate::steps::Steps;
 use crate::syntax::ItemKind;
 
 pub struct Layer {
@@ -14,9 +15,9 @@ pub struct Layer {
 
 /// The plain copy and the module that holds it.
 pub fn plain_layer(house: &House) -> Told<Vec<Made>> {
-    let mut files = plain::copy(house)?;
+    let mut files = plain::copy(house, None)?;
     let crates: String = sorted(house).iter().map(|name| format!("pub mod {name};\n")).collect();
-    let text = format!("{PLAIN_HEAD}\n{crates}\n{}", calls(house, "super"));
+    let text = format!("{PLAIN_HEAD}\n{crates}\n{}", calls(house, |name| format!("super::{name}")));
     files.push(Made { path: "mod.rs".to_string(), text });
     Ok(files)
 }
@@ -36,6 +37,53 @@ const PLAIN_HEAD: &str = "\
 #![allow(clippy::style, clippy::complexity)]
 ";
 
+/// The text with the steps on it, one copy of it for each front, and what joins these.
+pub fn fast_layer(root: &Path, house: &House) -> Told<Vec<Made>> {
+    let steps = Steps::of(root, house)?;
+    let (plain, fast) = (plain::copy(house, None)?, plain::copy(house, Some(&steps))?);
+    let changed = |name: &str| {
+        let of = |files: &[Made]| {
+            files.iter().filter(|made| made.path.starts_with(&format!("{name}/"))).map(|made| made.text.clone()).collect::<Vec<_>>()
+        };
+        of(&plain) != of(&fast)
+    };
+    let mut crates = String::new();
+    let mut files = Vec::new();
+    for name in sorted(house) {
+        if changed(&name) {
+            crates.push_str(&format!("pub mod {name};\n"));
+        } else {
+            crates.push_str(&format!("#[path = \"../../proved/{name}/mod.rs\"]\npub mod {name};\n"));
+        }
+    }
+    for made in fast.iter().filter(|made| changed(made.path.split('/').next().expect("a crate"))) {
+        files.push(Made { path: format!("text/{}", made.path), text: made.text.clone() });
+    }
+    files.push(Made { path: "text/mod.rs".to_string(), text: format!("{TEXT_HEAD}\n{crates}") });
+    let fronts: Vec<&String> = house.tops.iter().collect();
+    let copies: String = fronts.iter().map(|name| format!("#[path = \"text/mod.rs\"]\nmod for_{name};\n")).collect();
+    let text = format!("{FAST_HEAD}\n{copies}\n{}", calls(house, |name| format!("super::for_{name}::{name}")));
+    files.push(Made { path: "mod.rs".to_string(), text });
+    Ok(files)
+}
+
+const TEXT_HEAD: &str = "\
+// Made from crates/ by tools/portable: do not change it here.
+//! The proved sources with the steps of docs/PORTABLE.md on them: a module for each crate. A crate that no step changes is the plain copy's own.
+
+// As in the plain copy.
+#![allow(missing_docs, dead_code, unused_variables, unused_imports)]
+#![allow(clippy::style, clippy::complexity)]
+";
+
+const FAST_HEAD: &str = "\
+// Made from crates/ by tools/portable: do not change it here.
+//! The proved sources as Rust, made fast: the plain copy with steps on it that docs/PORTABLE.md tells, one copy of the text for each front.
+
+// The same files stand behind each front, so that what has one caller becomes a part of it.
+#![allow(clippy::duplicate_mod)]
+";
+
 fn sorted(house: &House) -> Vec<String> {
     let mut names: Vec<String> = house.crates.iter().map(|krate| krate.name.clone()).collect();
     names.sort();
@@ -43,22 +91,22 @@ fn sorted(house: &House) -> Vec<String> {
 }
 
 /// The exported calls of each front, flat.
-fn calls(house: &House, from: &str) -> String {
+fn calls(house: &House, from: impl Fn(&str) -> String) -> String {
     let mut lines = String::new();
     for krate in house.crates.iter().filter(|krate| house.tops.contains(&krate.name)) {
         let mut names: Vec<&str> = Vec::new();
         for item in krate.modules.iter().flat_map(|module| &module.syntax.items) {
-            if let ItemKind::Fn(function) = &item.kind {
-                if function.exported {
-                    names.push(&function.name);
-                }
+            if let ItemKind::Fn(function) = &item.kind
+                && function.exported
+            {
+                names.push(&function.name);
             }
         }
         names.sort();
         match names.as_slice() {
             [] => {}
-            [one] => lines.push_str(&format!("    pub use {from}::{}::{one};\n", krate.name)),
-            all => lines.push_str(&format!("    pub use {from}::{}::{{{}}};\n", krate.name, all.join(", "))),
+            [one] => lines.push_str(&format!("    pub use {}::{one};\n", from(&krate.name))),
+            all => lines.push_str(&format!("    pub use {}::{{{}}};\n", from(&krate.name), all.join(", "))),
         }
     }
     format!("/// Every call that a host makes. It may use some of them only.\n#[allow(unused_imports)]\npub mod calls {{\n{lines}}}\n")

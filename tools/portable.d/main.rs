@@ -1,11 +1,16 @@
 //! tools/portable: the proved sources in crates/ as Rust.
+mod contracts;
 mod edits;
 mod house;
 mod lexer;
 mod made;
 mod parser;
 mod plain;
+mod scope;
+mod specs;
+mod steps;
 mod syntax;
+mod terms;
 mod walk;
 
 use std::path::PathBuf;
@@ -53,6 +58,9 @@ fn run() -> Told<bool> {
     let mut layers = Vec::new();
     if let Some(folder) = asked.plain {
         layers.push(Layer { folder, files: made::plain_layer(&house)? });
+    }
+    if let Some(folder) = asked.fast {
+        layers.push(Layer { folder, files: made::fast_layer(&asked.root, &house)? });
     }
     if !asked.check {
         made::write(&layers)?;

@@ -5,6 +5,8 @@ use crate::edits::{Edits, tidy};
 use crate::house::{House, Module, Told, told};
 use crate::lexer::{Refused, Span, refuse};
 use crate::parser::wrapping;
+use crate::scope::{Known, address};
+use crate::steps::Steps;
 use crate::syntax::*;
 use crate::walk::{self, Node};
 
@@ -17,11 +19,12 @@ pub struct Made {
     pub text: String,
 }
 
-pub fn copy(house: &House) -> Told<Vec<Made>> {
+/// All modules: the plain copy, or with the steps on it.
+pub fn copy(house: &House, steps: Option<&Steps>) -> Told<Vec<Made>> {
     let mut made = Vec::new();
     for krate in &house.crates {
         for module in &krate.modules {
-            let text = Copy::of(house, module).and_then(|copy| copy.text());
+            let text = Copy::of(house, module, steps).and_then(|copy| copy.text());
             let text = text.map_err(|refused| told(&module.file, &module.text, &refused))?;
             made.push(Made { path: path_of(module), text });
         }
@@ -41,6 +44,7 @@ pub struct Copy<'a> {
     pub house: &'a House,
     pub module: &'a Module,
     pub edits: Edits,
+    steps: Option<&'a Steps<'a>>,
     /// The names that `use` lines, modules and items of the file bring.
     names: BTreeSet<String>,
     /// The crates that the code names by their own names.
@@ -49,11 +53,14 @@ pub struct Copy<'a> {
 
 impl<'a> Copy<'a> {
     /// With the changes of the plain copy but for the heads of functions, which `text` writes.
-    pub fn of(house: &'a House, module: &'a Module) -> Result<Copy<'a>, Refused> {
+    pub fn of(house: &'a House, module: &'a Module, steps: Option<&'a Steps<'a>>) -> Result<Copy<'a>, Refused> {
         let names = module.syntax.items.iter().filter_map(|item| brought(&item.kind)).collect();
-        let mut copy = Copy { house, module, edits: Edits::default(), names, crates: BTreeSet::new() };
+        let mut copy = Copy { house, module, edits: Edits::default(), steps, names, crates: BTreeSet::new() };
         for item in &module.syntax.items {
             copy.item(item)?;
+        }
+        if let Some(steps) = steps {
+            steps.change(module, &mut copy.edits);
         }
         Ok(copy)
     }
@@ -61,7 +68,7 @@ impl<'a> Copy<'a> {
     /// The whole text in Rust.
     pub fn text(mut self) -> Result<String, Refused> {
         self.comments();
-        self.functions(&self.module.syntax.items);
+        self.functions(&self.module.syntax.items, &address(self.module));
         self.uses()?;
         let text = &self.module.text;
         let body = self.edits.apply(text, Span { start: 0, end: text.len() });
@@ -223,18 +230,46 @@ impl<'a> Copy<'a> {
         }
     }
 
-    fn functions(&mut self, items: &[Item]) {
+    fn functions(&mut self, items: &'a [Item], within: &str) {
         for item in items {
             match &item.kind {
                 ItemKind::Fn(function) => {
+                    let known = Known { module: self.module, item, function };
                     let head = Span { start: item.span.start, end: function.body.span.start + 1 };
-                    let text = format!("{}{} {{", self.contracts(item, function), self.signature(item, function));
-                    self.edits.replace(head, text);
+                    let text = match self.steps {
+                        Some(steps) => self.stepped(steps, &format!("{within}::{}", function.name), &known),
+                        None => format!("{} {{", self.signature(item, function)),
+                    };
+                    self.edits.overwrite(head, format!("{}{text}", self.contracts(item, function)));
                 }
-                ItemKind::Impl(_, inner) => self.functions(inner),
+                ItemKind::Impl(name, inner) => self.functions(inner, &format!("{within}::{name}")),
                 _ => {}
             }
         }
+    }
+
+    /// A function's head with the steps on it, up to the first line of its body that is copied.
+    fn stepped(&mut self, steps: &Steps, address: &str, known: &Known) -> String {
+        let (function, indent) = (known.function, self.indent(known.item.span.start));
+        let (params, lengths) = steps.params(address, known);
+        let result = function.result.as_ref().map(|result| self.source(result.span));
+        let (mut arms, mut name, mut public) = (String::new(), function.name.clone(), known.item.public);
+        if function.exported && !lengths.is_empty() {
+            let tests = Span { start: function.body.span.start + 1, end: steps.tests_before(address, known) };
+            let lines = format!("{}\n", self.source(tests));
+            arms = steps.arms(address, known, lines.trim_start_matches('\n'));
+            (name, public) = (format!("{name}_of"), false);
+            self.edits.overwrite(tests, "");
+        }
+        let angles: Vec<String> = function.lifetime.iter().cloned().chain(lengths).collect();
+        let signature = signed(&indent, public, &name, &angles, &params, result.as_deref());
+        let inlined = if steps.inlined(known) { format!("#[inline(always)]\n{indent}") } else { String::new() };
+        let lines: String = steps.front_lines(address, known, &self.up(true)).iter().map(|line| format!("\n{indent}    {line}")).collect();
+        if let Some(body) = steps.body(known) {
+            let inner = Span { start: function.body.span.start + 1, end: function.body.span.end - 1 };
+            self.edits.overwrite(inner, format!("\n{indent}    {body}\n{indent}"));
+        }
+        format!("{arms}{inlined}{signature} {{{lines}")
     }
 
     fn indent(&self, at: usize) -> String {

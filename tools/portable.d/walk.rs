@@ -7,6 +7,7 @@ pub enum Node<'a> {
     Expr(&'a Expr),
     Pattern(&'a Pattern),
     Type(&'a Type),
+    Let(&'a Let),
 }
 
 pub type Visit<'v, 'a> = &'v mut dyn FnMut(Node<'a>);
@@ -60,6 +61,7 @@ pub fn block<'a>(this: &'a Block, visit: Visit<'_, 'a>) {
         match statement {
             Statement::Ghost(_) => {}
             Statement::Let(bound) => {
+                visit(Node::Let(bound));
                 pattern(&bound.pattern, visit);
                 expr(&bound.value, visit);
                 bound.otherwise.iter().for_each(|inner| block(inner, visit));
