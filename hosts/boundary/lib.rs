@@ -8,19 +8,19 @@
 mod memory;
 mod stop;
 
-// The quick layer where the repository has one, else the plain copy.
-#[cfg(fast)]
+// The text made fast, or where that is asked for the plain copy, which is shorter.
+#[cfg(not(plain))]
 #[path = "../rust/src/fast/mod.rs"]
 #[forbid(unsafe_code)]
 mod fast;
-#[cfg(not(fast))]
+#[cfg(plain)]
 #[path = "../rust/src/proved/mod.rs"]
 #[forbid(unsafe_code)]
 mod proved;
 
-#[cfg(fast)]
+#[cfg(not(plain))]
 use fast::calls as text;
-#[cfg(not(fast))]
+#[cfg(plain)]
 use proved::calls as text;
 
 /// PCH_PIC_BUILT_BY_RUSTC: what is linked is rustc's code of the proved text. The proved archive has a 1 here.
