@@ -101,6 +101,7 @@ mod access;
 #[cfg(feature = "archive")]
 #[allow(unsafe_code, clippy::too_many_arguments)]
 mod archive;
+pub mod axdevice;
 mod board;
 mod built;
 pub mod calls;
