@@ -3,22 +3,15 @@ use crate::cells::read_dword;
 use crate::cells::read_entry;
 use crate::cells::write_dword;
 use crate::cells::write_entry;
+use device::map::in_byte_area;
 use image::form::Form;
 ghost use mathlib.Core.Path.{_≡_};
 ghost use Prim.Native.Nat.{_+_, _-_, _^_, _≤_};
 ghost use lib.ListN.{length};
-ghost use Rattle.rules.specs.Map.{inByteArea};
 ghost use Rattle.rules.specs.Access.{word, readByte, readAt, byteActs, writeActs};
 ghost use Rattle.images.specs.Form.{formLength};
 ghost use Rattle.image.specs.Shown.{formView};
 ghost use Rattle.fields.specs.inplace.Held.{Reads, Writes};
-
-// In 0x100..0x39f a Byte meets only route and vector bytes.
-fn in_byte_area(offset: usize) -> bool
-    ensures { λ r. ⌜ r ≡ inByteArea offset ⌝ }
-{
-    0x100 <= offset && offset < 0x3a0
-}
 
 // ---- Byte
 

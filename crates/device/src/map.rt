@@ -1,7 +1,7 @@
 // The register map, after loongarch_pch_pic.rs of axdevice 0.8.5: what stands at an offset, for whoever reads or writes there.
 use crate::state::PchPicState;
 ghost use mathlib.Core.Path.{_≡_};
-ghost use Rattle.rules.specs.Map.{cellAt};
+ghost use Rattle.rules.specs.Map.{cellAt, inByteArea};
 ghost use Rattle.device.specs.map.Views.{byteIndex, cellView};
 
 // An index, where there is one: the Rust's Option<usize>.
@@ -73,11 +73,18 @@ pub fn decode(offset: usize) -> Cell
     }
 }
 
+// In 0x100..0x39f a Byte meets only route and vector bytes.
+pub fn in_byte_area(offset: usize) -> bool
+    ensures { λ r. ⌜ r ≡ inByteArea offset ⌝ }
+{
+    PchPicState::ROUTE_ENTRY_BASE <= offset && offset < PchPicState::INT_ISR_LO
+}
+
 // The offset, where a Byte access meets only route and vector bytes.
 pub fn reg8_offset(offset: usize) -> Index
     ensures { λ r. ⌜ r ≡ byteIndex offset ⌝ }
 {
-    if PchPicState::ROUTE_ENTRY_BASE <= offset && offset < PchPicState::INT_ISR_LO {
+    if in_byte_area(offset) {
         Index::At(offset)
     } else {
         Index::None

@@ -3,6 +3,7 @@ use crate::masking::write_clear;
 use crate::masking::write_mask;
 use device::map::Plain;
 use device::map::Register;
+use device::state::PchPicState;
 use fields::words;
 use image::form::Form;
 ghost use mathlib.Core.Path.{_≡_};
@@ -22,7 +23,7 @@ pub fn value_of(image: &[u8], form: Form, register: Register) -> u64
     ensures { λ r. ⌜ Reads (now (image .entry)) r (λ d. valueOf (d .core) (registerView register)) ⌝ }
 {
     match register {
-        Register::Id => 0x003f_0001_0700_0000,
+        Register::Id => PchPicState::INT_ID,
         Register::Mask => words::mask(image, form),
         Register::Clear => 0,
         Register::Irr => words::irr(image, form),

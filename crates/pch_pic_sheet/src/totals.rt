@@ -1,4 +1,5 @@
 // The end of a day's sheet, in the bytes lent for it: of each input whether its wait is open, and then its row joined to the total.
+use crate::tally::GREATEST;
 use crate::tally::OPEN;
 use crate::tally::cell;
 use crate::tally::greater;
@@ -13,8 +14,6 @@ ghost use Rattle.passes.specs.Finish.{isOn, shut, joined, rowJoined, finished};
 const INPUTS: usize = 64;
 
 pub const COLUMNS: usize = 10;
-
-const GREATEST: usize = 7;
 
 // The row of the total.
 pub const TOTAL: usize = 64;

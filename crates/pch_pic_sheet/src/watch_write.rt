@@ -4,12 +4,12 @@ use crate::watch::write_clear;
 use crate::watch::write_mask;
 use device::map::Cell;
 use device::map::Register;
+use device::map::in_byte_area;
 use device::map_low::decode_low;
 ghost use mathlib.Core.Path.{_≡_};
 ghost use mathlib.Core.Bool.{cond};
 ghost use Prim.Native.Nat.{_+_, _-_, _^_, _<_, _≤_};
 ghost use lib.ListN.{length};
-ghost use Rattle.rules.specs.Map.{inByteArea};
 ghost use Rattle.rules.specs.Access.{registerActs, writeActs};
 ghost use Rattle.sheets.specs.Sheet.{sheetLength};
 ghost use Rattle.passes.specs.tallies.Following.{Follows, ReadsAs};
@@ -61,13 +61,6 @@ fn value_of(w: Watched, register: Register) -> u64
 }
 
 // ---- a Byte, or a Dword
-
-// In 0x100..0x39f a Byte meets only route and vector bytes.
-fn in_byte_area(offset: usize) -> bool
-    ensures { λ r. ⌜ r ≡ inByteArea offset ⌝ }
-{
-    0x100 <= offset && offset < 0x3a0
-}
 
 // The Dword that it is, or that it lies in.
 fn place_of(offset: usize, narrow: bool) -> usize

@@ -1,4 +1,5 @@
 // The records of a good trace, one after another: how many of them drain, and all of them played on an image that is reset, with nothing of it tested again.
+use crate::record_step::DRAIN;
 use crate::record_step::step;
 use image::form::Form;
 use trace::record_bytes::LENGTH;
@@ -9,9 +10,8 @@ ghost use Rattle.traces.specs.plays.Playing.{drainsIn};
 ghost use Rattle.image.specs.Shown.{formView};
 ghost use Rattle.pch_pic_trace.specs.play_records.Played.{Reaches, Ready, PlayedTo};
 
-const ANSWER: usize = 16;
-
-const DRAIN: u8 = 6;
+// The bytes of an answer.
+pub const ANSWER: usize = 16;
 
 // How many of the records drain.
 pub fn count_drains(trace: &[u8], first: usize, records: usize) -> usize

@@ -1,4 +1,5 @@
 // A trace played from reset: tested whole, and then its records one after another.
+use crate::play_records::ANSWER;
 use crate::play_records::count_drains;
 use crate::play_records::play_all;
 use crate::record_step::ROOM;
@@ -15,8 +16,6 @@ use trace::trace_refusals::of_trace;
 ghost use mathlib.Core.Path.{_≡_};
 ghost use Rattle.traces.specs.plays.Playing.{playEnding};
 ghost use Rattle.pch_pic_trace.specs.play_trace.Plays.{ends};
-
-const ANSWER: usize = 16;
 
 // Of the image the length alone is tested; what is refused changes nothing.
 pub fn play(trace: &[u8], image: &mut [u8], answers: &mut [u8], events: &mut [u8]) -> Told

@@ -11,7 +11,8 @@ ghost use Rattle.image.specs.Shown.{formView};
 ghost use Rattle.trace.specs.record_bytes.Shown.{recordView};
 ghost use Rattle.pch_pic_trace.specs.record_step.Step.{Drainable, Playable, Steps};
 
-const DRAIN: u8 = 6;
+// The kind of a record that drains.
+pub const DRAIN: u8 = 6;
 
 // The room of a drain of all.
 pub const ROOM: usize = 64;

@@ -1,9 +1,6 @@
--- `reg8_offset` is right since its two tests are those of the range.
-use mathlib.Core.Path.{sym, ap}
-use mathlib.Core.Logic.{⊎-elim}
-use native.Mathlib.Omega.{arith}
-use borrow.Author.Tests.{ltb-true, ltb-false}
-use Rattle.laws.proofs.laws.Maps.{inside, outside}
+-- `reg8_offset` is right since its test is that of the range.
+use mathlib.Core.Path.{sym, _∙_, ap}
+use borrow.Author.Needs.{needs}
 use Rattle.device.specs.map.Views.{indexIf, byteIndex}
 use Rattle.device.proofs.map.reg8_offset.Statement.{statement}
 use Rattle.device.proofs.map.reg8_offset.Tie as tie
@@ -13,6 +10,6 @@ unfolding byteIndex
 reg8-offset-spec =
     tie.close
     (tie.spec
-    (λ c. let o = c .before .before .args .offset in sym (ap (λ b. indexIf b o) (inside 0x100 0x3a0 o (omega arith) (ltb-true o 0x3a0 (c .if2 .taken)))))
-    (λ c. let o = c .before .args .offset in
-    sym (ap (λ b. indexIf b o) (outside 0x100 0x3a0 o (⊎-elim (λ w p q. omega (arith, ltb-false o 0x3a0 (w .1 .left))) (λ w p q. omega arith) (c .if1 .came))))))
+    (λ c κs. search needs)
+    (λ c. let o = c .before .before .args .offset in ap (λ b. indexIf b o) (sym (sym (c .before .in-byte-area .ensures) ∙ c .if1 .taken)))
+    (λ c. let o = c .before .before .args .offset in ap (λ b. indexIf b o) (sym (sym (c .before .in-byte-area .ensures) ∙ c .if1 .left))))

@@ -12,7 +12,7 @@ use Rattle.pch_pic_sheet.proofs.watch_write.write_piece.Tie as tie
 use Rattle.pch_pic_sheet.proofs.watch_write.write_piece.Reads as reads
 use Rattle.pch_pic_sheet.proofs.watch_write.write_piece.Lts as lts
 use Rattle.device.proofs.map_low.decode_low.Reads as decode-low-reads
-use Rattle.pch_pic_sheet.proofs.watch_write.in_byte_area.Reads as in-byte-area-reads
+use Rattle.device.proofs.map.in_byte_area.Reads as in-byte-area-reads
 use Rattle.pch_pic_sheet.proofs.watch_write.place_of.Reads as place-of-reads
 use Rattle.pch_pic_sheet.proofs.watch_write.value_in.Reads as value-in-reads
 use Rattle.pch_pic_sheet.proofs.watch_write.write_half.Reads as write-half-reads

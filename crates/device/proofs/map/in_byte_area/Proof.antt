@@ -1,6 +1,7 @@
+-- `in_byte_area`: two comparisons.
 use borrow.Author.Tests.{le-leb, lt-leb}
-use Rattle.access.proofs.narrow.in_byte_area.Statement.{statement}
-use Rattle.access.proofs.narrow.in_byte_area.Tie as tie
+use Rattle.device.proofs.map.in_byte_area.Statement.{statement}
+use Rattle.device.proofs.map.in_byte_area.Tie as tie
 
 pub in-byte-area-spec : {M : Type 1} → statement M
 in-byte-area-spec = tie.close (tie.spec
