@@ -3,8 +3,7 @@
 use mathlib.Core.Path.{_≡_, sym, ap, subst, _∙_}
 use Prim.Native.Nat.{ℕ, _+_, _-_, _/_, _<_}
 use native.Mathlib.Omega.{arith}
-use lib.IntN.{ℤ, pos, negℤ, _-ℤ_}
-use lib.Signed.{_<ℤ_}
+use lib.{IntN.ℤ, IntN.pos, IntN.negℤ, IntN._-ℤ_, Signed._<ℤ_}
 use Rattle.difference.specs.Difference.{numbered, differenceOf}
 use Rattle.difference.proofs.Integers.{over, under, same, minus, negated, to-≤ℤ, of-<ℤ, to-<ℤ}
 use Rattle.difference.proofs.OneDifference.{congruent-by, only-difference}

@@ -1,23 +1,9 @@
 -- Route and vector bytes by their offsets: a single one, a run of them, and the accesses that are a run.
-use mathlib.Core.Path.{_≡_, refl, sym, ap, _∙_}
-use mathlib.Core.Logic.{_⊎_, inl, inr, ⊎-elim}
-use mathlib.Core.Bool.{Bool, true, false, not, cond, _&&_, _||_, false≢true, and-eq-true-iff}
-use mathlib.Core.List.{List, [], _∷_, _++_, append-nil, append-assoc}
-use Prim.Native.Nat.{ℕ, zero, suc, _+_, _-_, _*_, _/_, _%_, _^_, _<_, _≤_}
-use native.Mathlib.Omega.{arith}
-use lib.Dec.{eqb}
-use lib.ListN.{length, take, drop, getD, set}
-use lib.Seq.{sets, sets-eq, drop-cons}
-use borrow.Author.Tests.{eqb-true}
-use Rattle.basics.specs.Numbers.{numberOf, bytesOf, byteOf, part}
+use Rattle.basics.proofs.Prelude.{_≡_, refl, sym, ap, _∙_, _⊎_, inl, inr, ⊎-elim, Bool, true, false, not, cond, _&&_, _||_, false≢true, and-eq-true-iff, List, [], _∷_, _++_, append-nil, append-assoc, ℕ, zero, suc, _+_, _-_, _*_, _/_, _%_, _^_, _<_, _≤_, arith, eqb, length, take, drop, getD, set, sets, sets-eq, drop-cons, eqb-true, numberOf, bytesOf, byteOf, part, test, length-bytesOf}
 use Rattle.rules.specs.Core.{Core, CoreTurn, setRoute, withRoutes, turns, lineTurn}
 use Rattle.rules.specs.Map.{Row, Cell, bytes, nothing, table, lookup, within, routesAt, routesEnd, vectorsAt, vectorsEnd, inRoutes, inVectors, cellAt}
-use Rattle.rules.specs.Access.{qword, entry, readCell, readAt, entryActs, cellActs, writeActs}
-use Rattle.rules.specs.Numbering.{Numbers}
-use Rattle.rules.specs.Device.{Device, acted}
+use Rattle.rules.specs.{Access.qword, Access.entry, Access.readCell, Access.readAt, Access.entryActs, Access.cellActs, Access.writeActs, Numbering.Numbers, Device.Device, Device.acted}
 use Rattle.rules.proofs.laws.Acts.{turns-append, acted-none, acted-append}
-use Rattle.basics.proofs.laws.Bits.{test}
-use Rattle.basics.proofs.laws.Bytes.{length-bytesOf}
 use Rattle.laws.proofs.laws.Maps.{Elsewhere, outside, inside, inside-from, not-route, lookup-bytes}
 use Rattle.laws.proofs.laws.Widths.{entry-route, entry-vector, entry-none, dword-of}
 use Rattle.laws.proofs.laws.Writes.{acted-store, acted-vector, entry-acts-route, entry-acts-vector, entry-acts-none, dword-acts-of}

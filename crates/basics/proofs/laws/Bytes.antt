@@ -1,16 +1,9 @@
 -- A number and its bytes, little end first: each direction gives back what the other took, for any width.
 -- Then the number taken byte by byte from the front, the bytes of a part, and one byte of a number read and replaced.
-use mathlib.Core.Path.{_≡_, refl, sym, ap, _∙_}
-use mathlib.Core.Bool.{true, and-eq-true-iff}
-use mathlib.Core.List.{List, [], _∷_, _++_}
+use mathlib.Core.{Path._≡_, Path.refl, Path.sym, Path.ap, Path._∙_, Bool.true, Bool.and-eq-true-iff, List.List, List.[], List._∷_, List._++_}
 use Prim.Native.Nat.{ℕ, zero, suc, _+_, _*_, _/_, _%_, _^_, _<_, _≤_}
-use native.Mathlib.Nat.{pow-succ', mul-left-comm}
-use native.Mathlib.Numerals.{add-one}
-use native.Mathlib.Omega.{arith}
-use lib.Dec.{ltb, lit<}
-use lib.ListN.{length, take, drop, getD, replicate}
-use lib.Pow.{areBytes}
-use lib.Seq.{length-take-le, take-suc, getD-drop}
+use native.Mathlib.{Nat.pow-succ', Nat.mul-left-comm, Numerals.add-one, Omega.arith}
+use lib.{Dec.ltb, Dec.lit<, ListN.length, ListN.take, ListN.drop, ListN.getD, ListN.replicate, Pow.areBytes, Seq.length-take-le, Seq.take-suc, Seq.getD-drop}
 use borrow.Author.Tests.{ltb-true}
 use Rattle.basics.specs.Numbers.{numberOf, bytesOf, part, Bytes}
 use Rattle.basics.proofs.laws.Lists.{length-part}

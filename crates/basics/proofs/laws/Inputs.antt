@@ -1,13 +1,9 @@
 -- The list of the inputs that have a property: what it depends on, its first one, when it is empty. trailing_zeros gives the first one.
-use mathlib.Core.Path.{_≡_, refl, sym, ap, ap₂, _∙_}
-use mathlib.Core.Logic.{⊎-elim}
-use mathlib.Core.Bool.{Bool, true, false, cond, not, _&&_, and-true}
+use mathlib.Core.{Path._≡_, Path.refl, Path.sym, Path.ap, Path.ap₂, Path._∙_, Logic.⊎-elim, Bool.Bool, Bool.true, Bool.false, Bool.cond, Bool.not, Bool._&&_, Bool.and-true}
 use mathlib.Core.List.{List, [], _∷_}
 use Prim.Native.Nat.{ℕ, zero, suc, _+_, _-_, _/_, _%_, _^_, _≤_, _<_, suc-le-suc, zero-le}
-use native.Mathlib.Nat.{eq-or-lt-of-le, le-of-suc-le-suc, lt-of-le-of-lt}
-use native.Mathlib.Omega.{arith}
-use lib.Bits.{bitAnd, and-le-l}
-use lib.Count.{trailingZeros, under}
+use native.Mathlib.{Nat.eq-or-lt-of-le, Nat.le-of-suc-le-suc, Nat.lt-of-le-of-lt, Omega.arith}
+use lib.{Bits.bitAnd, Bits.and-le-l, Count.trailingZeros, Count.under}
 use borrow.Author.Tests.{eq-eqb, ne-eqb, eqb-true, eqb-false}
 use Rattle.basics.specs.Inputs.{on, from, inputs, only, without}
 use Rattle.basics.proofs.laws.Bits.{digit, test, is-number, on-zero, on-suc, on-none, on-and, on-without}

@@ -1,21 +1,11 @@
 -- What one exported call leaves of a board: done, the fresh counts of the image left; refused, the board; and every byte past the first 256.
-use mathlib.Core.Path.{_≡_, sym, ap, _∙_}
-use mathlib.Core.Bool.{Bool, true, false, cond}
-use mathlib.Core.List.{List}
-use Prim.Native.Nat.{ℕ, _≤_}
-use native.Mathlib.Omega.{arith}
-use lib.ListN.{length, take, drop, length-append, length-drop}
-use lib.Seq.{take-at, drop-at}
-use borrow.Author.Tests.{le-leb}
-use Rattle.rules.specs.Core.{Core}
-use Rattle.rules.specs.Account.{carrying}
+use Rattle.basics.proofs.Prelude.{_≡_, sym, ap, _∙_, Bool, true, false, cond, List, ℕ, _≤_, arith, length, take, drop, length-append, length-drop, take-at, drop-at, le-leb, test}
+use Rattle.rules.specs.{Core.Core, Account.carrying}
 use Rattle.images.specs.Image.{decode}
 use Rattle.histories.specs.exported.Exported.{Exported, leftBy, isDone, isLoad, Underway, carriedOn, inImage, Faithful}
-use Rattle.boards.specs.Board.{recount, broughtBy, keptOn}
-use Rattle.calls.specs.Calls.{refusalNumber, noRoom, bufferOf}
-use Rattle.boards.specs.Boarding.{boardLeaves, recounted, boarding, boardBy}
-use Rattle.basics.proofs.laws.Bits.{test}
 use Rattle.histories.proofs.exported.laws.Chains.{handed}
+use Rattle.boards.specs.{Board.recount, Board.broughtBy, Board.keptOn, Boarding.boardLeaves, Boarding.recounted, Boarding.boarding, Boarding.boardBy}
+use Rattle.calls.specs.Calls.{refusalNumber, noRoom, bufferOf}
 use Rattle.boards.proofs.laws.Counts.{counts-length, brought-right}
 
 -- ---- fresh counts in front of a board

@@ -1,23 +1,7 @@
 -- Counts: a board by its counts, and what the touched inputs take away and add.
-use mathlib.Core.Path.{_≡_, refl, sym, ap, _∙_}
-use mathlib.Core.Logic.{_⊎_, inl, inr}
-use mathlib.Core.Bool.{Bool, true, false, cond, not, _&&_, _||_, and-false, false≢true}
-use mathlib.Core.List.{List, [], _∷_, map}
-use Prim.Native.Nat.{ℕ, zero, suc, _+_, _-_, _<_}
-use native.Mathlib.Omega.{arith}
-use lib.Dec.{eqb}
-use lib.ListN.{length, getD, length-map}
-use lib.Seq.{ext-getD}
-use borrow.Author.Tests.{eqb-true}
-use Rattle.basics.specs.Inputs.{on, inputs}
-use Rattle.rules.specs.Lines.{servedIn}
-use Rattle.rules.specs.Core.{Core}
-use Rattle.rules.specs.Device.{upFrom}
-use Rattle.rules.specs.Account.{carries, carrying}
+use Rattle.basics.proofs.Prelude.{_≡_, refl, sym, ap, _∙_, _⊎_, inl, inr, Bool, true, false, cond, not, _&&_, _||_, and-false, false≢true, List, [], _∷_, map, ℕ, zero, suc, _+_, _-_, _<_, arith, eqb, length, getD, length-map, ext-getD, eqb-true, on, inputs, test, first-has}
+use Rattle.rules.{specs.Lines.servedIn, specs.Core.Core, specs.Device.upFrom, specs.Account.carries, specs.Account.carrying, proofs.laws.Counts.split, proofs.laws.Counts.size-ext}
 use Rattle.boards.specs.Board.{countsBy, recount, touched, carryingWith, broughtCount, broughtBy, Touching}
-use Rattle.basics.proofs.laws.Bits.{test}
-use Rattle.basics.proofs.laws.Inputs.{first-has}
-use Rattle.rules.proofs.laws.Counts.{split, size-ext}
 use Rattle.images.proofs.laws.Saved.{length-upFrom}
 use Rattle.boards.proofs.laws.Computed as computed
 

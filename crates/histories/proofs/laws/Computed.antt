@@ -1,9 +1,6 @@
 -- What is added up as dropped, on closed numbers: a drain of an event that waits has a value, and adds nothing (02, C-15).
-use mathlib.Core.Path.{_≡_, refl}
-use mathlib.Core.Bool.{true}
-use mathlib.Core.List.{[], _∷_}
-use Rattle.rules.specs.Device.{Device, drain, some, value, withRing, reset}
-use Rattle.rules.proofs.laws.Running.{running}
+use Rattle.basics.proofs.Prelude.{_≡_, refl, true, [], _∷_}
+use Rattle.rules.{specs.Device.Device, specs.Device.drain, specs.Device.some, specs.Device.value, specs.Device.withRing, specs.Device.reset, proofs.laws.Running.running}
 use Rattle.histories.specs.Demands.{lossOf}
 
 abbrev oneWaits : Device

@@ -1,21 +1,10 @@
 -- The saved image as the calls have it, of the form that its length tells: each law is one of `Tests` and `Saved`, which stand over the form.
-use mathlib.Core.Path.{_≡_, refl, sym, ap, _∙_, subst}
-use mathlib.Core.Bool.{true, false}
-use mathlib.Core.List.{List, _++_}
-use Prim.Native.Nat.{ℕ, zero, suc, _+_, _-_, _*_, _≤_}
-use native.Mathlib.Omega.{arith}
-use lib.Dec.{lit<, lit≤}
-use lib.ListN.{length, replicate}
-use Rattle.basics.specs.Numbers.{Bytes}
-use Rattle.rules.specs.Ring.{Event, capacity, eventTwos, pairsOf}
-use Rattle.rules.specs.Device.{Device, WellFormed, upFrom, reset}
+use Rattle.basics.proofs.Prelude.{_≡_, refl, sym, ap, _∙_, subst, true, false, List, _++_, ℕ, zero, suc, _+_, _-_, _*_, _≤_, arith, lit<, lit≤, length, replicate, Bytes, bytes-replicate}
+use Rattle.rules.specs.{Ring.Event, Ring.capacity, Ring.eventTwos, Ring.pairsOf, Device.Device, Device.WellFormed, Device.upFrom, Device.reset}
 use Rattle.rules.specs.Numbering.{Numbers, WellNumbered, fromZero}
 use Rattle.images.specs.Form.{Form, numbers, has, Known, unknown, known, formOf, formLength}
-use Rattle.images.specs.Image.{eventsOf, accepted, wrongLength, imageTest, encodeAs, decodeAs, numbersAs, decodeKnown, decode, numbersKnown, numbersIn, encodeKnown, encodeLike}
-use Rattle.images.specs.Image.{ringBody, ringLength, pairsLength}
-use Rattle.basics.proofs.laws.Bytes.{bytes-replicate}
-use Rattle.images.proofs.laws.Layout.{by-plain}
-use Rattle.images.proofs.laws.Twos.{length-written, length-sixteen, spelled-written, events-back}
+use Rattle.images.specs.Image.{eventsOf, accepted, wrongLength, imageTest, encodeAs, decodeAs, numbersAs, decodeKnown, decode, numbersKnown, numbersIn, encodeKnown, encodeLike, ringBody, ringLength, pairsLength}
+use Rattle.images.proofs.laws.{Layout.by-plain, Twos.length-written, Twos.length-sixteen, Twos.spelled-written, Twos.events-back}
 use Rattle.images.proofs.laws.Tests.{Accepted, test-known, form-found, known-length}
 use Rattle.images.proofs.laws.Tests as tests
 use Rattle.images.proofs.laws.Saved as saved

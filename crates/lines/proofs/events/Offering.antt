@@ -1,24 +1,10 @@
 -- The loop that offers a deassert for each input of a set, lowest first.
-use mathlib.Core.Path.{_≡_, refl, sym, ap, subst, _∙_}
-use mathlib.Core.Bool.{Bool, true, false}
-use mathlib.Core.List.{List, [], _++_, map, append-nil, append-assoc}
-use Prim.Native.Nat.{ℕ, zero, suc, _+_, _-_, _^_, _<_, _≤_}
-use native.Mathlib.Nat.{lt-of-le-of-lt}
-use native.Mathlib.Omega.{arith}
-use lib.Bits.{bitAnd, and-le-l}
-use lib.Count.{trailingZeros}
-use lib.ListN.{length, getD}
-use Rattle.basics.specs.Inputs.{on, from, inputs}
-use Rattle.rules.specs.Lines as lines
-use Rattle.rules.specs.Ring.{RingAct}
-use Rattle.rules.specs.Core.{Core}
-use Rattle.rules.specs.Device.{offers}
-use Rattle.basics.proofs.laws.Bits.{test}
-use Rattle.basics.proofs.laws.Inputs.{first-input, lowest-dropped, no-input}
-use Rattle.fields.specs.inplace.Held.{Reads, Offers}
-use Rattle.fields.specs.ring.Fields.{offering}
+use Rattle.basics.proofs.Prelude.{_≡_, refl, sym, ap, subst, _∙_, Bool, true, false, List, [], _++_, map, append-nil, append-assoc, ℕ, zero, suc, _+_, _-_, _^_, _<_, _≤_, lt-of-le-of-lt, arith, bitAnd, and-le-l, trailingZeros, length, getD, on, from, inputs, test, first-input, lowest-dropped, no-input}
+use Rattle.rules.specs.{Ring.RingAct, Core.Core, Device.offers}
+use Rattle.fields.specs.{inplace.Held.Reads, inplace.Held.Offers, ring.Fields.offering}
 use Rattle.fields.proofs.inplace.Doing.{offers-none, offers-then, offers-same}
 use Rattle.lines.specs.events.Offered.{deasserts}
+use Rattle.rules.specs.Lines as lines
 
 from-short : (n k : ℕ) (f : ℕ → Bool) → length (from n k f) ≤ k
 unfolding from

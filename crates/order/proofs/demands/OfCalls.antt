@@ -1,27 +1,14 @@
 -- 02, C-19, of exported calls on images with the fifth body, each given the image that the one before it left. A refused call counts as none.
-use mathlib.Core.Path.{_≡_, refl, sym, ap₂, subst, _∙_}
-use mathlib.Core.Bool.{true}
-use mathlib.Core.List.{List, [], _∷_, _++_, map-append}
-use native.Mathlib.Omega.{arith}
-use Prim.Native.Nat.{ℕ}
-use lib.ListN.{length}
-use Rattle.basics.specs.Numbers.{Bytes}
-use Rattle.rules.specs.Device.{reset}
-use Rattle.rules.specs.Numbering.{Numbered, fromZero, eventsIn}
-use Rattle.images.specs.Form.{Form, one, two, numbered, numbers, has, formLength}
-use Rattle.images.specs.Image.{encodeAs, decode, numbersIn, imageTest, accepted}
+use Rattle.basics.proofs.Prelude.{_≡_, refl, sym, ap₂, subst, _∙_, true, List, [], _∷_, _++_, map-append, arith, ℕ, length, Bytes, test}
+use Rattle.rules.specs.{Device.reset, Numbering.Numbered, Numbering.fromZero, Numbering.eventsIn, History.history}
+use Rattle.images.specs.{Form.Form, Form.one, Form.two, Form.numbered, Form.numbers, Form.has, Form.formLength, Image.encodeAs, Image.decode, Image.numbersIn, Image.imageTest, Image.accepted}
 use Rattle.calls.specs.Calls.{Request, presentIn, afresh, askedBy}
-use Rattle.calls.specs.Calls as request
-use Rattle.rules.specs.History.{history}
-use Rattle.histories.specs.exported.Exported.{Exported, leftBy, isDone, Underway, carriedThrough, NoLoads, HandedOn, doneCalls, leftAfter}
-use Rattle.histories.specs.exported.Exported.{current, inImage, Faithful, atLoad, afterReset, returnedTo, drainedTo, returnedBy, drainedBy}
-use Rattle.order.specs.Numbered.{InOrder}
-use Rattle.order.specs.Read.{numberedTo, quadsTo, returnedRead, drainedRead}
-use Rattle.basics.proofs.laws.Bits.{test}
+use Rattle.histories.specs.exported.Exported.{Exported, leftBy, isDone, Underway, carriedThrough, NoLoads, HandedOn, doneCalls, leftAfter, current, inImage, Faithful, atLoad, afterReset, returnedTo, drainedTo, returnedBy, drainedBy}
 use Rattle.histories.proofs.exported.laws.Chains.{current-well, left-length, left-holds, faithful-at-load, faithful-after-reset, reset-leaves}
 use Rattle.histories.proofs.exported.demands.FromCalls.{image-holds-numbers, image-holds-history, numbers-run-through, handed-on-is-no-load, left-through}
-use Rattle.order.proofs.laws.Reading.{read-as}
-use Rattle.order.proofs.demands.OfHistories.{numbers-are-positions}
+use Rattle.order.specs.{Numbered.InOrder, Read.numberedTo, Read.quadsTo, Read.returnedRead, Read.drainedRead}
+use Rattle.order.proofs.{laws.Reading.read-as, demands.OfHistories.numbers-are-positions}
+use Rattle.calls.specs.Calls as request
 
 -- ---- from any history under way
 

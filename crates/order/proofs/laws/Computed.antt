@@ -1,22 +1,12 @@
 -- The definitions on closed numbers, so that it is seen what they say: positions, fates and numbers of a few events, and what a host reads in a few bytes.
-use mathlib.Core.Path.{_≡_, refl}
-use mathlib.Core.Bool.{Bool, true, false}
-use mathlib.Core.List.{List, [], _∷_, map}
-use Prim.Native.Nat.{ℕ}
-use lib.ListN.{set, replicate}
-use Rattle.rules.specs.Lines.{Made}
-use Rattle.rules.specs.Ring.{Ring}
-use Rattle.rules.specs.Access.{dword}
-use Rattle.rules.specs.Device.{Call, level, write, drain, some, reset}
-use Rattle.rules.specs.Numbering.{fromZero}
-use Rattle.images.specs.Form.{numbered}
-use Rattle.images.specs.Image.{encodeAs}
-use Rattle.calls.specs.Calls as request
+use Rattle.basics.proofs.Prelude.{_≡_, refl, Bool, true, false, List, [], _∷_, map, ℕ, set, replicate}
+use Rattle.rules.specs.{Lines.Made, Ring.Ring, Access.dword, Device.Call, Device.level, Device.write, Device.drain, Device.some, Device.reset, Numbering.fromZero}
+use Rattle.images.specs.{Form.numbered, Image.encodeAs}
 use Rattle.histories.specs.exported.Exported.{Exported, leftBy}
 use Rattle.order.specs.Fates.{isReturned, isKept, isDropped, placed, placedFrom, eventsMade}
-use Rattle.order.specs.Numbered.{allFrom, inValue, returnedThrough, drainedThrough}
-use Rattle.order.specs.Read.{inAnswer, quadsTo, returnedRead}
+use Rattle.order.specs.{Numbered.allFrom, Numbered.inValue, Numbered.returnedThrough, Numbered.drainedThrough, Read.inAnswer, Read.quadsTo, Read.returnedRead}
 use Rattle.calls.proofs.laws.Computing.{computing}
+use Rattle.calls.specs.Calls as request
 
 -- ---- events
 

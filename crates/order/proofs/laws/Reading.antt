@@ -1,31 +1,20 @@
 -- What a host reads of exported calls on images with the fifth body: the events that their calls of the device return and drain, each with its number.
-use mathlib.Core.Path.{_≡_, refl, sym, ap, ap₂, _∙_}
-use mathlib.Core.Bool.{Bool, true, false, cond, not}
-use mathlib.Core.List.{List, [], _∷_, _++_, append-nil, append-assoc}
-use Prim.Native.Nat.{ℕ, zero, suc, _-_, _/_, _%_, _^_, _<_, _≤_}
-use native.Mathlib.Omega.{arith}
-use lib.Dec.{eqb}
-use lib.ListN.{length, take, drop, getD}
-use Rattle.rules.specs.Ring.{Event, ringRun}
-use Rattle.rules.specs.Device.{Device, WellFormed, Call, Value, none, some, step}
-use Rattle.rules.specs.Device as device
+use Rattle.basics.proofs.Prelude.{_≡_, refl, sym, ap, ap₂, _∙_, Bool, true, false, cond, not, List, [], _∷_, _++_, append-nil, append-assoc, ℕ, zero, suc, _-_, _/_, _%_, _^_, _<_, _≤_, arith, eqb, length, take, drop, getD, test, Each}
+use Rattle.rules.specs.{Ring.Event, Ring.ringRun, Device.Device, Device.WellFormed, Device.Call, Device.Value, Device.none, Device.some, Device.step, Device.amount}
 use Rattle.rules.specs.Numbering.{Numbers, WellNumbered, Numbered, withNumbers, drainedLength, quadsIn, numbersAfter, drainedWith, valueWith}
-use Rattle.images.specs.Form.{numbers, has}
-use Rattle.images.specs.Image.{numbersIn}
-use Rattle.calls.specs.Calls.{pass, widthTest, addressTest, Request, calls, askedBy, answered, bufferOf, placeOf, written, Outcome}
-use Rattle.rules.specs.Device.{amount}
-use Rattle.calls.specs.Calls as request
 use Rattle.rules.specs.History.{history}
-use Rattle.histories.specs.exported.Exported.{Exported, leftBy, isDone, isLoad, Underway, carriedOn, NoLoads, doneCall, doneCalls, current, Faithful, numbersThrough}
-use Rattle.order.specs.Numbered.{inValue, returnedOf, returnedThrough, drainedThrough}
-use Rattle.order.specs.Read.{inAnswer, numberedTo, quadsTo, returnedRead, drainedRead}
-use Rattle.basics.proofs.laws.Bits.{test}
-use Rattle.basics.proofs.laws.Lists.{Each}
+use Rattle.images.specs.{Form.numbers, Form.has, Image.numbersIn}
+use Rattle.calls.specs.Calls.{pass, widthTest, addressTest, Request, calls, askedBy, answered, bufferOf, placeOf, written, Outcome}
 use Rattle.calls.proofs.laws.Answers.{none-read, some-read, value-read, quads-read}
+use Rattle.histories.specs.exported.Exported.{Exported, leftBy, isDone, isLoad, Underway, carriedOn, NoLoads, doneCall, doneCalls, current, Faithful, numbersThrough}
 use Rattle.histories.proofs.laws.WellFormed.{step-events}
 use Rattle.histories.proofs.exported.laws.Chains.{passed, current-well, handed, carried-on, faithful-kept}
 use Rattle.histories.proofs.exported.laws.Readings.{level-single, poll-single, returned-below, access-is, input-is, asked-is, drained-told}
 use Rattle.histories.proofs.exported.demands.FromCalls.{image-holds-numbers}
+use Rattle.order.specs.Numbered.{inValue, returnedOf, returnedThrough, drainedThrough}
+use Rattle.order.specs.Read.{inAnswer, numberedTo, quadsTo, returnedRead, drainedRead}
+use Rattle.rules.specs.Device as device
+use Rattle.calls.specs.Calls as request
 use Rattle.order.proofs.laws.Computed as computed
 
 -- ---- one call

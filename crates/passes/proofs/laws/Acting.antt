@@ -1,31 +1,17 @@
 -- What an act did to the wait of one input, by its marks: nothing, its assert, or it was taken back. And acts one after another.
-use mathlib.Core.Path.{_≡_, refl, sym, ap, subst, _∙_}
-use mathlib.Core.Bool.{Bool, true, false, cond, not, _&&_, _||_, true≢false}
-use mathlib.Core.List.{List, [], _∷_, _++_, map, map-append}
-use Prim.Native.Nat.{ℕ, zero, suc, _+_, _-_, _<_, _≤_}
-use native.Mathlib.Omega.{arith}
-use lib.Dec.{eqb, ltb}
-use borrow.Author.Tests.{eqb-true, eqb-false, eq-eqb, ne-eqb, lt-ltb, ltb-true, ltb-false}
-use Rattle.basics.specs.Inputs.{on, from, inputs, only, put, without, withHalf}
-use Rattle.basics.proofs.laws.Bits.{test, on-put, on-without}
-use Rattle.basics.proofs.laws.Inputs.{first-has}
+use Rattle.basics.proofs.Prelude.{_≡_, refl, sym, ap, subst, _∙_, Bool, true, false, cond, not, _&&_, _||_, true≢false, List, [], _∷_, _++_, map, map-append, ℕ, zero, suc, _+_, _-_, _<_, _≤_, arith, eqb, ltb, eqb-true, eqb-false, eq-eqb, ne-eqb, lt-ltb, ltb-true, ltb-false, on, from, inputs, only, put, without, withHalf, test, on-put, on-without, first-has}
 use Rattle.rules.specs.Lines.{Lines, Made, event, withMask, withIrr, pendingIn, servedIn, serve, enter, leave, newlyUnmasked, newlyMasked, polled, raised, lowered, cleared, masked}
 use Rattle.rules.specs.Ring.{Ring}
 use Rattle.rules.specs.Core.{Act, move, setIsr, store, setVector, poll, raise, lower, clear, setMask, moved, lineTurn, turn, turns}
-use Rattle.rules.specs.Account.{tally}
-use Rattle.rules.specs.Device.{Device, acted}
-use Rattle.rules.proofs.laws.Counts.{tally-append}
-use Rattle.rules.proofs.laws.Steps.{acted-one}
+use Rattle.rules.{specs.Account.tally, specs.Device.Device, specs.Device.acted, proofs.laws.Counts.tally-append, proofs.laws.Steps.acted-one}
 use Rattle.rules.proofs.laws.Acts.{acted-none, acted-append}
 use Rattle.histories.specs.Demands.{Each, done, also}
-use Rattle.plain.specs.Events.{Note}
-use Rattle.plain.specs.Sequence.{ringWith, notesOf}
-use Rattle.plain.proofs.laws.Queues.{ringAfter, notes-append}
+use Rattle.plain.{specs.Events.Note, specs.Sequence.ringWith, specs.Sequence.notesOf, proofs.laws.Queues.ringAfter, proofs.laws.Queues.notes-append}
 use Rattle.sheets.specs.Waits.{assertOf}
 use Rattle.passes.specs.tallies.Marks.{Mark, began, takenBack, happened, idleIn, besides, actMarks, marksOf}
-use Rattle.passes.specs.tallies.Marks as marks
 use Rattle.passes.specs.Slots.{Slot, settle, takeBack, startAt, slotAfter, slotAll, notesIn}
 use Rattle.passes.proofs.laws.Marking.{eqb-sym}
+use Rattle.passes.specs.tallies.Marks as marks
 
 -- ---- lists of marks
 

@@ -1,34 +1,16 @@
 -- A call as the wait of one input takes it, and a day's waits by its marks.
-use mathlib.Core.Path.{_≡_, refl, sym, ap, subst, _∙_}
-use mathlib.Core.Bool.{Bool, true, false, cond, not, _&&_, true≢false}
-use mathlib.Core.List.{List, [], _∷_, _++_, append-nil}
-use Prim.Native.Nat.{ℕ, _+_, _-_, _<_, _≤_, max}
-use native.Mathlib.Omega.{arith}
-use lib.Dec.{eqb, ltb}
-use lib.ListN.{length, drop, drop-of-length-le}
-use lib.Seq.{drop-at}
-use borrow.Author.Tests.{eqb-true, eqb-false, eq-eqb, ne-eqb}
-use Rattle.basics.specs.Inputs.{on}
-use Rattle.basics.proofs.laws.Bits.{test}
-use Rattle.rules.specs.Lines.{Lines}
-use Rattle.rules.specs.Core.{Act, move, raise, lower, poll, clear, setMask, setIsr, store, setVector}
-use Rattle.rules.specs.Account.{tally}
-use Rattle.rules.specs.Device.{Device, WellFormed, Call, actsOf, acted}
-use Rattle.rules.specs.Device as device
-use Rattle.rules.proofs.laws.Steps.{acted-one}
-use Rattle.histories.specs.Demands.{done, also}
-use Rattle.histories.proofs.laws.Reach.{each-so, ReturnsNone, write-returns-none}
-use Rattle.histories.proofs.laws.WellFormed.{step-well}
-use Rattle.plain.specs.Machine.{Machine}
-use Rattle.plain.specs.Plain.{Engine}
-use Rattle.plain.specs.Sequence.{Item, call, load, refused, notesOf, takes}
-use Rattle.plain.proofs.laws.Same.{Run, Same}
-use Rattle.plain.proofs.laws.Following.{stepped, countedRun, like-call, sized, same-counted}
+use Rattle.basics.proofs.Prelude.{_≡_, refl, sym, ap, subst, _∙_, Bool, true, false, cond, not, _&&_, true≢false, List, [], _∷_, _++_, append-nil, ℕ, _+_, _-_, _<_, _≤_, max, arith, eqb, ltb, length, drop, drop-of-length-le, drop-at, eqb-true, eqb-false, eq-eqb, ne-eqb, on, test}
+use Rattle.rules.specs.{Lines.Lines, Core.Act, Core.move, Core.raise, Core.lower, Core.poll, Core.clear, Core.setMask, Core.setIsr, Core.store, Core.setVector, Account.tally}
+use Rattle.rules.{specs.Device.Device, specs.Device.WellFormed, specs.Device.Call, specs.Device.actsOf, specs.Device.acted, proofs.laws.Steps.acted-one}
+use Rattle.histories.{specs.Demands.done, specs.Demands.also, proofs.laws.Reach.each-so, proofs.laws.Reach.ReturnsNone, proofs.laws.Reach.write-returns-none, proofs.laws.WellFormed.step-well}
+use Rattle.plain.specs.{Machine.Machine, Plain.Engine, Sequence.Item, Sequence.call, Sequence.load, Sequence.refused, Sequence.notesOf, Sequence.takes}
+use Rattle.plain.proofs.laws.{Same.Run, Same.Same, Following.stepped, Following.countedRun, Following.like-call, Following.sized, Following.same-counted}
 use Rattle.sheets.specs.Day.{Moment, after, number, made, moments}
 use Rattle.sheets.specs.Waits.{movesLevel, isIdle, begins, assertOf, asserts, takesBack, End, answered, withdrawn, endFrom, waits, isWithdrawn, isOpen, greatest}
 use Rattle.passes.specs.tallies.Marks.{Mark, idleIn, actMarks, marksOf, itemMarks, dayMarks}
 use Rattle.passes.specs.Slots.{NoLoad, Slot, settle, takeBack, startAt, slotAll, notesIn}
 use Rattle.passes.proofs.laws.Acting.{slot-append, notes-of-acts, NotRaise, step, Latched, Some, Gone, kept-step, over-step, acts-step, raise-step}
+use Rattle.rules.specs.Device as device
 
 module _ (n : ℕ) (below : n < 64) where
   not-raise : (k : ℕ) (a : Act) → ReturnsNone a → NotRaise n below k a

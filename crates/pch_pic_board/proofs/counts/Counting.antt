@@ -1,37 +1,12 @@
 -- The loop that counts the inputs of a set, each by the vector that it carries.
-use mathlib.Core.Path.{_≡_, refl, sym, ap, ap₂, _∙_}
-use mathlib.Core.Bool.{Bool, true, false, not, _&&_}
-use mathlib.Core.List.{List, _++_}
-use Prim.Native.Nat.{ℕ, suc, _+_, _-_, _^_, _<_, _≤_, min}
-use native.Mathlib.Nat.{lt-of-le-of-lt}
-use native.Mathlib.Omega.{arith}
-use lib.Bits.{bitAnd, and-le-l}
-use lib.Count.{trailingZeros}
-use lib.Dec.{eqb}
-use lib.ListN.{length, take, drop, set, getD, replicate, length-set, length-append, length-drop, length-replicate, take-append-drop, getD-replicate, List·getD-append}
-use lib.Seq.{length-take-le, getD-take, getD-set-same, getD-set-other, drop-set-lt, drop-at}
-use borrow.Author.Tests.{eq-eqb, ne-eqb, eqb-true, eqb-false}
-use borrow.Rule.Slice.PartMut.{putMid}
-use Rattle.basics.specs.Numbers.{Bytes, part}
-use Rattle.basics.specs.Inputs.{on, inputs, only}
-use Rattle.rules.specs.Device.{Device}
-use Rattle.rules.specs.Numbering.{Numbers}
-use Rattle.rules.specs.Account.{carries, carrying}
-use Rattle.basics.proofs.laws.Bits.{test, on-none, on-without}
-use Rattle.basics.proofs.laws.Inputs.{lowest, first-input, lowest-dropped, no-inputs}
+use Rattle.basics.proofs.Prelude.{_≡_, refl, sym, ap, ap₂, _∙_, Bool, true, false, not, _&&_, List, _++_, ℕ, suc, _+_, _-_, _^_, _<_, _≤_, min, lt-of-le-of-lt, arith, bitAnd, and-le-l, trailingZeros, eqb, length, take, drop, set, getD, replicate, length-set, length-append, length-drop, length-replicate, take-append-drop, getD-replicate, List·getD-append, length-take-le, getD-take, getD-set-same, getD-set-other, drop-set-lt, drop-at, eq-eqb, ne-eqb, eqb-true, eqb-false, putMid, Bytes, part, on, inputs, only, test, on-none, on-without, lowest, first-input, lowest-dropped, no-inputs}
+use Rattle.rules.specs.{Device.Device, Numbering.Numbers, Account.carries, Account.carrying}
 use Rattle.rules.proofs.laws.Counts.{one, split, size-ext, only-size}
-use Rattle.laws.proofs.laws.Losses.{from-few}
-use Rattle.images.specs.Form.{unknown, known, formOf}
-use Rattle.images.specs.Image.{imageTest, accepted, decode, numbersIn}
-use Rattle.images.proofs.laws.Tests.{form-found}
-use Rattle.laws.proofs.laws.Images.{accepted-has}
-use Rattle.image.specs.Shown.{formKnown}
-use Rattle.image.specs.declared.form.KnownForm.{KnownForm}
-use Rattle.image.specs.declared.form.KnownForm.the-variants.{Unknown}
-use Rattle.fields.specs.inplace.Held.{Holds, Reads}
-use Rattle.fields.proofs.inplace.Doing.{held}
-use Rattle.boards.specs.Boarding.{recounted, boardAfter, heardCount}
-use Rattle.boards.proofs.laws.Counts.{counts-are}
+use Rattle.laws.proofs.laws.{Losses.from-few, Images.accepted-has}
+use Rattle.images.{specs.Form.unknown, specs.Form.known, specs.Form.formOf, specs.Image.imageTest, specs.Image.accepted, specs.Image.decode, specs.Image.numbersIn, proofs.laws.Tests.form-found}
+use Rattle.image.specs.{Shown.formKnown, declared.form.KnownForm.KnownForm, declared.form.KnownForm.the-variants.Unknown}
+use Rattle.fields.{specs.inplace.Held.Holds, specs.inplace.Held.Reads, proofs.inplace.Doing.held}
+use Rattle.boards.{specs.Boarding.recounted, specs.Boarding.boardAfter, specs.Boarding.heardCount, proofs.laws.Counts.counts-are}
 
 -- of a set those inputs that carry v in the vector bytes vs
 abbrev counted : ℕ → List ℕ → ℕ → ℕ

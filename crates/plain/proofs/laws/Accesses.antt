@@ -1,30 +1,19 @@
 -- Reads and writes of every width: the plain engine reads what the ported one reads, and a write keeps both side by side.
-use mathlib.Core.Path.{_≡_, refl, sym, ap, _∙_}
-use mathlib.Core.Bool.{Bool, true, false, cond, not, _&&_}
-use mathlib.Core.List.{List, [], _∷_, _++_, append-nil}
-use Prim.Native.Nat.{ℕ, zero, suc, _+_, _-_, _*_, _%_, _^_, _<_}
-use native.Mathlib.Omega.{arith}
-use lib.ListN.{getD, set}
-use Rattle.basics.specs.Numbers.{numberOf, byteOf, withByte}
-use Rattle.basics.specs.Inputs.{on, numberWith, inputs, only, put, without, half, withHalf, asHalf}
+use Rattle.basics.proofs.Prelude.{_≡_, refl, sym, ap, _∙_, Bool, true, false, cond, not, _&&_, List, [], _∷_, _++_, append-nil, ℕ, zero, suc, _+_, _-_, _*_, _%_, _^_, _<_, arith, getD, set, numberOf, byteOf, withByte, on, numberWith, inputs, only, put, without, half, withHalf, asHalf, test, is-number, register-ext, put-lt, without-lt}
 use Rattle.rules.specs.Lines.{Lines, withIrr, withMask, serve, enter, leave, pendingIn, polled, raised, lowered, cleared, masked, newlyUnmasked, newlyMasked}
 use Rattle.rules.specs.Ring.{ringRun, dropped}
-use Rattle.rules.specs.Core.{Core, Plain, Stored, plain, withPlain, withRoutes, moved, lineTurn, vectorsAfter, storedAfter, turn, turns}
-use Rattle.rules.specs.Core.{Act, Move, move, setIsr, store, setVector, setPlain, setRoute, poll, raise, lower, clear, setMask}
-use Rattle.rules.specs.Map as map
+use Rattle.rules.specs.Core.{Core, Plain, Stored, plain, withPlain, withRoutes, moved, lineTurn, vectorsAfter, storedAfter, turn, turns, Act, Move, move, setIsr, store, setVector, setPlain, setRoute, poll, raise, lower, clear, setMask}
 use Rattle.rules.specs.Map.{Register, Cell, cellAt, routesAt, vectorsAt, inRoutes, inVectors, inByteArea}
 use Rattle.rules.specs.Access.{Width, byte, word, dword, qword, registerActs, entryActs, cellActs, dwordActs, byteActs, writeActs}
-use Rattle.rules.specs.Access as access
 use Rattle.rules.specs.Device.{acted}
-use Rattle.rules.specs.Device as device
-use Rattle.basics.proofs.laws.Bits.{test, is-number, register-ext, put-lt, without-lt}
 use Rattle.plain.specs.Machine.{Machine}
-use Rattle.plain.specs.Plain.{Engine, withStored, withVectors, numberBelow, number, valueOf, entry, readCell, readDword, readByte, readAt}
-use Rattle.plain.specs.Plain.{writeHalf, writeEntry, writeCell, writeDword, writeByte, writeAt}
+use Rattle.plain.specs.Plain.{Engine, withStored, withVectors, numberBelow, number, valueOf, entry, readCell, readDword, readByte, readAt, writeHalf, writeEntry, writeCell, writeDword, writeByte, writeAt}
 use Rattle.plain.specs.Sequence.{notesOf}
-use Rattle.plain.proofs.laws.Machines.{oneOf, cleared-steps, served-steps}
-use Rattle.plain.proofs.laws.Queues.{tail-of, ringAfter, lostOf}
+use Rattle.plain.proofs.laws.{Machines.oneOf, Machines.cleared-steps, Machines.served-steps, Queues.tail-of, Queues.ringAfter, Queues.lostOf}
 use Rattle.plain.proofs.laws.Same.{Run, Same, by-run, acting, acting-append, acting-none, acting-one, acting-move, acting-isr, turn-offers, same-mask}
+use Rattle.rules.specs.Map as map
+use Rattle.rules.specs.Access as access
+use Rattle.rules.specs.Device as device
 
 -- ---- registers of 64 bits
 

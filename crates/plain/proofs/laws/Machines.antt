@@ -1,20 +1,9 @@
 -- The machines against the lines: input by input a step of the machines is what the rules' engine does to the bits of its registers, and what is heard is what it makes.
-use mathlib.Core.Path.{_≡_, refl, sym, ap, ap₂, _∙_}
-use mathlib.Core.Bool.{Bool, true, false, cond, not, _&&_, _||_, true≢false, and-true, and-false, or-false}
-use mathlib.Core.List.{List, [], _∷_, _++_, map}
-use Prim.Native.Nat.{ℕ, zero, suc, _+_, _/_, _%_, _<_, _≤_}
-use native.Mathlib.Omega.{arith}
-use lib.Dec.{eqb, ltb}
-use borrow.Author.Tests.{ne-eqb, eqb-true, ltb-true, ltb-false}
-use Rattle.basics.specs.Inputs.{on, from, inputs, only, put, without, withHalf, asHalf}
-use Rattle.rules.specs.Lines.{Lines, Made, Turn, event, isPending, pendingIn, servedIn, withIrr, withIsr, withMask, serve, enter, leave, newlyUnmasked, newlyMasked}
-use Rattle.rules.specs.Lines.{polled, raised, lowered, cleared, masked}
-use Rattle.basics.proofs.laws.Bits.{test, on-none, on-put, on-without}
-use Rattle.basics.proofs.laws.Inputs.{inputs-ext, no-inputs, only-input, first-has}
+use Rattle.basics.proofs.Prelude.{_≡_, refl, sym, ap, ap₂, _∙_, Bool, true, false, cond, not, _&&_, _||_, true≢false, and-true, and-false, or-false, List, [], _∷_, _++_, map, ℕ, zero, suc, _+_, _/_, _%_, _<_, _≤_, arith, eqb, ltb, ne-eqb, eqb-true, ltb-true, ltb-false, on, from, inputs, only, put, without, withHalf, asHalf, test, on-none, on-put, on-without, inputs-ext, no-inputs, only-input, first-has}
+use Rattle.rules.specs.Lines.{Lines, Made, Turn, event, isPending, pendingIn, servedIn, withIrr, withIsr, withMask, serve, enter, leave, newlyUnmasked, newlyMasked, polled, raised, lowered, cleared, masked}
 use Rattle.laws.proofs.laws.Halves.{placed, by-halves, on-new-half, on-kept-half}
 use Rattle.plain.specs.Machine.{Machine, Signal, quiet, asserts, deasserts, Stepped, rests, polls, raises, lowers}
-use Rattle.plain.specs.Plain.{Heard, inFront, heardFrom, Steps, at, Brought, nothing, bit, brings, clearedBy, unmaskedBy, maskedBy, wakable, servedBy}
-use Rattle.plain.specs.Plain.{Found, nobody, found, lowestFrom, isIt}
+use Rattle.plain.specs.Plain.{Heard, inFront, heardFrom, Steps, at, Brought, nothing, bit, brings, clearedBy, unmaskedBy, maskedBy, wakable, servedBy, Found, nobody, found, lowestFrom, isIt}
 use Rattle.plain.specs.Sequence.{machineIn}
 
 -- ---- one machine

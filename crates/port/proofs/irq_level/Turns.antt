@@ -1,16 +1,7 @@
 -- What the engine's functions come to, over the rules alone: a move that returns its event beside the same move that offers it, the moves over no input, one input.
-use mathlib.Core.Path.{_≡_, refl, sym, ap, _∙_}
-use mathlib.Core.Bool.{Bool, true, false, cond, not, _&&_, and-false}
-use mathlib.Core.List.{List, [], _∷_, map}
-use Prim.Native.Nat.{ℕ, _*_, _%_, _^_, _<_}
-use lib.Dec.{eqb}
-use borrow.Author.Tests.{eq-eqb, eqb-true}
-use Rattle.basics.specs.Inputs.{on, inputs, only, put, without}
+use Rattle.basics.proofs.Prelude.{_≡_, refl, sym, ap, _∙_, Bool, true, false, cond, not, _&&_, and-false, List, [], _∷_, map, ℕ, _*_, _%_, _^_, _<_, eqb, eq-eqb, eqb-true, on, inputs, only, put, without, test, is-number, put-lt, on-bit, on-without, inputs-ext, no-inputs}
 use Rattle.rules.specs.Lines.{Lines, stay, withIsr, withIrr, event, serve, enter, leave, pendingIn, servedIn, unlatchedIn, raised, lowered, polled}
-use Rattle.rules.specs.Ring.{offer}
-use Rattle.rules.specs.Device.{none, some, offers, returned}
-use Rattle.basics.proofs.laws.Bits.{test, is-number, put-lt, on-bit, on-without}
-use Rattle.basics.proofs.laws.Inputs.{inputs-ext, no-inputs}
+use Rattle.rules.specs.{Ring.offer, Device.none, Device.some, Device.offers, Device.returned}
 use Rattle.laws.proofs.laws.Sets.{only-served, only-unlatched, enter-ext}
 use Rattle.port.specs.irq_level.Moves.{retire, updated}
 

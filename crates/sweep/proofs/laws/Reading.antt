@@ -1,32 +1,18 @@
 -- What a host reads of exported calls whose calls are such as a sweep admits: in answer areas the asserts that the history makes, input by input
 -- (asserts-read). And the 64 polls one after another: all are done (polls-done).
-use mathlib.Core.Path.{_≡_, refl, sym, ap, ap₂, _∙_}
-use mathlib.Core.Bool.{Bool, true, false, cond, not, _&&_, true≢false, and-eq-true-iff, and-true, and-false}
-use mathlib.Core.List.{List, [], _∷_, _++_}
-use Prim.Native.Nat.{ℕ, _+_}
-use native.Mathlib.Omega.{arith}
-use lib.Dec.{eqb}
-use Rattle.basics.specs.Inputs.{only}
-use Rattle.rules.specs.Lines.{Made}
-use Rattle.rules.specs.Ring.{Event}
-use Rattle.rules.specs.Device.{Call, Step, step}
-use Rattle.rules.specs.Device as device
-use Rattle.rules.specs.Numbering.{valueWith}
+use Rattle.basics.proofs.Prelude.{_≡_, refl, sym, ap, ap₂, _∙_, Bool, true, false, cond, not, _&&_, true≢false, and-eq-true-iff, and-true, and-false, List, [], _∷_, _++_, ℕ, _+_, arith, eqb, only, test}
+use Rattle.rules.specs.{Lines.Made, Ring.Event, Device.Call, Device.Step, Device.step, Numbering.valueWith, History.history, Account.tally}
+use Rattle.rules.proofs.laws.Counts.{tally-append, tally-nil}
 use Rattle.images.specs.Image.{numbersIn}
 use Rattle.calls.specs.Calls.{Request, pass, calls, askedBy, widthTest, addressTest, answered, presentIn, Outcome}
-use Rattle.calls.specs.Calls as request
-use Rattle.rules.specs.History.{history}
-use Rattle.rules.specs.Account.{tally}
 use Rattle.histories.specs.Demands.{pollsOrRaises, assertsOf, returnedIn}
 use Rattle.histories.specs.exported.Exported.{Exported, leftBy, isDone, isLoad, callOf, Underway, carriedOn, NoLoads, doneCall, doneCalls, current, Faithful}
-use Rattle.sweep.specs.Sweeps.{sweeping, everyCall, deassertsIn}
-use Rattle.sweep.specs.Handed.{asksFor, readsAssert, assertsRead}
-use Rattle.basics.proofs.laws.Bits.{test}
-use Rattle.rules.proofs.laws.Counts.{tally-append, tally-nil}
-use Rattle.histories.proofs.laws.Folds.{history-append}
-use Rattle.histories.proofs.exported.laws.Chains.{passed, handed, faithful-on, carried-on}
+use Rattle.histories.proofs.{laws.Folds.history-append, exported.laws.Chains.passed, exported.laws.Chains.handed, exported.laws.Chains.faithful-on, exported.laws.Chains.carried-on}
 use Rattle.histories.proofs.exported.laws.Readings.{access-is, input-is, asked-is}
+use Rattle.sweep.specs.{Sweeps.sweeping, Sweeps.everyCall, Sweeps.deassertsIn, Handed.asksFor, Handed.readsAssert, Handed.assertsRead}
 use Rattle.sweep.proofs.laws.Announcing.{call-announces, read-is-asserted}
+use Rattle.rules.specs.Device as device
+use Rattle.calls.specs.Calls as request
 
 -- ---- deasserts
 

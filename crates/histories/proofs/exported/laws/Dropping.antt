@@ -1,37 +1,23 @@
 -- What calls drop. A call other than a write offers nothing, and a write says how many of its events were dropped; so what the writes of a history say comes
 -- to the number of events dropped (losses-dropped). A write makes 520 events at most, so that its answer area holds the number; and what a host reads in
 -- answer areas is what the history's writes say (losses-read).
-use mathlib.Core.Path.{_≡_, refl, sym, ap, ap₂, _∙_}
-use mathlib.Core.Bool.{Bool, true, false, cond, not, true≢false}
-use mathlib.Core.List.{List, [], _∷_, _++_, map}
-use Prim.Native.Nat.{ℕ, zero, suc, _+_, _*_, _-_, _%_, _≤_}
-use native.Mathlib.Omega.{arith}
-use lib.Dec.{eqb, ltb}
-use lib.ListN.{length, length-append}
-use Rattle.basics.specs.Numbers.{byteOf, withByte}
-use Rattle.basics.specs.Inputs.{on, from, inputs, only, put, without, half, withHalf}
-use Rattle.rules.specs.Lines.{Lines, Made, event, withIrr, withMask, pendingIn, servedIn, serve, enter, leave, newlyUnmasked, newlyMasked}
-use Rattle.rules.specs.Lines.{polled, raised, lowered, cleared, masked}
+use Rattle.basics.proofs.Prelude.{_≡_, refl, sym, ap, ap₂, _∙_, Bool, true, false, cond, not, true≢false, List, [], _∷_, _++_, map, ℕ, zero, suc, _+_, _*_, _-_, _%_, _≤_, arith, eqb, ltb, length, length-append, byteOf, withByte, on, from, inputs, only, put, without, half, withHalf, test}
+use Rattle.rules.specs.Lines.{Lines, Made, event, withIrr, withMask, pendingIn, servedIn, serve, enter, leave, newlyUnmasked, newlyMasked, polled, raised, lowered, cleared, masked}
 use Rattle.rules.specs.Ring.{Ring, dropped, offered, ringStep, ringRun}
 use Rattle.rules.specs.Core.{Core, Move, poll, raise, lower, clear, setMask, Act, move, setIsr, store, setVector, moved, lineTurn, turn, turns}
 use Rattle.rules.specs.Map.{Register, Cell, halfOf, bytes, nothing, inRoutes, inVectors, inByteArea, cellAt}
-use Rattle.rules.specs.Map as map
 use Rattle.rules.specs.Access.{Width, byte, word, dword, qword, registerActs, entryActs, cellActs, dwordActs, byteActs, writeActs, readDword}
-use Rattle.rules.specs.Device.{Device, Call, value, lost, actsOf, acted, offers, draws, step}
-use Rattle.rules.specs.Device as device
-use Rattle.rules.specs.Numbering.{Numbers, valueWith}
+use Rattle.rules.specs.{Device.Device, Device.Call, Device.value, Device.lost, Device.actsOf, Device.acted, Device.offers, Device.draws, Device.step, Numbering.Numbers, Numbering.valueWith}
+use Rattle.rules.{specs.History.history, proofs.laws.Rings.dropped-append, proofs.laws.Steps.level-offers, proofs.laws.Steps.poll-offers}
 use Rattle.images.specs.Image.{numbersIn}
 use Rattle.calls.specs.Calls.{widthTest, addressTest, pass, Request, calls, askedBy, answered, presentIn, valueIn, Outcome}
-use Rattle.calls.specs.Calls as request
-use Rattle.rules.specs.History.{history}
+use Rattle.calls.proofs.laws.Answers.{some-read, value-read}
 use Rattle.histories.specs.Demands.{asEvent, ringActs, lossOf, lossesIn}
 use Rattle.histories.specs.exported.Exported.{Exported, leftBy, isDone, isLoad, Underway, carriedOn, NoLoads, doneCall, doneCalls, current, Faithful, lostTo, lossesRead}
-use Rattle.basics.proofs.laws.Bits.{test}
-use Rattle.rules.proofs.laws.Rings.{dropped-append}
-use Rattle.rules.proofs.laws.Steps.{level-offers, poll-offers}
-use Rattle.calls.proofs.laws.Answers.{some-read, value-read}
-use Rattle.histories.proofs.exported.laws.Chains.{passed, handed, faithful-on, carried-on}
-use Rattle.histories.proofs.exported.laws.Readings.{access-is, input-is, asked-is}
+use Rattle.histories.proofs.exported.laws.{Chains.passed, Chains.handed, Chains.faithful-on, Chains.carried-on, Readings.access-is, Readings.input-is, Readings.asked-is}
+use Rattle.rules.specs.Map as map
+use Rattle.rules.specs.Device as device
+use Rattle.calls.specs.Calls as request
 
 -- ---- what a history drops
 

@@ -1,40 +1,23 @@
 -- What a host reads of exported calls. A level or poll call returns at most one event, and its answer area holds it; a write returns none; a drain's event
 -- buffer holds what was drained. So along exported calls a host reads what the history returns and drains, in order (read-as), whatever numbers stand with it.
-use mathlib.Core.Path.{_≡_, refl, sym, ap, ap₂, _∙_}
-use mathlib.Core.Bool.{Bool, true, false, cond, not, true≢false, and-false}
-use mathlib.Core.List.{List, [], _∷_, _++_, map, append-nil}
-use Prim.Native.Nat.{ℕ, _+_, _-_, _*_, _/_, _%_, _^_, _<_, _≤_, min}
-use native.Mathlib.Omega.{arith}
-use lib.Dec.{eqb, ltb, lit<}
-use lib.ListN.{length, take, drop, length-take}
-use borrow.Author.Tests.{ltb-true, ltb-false, ne-eqb}
-use Rattle.basics.specs.Inputs.{on, inputs, only, put, without, withHalf}
-use Rattle.rules.specs.Lines.{Lines, Made, event, withIrr, withMask, pendingIn, servedIn, serve, enter, leave, newlyUnmasked, newlyMasked}
-use Rattle.rules.specs.Lines.{polled, raised, lowered, cleared, masked}
+use Rattle.basics.proofs.Prelude.{_≡_, refl, sym, ap, ap₂, _∙_, Bool, true, false, cond, not, true≢false, and-false, List, [], _∷_, _++_, map, append-nil, ℕ, _+_, _-_, _*_, _/_, _%_, _^_, _<_, _≤_, min, arith, eqb, ltb, lit<, length, take, drop, length-take, ltb-true, ltb-false, ne-eqb, on, inputs, only, put, without, withHalf, test, no-inputs}
+use Rattle.rules.specs.Lines.{Lines, Made, event, withIrr, withMask, pendingIn, servedIn, serve, enter, leave, newlyUnmasked, newlyMasked, polled, raised, lowered, cleared, masked}
 use Rattle.rules.specs.Ring.{Event, capacity, drawn, ringStep, ringRun}
 use Rattle.rules.specs.Core.{Core, poll, raise, lower, clear, setMask, Act, move, setIsr, store, setVector, moved, lineTurn, turn, turns}
 use Rattle.rules.specs.Access.{Width}
-use Rattle.rules.specs.Device.{Device, WellFormed, Call, Step, Value, none, some, value, actsOf, acted, offers, step}
-use Rattle.rules.specs.Device as device
+use Rattle.rules.specs.Device.{Device, WellFormed, Call, Step, Value, none, some, value, actsOf, acted, offers, step, amount}
 use Rattle.rules.specs.Numbering.{Numbers, WellNumbered, drainedLength, quadsIn, eventsIn, returnedWith, drainedWith, valueWith}
-use Rattle.images.specs.Image.{numbersIn}
-use Rattle.calls.specs.Calls.{Tested, pass, refuse, onPass, inputCall, widthTest, addressTest, Request, calls, askedBy}
-use Rattle.calls.specs.Calls.{answered, valueIn, bufferOf, placeOf, written, Outcome}
-use Rattle.rules.specs.Device.{amount}
-use Rattle.calls.specs.Calls as request
 use Rattle.rules.specs.History.{history}
-use Rattle.histories.specs.Demands.{returnedIn}
-use Rattle.histories.specs.exported.Exported.{Exported, leftBy, isDone, isLoad, Underway, carriedOn, NoLoads, doneCall}
-use Rattle.histories.specs.exported.Exported.{doneCalls, current, Faithful, eventIn, returnedTo, drainedTo, returnedBy, drainedBy}
-use Rattle.basics.proofs.laws.Bits.{test}
+use Rattle.images.specs.Image.{numbersIn}
+use Rattle.calls.specs.Calls.{Tested, pass, refuse, onPass, inputCall, widthTest, addressTest, Request, calls, askedBy, answered, valueIn, bufferOf, placeOf, written, Outcome}
 use Rattle.calls.proofs.laws.Answers.{none-read, some-read, value-read, length-with, events-with, events-read}
-use Rattle.basics.proofs.laws.Inputs.{no-inputs}
+use Rattle.histories.specs.Demands.{returnedIn}
+use Rattle.histories.specs.exported.Exported.{Exported, leftBy, isDone, isLoad, Underway, carriedOn, NoLoads, doneCall, doneCalls, current, Faithful, eventIn, returnedTo, drainedTo, returnedBy, drainedBy}
 use Rattle.laws.proofs.laws.Sets.{only-served}
-use Rattle.histories.proofs.laws.Reach.{ReturnsNone, write-returns-none}
-use Rattle.histories.proofs.laws.Folds.{fold-acts, history-append}
-use Rattle.histories.proofs.laws.Draining.{returned-append}
-use Rattle.histories.proofs.laws.WellFormed.{ByteEvents, step-events}
+use Rattle.histories.proofs.laws.{Reach.ReturnsNone, Reach.write-returns-none, Folds.fold-acts, Folds.history-append, Draining.returned-append, WellFormed.ByteEvents, WellFormed.step-events}
 use Rattle.histories.proofs.exported.laws.Chains.{never, passed, current-well, handed, faithful-on, carried-on}
+use Rattle.rules.specs.Device as device
+use Rattle.calls.specs.Calls as request
 
 -- ---- a level or poll call returns at most one event
 

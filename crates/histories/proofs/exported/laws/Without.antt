@@ -1,31 +1,17 @@
 -- What a done call hands back, without the numbers of events: the answer area of the device's own value, and an event buffer of the events that it drained.
-use mathlib.Core.Path.{_≡_, refl, sym, ap, ap₂, _∙_}
-use mathlib.Core.Bool.{Bool, true, false, cond, not}
-use mathlib.Core.List.{List, [], _∷_, _++_}
-use Prim.Native.Nat.{ℕ, zero, suc, _+_, _-_, _*_, _/_, _%_, _^_, _<_, _≤_}
-use native.Mathlib.Omega.{arith}
-use lib.Dec.{eqb}
-use lib.ListN.{length, take, drop, getD, set}
-use lib.Seq.{length-take-le, take-at, drop-at, getD-drop, getD-set-other}
-use Rattle.basics.specs.Numbers.{numberOf, bytesOf}
-use Rattle.rules.specs.Lines.{Made}
-use Rattle.rules.specs.Ring.{flag, Event, ringRun}
-use Rattle.rules.specs.Device.{Device, WellFormed, Call, some, returned, value, step}
-use Rattle.rules.specs.Device as device
+use Rattle.basics.proofs.Prelude.{_≡_, refl, sym, ap, ap₂, _∙_, Bool, true, false, cond, not, List, [], _∷_, _++_, ℕ, zero, suc, _+_, _-_, _*_, _/_, _%_, _^_, _<_, _≤_, arith, eqb, length, take, drop, getD, set, length-take-le, take-at, drop-at, getD-drop, getD-set-other, numberOf, bytesOf, test}
+use Rattle.rules.specs.{Lines.Made, Ring.flag, Ring.Event, Ring.ringRun, Device.Device, Device.WellFormed, Device.Call, Device.some, Device.returned, Device.value, Device.step}
 use Rattle.rules.specs.Numbering.{Numbers, WellNumbered, numbersAfter, Numbered, drainedLength, quadsOf, quadsIn, eventsIn, returnedWith, drainedWith, valueWith}
-use Rattle.images.specs.Form.{Form, numbers, has, formLength}
-use Rattle.images.specs.Image.{encodeAs, encodeLike, numbersIn}
-use Rattle.calls.specs.Calls.{Tested, pass, widthTest, addressTest, Request, afresh, calls, askedBy, answered, valueIn, bufferOf, placeOf, written, Outcome}
-use Rattle.calls.specs.Calls as request
-use Rattle.histories.specs.exported.Exported.{Exported, leftBy, isDone, withoutNumber, quadsWithout, withoutNumbers, answerWithout, eventsWithout, unnumbered}
-use Rattle.histories.specs.exported.Exported.{isLoad, Underway, current, Faithful, eventIn, returnedTo, drainedTo, lostTo}
-use Rattle.basics.proofs.laws.Bits.{test}
 use Rattle.rules.proofs.laws.Numbered.{numbers-step}
-use Rattle.images.proofs.laws.Saved.{encode-without}
+use Rattle.images.{specs.Form.Form, specs.Form.numbers, specs.Form.has, specs.Form.formLength, specs.Image.encodeAs, specs.Image.encodeLike, specs.Image.numbersIn, proofs.laws.Saved.encode-without}
+use Rattle.calls.specs.Calls.{Tested, pass, widthTest, addressTest, Request, afresh, calls, askedBy, answered, valueIn, bufferOf, placeOf, written, Outcome}
+use Rattle.histories.specs.exported.Exported.{Exported, leftBy, isDone, withoutNumber, quadsWithout, withoutNumbers, answerWithout, eventsWithout, unnumbered, isLoad, Underway, current, Faithful, eventIn, returnedTo, drainedTo, lostTo}
 use Rattle.laws.proofs.laws.Images.{encode-as, numbers-encode}
 use Rattle.histories.proofs.laws.WellFormed.{ByteEvents, step-events, step-well}
 use Rattle.histories.proofs.exported.laws.Chains.{passed, current-well, left-length, Handed, handed}
 use Rattle.histories.proofs.exported.laws.Readings.{Single, nothing, one, level-single, poll-single, access-is, input-is, asked-is, drained-told, drained-events}
+use Rattle.rules.specs.Device as device
+use Rattle.calls.specs.Calls as request
 
 -- ---- the answer area
 

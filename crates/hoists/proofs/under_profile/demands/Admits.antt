@@ -1,16 +1,8 @@
 -- A call that the profile lets through, in whatever phase, is one that demand 3 admits: it writes no ISR, and changes no vector byte whose input is in service.
-use mathlib.Core.Path.{_≡_, refl, sym, ap, _∙_}
-use mathlib.Core.Bool.{Bool, true, false, cond, not, _&&_, _||_, true≢false}
-use Prim.Native.Nat.{ℕ, _%_}
-use lib.Dec.{eqb}
-use lib.ListN.{getD}
-use borrow.Author.Tests.{eqb-true}
-use Rattle.rules.specs.Map.{inVectors}
-use Rattle.rules.specs.Core.{turns, vectorsAfter}
-use Rattle.rules.specs.Access.{byte, word, dword, qword}
+use Rattle.basics.proofs.Prelude.{_≡_, refl, sym, ap, _∙_, Bool, true, false, cond, not, _&&_, _||_, true≢false, ℕ, _%_, eqb, getD, eqb-true}
+use Rattle.rules.specs.{Map.inVectors, Core.turns, Core.vectorsAfter, Access.byte, Access.word, Access.dword, Access.qword}
 use Rattle.rules.specs.Device.{Device, Call, level, poll, read, write, drain, actsOf, acted, step}
-use Rattle.histories.specs.Premises.{isIsr, ServedVectorsStay, Admitted}
-use Rattle.histories.specs.Demands.{inService}
+use Rattle.histories.specs.{Premises.isIsr, Premises.ServedVectorsStay, Premises.Admitted, Demands.inService}
 use Rattle.hoists.specs.Profile.{changesVector, changesServed, forbidden, Verdict, passes, unaligned, unfit, verdict}
 use Rattle.hoists.proofs.laws.Inputs.{none-here}
 

@@ -1,29 +1,18 @@
 -- 02, C-21: a wait is withdrawn by CLEAR or a lowering, and by nothing else. Of an input that is latched, a record leaves the latch off exactly if it lowers the input or
 -- writes a 1 to its place in CLEAR.
-use mathlib.Core.Path.{_≡_, refl, sym, ap, _∙_}
-use mathlib.Core.Bool.{Bool, true, false, not, _&&_, _||_}
-use mathlib.Core.List.{List, [], _∷_}
-use Prim.Native.Nat.{ℕ, _<_}
-use Rattle.basics.specs.Inputs.{on, inputs, only, put, without, withHalf}
-use Rattle.basics.proofs.laws.Bits.{test, on-put, on-without}
+use Rattle.basics.proofs.Prelude.{_≡_, refl, sym, ap, _∙_, Bool, true, false, not, _&&_, _||_, List, [], _∷_, ℕ, _<_, on, inputs, only, put, without, withHalf, test, on-put, on-without}
 use Rattle.rules.specs.Lines.{Lines, withMask, withIrr, pendingIn, serve, newlyUnmasked, polled, raised, lowered, cleared, masked}
 use Rattle.rules.specs.Core.{Core, Act, move, setIsr, store, setVector, poll, raise, lower, clear, setMask, moved, lineTurn, turn, turns}
 use Rattle.rules.specs.Device.{Device, WellFormed, Call, level, read, write, drain, reset, actsOf, acted, step}
-use Rattle.rules.specs.Device as device
 use Rattle.laws.proofs.laws.Images.{reset-well-formed}
-use Rattle.histories.specs.Demands.{Each, done, also, someAct}
-use Rattle.histories.proofs.laws.Reach.{ReturnsNone, write-returns-none}
+use Rattle.histories.{specs.Demands.Each, specs.Demands.done, specs.Demands.also, specs.Demands.someAct, proofs.laws.Reach.ReturnsNone, proofs.laws.Reach.write-returns-none}
 use Rattle.histories.proofs.laws.WellFormed.{step-well}
-use Rattle.plain.specs.Machine.{Machine}
-use Rattle.plain.specs.Plain.{Engine}
-use Rattle.plain.specs.Sequence.{Item, call, load, refused, shown, takes, plainAfter}
-use Rattle.plain.proofs.laws.Same.{Run, Same}
-use Rattle.plain.proofs.laws.Following.{stepped, countedRun, like-call, sized, same-counted, loadedRun, shown-is}
-use Rattle.sheets.specs.Day.{begun}
-use Rattle.sheets.specs.Waits.{takesBack}
-use Rattle.passes.specs.Slots.{NoLoad}
+use Rattle.plain.specs.{Machine.Machine, Plain.Engine, Sequence.Item, Sequence.call, Sequence.load, Sequence.refused, Sequence.shown, Sequence.takes, Sequence.plainAfter}
+use Rattle.plain.proofs.laws.{Same.Run, Same.Same, Following.stepped, Following.countedRun, Following.like-call, Following.sized, Following.same-counted, Following.loadedRun, Following.shown-is}
+use Rattle.sheets.specs.{Day.begun, Waits.takesBack}
+use Rattle.passes.specs.{Slots.NoLoad, days.Taking.takesLatch, days.Taking.callTakes}
 use Rattle.passes.proofs.laws.Passing.{same-begun}
-use Rattle.passes.specs.days.Taking.{takesLatch, callTakes}
+use Rattle.rules.specs.Device as device
 
 module _ (n : ℕ) (below : n < 64) where
   serve-latches : (vs : List ℕ) (o : Bool) (l : Lines) (ns : List ℕ) → serve vs o l ns .after .irr ≡ l .irr
