@@ -1,12 +1,12 @@
 -- Route and vector bytes by their offsets: a single one, a run of them, and the accesses that are a run.
 use Rattle.basics.proofs.Prelude.{_≡_, refl, sym, ap, _∙_, _⊎_, inl, inr, ⊎-elim, Bool, true, false, not, cond, _&&_, _||_, false≢true, and-eq-true-iff, List, [], _∷_, _++_, append-nil, append-assoc, ℕ, zero, suc, _+_, _-_, _*_, _/_, _%_, _^_, _<_, _≤_, arith, eqb, length, take, drop, getD, set, sets, sets-eq, drop-cons, eqb-true, numberOf, bytesOf, byteOf, part, test, length-bytesOf}
-use Rattle.rules.specs.Core.{Core, CoreTurn, setRoute, withRoutes, turns, lineTurn}
+use Rattle.laws.proofs.laws.{Losses.entry-quiet, Maps.Elsewhere, Maps.outside, Maps.inside, Maps.inside-from, Maps.not-route, Maps.lookup-bytes}
+use Rattle.laws.proofs.laws.Widths.{entry-route, entry-vector, entry-none, dword-of}
+use Rattle.laws.proofs.laws.Writes.{acted-store, acted-vector, entry-acts-route, entry-acts-vector, entry-acts-none, dword-acts-of}
+use Rattle.rules.specs.Core.{Core, CoreTurn, setRoute, withRoutes, turns}
 use Rattle.rules.specs.Map.{Row, Cell, bytes, nothing, table, lookup, within, routesAt, routesEnd, vectorsAt, vectorsEnd, inRoutes, inVectors, cellAt}
 use Rattle.rules.specs.{Access.qword, Access.entry, Access.readCell, Access.readAt, Access.entryActs, Access.cellActs, Access.writeActs, Numbering.Numbers, Device.Device, Device.acted}
 use Rattle.rules.proofs.laws.Acts.{turns-append, acted-none, acted-append}
-use Rattle.laws.proofs.laws.Maps.{Elsewhere, outside, inside, inside-from, not-route, lookup-bytes}
-use Rattle.laws.proofs.laws.Widths.{entry-route, entry-vector, entry-none, dword-of}
-use Rattle.laws.proofs.laws.Writes.{acted-store, acted-vector, entry-acts-route, entry-acts-vector, entry-acts-none, dword-acts-of}
 use Rattle.bits.specs.bytes.Put.{withBytes}
 use Rattle.fields.specs.inplace.Held.{Holds, Reads, Becomes, Writes, withVectors, withStored}
 use Rattle.fields.proofs.inplace.Doing.{stores-write, writes-none, writes-same, writes-then}
@@ -160,10 +160,6 @@ eight-acts c o v run =
     both ∙ (λ t. entriesActs o 4 v ++ entriesActs (p t) 4 (q t)) ∙ (λ t. low t ++ high t)
 
 -- no event is made
-entry-quiet : (c : Core) (o v : ℕ) → turns c (entryActs o v) .made ≡ []
-unfolding entryActs turns lineTurn
-entry-quiet c o v = test (inRoutes o) (λ t. rw t) (λ t. rw t (test (inVectors o) (λ u. rw u) (λ u. rw u)))
-
 run-quiet : (n : ℕ) (c : Core) (o v : ℕ) → turns c (entriesActs o n v) .made ≡ []
 unfolding turns
 run-quiet zero c o v = refl

@@ -1,14 +1,14 @@
 -- The image's test, as a call goes on or leaves by it.
 use Rattle.basics.proofs.Prelude.{_≡_, refl, sym, ap, subst, _∙_, List, [], _∷_, ℕ, OneOf, tagOf, length, Bytes}
+use Rattle.image.specs.{declared.head.Head.the-variants.WrongLength, declared.head.Head.the-variants.WrongContents, declared.head.Head.the-variants.Of, declared.head.Head.Head, Shown.formView}
+use Rattle.image.specs.{head.Good.headTest, head.Good.Headed, bodies.Good.holds, bodies.Good.bodiesGood, bodies.Good.bodiesTest}
+use Rattle.image.{specs.declared.bodies.Bodies.Bodies, specs.declared.bodies.Bodies.the-variants.Broken, specs.declared.bodies.Bodies.the-variants.Good, proofs.head.Head.the-type}
+use Rattle.image.proofs.{head.Orders.left-head, head.Orders.head-refuses, head.Orders.sized, bodies.Orders.accepts, bodies.Orders.refuses}
 use Rattle.rules.specs.Device.{Call, Value, none}
 use Rattle.images.specs.{Form.formLength, Image.accepted, Image.imageTest}
 use Rattle.calls.specs.Calls.{imageNumber, imageValue, Tested, Request, calls, askedBy, bufferOf, Ending, ending}
 use Rattle.calls.proofs.laws.Outcomes.{image-refused}
 use Rattle.fields.specs.inplace.Passed.{Passed}
-use Rattle.image.specs.{Shown.formView, head.Good.headTest, head.Good.Headed, bodies.Good.holds, bodies.Good.bodiesGood, bodies.Good.bodiesTest}
-use Rattle.image.specs.declared.{head.Head.Head, head.Head.the-variants.WrongLength, head.Head.the-variants.WrongContents, head.Head.the-variants.Of, bodies.Bodies.Bodies}
-use Rattle.image.{specs.declared.bodies.Bodies.the-variants.Broken, specs.declared.bodies.Bodies.the-variants.Good, proofs.head.Head.the-type}
-use Rattle.image.proofs.{head.Orders.left-head, head.Orders.head-refuses, head.Orders.sized, bodies.Orders.accepts, bodies.Orders.refuses}
 use Rattle.answer.specs.{Given.Tells, Given.ends, declared.Told.Told}
 use Rattle.image.specs.declared.form.Form as code
 use Rattle.image.proofs.bodies.Orders as orders

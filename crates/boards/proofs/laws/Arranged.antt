@@ -1,5 +1,5 @@
 -- Two lists in one, and numbered events put in order: whatever the order in which they were collected, by rising number they stand as they were made.
-use Rattle.basics.proofs.Prelude.{_≡_, refl, sym, ap, subst, _∙_, List, [], _∷_, _++_, map, ℕ, zero, suc, _+_, _<_, arith, le-leb, lt-leb}
+use Rattle.basics.proofs.Prelude.{_≡_, refl, sym, ap, subst, _∙_, List, [], _∷_, _++_, map, ℕ, zero, suc, _<_, arith, le-leb, lt-leb}
 use Rattle.rules.specs.{Numbering.Numbered, Device.upFrom}
 use Rattle.order.specs.Fates.{Fate, isReturned, isKept, isDropped, Placed, withFate}
 use Rattle.boards.specs.Hearing.{Interleaves, neither, first, second, inserted, byNumber}

@@ -107,10 +107,6 @@ module _ (v : ℕ) where
   none-up : (vs : List ℕ) (o : Bool) (ns : List ℕ) → asserts v (map (event vs o false) ns) ≡ 0
   none-up vs o ns = tally-none (λ m. m .asserted && hasVector v m) (event vs o false) (λ n. refl) ns
 
-  none-told : (k : ℕ) → toldAll v k (map asEvent []) ≡ k + asserts v []
-  unfolding toldAll tally
-  none-told k = omega arith
-
   up-told : (vs : List ℕ) (o : Bool) (l : Lines) (ns : List ℕ) (k : ℕ) → k ≤ 64 → toldAll v k (map asEvent (serve vs o l ns .made)) ≡ k + asserts v (serve vs o l ns .made)
   unfolding toldAll tally
   up-told vs o l [] k h = omega arith

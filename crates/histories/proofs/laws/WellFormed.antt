@@ -49,7 +49,7 @@ record WellTurn (t : Turn) : Type 0 where
   after : WellLines (t .after)
   made : ByteEvents (t .made)
 
-withHalf-lt : (h : Bool) (x v : ℕ) → x < 2 ^ 64 → withHalf h x v < 2 ^ 64
+pub withHalf-lt : (h : Bool) (x v : ℕ) → x < 2 ^ 64 → withHalf h x v < 2 ^ 64
 withHalf-lt true x v l = omega arith
 withHalf-lt false x v l = omega arith
 

@@ -1,6 +1,6 @@
 -- What the profile says of a call, by the tests that come before it: nothing where the full device refuses, and else the verdict on the device that the image holds.
 use Rattle.basics.proofs.Prelude.{_≡_, refl, sym, ap, _∙_, Bool, true, false, cond, List, ℕ, _<_, lit<}
-use Rattle.rules.specs.{Access.Width, Device.Device, Device.Call}
+use Rattle.rules.specs.{Access.Width, Device.Call}
 use Rattle.images.specs.Image.{copyDiffers, manyWait, badFlag, unusedSet, ImageTest, imageTest, decode}
 use Rattle.calls.specs.Calls.{Refusal, outside, noWidth, noInput, wrongLength, wrongContents, noRoom, broken, refusalNumber, Tested, pass, refuse, onPass, imageAnswer, widthTest, addressTest, Request, read, Asked, afresh, calls, askedBy, Done, performed, ended, ending}
 use Rattle.hoists.specs.Profile.{alignedDword, Verdict, passes, unaligned, unfit, verdict}

@@ -1,15 +1,11 @@
 -- The rules of the bodies, given what is looked at first; and a ring all of whose pairs and numbers are zero.
-use Rattle.basics.proofs.Prelude.{_≡_, refl, sym, ap, _∙_, Bool, true, false, _&&_, and-eq-true-iff, List, ℕ, _+_, _-_, _*_, _≤_, arith, bitAnd, bitOr, or-add-and, and-le-l, and-le-r, eqb, leb, lit≤, length, drop, getD, part, Bytes, length-part, bytes-part, test}
+use Rattle.basics.proofs.Prelude.{twice, _≡_, refl, sym, ap, _∙_, Bool, true, false, _&&_, and-eq-true-iff, List, ℕ, _+_, _-_, _*_, _≤_, arith, bitAnd, bitOr, or-add-and, and-le-l, and-le-r, eqb, leb, lit≤, length, drop, getD, part, Bytes, length-part, bytes-part, test}
 use Rattle.rules.specs.Ring.{capacity}
 use Rattle.images.specs.Form.{Form, one, two, numbered, word, irr, copy, count, pairs, numbers, has, place, formLength, read}
 use Rattle.images.{specs.Image.registerAt, specs.Image.countIn, proofs.laws.Layout.field-fits}
 use Rattle.image.specs.{Shown.PlacesOf, declared.form.Places.Places, bodies.Good.ringGood, bodies.Good.spareAt, bodies.Good.bodiesGood}
 use Rattle.image.specs.unused.Events.{allZero, flagsGood, pairsGood, numbersGood, bitsOf}
 use Rattle.image.proofs.{Forms.always-at, Forms.always-fits, bodies.Tested.rules-tested, unused.Pairs.flagBits, unused.Pairs.pairs-empty, unused.Pairs.pairs-flagged, unused.Pairs.pairs-unused}
-
-same-and : (a : Bool) → (a && a) ≡ (a && true)
-same-and true = refl
-same-and false = refl
 
 -- no image is long; the numbers or, without them, the pairs end within it
 pub short : (f : Form) → formLength f ≤ 290
@@ -72,7 +68,7 @@ module _ (f : Form) (l : List ℕ) (s : length l ≡ formLength f) (p : Places) 
       flagged z = ap (λ t. t && numbersGood f n l) (sym (pairs-flagged (read f l pairs) (bytes-part l (place f pairs) 32 b) n its few bits z))
 
       spare-decides : (allZero (drop (2 * n) (read f l pairs)) && allZero (drop (2 * n) (part (spareAt f) 32 l))) ≡ (allZero (drop (2 * n) (read f l pairs)) && numbersGood f n l)
-      spare-decides = test (has f numbers) (λ h. rw h) (λ h. rw h (same-and (allZero (drop (2 * n) (read f l pairs)))))
+      spare-decides = test (has f numbers) (λ h. rw h) (λ h. rw h (twice (allZero (drop (2 * n) (read f l pairs)))))
 
       pub by-unused : bitAnd x flagBits ≡ 0 → {a : ℕ} → a ≡ spareAt f → {r : Bool}
           → r ≡ (allZero (drop (2 * n) (part (p .pairs) (p .pairs + 32 - p .pairs) l)) && allZero (drop (2 * n) (part a (a + 32 - a) l))) → ringGood f n l ≡ r

@@ -13,7 +13,7 @@ use Rattle.calls.specs.Calls as request
 -- ---- from any history under way
 
 -- 290 bytes have the fifth body
-fifth-body : (f : Form) → formLength f ≡ 290 → has f numbers ≡ true
+pub fifth-body : (f : Form) → formLength f ≡ 290 → has f numbers ≡ true
 fifth-body one e = absurd (omega arith)
 fifth-body two e = absurd (omega arith)
 fifth-body numbered e = refl

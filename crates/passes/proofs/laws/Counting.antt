@@ -107,18 +107,10 @@ module _ (n : ℕ) (b : Bool) where
   event-none x = ap (λ u. cond (eqb (x .input) n) u 0) (go b (x .asserted) (x .fate)) ∙ cond-none (eqb (x .input) n)
     where
       go : (b a : Bool) (f : Fate) → tally (eqb (levelColumn b)) (kindColumn a ∷ fateColumns f) ≡ 0
-      go true true returned = refl
-      go true true kept = refl
-      go true true dropped = refl
-      go true false returned = refl
-      go true false kept = refl
-      go true false dropped = refl
-      go false true returned = refl
-      go false true kept = refl
-      go false true dropped = refl
-      go false false returned = refl
-      go false false kept = refl
-      go false false dropped = refl
+      go true true = elim [ returned ↦ refl | kept ↦ refl | dropped ↦ refl ]
+      go true false = elim [ returned ↦ refl | kept ↦ refl | dropped ↦ refl ]
+      go false true = elim [ returned ↦ refl | kept ↦ refl | dropped ↦ refl ]
+      go false false = elim [ returned ↦ refl | kept ↦ refl | dropped ↦ refl ]
 
   notes-none : (xs : List Note) → addedIn n c (map happened xs) ≡ 0
   unfolding addedIn

@@ -2,7 +2,7 @@
 use Rattle.basics.proofs.Prelude.{_≡_, refl, sym, ap, _∙_, Bool, true, cond, not, List, [], _∷_, _++_, ℕ, zero, suc, _+_, _%_, _^_, _<_, _≤_, arith, eqb, eqb-true, eqb-false, eq-eqb, ne-eqb, on, from, test, on-not, on-none}
 use Rattle.passes.specs.{tallies.Grid.Grid, tallies.Grid.put, Finish.rowCleared, Finish.cleared, Finish.allInputs, Finish.isOn, Finish.shut, Finish.joined, Finish.rowJoined, Finish.finished}
 
-nearer : (n k : ℕ) → (n ≡ k → ⊥) → n < suc k → n < k
+pub nearer : (n k : ℕ) → (n ≡ k → ⊥) → n < suc k → n < k
 nearer n k d h = omega (arith, d, h)
 
 -- ---- one number put

@@ -1,5 +1,7 @@
 -- How a salvage ends, by the test that decides it: one law for each way; and the sizes that are tested.
 use Rattle.basics.proofs.Prelude.{_≡_, refl, sym, ap, _∙_, Bool, true, false, _&&_, and-false, List, [], _∷_, ℕ, _+_, _-_, _*_, _<_, _≤_, arith, OneOf, tagOf, leb, length, eq-eqb, ne-eqb, le-leb, lt-leb, putMid, part}
+use Rattle.trace.specs.declared.contents.Contents.{the-variants.Good, the-variants.Wrong, Contents}
+use Rattle.trace.{specs.contents.Found.contentsIf, specs.contents.Found.contentsAs, proofs.contents.Contents.the-type}
 use Rattle.rules.specs.Device.{Value, none, some}
 use Rattle.traces.specs.{Trace.firstPlace, Trace.recordCount, Trace.contentsGood, plays.Playing.inFront}
 use Rattle.traces.specs.salvages.Kept.{bodiesFrom, bodies, kept, droppedFrom, joined, traceOf, newTrace, dropList}
@@ -7,8 +9,6 @@ use Rattle.traces.specs.salvages.Salvaging.{isEmpty, SalvageEnding, salvageEnds
 use Rattle.traces.proofs.{laws.Contents.contents-have, plays.laws.InFront.front-rest, salvages.laws.Chosen.kept-or-dropped, salvages.laws.Chosen.length-entries}
 use Rattle.traces.proofs.salvages.{laws.Built.length-contents, laws.Built.length-trace, laws.Taken.length-bodies, demands.Left.by-tests}
 use Rattle.answer.specs.{Given.Tells, declared.Told.Told}
-use Rattle.trace.specs.declared.contents.Contents.{Contents, the-variants.Good, the-variants.Wrong}
-use Rattle.trace.{specs.contents.Found.contentsIf, specs.contents.Found.contentsAs, proofs.contents.Contents.the-type}
 use Rattle.pch_pic_salvage.specs.{torn.Found.Lists, torn.Found.leftOf, rebuilt.Given.newContents, rebuilt.Given.newBlocks, rebuilt.Given.newList, salvage.Ends.ends}
 
 -- an ending with the number and the value that are told

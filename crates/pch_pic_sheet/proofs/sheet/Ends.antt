@@ -1,5 +1,5 @@
 -- How it ends: refused, with the sheet as it was, or made.
-use Rattle.basics.proofs.Prelude.{_≡_, sym, ap, subst, _∙_, List, [], _∷_, _++_, map, ⊎-elim, ℕ, _+_, _≤_, arith, OneOf, tagOf, length, drop, Bytes}
+use Rattle.basics.proofs.Prelude.{_≡_, sym, ap, subst, _∙_, List, [], _∷_, _++_, map, ⊎-elim, ℕ, _≤_, arith, OneOf, tagOf, length, drop, Bytes}
 use Rattle.rules.specs.Device.{Value, some, reset}
 use Rattle.traces.specs.{Trace.good, Trace.traceNumber, Trace.traceValue, Trace.traceTest, Played.recordsFrom}
 use Rattle.traces.proofs.demands.{Told.AllGood, Told.Means, Told.test-told, Sizes.few-records, Sizes.trace-length}

@@ -1,5 +1,5 @@
 -- The rounds of the pass: what holds when k records are followed, before the first of them and after one more.
-use Rattle.basics.proofs.Prelude.{_≡_, refl, sym, ap, subst, _∙_, List, [], _∷_, _++_, map, ℕ, _+_, _-_, _*_, _<_, _≤_, zero-add, arith, length}
+use Rattle.basics.proofs.Prelude.{_≡_, refl, sym, ap, subst, _∙_, List, [], _∷_, _++_, map, ℕ, _+_, _*_, _<_, _≤_, zero-add, arith, length}
 use Rattle.rules.specs.{Lines.Lines, Device.WellFormed, Device.reset}
 use Rattle.laws.proofs.laws.Images.{reset-well-formed}
 use Rattle.plain.specs.Sequence.{Item}

@@ -1,5 +1,5 @@
 -- The loops over the inputs of a set, lowest first: what was done so far, and then what is left, is all.
-use Rattle.basics.proofs.Prelude.{_≡_, refl, sym, ap, subst, _∙_, true, false, List, [], _∷_, _++_, map, map-append, append-nil, append-assoc, ℕ, suc, _-_, _^_, _<_, lt-of-le-of-lt, bitAnd, and-le-l, trailingZeros, length, on, inputs, first-below, first-input, lowest-dropped, no-input}
+use Rattle.basics.proofs.Prelude.{one-less, _≡_, refl, sym, ap, subst, _∙_, true, false, List, [], _∷_, _++_, map, map-append, append-nil, append-assoc, ℕ, suc, _-_, _^_, _<_, lt-of-le-of-lt, bitAnd, and-le-l, trailingZeros, length, on, inputs, first-below, first-input, lowest-dropped, no-input}
 use Rattle.rules.specs.Lines.{event}
 use Rattle.passes.{specs.tallies.Marks.takenBack, specs.tallies.Following.Takes, specs.tallies.Following.Offers, proofs.tallies.laws.Taking.takes-then, proofs.tallies.laws.Taking.takes-same}
 use Rattle.passes.proofs.tallies.laws.Turning.{offers-then, offers-same}
@@ -26,7 +26,7 @@ module _ (P : List ℕ → Type 0) where
       lowest-below = first-below x (q .below) some
 
       pub fewer : suc (length (inputs (on (bitAnd x (x - 1))))) ≡ length (inputs (on x))
-      fewer = ap (λ y. suc (length (inputs (on y)))) (lowest-dropped x (q .below) some) ∙ sym (ap length (first-input x (q .below) some))
+      fewer = one-less x (q .below) some
 
       pub visiting-next : (Q : List ℕ → Type 0) → Q (q .sofar ++ (lowest ∷ [])) → Visiting Q set (bitAnd x (x - 1))
       visiting-next Q p = record {

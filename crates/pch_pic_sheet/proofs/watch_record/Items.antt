@@ -1,5 +1,5 @@
 -- A call of the device as a record's, refused or done.
-use Rattle.basics.proofs.Prelude.{_≡_, refl, sym, ap, subst, _∙_, Bool, true, false, cond, List, [], _∷_, inl, inr, ℕ, _-_, _<_, _≤_, arith, eqb, length, drop, length-drop, lt-ltb, le-ltb, ne-eqb, eqb-true}
+use Rattle.basics.proofs.Prelude.{_≡_, refl, sym, ap, subst, _∙_, Bool, true, false, cond, List, [], _∷_, inl, inr, ℕ, _<_, _≤_, arith, eqb, length, drop, length-drop, lt-ltb, le-ltb, ne-eqb, eqb-true}
 use Rattle.rules.specs.{Lines.Lines, Ring.drawn, Core.Core, Core.Act, Core.Move, Core.move, Access.Width, Access.byte, Access.word, Access.dword, Access.qword, Access.writeActs}
 use Rattle.rules.specs.Device.{Device, Call, level, poll, read, write, drain, actsOf, draws}
 use Rattle.rules.proofs.laws.{Acts.step-acted, Steps.read-device, Steps.drain-device}

@@ -3,10 +3,11 @@
 use Rattle.basics.proofs.Prelude.{_≡_, refl, sym, ap, ap₂, subst, _∙_, Bool, true, false, cond, true≢false, List, [], _∷_, _++_, map, map-append, append-nil, ℕ, length, Bytes, test}
 use Rattle.rules.specs.{Lines.Made, Ring.Event, Device.Device, Device.WellFormed, Device.Call, Device.Step, Device.none, Device.step, Device.value, Numbering.fromZero, History.history}
 use Rattle.images.specs.{Form.Form, Form.Known, Form.unknown, Form.known, Form.formOf, Image.imageTest, Image.accepted, Image.encodeAs, Image.encodeLike, Image.decode, Image.numbersIn}
+use Rattle.calls.proofs.laws.Requests.{never, passed}
 use Rattle.calls.specs.Calls.{pass, Asked, afresh, calls, askedBy, Done, performed, wrongLength, answered, bufferOf, placeOf, written, Outcome, settled, ended}
 use Rattle.histories.specs.exported.Exported.{Exported, leftBy, isDone, unnumbered, isReset, isLoad, callOf, doneCall, Underway, carriedOn, carriedThrough, GivenBytes, current, inImage, Faithful, afterReset, atLoad}
 use Rattle.histories.proofs.laws.{Folds.history-append, WellFormed.step-well}
-use Rattle.histories.proofs.exported.laws.Chains.{never, passed, did-pass, current-well, handed, faithful-on, carried-on, reset-leaves, reset-begins, done-call, own-image, load-begins, faithful-after-reset, faithful-at-load}
+use Rattle.histories.proofs.exported.laws.Chains.{did-pass, current-well, handed, faithful-on, carried-on, reset-leaves, reset-begins, done-call, own-image, load-begins, faithful-after-reset, faithful-at-load}
 use Rattle.histories.proofs.exported.laws.Without.{own-numbers, handed-image, handed-answer, handed-events, reset-answer, reset-events}
 use Rattle.histories.proofs.exported.demands.FromCalls.{image-holds-device, history-since-load}
 use Rattle.laws.proofs.laws.Images.{decode-well-formed, reset-well-formed, reset-numbered}

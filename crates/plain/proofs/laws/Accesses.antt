@@ -1,5 +1,6 @@
 -- Reads and writes of every width: the plain engine reads what the ported one reads, and a write keeps both side by side.
-use Rattle.basics.proofs.Prelude.{_≡_, refl, sym, ap, _∙_, Bool, true, false, cond, not, _&&_, List, [], _∷_, _++_, append-nil, ℕ, zero, suc, _+_, _-_, _*_, _%_, _^_, _<_, arith, getD, set, numberOf, byteOf, withByte, on, numberWith, inputs, only, put, without, half, withHalf, asHalf, test, is-number, register-ext, put-lt, without-lt}
+use Rattle.basics.proofs.Prelude.{_≡_, refl, sym, ap, _∙_, Bool, true, false, cond, not, _&&_, List, [], _∷_, _++_, append-nil, ℕ, zero, suc, _+_, _-_, _*_, _%_, _^_, _<_, getD, set, numberOf, byteOf, withByte, on, numberWith, inputs, only, put, without, half, withHalf, asHalf, test, is-number, register-ext, put-lt, without-lt}
+use Rattle.histories.proofs.laws.WellFormed.{withHalf-lt}
 use Rattle.rules.specs.Lines.{Lines, withIrr, withMask, serve, enter, leave, pendingIn, polled, raised, lowered, cleared, masked, newlyUnmasked, newlyMasked}
 use Rattle.rules.specs.Ring.{ringRun, dropped}
 use Rattle.rules.specs.Core.{Core, Plain, Stored, plain, withPlain, withRoutes, moved, lineTurn, vectorsAfter, storedAfter, turn, turns, Act, Move, move, setIsr, store, setVector, setPlain, setRoute, poll, raise, lower, clear, setMask}
@@ -22,10 +23,6 @@ pub record Sized (l : Lines) : Type 0 where
   pub irr : l .irr < 2 ^ 64
   pub isr : l .isr < 2 ^ 64
 
-withHalf-sized : (h : Bool) (x v : ℕ) → x < 2 ^ 64 → withHalf h x v < 2 ^ 64
-withHalf-sized true x v b = omega arith
-withHalf-sized false x v b = omega arith
-
 serve-sized : (vs : List ℕ) (o : Bool) (l : Lines) (ns : List ℕ) → Sized l → Sized (serve vs o l ns .after)
 serve-sized vs o l [] s = s
 serve-sized vs o l (n ∷ ns) s = record { mask = s .mask; irr = s .irr; isr = put-lt (l .isr) n }
@@ -46,13 +43,13 @@ move-sized vs l (clear b) s =
     leave-sized vs true (on b) (withIrr l (without (l .irr) (on b))) (record { mask = s .mask; irr = without-lt (l .irr) (on b); isr = s .isr })
 move-sized vs l (setMask h v) s =
     let new = withHalf h (l .mask) v in
-    let one = enter-sized vs true (newlyUnmasked (l .mask) new) (withMask l new) (record { mask = withHalf-sized h (l .mask) v (s .mask); irr = s .irr; isr = s .isr }) in
+    let one = enter-sized vs true (newlyUnmasked (l .mask) new) (withMask l new) (record { mask = withHalf-lt h (l .mask) v (s .mask); irr = s .irr; isr = s .isr }) in
     leave-sized vs true (newlyMasked (l .mask) new) _ one
 
 turn-sized : (c : Core) (a : Act) → Sized (c .lines) → Sized (turn c a .after .lines)
 unfolding lineTurn
 turn-sized c (move m) s = move-sized (c .vectors) (c .lines) m s
-turn-sized c (setIsr h v) s = record { mask = s .mask; irr = s .irr; isr = withHalf-sized h (c .lines .isr) v (s .isr) }
+turn-sized c (setIsr h v) s = record { mask = s .mask; irr = s .irr; isr = withHalf-lt h (c .lines .isr) v (s .isr) }
 turn-sized c (store x) s = s
 turn-sized c (setVector n v) s = s
 

@@ -10,7 +10,7 @@ use Rattle.rules.proofs.laws.Computed as computed
 -- ---- the copy
 
 -- going into service changes no latch
-serve-irr : (vs : List ℕ) (o : Bool) (l : Lines) (ns : List ℕ) → serve vs o l ns .after .irr ≡ l .irr
+pub serve-irr : (vs : List ℕ) (o : Bool) (l : Lines) (ns : List ℕ) → serve vs o l ns .after .irr ≡ l .irr
 serve-irr vs o l [] = refl
 serve-irr vs o l (n ∷ ns) = refl
 

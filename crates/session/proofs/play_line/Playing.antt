@@ -1,5 +1,5 @@
 -- What each kind of line comes to: a refusal, or the call's device and its answer.
-use Rattle.basics.proofs.Prelude.{_≡_, refl, sym, ap, subst, _∙_, Bool, true, false, cond, List, [], _∷_, _++_, ℕ, zero, suc, _+_, _-_, _*_, _/_, _<_, _≤_, le-refl, arith, eqb, length, take, drop, getD, length-take, take-suc, take-length}
+use Rattle.basics.proofs.Prelude.{_≡_, refl, sym, ap, subst, _∙_, Bool, true, false, cond, List, [], _∷_, _++_, ℕ, zero, suc, _+_, _*_, _/_, _<_, _≤_, le-refl, arith, eqb, length, take, drop, getD, length-take, take-suc, take-length}
 use Rattle.rules.specs.{Ring.Event, Ring.capacity, Ring.drawn, Ring.flag, Ring.pairsOf, Access.Width, Access.readAt, Access.writeActs}
 use Rattle.rules.specs.{Device.Device, Device.Call, Device.level, Device.poll, Device.read, Device.write, Device.drain, Device.step, Device.acted, Lines.polled, Lines.levelled}
 use Rattle.rules.proofs.laws.Steps.{withLines, withRing, level-device, level-value, poll-device, poll-value, drain-device, drain-drained, read-device, write-device}

@@ -1,5 +1,5 @@
 -- Fields put into an image one after another: what is put stands there, all else stays, and where every field is put the image is the device's.
-use Rattle.basics.proofs.Prelude.{_≡_, refl, sym, ap, _∙_, subst, Bool, true, false, _||_, false≢true, or-false, List, [], _∷_, _++_, append-assoc, ℕ, _+_, _-_, _≤_, zero-add, arith, length, take, drop, length-append, length-drop, drop-drop, length-take-le, take-all, take-at, drop-at, take-take, take-append-le, drop-append-add, putMid, bytesOf, part, length-part, part-add, length-bytesOf, part-number, test}
+use Rattle.basics.proofs.Prelude.{neither as both-off, _≡_, refl, sym, ap, _∙_, subst, Bool, true, false, _||_, false≢true, or-false, List, [], _∷_, _++_, append-assoc, ℕ, _+_, _-_, _≤_, zero-add, arith, length, take, drop, length-append, length-drop, drop-drop, length-take-le, take-all, take-at, drop-at, take-take, take-append-le, drop-append-add, putMid, bytesOf, part, length-part, part-add, length-bytesOf, part-number, test}
 use Rattle.rules.specs.{Device.Device, Numbering.Numbers}
 use Rattle.images.specs.Form.{Field, word, copy, irr, next, numbers, Form, one, two, numbered, is, listed, has, size, place, formLength, contentsLength, contentsOf, read}
 use Rattle.images.specs.Image.{fieldOf, encodeAs, registerAt, numberBody, numberBodyLength}
@@ -27,12 +27,8 @@ module _ (f : Form) (d : Device) (s : Numbers) where
     size = b .size ∙ a .size;
     head = b .head ∙ a .head;
     put = λ p h t. test (listed p rs) (b .put p h) (λ u. b .stays p h u ∙ a .put p h (sym (ap (λ x. x || listed p ps) u) ∙ sym (listed-append p rs ps) ∙ t));
-    stays = λ p h t. let u = neither (listed p rs) (listed p ps) (sym (listed-append p rs ps) ∙ t) in b .stays p h (u .0) ∙ a .stays p h (u .1);
+    stays = λ p h t. let u = both-off (listed p rs) (listed p ps) (sym (listed-append p rs ps) ∙ t) in b .stays p h (u .0) ∙ a .stays p h (u .1);
   }
-    where
-      neither : (s t : Bool) → (s || t) ≡ false → (s ≡ false) × (t ≡ false)
-      neither true t e = absurd (false≢true (sym e))
-      neither false t e = (refl, e)
 
   -- a field that the form lacks is listed for nothing
   pub puts-lacking : {ps : List Field} {l m : List ℕ} (rs : List Field) → ((p : Field) → has f p ≡ true → listed p rs ≡ listed p ps) → Puts f d s ps l m → Puts f d s rs l m

@@ -1,5 +1,5 @@
 -- The two phases (02, C-22): a reset starts the first; start-up ends only where no input is in service, and once; after it no vector byte changes.
-use Rattle.basics.proofs.Prelude.{_≡_, refl, sym, ap, _∙_, Bool, true, false, cond, _||_, true≢false, and-eq-true-iff, List, [], _∷_, ℕ, _%_, _≤_, arith, eqb, leb, length, eqb-true, eq-eqb, le-leb, leb-true, test}
+use Rattle.basics.proofs.Prelude.{neither, _≡_, refl, sym, ap, _∙_, Bool, true, false, cond, true≢false, and-eq-true-iff, List, [], _∷_, ℕ, _%_, _≤_, arith, eqb, leb, length, eqb-true, eq-eqb, le-leb, leb-true, test}
 use Rattle.rules.specs.{Core.turns, Core.vectorsAfter, Access.byte, Access.word, Access.dword, Access.qword}
 use Rattle.rules.specs.{Device.Device, Device.Call, Device.level, Device.poll, Device.read, Device.write, Device.drain, Device.none, Device.actsOf, Device.acted, Device.step, History.history}
 use Rattle.images.specs.Image.{ImageTest, imageTest, decode}
@@ -40,10 +40,6 @@ module _ (i p a : List ℕ) where
   unfolding endStartup
   done-end d = test (hoistRoom p a) (λ t. go t (imageTest i) refl (cannotEnd (running p) (decode i)) refl (rw t at d)) (λ t. absurd (let z : _≡_ {A = ℕ} 7 0 = rw t at d in omega arith))
     where
-      neither : (x y : Bool) → (x || y) ≡ false → (x ≡ false) × (y ≡ false)
-      neither true y e = absurd (true≢false e)
-      neither false y e = (refl, e)
-
       faults : (k : image.Fault) → faultNumber k ≡ 0 → ⊥
       faults image.copyDiffers e = omega arith
       faults image.manyWait e = omega arith

@@ -3,10 +3,10 @@ use Rattle.basics.proofs.Prelude.{_≡_, refl, sym, ap, ap₂, subst, _∙_, Bo
 use Rattle.rules.specs.{Device.Device, Device.Call, History.history}
 use Rattle.images.specs.{Form.Known, Form.unknown, Form.known, Form.formOf, Image.imageTest, Image.accepted, Image.decode}
 use Rattle.calls.specs.Calls.{pass, widthTest, addressTest, Request, calls, askedBy, resetAs, performed, answerLength, answered, bufferOf, written, Outcome, leaves, ended, ending, settled, outcome}
+use Rattle.calls.proofs.laws.Requests.{access-is, input-is, asked-is, passed}
 use Rattle.histories.specs.Premises.{Along, Admitted}
-use Rattle.histories.specs.exported.Exported.{Exported, Underway, carriedOn, NoLoads, doneCall, doneCalls, current, Faithful, returnedTo, drainedTo, returnedBy, drainedBy}
-use Rattle.histories.proofs.exported.laws.Chains.{passed, left-holds, handed, done-call, carried-on, faithful-kept}
-use Rattle.histories.proofs.exported.laws.Readings.{access-is, input-is, asked-is}
+use Rattle.histories.specs.exported.Exported.{Underway, carriedOn, NoLoads, doneCall, doneCalls, current, Faithful, returnedTo, drainedTo, returnedBy, drainedBy}
+use Rattle.histories.proofs.exported.laws.Chains.{left-holds, handed, done-call, carried-on, faithful-kept}
 use Rattle.hoists.specs.Profile.{running, Verdict, passes, unaligned, unfit, verdict}
 use Rattle.hoists.specs.HoistCalls.{judged, endsBy, hoistEnding, hoistRoom, hoistRead, hoistWrite, hoistReset}
 use Rattle.hoists.specs.Hoisted.{Asks, resets, reads, writes, ends, levels, polls, drains, Hoisted, unphased, leftUnder, leftBy, isDone, requestOf, exportedAs, plainCall, plainCalls, returnedOf, drainedOf, returnedUnder, drainedUnder}
@@ -95,10 +95,10 @@ module _ (i p a : List ℕ) (good : imageTest i ≡ accepted) (c : Call) where
   let-through (levels n v) d q e asks =
       let y = request.level n v in
       let x = device.level n (not (eqb v 0)) in
-      ap (verdict (running p) (decode i)) (input-is n x c (asked-is (ap askedBy (head y q e) ∙ asks)) .1)
+      ap (verdict (running p) (decode i)) (input-is n x c (asked-is (ap askedBy (head y q e) ∙ asks)))
   let-through (polls n) d q e asks =
       let y = request.poll n in
-      ap (verdict (running p) (decode i)) (input-is n (device.poll n) c (asked-is (ap askedBy (head y q e) ∙ asks)) .1)
+      ap (verdict (running p) (decode i)) (input-is n (device.poll n) c (asked-is (ap askedBy (head y q e) ∙ asks)))
   let-through (drains events place) d q e asks =
       let y = request.drain events place in
       ap (verdict (running p) (decode i)) (sym (passed (asked-is (ap askedBy (head y q e) ∙ asks))))

@@ -1,7 +1,7 @@
 -- 02, C-21, in exact numbers: every number of the sheet of a good trace is below 2 ^ 32, so that its four bytes tell it.
 use Rattle.basics.proofs.Prelude.{_≡_, refl, ap, subst, Bool, true, false, List, [], _∷_, ℕ, zero, suc, _+_, _*_, _^_, _<_, _≤_, max, arith, length, length-append, byteOf, half, test}
 use Rattle.rules.specs.{Lines.Made, Ring.Ring, Core.Core, Core.poll, Core.turns, Access.byte, Access.word, Access.dword, Access.qword, Access.dwordActs, Access.byteActs, Access.writeActs}
-use Rattle.rules.specs.{Account.tally, Device.Device, Device.Call, Device.level, Device.read, Device.write, Device.drain, Device.reset, Device.actsOf, Device.step}
+use Rattle.rules.specs.{Account.tally, Device.Call, Device.level, Device.read, Device.write, Device.drain, Device.reset, Device.actsOf, Device.step}
 use Rattle.laws.proofs.laws.{Images.reset-well-formed, Losses.acts-few, Losses.dword-short, Losses.byte-short}
 use Rattle.plain.specs.{Events.Note, Plain.Engine}
 use Rattle.plain.specs.Sequence.{Item, call, load, refused, loadOf, takes, ringWith, notesOf, Ported, portedFollows, portedAfter}

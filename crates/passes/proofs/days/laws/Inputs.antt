@@ -1,5 +1,6 @@
 -- Every event is of one of the 64 inputs, so what is counted for each of them adds up to what is counted of all.
 use Rattle.basics.proofs.Prelude.{_≡_, refl, _∙_, Bool, true, false, cond, _&&_, List, [], _∷_, _++_, map, ℕ, zero, suc, _+_, _<_, _≤_, arith, eqb, eqb-true, eqb-false, ne-eqb, from, inputs, on, only, put, without, withHalf, test, first-has}
+use Rattle.passes.proofs.laws.Finishing.{nearer}
 use Rattle.rules.specs.Lines.{Lines, Made, event, withMask, withIrr, pendingIn, servedIn, serve, enter, leave, newlyUnmasked, newlyMasked, polled, raised, lowered, cleared, masked}
 use Rattle.rules.specs.Ring.{Ring}
 use Rattle.rules.specs.Core.{Core, Act, Move, move, setIsr, store, setVector, poll, raise, lower, clear, setMask, moved, lineTurn, turn, turns}
@@ -108,9 +109,6 @@ hit-one true i (suc k) h =
     test (eqb i k)
     (λ t. rw t (omega (arith, hit-none true i k (omega (arith, eqb-true i k t)))))
     (λ t. rw t (omega (arith, hit-one true i k (nearer i k (eqb-false i k t) h))))
-  where
-    nearer : (i k : ℕ) → (i ≡ k → ⊥) → i < suc k → i < k
-    nearer i k d h = omega (arith, d, h)
 hit-one false i (suc k) h = omega (arith, sum-none k)
 
 pub all-of-each : (p : Note → Bool) (h : List Note) → FewNotes h → sumBelow 64 (λ n. tally (λ x. p x && eqb (x .input) n) h) ≡ tally p h

@@ -1,6 +1,6 @@
 -- What a drain of all leaves of an accepted image, whatever the bytes were that it was lent; and what any call leaves in an answer area of its own.
 use Rattle.basics.proofs.Prelude.{_≡_, refl, sym, ap, _∙_, List, _++_, ℕ, _+_, _-_, _*_, _/_, _≤_, zero-le, zero-add, arith, length, take, drop, replicate, drop-of-length-le, take-at, le-leb, Bytes}
-use Rattle.rules.specs.{Ring.capacity, Device.Device, Device.WellFormed, Device.Value, Device.value, Device.step, Device.amount}
+use Rattle.rules.specs.{Ring.capacity, Device.WellFormed, Device.Value, Device.value, Device.step, Device.amount}
 use Rattle.rules.specs.Numbering.{WellNumbered, Numbered, drainedLength, quadsOf, numbersAfter, drainedWith, valueWith}
 use Rattle.images.specs.Image.{accepted, imageTest, encodeLike, decode, numbersIn}
 use Rattle.calls.specs.Calls.{pass, Request, answerLength, answered, bufferOf, placeOf, written, Ending, ending, settled, Outcome, outcome}
