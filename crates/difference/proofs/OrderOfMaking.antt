@@ -9,7 +9,7 @@ use Rattle.difference.proofs.Integers.{over, under, same, minus, negate
 use Rattle.difference.proofs.OneDifference.{congruent-by, only-difference}
 
 module _ (p q : ℕ) where
-  of-places : over (pos p -ℤ pos q) + q ≡ under (pos p -ℤ pos q) + p
+  pub of-places : over (pos p -ℤ pos q) + q ≡ under (pos p -ℤ pos q) + p
   of-places = let h = minus (pos p) (pos q) in omega arith
 
   -- the difference of the numbers is that of the places

@@ -1,5 +1,5 @@
 -- Route and vector bytes by their offsets: a single one, a run of them, and the accesses that are a run.
-use Rattle.basics.proofs.Prelude.{_≡_, refl, sym, ap, _∙_, _⊎_, inl, inr, ⊎-elim, Bool, true, false, not, cond, _&&_, _||_, false≢true, and-eq-true-iff, List, [], _∷_, _++_, append-nil, append-assoc, ℕ, zero, suc, _+_, _-_, _*_, _/_, _%_, _^_, _<_, _≤_, arith, eqb, length, take, drop, getD, set, sets, sets-eq, drop-cons, eqb-true, numberOf, bytesOf, byteOf, part, test, length-bytesOf}
+use Rattle.basics.proofs.Prelude.{four-bytes, _≡_, refl, sym, ap, _∙_, _⊎_, inl, inr, ⊎-elim, Bool, true, false, not, cond, _&&_, _||_, false≢true, and-eq-true-iff, List, [], _∷_, _++_, append-nil, append-assoc, ℕ, zero, suc, _+_, _-_, _*_, _/_, _%_, _^_, _<_, _≤_, arith, eqb, length, take, drop, getD, set, sets, sets-eq, drop-cons, eqb-true, numberOf, bytesOf, byteOf, part, test, length-bytesOf}
 use Rattle.laws.proofs.laws.{Losses.entry-quiet, Maps.Elsewhere, Maps.outside, Maps.inside, Maps.inside-from, Maps.not-route, Maps.lookup-bytes}
 use Rattle.laws.proofs.laws.Widths.{entry-route, entry-vector, entry-none, dword-of}
 use Rattle.laws.proofs.laws.Writes.{acted-store, acted-vector, entry-acts-route, entry-acts-vector, entry-acts-none, dword-acts-of}
@@ -120,10 +120,6 @@ eight-read i o run r d ns h =
     r d ns h ∙ both ∙ ap (λ k. numberOf (entriesOf c o 4) + 2 ^ 32 * numberOf (entriesOf c k 4)) four ∙ (λ t. low t + 2 ^ 32 * high t)
 
 -- ---- written
-
--- the four low bytes of a number, as they come off it one after another
-four-bytes : (v : ℕ) → (byteOf v 0 ≡ v % 256) × (byteOf v 1 ≡ v / 256 % 256) × (byteOf v 2 ≡ v / 256 / 256 % 256) × (byteOf v 3 ≡ v / 256 / 256 / 256 % 256)
-four-bytes v = (omega arith, omega arith, omega arith, omega arith)
 
 -- four bytes of a run are a Dword's, and eight a Qword's
 four-acts : (o v : ℕ) → entriesActs o 4 v ≡ cellActs o v bytes

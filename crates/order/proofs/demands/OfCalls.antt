@@ -1,12 +1,12 @@
 -- 02, C-19, of exported calls on images with the fifth body, each given the image that the one before it left. A refused call counts as none.
-use Rattle.basics.proofs.Prelude.{_≡_, refl, sym, ap₂, subst, _∙_, true, List, [], _∷_, _++_, map-append, arith, ℕ, length, Bytes, test}
+use Rattle.basics.proofs.Prelude.{ap, _≡_, refl, sym, subst, _∙_, true, List, [], _∷_, _++_, map-append, arith, ℕ, length, Bytes, test}
 use Rattle.rules.specs.{Device.reset, Numbering.Numbered, Numbering.fromZero, Numbering.eventsIn, History.history}
 use Rattle.images.specs.{Form.Form, Form.one, Form.two, Form.numbered, Form.numbers, Form.has, Form.formLength, Image.encodeAs, Image.decode, Image.numbersIn, Image.imageTest, Image.accepted}
-use Rattle.calls.specs.Calls.{Request, presentIn, afresh, askedBy}
-use Rattle.histories.specs.exported.Exported.{Exported, leftBy, isDone, Underway, carriedThrough, NoLoads, HandedOn, doneCalls, leftAfter, current, inImage, Faithful, atLoad, afterReset, returnedTo, drainedTo, returnedBy, drainedBy}
+use Rattle.calls.specs.Calls.{afresh, askedBy}
+use Rattle.histories.specs.exported.Exported.{numberedTo, quadsTo, Exported, leftBy, isDone, Underway, carriedThrough, NoLoads, HandedOn, doneCalls, leftAfter, current, inImage, Faithful, atLoad, afterReset, returnedTo, drainedTo, returnedBy, drainedBy}
 use Rattle.histories.proofs.exported.laws.Chains.{current-well, left-length, left-holds, faithful-at-load, faithful-after-reset, reset-leaves}
 use Rattle.histories.proofs.exported.demands.FromCalls.{image-holds-numbers, image-holds-history, numbers-run-through, handed-on-is-no-load, left-through}
-use Rattle.order.specs.{Numbered.InOrder, Read.numberedTo, Read.quadsTo, Read.returnedRead, Read.drainedRead}
+use Rattle.order.specs.{Numbered.InOrder, Read.returnedRead, Read.drainedRead}
 use Rattle.order.proofs.{laws.Reading.read-as, demands.OfHistories.numbers-are-positions}
 use Rattle.calls.specs.Calls as request
 
@@ -65,28 +65,12 @@ numbers-from-reset x a t l xs o =
 -- ---- without the numbers
 
 -- The events that a host reads with their numbers are, without them, those that it reads of any form.
-events-returned : (q : Request) (a : List ℕ) → eventsIn (numberedTo q a) ≡ returnedTo q a
-events-returned request.reset a = refl
-events-returned (request.read base size address width) a = refl
-events-returned (request.write base size address width v) a = refl
-events-returned (request.level n v) a = test (presentIn a) (λ t. rw t) (λ t. rw t)
-events-returned (request.poll n) a = test (presentIn a) (λ t. rw t) (λ t. rw t)
-events-returned (request.drain buffer place) a = refl
-
-events-drained : (q : Request) (a e : List ℕ) → eventsIn (quadsTo q a e) ≡ drainedTo q a e
-events-drained request.reset a e = refl
-events-drained (request.read base size address width) a e = refl
-events-drained (request.write base size address width v) a e = refl
-events-drained (request.level n v) a e = refl
-events-drained (request.poll n) a e = refl
-events-drained (request.drain buffer place) a e = refl
-
 pub returned-without : (xs : List Exported) → eventsIn (returnedRead xs) ≡ returnedBy xs
 unfolding returnedRead returnedBy
 returned-without [] = refl
 returned-without (x ∷ xs) =
     test (isDone x)
-    (λ t. rw t (map-append (λ (y : Numbered). y .event) (numberedTo (x .asked) (leftBy x .answer)) (returnedRead xs) ∙ ap₂ _++_ (events-returned (x .asked) (leftBy x .answer)) (returned-without xs)))
+    (λ t. rw t (map-append (λ (y : Numbered). y .event) (numberedTo (x .asked) (leftBy x .answer)) (returnedRead xs) ∙ ap (λ es. returnedTo (x .asked) (leftBy x .answer) ++ es) (returned-without xs)))
     (λ t. rw t (returned-without xs))
 
 pub drained-without : (xs : List Exported) → eventsIn (drainedRead xs) ≡ drainedBy xs
@@ -94,5 +78,5 @@ unfolding drainedRead drainedBy
 drained-without [] = refl
 drained-without (x ∷ xs) =
     test (isDone x)
-    (λ t. rw t (map-append (λ (y : Numbered). y .event) (quadsTo (x .asked) (leftBy x .answer) (leftBy x .events)) (drainedRead xs) ∙ ap₂ _++_ (events-drained (x .asked) (leftBy x .answer) (leftBy x .events)) (drained-without xs)))
+    (λ t. rw t (map-append (λ (y : Numbered). y .event) (quadsTo (x .asked) (leftBy x .answer) (leftBy x .events)) (drainedRead xs) ∙ ap (λ es. drainedTo (x .asked) (leftBy x .answer) (leftBy x .events) ++ es) (drained-without xs)))
     (λ t. rw t (drained-without xs))

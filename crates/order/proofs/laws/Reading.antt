@@ -1,16 +1,16 @@
 -- What a host reads of exported calls on images with the fifth body: the events that their calls of the device return and drain, each with its number.
-use Rattle.basics.proofs.Prelude.{_≡_, refl, sym, ap, ap₂, _∙_, Bool, true, false, cond, not, List, [], _∷_, _++_, append-nil, append-assoc, ℕ, zero, suc, _-_, _/_, _%_, _^_, _<_, _≤_, eqb, length, take, drop, getD, test, Each}
+use Rattle.basics.proofs.Prelude.{_≡_, refl, sym, ap, ap₂, _∙_, Bool, true, false, cond, not, List, [], _∷_, _++_, append-nil, append-assoc, ℕ, zero, suc, _-_, _/_, _^_, _<_, _≤_, eqb, length, take, drop, getD, test, Each}
+use Rattle.histories.proofs.exported.laws.Readings.{none-answered, some-answered, level-single, poll-single, returned-below, drained-told}
+use Rattle.histories.specs.exported.Exported.{inAnswer, numberedTo, quadsTo, Exported, leftBy, isDone, isLoad, Underway, carriedOn, NoLoads, doneCall, doneCalls, current, Faithful, numbersThrough}
+use Rattle.histories.proofs.{laws.WellFormed.step-events, exported.laws.Chains.current-well, exported.laws.Chains.handed, exported.laws.Chains.carried-on, exported.laws.Chains.faithful-kept}
+use Rattle.histories.proofs.exported.demands.FromCalls.{image-holds-numbers}
 use Rattle.rules.specs.{Ring.Event, Ring.ringRun, Device.Device, Device.WellFormed, Device.Call, Device.Value, Device.none, Device.some, Device.step, Device.amount}
 use Rattle.rules.specs.Numbering.{Numbers, WellNumbered, Numbered, withNumbers, drainedLength, quadsIn, numbersAfter, drainedWith, valueWith}
 use Rattle.rules.specs.History.{history}
 use Rattle.images.specs.{Form.numbers, Form.has, Image.numbersIn}
 use Rattle.calls.specs.Calls.{pass, Request, calls, askedBy, answered, bufferOf, placeOf, written, Outcome}
-use Rattle.calls.proofs.laws.{Requests.by-request, Answers.none-read, Answers.some-read, Answers.value-read, Answers.quads-read}
-use Rattle.histories.specs.exported.Exported.{Exported, leftBy, isDone, isLoad, Underway, carriedOn, NoLoads, doneCall, doneCalls, current, Faithful, numbersThrough}
-use Rattle.histories.proofs.{laws.WellFormed.step-events, exported.laws.Chains.current-well, exported.laws.Chains.handed, exported.laws.Chains.carried-on, exported.laws.Chains.faithful-kept}
-use Rattle.histories.proofs.exported.{laws.Readings.level-single, laws.Readings.poll-single, laws.Readings.returned-below, laws.Readings.drained-told, demands.FromCalls.image-holds-numbers}
-use Rattle.order.specs.Numbered.{inValue, returnedOf, returnedThrough, drainedThrough}
-use Rattle.order.specs.Read.{inAnswer, numberedTo, quadsTo, returnedRead, drainedRead}
+use Rattle.calls.proofs.laws.{Requests.by-request, Answers.quads-read}
+use Rattle.order.specs.{Numbered.inValue, Numbered.returnedOf, Numbered.returnedThrough, Numbered.drainedThrough, Read.returnedRead, Read.drainedRead}
 use Rattle.rules.specs.Device as device
 use Rattle.calls.specs.Calls as request
 use Rattle.order.proofs.laws.Computed as computed
@@ -19,10 +19,8 @@ use Rattle.order.proofs.laws.Computed as computed
 
 -- an answer area holds the event of a value
 in-answer : (b : Bool) (x : Value) (a : List ℕ) → amount x < 2 ^ 64 → inAnswer b (answered 0 x a) ≡ inValue b x
-in-answer b none a h = rw (none-read 0 a)
-in-answer b (some v) a h =
-    rw (some-read 0 a v)
-    (λ i. record { event = record { vector = value-read 0 a v h i % 256; asserted = b }; number = value-read 0 a v h i / 2 ^ 16 } ∷ [])
+in-answer b none a h = none-answered b a
+in-answer b (some v) a h = some-answered b v a h
 
 -- the numbers of those drained have 16 bits
 each-with : (es : List Event) (ns : List ℕ) (k : ℕ) → ((i : ℕ) → getD ns i 0 < 2 ^ 16) → Each (λ (x : Numbered). x .number < 2 ^ 16) (withNumbers es (take k ns))

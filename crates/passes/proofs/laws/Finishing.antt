@@ -1,9 +1,12 @@
 -- The grid before the first record, and after the last: which number stands where.
-use Rattle.basics.proofs.Prelude.{_≡_, refl, sym, ap, _∙_, Bool, true, cond, not, List, [], _∷_, _++_, ℕ, zero, suc, _+_, _%_, _^_, _<_, _≤_, arith, eqb, eqb-true, eqb-false, eq-eqb, ne-eqb, on, from, test, on-not, on-none}
+use Rattle.basics.proofs.Prelude.{max, _^_, _<_, _≡_, ℕ, arith, suc, refl, sym, ap, _∙_, Bool, true, cond, not, List, [], _∷_, _++_, zero, _+_, _%_, _≤_, eqb, eqb-true, eqb-false, eq-eqb, ne-eqb, on, from, test, on-not, on-none}
 use Rattle.passes.specs.{tallies.Grid.Grid, tallies.Grid.put, Finish.rowCleared, Finish.cleared, Finish.allInputs, Finish.isOn, Finish.shut, Finish.joined, Finish.rowJoined, Finish.finished}
 
 pub nearer : (n k : ℕ) → (n ≡ k → ⊥) → n < suc k → n < k
 nearer n k d h = omega (arith, d, h)
+
+pub max-small : (a b : ℕ) → a < 2 ^ 32 → b < 2 ^ 32 → max a b < 2 ^ 32
+max-small a b p q = omega arith
 
 -- ---- one number put
 

@@ -1,5 +1,10 @@
 -- The grid that the marks of a day leave, finished, is the day's sheet.
 use Rattle.basics.proofs.Prelude.{_≡_, refl, sym, ap, subst, _∙_, Bool, true, false, cond, List, [], _∷_, _++_, map, ℕ, zero, suc, _+_, _%_, _^_, _<_, _≤_, max, arith, eqb, length, eqb-true, bytesOf, on, inputs, test}
+use Rattle.passes.proofs.laws.Finishing.{max-small, all-cleared, row-zero, row-kept, shutRow, totalOf, finishes}
+use Rattle.passes.proofs.{tallies.laws.Grids.low-four, laws.Marking.addedIn, laws.Marking.all-marked-at, laws.Marking.AllSoon, laws.Marking.rows-marked}
+use Rattle.passes.proofs.laws.Recording.{Closed, day-closes}
+use Rattle.passes.proofs.laws.Counting.{history-is, levels-added, moments-level, asserts-added, deasserts-added, returned-added, offered-added, dropped-added}
+use Rattle.passes.proofs.laws.Bytes.{sheet-is}
 use Rattle.rules.specs.{Lines.Lines, Lines.Made, Ring.Ring, Core.Act, Core.move, Core.raise, Core.lower, Core.poll, Core.clear, Core.setMask, Core.setIsr, Core.store, Core.setVector, Core.turn}
 use Rattle.rules.specs.{Account.tally, Device.Device, Device.reset, Device.actsOf, Device.acted}
 use Rattle.laws.proofs.laws.Images.{reset-well-formed}
@@ -9,10 +14,6 @@ use Rattle.sheets.specs.{Day.begun, Day.moments, Day.Day, Day.dayFrom, Waits.as
 use Rattle.sheets.specs.Sheet.{columnOf, Row, returnedOf, offeredOf, droppedOf, rowOf, emptyRow, together, totalBelow, sheetBytes}
 use Rattle.passes.specs.tallies.{Grid.Grid, Grid.Holds, Marks.Mark, Marks.happened, Marks.takenBack, Marks.idleIn, Marks.allMarked, Marks.besides, Marks.actMarks, Marks.marksOf, Marks.dayMarks}
 use Rattle.passes.specs.{Slots.NoLoad, Slots.Slot, Slots.slotAll, Slots.notesIn, Slots.Rows, Finish.rowCleared, Finish.cleared, Finish.allInputs, Finish.isOn, Finish.joined, Finish.finished}
-use Rattle.passes.proofs.{tallies.laws.Grids.low-four, laws.Marking.addedIn, laws.Marking.all-marked-at, laws.Marking.AllSoon, laws.Marking.rows-marked}
-use Rattle.passes.proofs.laws.Recording.{Closed, day-closes}
-use Rattle.passes.proofs.laws.Counting.{history-is, levels-added, moments-level, asserts-added, deasserts-added, returned-added, offered-added, dropped-added}
-use Rattle.passes.proofs.laws.{Finishing.all-cleared, Finishing.row-zero, Finishing.row-kept, Finishing.shutRow, Finishing.totalOf, Finishing.finishes, Bytes.sheet-is}
 use Rattle.rules.specs.Device as device
 
 -- ---- the numbers of records are small
@@ -173,9 +174,6 @@ module _ (xs : List Item) (l : NoLoad xs) where
     unfolding totalBelow
     great-total zero h = omega arith
     great-total (suc k) h = max-small _ _ (great-total k (omega arith)) (great-small k (omega arith))
-      where
-        max-small : (a b : ℕ) → a < 2 ^ 32 → b < 2 ^ 32 → max a b < 2 ^ 32
-        max-small a b p q = omega arith
 
     -- joined as four bytes hold it
     joined-held : (c a b : ℕ) → (c ≡ 7 → (a < 2 ^ 32) × (b < 2 ^ 32)) → joined c (a % 2 ^ 32) (b % 2 ^ 32) % 2 ^ 32 ≡ joined c a b % 2 ^ 32

@@ -1,12 +1,8 @@
 -- Bytes written one after another: the Dword and the Word that they make, and how many acts they are.
-use Rattle.basics.proofs.Prelude.{_≡_, sym, _∙_, false, append-assoc, ℕ, zero, suc, _+_, _*_, _≤_, add-zero, arith, length, length-append, byteOf, half}
+use Rattle.basics.proofs.Prelude.{_≡_, sym, _∙_, append-assoc, ℕ, zero, suc, _+_, _*_, _≤_, add-zero, arith, length, length-append, byteOf}
 use Rattle.rules.specs.{Core.Core, Core.turns, Map.bytes, Map.cellAt, Access.word, Access.dwordActs, Access.byteActs, Access.writeActs}
 use Rattle.laws.proofs.laws.{Writes.dword-acts-four, Losses.byte-short}
 use Rattle.port.specs.write_cell.Writes.{bytesActs}
-
--- the low half keeps the low bytes
-pub low-bytes : (v w : ℕ) → w ≡ half false v → (byteOf w 0 ≡ byteOf v 0) × (byteOf w 1 ≡ byteOf v 1)
-low-bytes v w e = (omega arith, omega arith)
 
 module _ (c : Core) (o v : ℕ) where
   pub four-bytes : cellAt o ≡ bytes → bytesActs c o v 4 ≡ dwordActs o v

@@ -12,7 +12,7 @@ tracing = 0
 
 -- ---- a trace
 
-abbrev bytesAs : (kind byte offset value : ℕ) → List ℕ
+abbrev pub bytesAs : (kind byte offset value : ℕ) → List ℕ
 bytesAs kind byte offset value = kind ∷ byte ∷ (bytesOf 2 offset ++ (replicate 4 0 ++ bytesOf 8 value))
 
 -- two blocks: the first with a raise, the second with a write and a drain

@@ -12,7 +12,7 @@ use Rattle.images.specs.Image.{numbersIn}
 use Rattle.calls.specs.Calls.{pass, Request, calls, askedBy, answered, valueIn, bufferOf, placeOf, written, Outcome}
 use Rattle.calls.proofs.laws.{Requests.by-request, Answers.none-read, Answers.some-read, Answers.value-read, Answers.length-with, Answers.events-with, Answers.events-read}
 use Rattle.histories.specs.Demands.{returnedIn}
-use Rattle.histories.specs.exported.Exported.{Exported, leftBy, isDone, isLoad, Underway, carriedOn, NoLoads, doneCall, doneCalls, current, Faithful, eventIn, returnedTo, drainedTo, returnedBy, drainedBy}
+use Rattle.histories.specs.exported.Exported.{Exported, leftBy, isDone, isLoad, Underway, carriedOn, NoLoads, doneCall, doneCalls, current, Faithful, inAnswer, returnedTo, drainedTo, returnedBy, drainedBy}
 use Rattle.laws.proofs.laws.Sets.{only-served}
 use Rattle.histories.proofs.laws.{Reach.ReturnsNone, Reach.write-returns-none, Folds.fold-acts, Folds.history-append, Draining.returned-append, WellFormed.ByteEvents, WellFormed.step-events}
 use Rattle.histories.proofs.exported.laws.Chains.{current-well, handed, faithful-on, carried-on}
@@ -54,10 +54,19 @@ abbrev eventOf : Bool → Value → List Event
 eventOf b none = []
 eventOf b (some v) = record { vector = v % 256; asserted = b } ∷ []
 
--- an answer area holds it
-event-read : (b : Bool) (x : Value) (a : List ℕ) → amount x < 2 ^ 64 → eventIn b (answered 0 x a) ≡ eventOf b x
-event-read b none a h = rw (none-read 0 a)
-event-read b (some v) a h = rw (some-read 0 a v) (λ i. record { vector = value-read 0 a v h i % 256; asserted = b } ∷ [])
+-- an answer area holds it, with its number
+pub none-answered : (b : Bool) (a : List ℕ) → inAnswer b (answered 0 none a) ≡ []
+none-answered b a = rw (none-read 0 a)
+
+pub some-answered : (b : Bool) (v : ℕ) (a : List ℕ) → v < 2 ^ 64
+    → inAnswer b (answered 0 (some v) a) ≡ record { event = record { vector = v % 256; asserted = b }; number = v / 2 ^ 16 } ∷ []
+some-answered b v a h =
+    rw (some-read 0 a v)
+    (λ i. record { event = record { vector = value-read 0 a v h i % 256; asserted = b }; number = value-read 0 a v h i / 2 ^ 16 } ∷ [])
+
+event-read : (b : Bool) (x : Value) (a : List ℕ) → amount x < 2 ^ 64 → eventsIn (inAnswer b (answered 0 x a)) ≡ eventOf b x
+event-read b none a h = ap eventsIn (none-answered b a)
+event-read b (some v) a h = ap eventsIn (some-answered b v a h)
 
 -- the vector is a byte, and the number has 16 bits behind it
 module _ (s : Numbers) (h : s .next < 2 ^ 16) where
@@ -72,7 +81,7 @@ module _ (s : Numbers) (h : s .next < 2 ^ 16) where
   returned-below b ms nothing e = lit< tt
   returned-below b ms (one m o a) e = rw o (omega (arith, e 0, h))
 
-  single-read : (b : Bool) (ms : List Made) (a : List ℕ) → Single b ms → ByteEvents ms → eventIn b (answered 0 (returnedWith s ms) a) ≡ returnedIn ms
+  single-read : (b : Bool) (ms : List Made) (a : List ℕ) → Single b ms → ByteEvents ms → eventsIn (inAnswer b (answered 0 (returnedWith s ms) a)) ≡ returnedIn ms
   single-read b ms a t e = event-read b (returnedWith s ms) a (returned-below b ms t e) ∙ single-returned b ms t e
 
 -- ---- a write returns none

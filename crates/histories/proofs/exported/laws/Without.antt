@@ -4,9 +4,9 @@ use Rattle.rules.specs.{Lines.Made, Ring.flag, Ring.Event, Ring.ringRun, Device
 use Rattle.rules.specs.Numbering.{Numbers, WellNumbered, numbersAfter, Numbered, drainedLength, quadsOf, quadsIn, eventsIn, returnedWith, drainedWith, valueWith}
 use Rattle.rules.proofs.laws.Numbered.{numbers-step}
 use Rattle.images.{specs.Form.Form, specs.Form.numbers, specs.Form.has, specs.Form.formLength, specs.Image.encodeAs, specs.Image.encodeLike, specs.Image.numbersIn, proofs.laws.Saved.encode-without}
-use Rattle.calls.specs.Calls.{Tested, pass, Request, afresh, calls, askedBy, answered, valueIn, bufferOf, placeOf, written, Outcome}
+use Rattle.calls.specs.Calls.{Tested, pass, Request, afresh, calls, askedBy, answered, presentIn, valueIn, bufferOf, placeOf, written, Outcome}
 use Rattle.calls.proofs.laws.Requests.{by-request}
-use Rattle.histories.specs.exported.Exported.{Exported, leftBy, isDone, withoutNumber, quadsWithout, withoutNumbers, answerWithout, eventsWithout, unnumbered, isLoad, Underway, current, Faithful, eventIn, returnedTo, drainedTo, lostTo}
+use Rattle.histories.specs.exported.Exported.{Exported, leftBy, isDone, withoutNumber, quadsWithout, withoutNumbers, answerWithout, eventsWithout, unnumbered, isLoad, Underway, current, Faithful, inAnswer, returnedTo, drainedTo, lostTo}
 use Rattle.laws.proofs.laws.Images.{encode-as, numbers-encode}
 use Rattle.histories.proofs.laws.WellFormed.{ByteEvents, step-events, step-well}
 use Rattle.histories.proofs.exported.laws.Chains.{current-well, left-length, Handed, handed}
@@ -158,10 +158,13 @@ vector-without a = low-byte (drop 8 a) ∙ ap (λ n. n % 256) (stays a) ∙ sym 
         getD-drop 8 a 0 0 ∙ sym (getD-set-other a 10 8 0 0 (λ e. omega (arith, e))) ∙ sym (getD-set-other (set a 10 0) 11 8 0 0 (λ e. omega (arith, e)))
         ∙ sym (getD-drop 8 (set (set a 10 0) 11 0) 0 0)
 
-event-without : (b : Bool) (a : List ℕ) → eventIn b a ≡ eventIn b (set (set a 10 0) 11 0)
+event-without : (b : Bool) (a : List ℕ) → eventsIn (inAnswer b a) ≡ eventsIn (inAnswer b (set (set a 10 0) 11 0))
 event-without b a =
     let flag-stays : getD a 1 0 ≡ getD (set (set a 10 0) 11 0) 1 0 = sym (getD-set-other a 10 1 0 0 (λ e. omega (arith, e))) ∙ sym (getD-set-other (set a 10 0) 11 1 0 0 (λ e. omega (arith, e))) in
-    (λ i. cond (eqb (flag-stays i) 1) (record { vector = vector-without a i; asserted = b } ∷ []) [])
+    told a ∙ (λ i. cond (eqb (flag-stays i) 1) (record { vector = vector-without a i; asserted = b } ∷ []) []) ∙ sym (told (set (set a 10 0) 11 0))
+  where
+    told : (a : List ℕ) → eventsIn (inAnswer b a) ≡ cond (presentIn a) (record { vector = valueIn a % 256; asserted = b } ∷ []) []
+    told a = test (presentIn a) (λ t. rw t) (λ t. rw t)
 
 pub returned-without : (q : Request) (a : List ℕ) → returnedTo q a ≡ returnedTo q (withoutNumber q a)
 returned-without request.reset a = refl

@@ -1,7 +1,7 @@
 -- `write_register` is right since each width has its writer, a depth of 2 is enough for any offset, and the low half keeps the low bytes.
-use Rattle.basics.proofs.Prelude.{sym, _∙_, arith, needs}
+use Rattle.basics.proofs.Prelude.{low-bytes, sym, _∙_, arith, needs}
 use Rattle.rules.specs.Access.{writeActs}
-use Rattle.port.proofs.{write_cell.Bytes.low-bytes, write_cell.Bytes.word-bytes, write_cell.Acted.writes-acts, by_width.write_register.Statement.statement}
+use Rattle.port.proofs.{write_cell.Bytes.word-bytes, write_cell.Acted.writes-acts, by_width.write_register.Statement.statement}
 use Rattle.port.proofs.by_width.write_register.Tie as tie
 
 pub write-register-spec : {M : Type 1} → statement M
