@@ -11,10 +11,11 @@ mod loongarch_pch_pic;
 pub use axdevice_base::{AccessWidth, DeviceError};
 pub use axvm_types::GuestPhysAddr;
 pub use log::take_warnings;
-pub use loongarch_pch_pic::{LoongArchPchPic, PchPicOutputEvent, PchPicOutputPort, Plain};
+pub use loongarch_pch_pic::*;
 
 use alloc::{string::String, sync::Arc, vec::Vec};
 use axdevice_base::{Device, InterruptControllerId, VirtualInterruptController};
+use core::marker::PhantomData;
 
 #[derive(Debug)]
 pub enum DeviceManagerError {
@@ -107,11 +108,15 @@ impl DeviceFirmwareSpec {
     }
 }
 
-pub struct DeviceBuildContext<'a>(&'a (u64, u64));
+pub struct DeviceBuildContext<'a>((u64, u64), PhantomData<&'a ()>);
 
 impl DeviceBuildContext<'_> {
+    pub fn new(base: u64, length: u64) -> Self {
+        DeviceBuildContext((base, length), PhantomData)
+    }
+
     pub fn mmio(&self, _: &ResourceSlot) -> DeviceManagerResult<(u64, u64)> {
-        Ok(*self.0)
+        Ok(self.0)
     }
 }
 
@@ -128,11 +133,12 @@ pub enum DeviceRegistration {
     InterruptController(ControllerRegistration),
 }
 
-pub struct DeviceBundle;
+/// What a factory built: of it only the device on the bus is kept.
+pub struct DeviceBundle(DeviceRegistration);
 
 impl DeviceBundle {
-    pub fn from_registration(_: DeviceRegistration) -> Self {
-        DeviceBundle
+    pub fn from_registration(registration: DeviceRegistration) -> Self {
+        DeviceBundle(registration)
     }
 
     pub fn with_service<K: ServiceKey>(self, _: Arc<K::Service>) -> DeviceManagerResult<Self> {
@@ -140,6 +146,14 @@ impl DeviceBundle {
     }
 
     pub fn push(&mut self, _: DeviceRegistration) {}
+
+    /// The device that was registered first.
+    pub fn device(self) -> Arc<dyn Device> {
+        match self.0 {
+            DeviceRegistration::Device(device) => device,
+            DeviceRegistration::InterruptController(_) => unreachable!("a factory registers its device first"),
+        }
+    }
 }
 
 pub trait DeviceModel {

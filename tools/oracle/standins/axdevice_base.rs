@@ -37,6 +37,10 @@ pub struct DeviceAccess {
 }
 
 impl DeviceAccess {
+    pub fn new(bus: BusKind, address: u64, width: AccessWidth) -> Self {
+        DeviceAccess { bus, address, width }
+    }
+
     pub fn bus(&self) -> BusKind {
         self.bus
     }
