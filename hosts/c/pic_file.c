@@ -1,5 +1,5 @@
 /* A device in a file: 8 bytes of magic, the image's length (4 bytes), the image, and a checksum of all before it (4 bytes); numbers have the
- * little end first. The checksum is the usual CRC-32, as in gzip. hosts/rust writes and reads the same files. */
+ * little end first. What a host keeps with it stands behind the image and counts in the length: of a hoist that is its phase, one byte. The checksum is the usual CRC-32, as in gzip. hosts/rust writes and reads the same files. */
 #define _POSIX_C_SOURCE 200809L
 #include "pic.h"
 
@@ -11,7 +11,7 @@
 #include <time.h>
 #include <unistd.h>
 
-enum { MAGIC_LEN = 8, HEAD_LEN = MAGIC_LEN + 4, SUM_LEN = 4, MOST_LEN = HEAD_LEN + PCH_PIC_IMAGE2_NUMBERED_LEN + SUM_LEN, PATH_LEN = 4096 };
+enum { MAGIC_LEN = 8, HEAD_LEN = MAGIC_LEN + 4, SUM_LEN = 4, MOST_LEN = HEAD_LEN + PCH_PIC_IMAGE2_NUMBERED_LEN + PIC_KEPT_MAX + SUM_LEN, PATH_LEN = 4096 };
 enum { MOST_LINKS = 40, MOST_NAMES = 100 };
 
 static const uint8_t magic[MAGIC_LEN] = {'P', 'C', 'H', '-', 'P', 'I', 'C', '\n'};
@@ -166,18 +166,26 @@ int pic_replace(const char *path, const uint8_t *bytes, size_t len)
     return sync_folder(whole) ? PCH_PIC_DONE : PIC_FILE;
 }
 
-int pic_save(const struct pic *pic, enum pic_form form, const char *path)
+int pic_save_with(const struct pic *pic, enum pic_form form, const uint8_t *kept, size_t kept_len, const char *path)
 {
     uint8_t bytes[MOST_LEN];
-    size_t image_len = pic_image(pic, form, bytes + HEAD_LEN), summed = HEAD_LEN + image_len;
-    if (image_len == 0) {
+    size_t image_len = pic_image(pic, form, bytes + HEAD_LEN), summed = HEAD_LEN + image_len + kept_len;
+    if (image_len == 0 || kept_len > PIC_KEPT_MAX) {
         errno = EINVAL;
         return PIC_FILE;
     }
     memcpy(bytes, magic, MAGIC_LEN);
-    put(bytes + MAGIC_LEN, (uint32_t)image_len);
+    put(bytes + MAGIC_LEN, (uint32_t)(image_len + kept_len));
+    if (kept_len != 0) {
+        memcpy(bytes + HEAD_LEN + image_len, kept, kept_len);
+    }
     put(bytes + summed, checksum(bytes, summed));
     return pic_replace(path, bytes, summed + SUM_LEN);
+}
+
+int pic_save(const struct pic *pic, enum pic_form form, const char *path)
+{
+    return pic_save_with(pic, form, NULL, 0, path);
 }
 
 /* Whether len bytes are a saved device of any length: 0, or what is wrong. */
@@ -206,7 +214,7 @@ static int open_plain(const char *path)
 }
 
 /* More is asked for than a device has, so that a longer file is seen. */
-int pic_load(struct pic *pic, const char *path, uint64_t *place)
+int pic_load_with(struct pic *pic, uint8_t *kept, size_t kept_len, const char *path, uint64_t *place)
 {
     uint8_t bytes[4096];
     size_t len = 0;
@@ -226,5 +234,18 @@ int pic_load(struct pic *pic, const char *path, uint64_t *place)
         return PIC_FILE;
     }
     int number = test(bytes, len);
-    return number == PCH_PIC_DONE ? pic_take(pic, bytes + HEAD_LEN, len - HEAD_LEN - SUM_LEN, place) : number;
+    if (number != PCH_PIC_DONE) {
+        return number;
+    }
+    size_t all = len - HEAD_LEN - SUM_LEN, image_len = all > kept_len ? all - kept_len : 0;
+    number = pic_take(pic, bytes + HEAD_LEN, image_len, place);
+    if (number == PCH_PIC_DONE && kept_len != 0) {
+        memcpy(kept, bytes + HEAD_LEN + image_len, kept_len);
+    }
+    return number;
+}
+
+int pic_load(struct pic *pic, const char *path, uint64_t *place)
+{
+    return pic_load_with(pic, NULL, 0, path, place);
 }

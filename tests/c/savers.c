@@ -4,7 +4,7 @@
  *     savers --bytes FOLDER       a saved device with every other value at every byte, and of every other length
  *     savers --threads FOLDER     32 threads that load one file while two save it */
 #define _XOPEN_SOURCE 700
-#include "pic.h"
+#include "hoist.h"
 
 #include <dirent.h>
 #include <errno.h>
@@ -140,6 +140,24 @@ static void links(void)
     expect("links that go round are refused", symlink("round", in_folder("round")) == 0 && !save(in_folder("round"), 4) && errno == ELOOP);
     unlink(in_folder("round"));
     expect("nothing else is left", rmdir(in_folder("apart")) == 0 && left_over(false) == 0);
+}
+
+/* A hoist in one phase and then in the other; and what has no phase is not taken for what has one. */
+static void phases(void)
+{
+    const char *path = in_folder("hoist");
+    struct hoist hoist, loaded;
+    struct pic pic;
+    bool done = hoist_init(&hoist, BASE) == PCH_PIC_DONE && hoist_init(&loaded, BASE) == PCH_PIC_DONE && pic_init(&pic, BASE) == PCH_PIC_DONE;
+    expect("a hoist in start-up is saved", done && hoist_save(&hoist, PIC_FORM_NUMBERED, path) == PCH_PIC_DONE);
+    loaded.phase = 1;
+    expect("and is in start-up again", hoist_load(&loaded, path, NULL) == PCH_PIC_DONE && !hoist_running(&loaded));
+    expect("so is one that runs", hoist_end_startup(&hoist) == PCH_PIC_DONE && hoist_save(&hoist, PIC_FORM_2, path) == PCH_PIC_DONE &&
+                                      hoist_load(&loaded, path, NULL) == PCH_PIC_DONE && hoist_running(&loaded) &&
+                                      memcmp(loaded.pic.image, hoist.pic.image, sizeof hoist.pic.image) == 0);
+    expect("its file is no device's", pic_load(&pic, path, NULL) == PCH_PIC_LENGTH);
+    loaded.phase = 0;
+    expect("nor is a device's file a hoist's", save(path, 1) && hoist_load(&loaded, path, NULL) == PCH_PIC_LENGTH && !hoist_running(&loaded) && unlink(path) == 0);
 }
 
 /* A load that does not come back is ended by its alarm, and so the program. */
@@ -305,6 +323,7 @@ int main(int argc, char **argv)
     if (argc == 2 && argv[1][0] != '-') {
         what_stays();
         links();
+        phases();
         no_plain_file();
         side_by_side();
         killed(20);
