@@ -264,7 +264,9 @@ fn has_c(_kind: &Kind) -> bool {
 /// What the figures are.
 fn tell(asked: &Asked, rows: &[Row], cpu: Option<usize>, day: Option<&[Call]>) {
     println!();
-    println!("a: the library. b: plain Rust, whole load and save. c: the published Rust in memory, with a mutex. d: lean Rust, in place. p: the library's sources as Rust.");
+    println!(
+        "a: the library. b: plain Rust, whole load and save. c: the published Rust in memory, with a mutex. d: lean Rust, in place. p: the library's sources as Rust."
+    );
     if let Some(empty) = table::empty(rows, &asked.sides) {
         println!("An empty call in the same loop, not subtracted: {empty}.");
     }

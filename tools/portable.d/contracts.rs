@@ -41,7 +41,7 @@ type Typed = (String, Option<String>);
 /// The arithmetic of contracts over a function's parameters.
 pub struct Arithmetic<'a> {
     pub specs: &'a Specs,
-    pub function: &'a Fn,
+    pub function: &'a Function,
     pub text: &'a str,
 }
 

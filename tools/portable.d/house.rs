@@ -84,12 +84,12 @@ fn fronts(root: &Path, rests: &[(String, Vec<String>)]) -> Told<Vec<String>> {
     for (name, _) in rests {
         for source in sources(&root.join("crates").join(name).join("src")) {
             let text = fs::read_to_string(&source).map_err(|error| format!("{}: {error}", source.display()))?;
-            if text.lines().any(|line| line == "#[no_mangle]") && !found.contains(name) {
+            if text.lines().any(|line| line.trim_start().starts_with("#[no_mangle]")) && !found.contains(name) {
                 found.push(name.clone());
             }
         }
     }
-    Ok(found)
+    if found.is_empty() { Err("no crate of crates.txt exports a call".to_string()) } else { Ok(found) }
 }
 
 fn order(rests: &[(String, Vec<String>)], tops: &[String]) -> Vec<String> {

@@ -109,6 +109,9 @@ impl Lexer<'_> {
             self.push(Kind::Text, length + 2);
         } else if first.is_ascii_digit() {
             let length = word_length(rest);
+            if !is_number(&rest[..length]) {
+                return refuse(self.at, format!("the number '{}' is not known", &rest[..length]));
+            }
             self.push(Kind::Number, length);
         } else if first.is_ascii_alphabetic() || first == '_' {
             self.word()?;
@@ -172,4 +175,13 @@ impl Lexer<'_> {
 
 fn word_length(text: &str) -> usize {
     text.find(|c: char| !(c.is_ascii_alphanumeric() || c == '_')).unwrap_or(text.len())
+}
+
+/// Digits, or 0x and hexadecimal ones, with `_` between; and perhaps a type.
+fn is_number(word: &str) -> bool {
+    let types = ["usize", "u64", "u32", "u16", "u8", "i32", "i16"];
+    let hex = word.strip_prefix("0x");
+    let digits = types.iter().find_map(|ty| word.strip_suffix(ty)).unwrap_or(word);
+    let (digits, base) = hex.map_or((digits, 10), |_| (digits.strip_prefix("0x").unwrap_or(""), 16));
+    !digits.is_empty() && digits.chars().all(|c| c == '_' || c.is_digit(base))
 }

@@ -17,7 +17,7 @@ pub struct Layer {
 pub fn plain_layer(house: &House) -> Told<Vec<Made>> {
     let mut files = plain::copy(house, None)?;
     let crates: String = sorted(house).iter().map(|name| format!("pub mod {name};\n")).collect();
-    let text = format!("{PLAIN_HEAD}\n{crates}\n{}", calls(house, |name| format!("super::{name}")));
+    let text = format!("{PLAIN_HEAD}\n{WIDE}\n{crates}\n{}", calls(house, |name| format!("super::{name}")));
     files.push(Made { path: "mod.rs".to_string(), text });
     Ok(files)
 }
@@ -27,6 +27,7 @@ const PLAIN_HEAD: &str = "\
 //! The proved sources of the library as Rust: a module for each crate of `crates/`, copied without what is ghost. What each function requires and ensures stands in its docs, as
 //! the proofs have it. docs/PORTABLE.md tells what is dropped and what is rewritten.
 
+#![forbid(unsafe_code)]
 // Names stand for themselves where a comment would only say them again: fields, variants, constants.
 #![allow(missing_docs)]
 // The session program uses some functions that no exported call comes to.
@@ -62,10 +63,15 @@ pub fn fast_layer(root: &Path, house: &House) -> Told<Vec<Made>> {
     files.push(Made { path: "text/mod.rs".to_string(), text: format!("{TEXT_HEAD}\n{crates}") });
     let fronts: Vec<&String> = house.tops.iter().collect();
     let copies: String = fronts.iter().map(|name| format!("#[path = \"text/mod.rs\"]\nmod for_{name};\n")).collect();
-    let text = format!("{FAST_HEAD}\n{copies}\n{}", calls(house, |name| format!("super::for_{name}::{name}")));
+    let text = format!("{FAST_HEAD}\n{WIDE}\n{copies}\n{}", calls(house, |name| format!("super::for_{name}::{name}")));
     files.push(Made { path: "mod.rs".to_string(), text });
     Ok(files)
 }
+
+const WIDE: &str = "\
+#[cfg(not(target_pointer_width = \"64\"))]
+compile_error!(\"the proofs are of a machine whose usize has 64 bits, and so is this text\");
+";
 
 const TEXT_HEAD: &str = "\
 // Made from crates/ by tools/portable: do not change it here.
@@ -80,6 +86,7 @@ const FAST_HEAD: &str = "\
 // Made from crates/ by tools/portable: do not change it here.
 //! The proved sources as Rust, made fast: the plain copy with steps on it that docs/PORTABLE.md tells, one copy of the text for each front.
 
+#![forbid(unsafe_code)]
 // The same files stand behind each front, so that what has one caller becomes a part of it.
 #![allow(clippy::duplicate_mod)]
 ";

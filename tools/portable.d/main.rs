@@ -2,8 +2,10 @@
 mod contracts;
 mod edits;
 mod house;
+mod images;
 mod lexer;
 mod made;
+mod names;
 mod parser;
 mod plain;
 mod scope;

@@ -189,17 +189,17 @@ impl Parser<'_> {
     fn structure(&mut self) -> Read<Struct> {
         self.at += 1;
         let name = self.name()?;
-        let lifetime = self.lifetime()?.is_some();
+        self.lifetime()?;
         self.want("{")?;
         let fields = self.list("}", |parser| {
             let start = parser.start();
             parser.take("pub");
-            let name = parser.name()?;
+            parser.name()?;
             parser.want(":")?;
             let ty = parser.ty()?;
-            Ok(Field { span: parser.since(start), name, ty })
+            Ok(Field { span: parser.since(start), ty })
         })?;
-        Ok(Struct { name, lifetime, fields })
+        Ok(Struct { name, fields })
     }
 
     fn enumeration(&mut self) -> Read<Enum> {
@@ -208,9 +208,9 @@ impl Parser<'_> {
         self.want("{")?;
         let variants = self.list("}", |parser| {
             let start = parser.start();
-            let name = parser.name()?;
+            parser.name()?;
             let holds = if parser.take("(") { parser.list(")", Self::ty)? } else { Vec::new() };
-            Ok(Variant { span: parser.since(start), name, holds })
+            Ok(Variant { span: parser.since(start), holds })
         })?;
         Ok(Enum { name, variants })
     }
@@ -241,7 +241,7 @@ impl Parser<'_> {
         Ok(ItemKind::Fn(self.function(true)?))
     }
 
-    fn function(&mut self, exported: bool) -> Read<Fn> {
+    fn function(&mut self, exported: bool) -> Read<Function> {
         self.at += 1;
         let name = self.name()?;
         let lifetime = self.lifetime()?;
@@ -258,7 +258,7 @@ impl Parser<'_> {
             self.at += 1;
         }
         let body = self.block()?;
-        Ok(Fn { name, exported, lifetime, params, result, contracts, body })
+        Ok(Function { name, exported, lifetime, params, result, contracts, body })
     }
 
     // ---- types and patterns
@@ -336,6 +336,9 @@ impl Parser<'_> {
                 if self.take("(") {
                     PatternKind::Of(path, self.list(")", Self::pattern)?)
                 } else if path.len() == 1 {
+                    if !path[0].starts_with(|c: char| c.is_ascii_lowercase() || c == '_') {
+                        return refuse(start, format!("'{}' in a pattern is no name, and no variant with its type", path[0]));
+                    }
                     PatternKind::Name(path.remove(0))
                 } else {
                     PatternKind::Path(path)
@@ -366,7 +369,7 @@ impl Parser<'_> {
             return Ok(Statement::Ghost(self.since(start)));
         }
         if self.take("let") {
-            return self.binding(start);
+            return self.binding();
         }
         // What ends with a block is a statement of its own: no sign behind it goes on with it.
         let whole = ["if", "while", "for", "match", "{"].iter().any(|word| self.is(word));
@@ -375,19 +378,17 @@ impl Parser<'_> {
         if !ended && !whole && !self.is("}") {
             return self.unknown("';' is wanted here");
         }
-        Ok(Statement::Expr(value, ended))
+        Ok(Statement::Expr(value))
     }
 
-    fn binding(&mut self, start: usize) -> Read<Statement> {
+    fn binding(&mut self) -> Read<Statement> {
         let pattern = self.pattern()?;
-        if self.take(":") {
-            self.ty()?;
-        }
+        let ty = if self.take(":") { Some(self.ty()?) } else { None };
         self.want("=")?;
         let value = self.expr()?;
         let otherwise = if self.take("else") { Some(self.block()?) } else { None };
         self.want(";")?;
-        Ok(Statement::Let(Let { span: self.since(start), pattern, value, otherwise }))
+        Ok(Statement::Let(Let { pattern, ty, value, otherwise }))
     }
 
     // ---- expressions
@@ -396,10 +397,12 @@ impl Parser<'_> {
         let start = self.start();
         let target = self.range()?;
         const ASSIGNS: [&str; 9] = ["=", "+=", "-=", "*=", "/=", "%=", "&=", "|=", "^="];
-        let Some(sign) = ASSIGNS.iter().find(|sign| self.is(sign)) else { return Ok(target) };
+        if !ASSIGNS.iter().any(|sign| self.is(sign)) {
+            return Ok(target);
+        }
         self.at += 1;
         let value = self.range()?;
-        let kind = ExprKind::Assign(sign.to_string(), Box::new(target), Box::new(value));
+        let kind = ExprKind::Assign(Box::new(target), Box::new(value));
         Ok(Expr { span: self.since(start), kind })
     }
 
@@ -423,10 +426,10 @@ impl Parser<'_> {
         }
         let start = self.start();
         let mut left = self.binary(row + 1)?;
-        while let Some(sign) = ROWS[row].iter().find(|sign| self.is(sign)) {
+        while ROWS[row].iter().any(|sign| self.is(sign)) {
             self.at += 1;
             let right = self.binary(row + 1)?;
-            let kind = ExprKind::Binary(sign.to_string(), Box::new(left), Box::new(right));
+            let kind = ExprKind::Binary(Box::new(left), Box::new(right));
             left = Expr { span: self.since(start), kind };
         }
         Ok(left)
@@ -490,7 +493,7 @@ impl Parser<'_> {
     fn member(&mut self, value: Expr) -> Read<ExprKind> {
         let name = self.name()?;
         if !self.is("(") {
-            return Ok(ExprKind::Field(Box::new(value), name));
+            return Ok(ExprKind::Field(Box::new(value)));
         }
         if name != "len" || !self.ahead(1, ")") {
             return refuse(self.tokens[self.at - 1].span.start, format!("the method '{name}' is not known, only len()"));
@@ -653,9 +656,10 @@ impl Parser<'_> {
         self.at += 1;
         let fields = self.open(|parser| {
             parser.list("}", |parser| {
+                let start = parser.start();
                 let name = parser.name()?;
-                let value = if parser.take(":") { Some(parser.expr()?) } else { None };
-                Ok((name, value))
+                let alone = Expr { span: parser.since(start), kind: ExprKind::Path(vec![name]) };
+                if parser.take(":") { parser.expr() } else { Ok(alone) }
             })
         })?;
         Ok(ExprKind::Struct(path, fields))

@@ -4,6 +4,7 @@ use std::collections::BTreeSet;
 use crate::edits::{Edits, tidy};
 use crate::house::{House, Module, Told, told};
 use crate::lexer::{Refused, Span, refuse};
+use crate::names;
 use crate::parser::wrapping;
 use crate::scope::{Known, address};
 use crate::steps::Steps;
@@ -54,9 +55,10 @@ pub struct Copy<'a> {
 impl<'a> Copy<'a> {
     /// With the changes of the plain copy but for the heads of functions, which `text` writes.
     pub fn of(house: &'a House, module: &'a Module, steps: Option<&'a Steps<'a>>) -> Result<Copy<'a>, Refused> {
-        let names = module.syntax.items.iter().filter_map(|item| brought(&item.kind)).collect();
+        let names = names::brought(&module.syntax.items);
         let mut copy = Copy { house, module, edits: Edits::default(), steps, names, crates: BTreeSet::new() };
         for item in &module.syntax.items {
+            names::check(item, &copy.names)?;
             copy.item(item)?;
         }
         if let Some(steps) = steps {
@@ -278,7 +280,7 @@ impl<'a> Copy<'a> {
     }
 
     /// What a function requires and ensures, as written, in docs.
-    pub fn contracts(&self, item: &Item, function: &Fn) -> String {
+    pub fn contracts(&self, item: &Item, function: &Function) -> String {
         if function.contracts.is_empty() {
             return String::new();
         }
@@ -295,7 +297,7 @@ impl<'a> Copy<'a> {
         lines.iter().map(|line| format!("{}\n{indent}", format!("/// {line}").trim_end())).collect()
     }
 
-    pub fn signature(&self, item: &Item, function: &Fn) -> String {
+    pub fn signature(&self, item: &Item, function: &Function) -> String {
         let params: Vec<String> = function.params.iter().map(|param| format!("{}: {}", param.name, self.source(param.ty.span))).collect();
         let result = function.result.as_ref().map(|result| self.source(result.span));
         let angles = function.lifetime.iter().cloned().collect::<Vec<_>>();
@@ -333,18 +335,6 @@ pub fn signed(indent: &str, public: bool, name: &str, angles: &[String], params:
     }
     let lines: String = params.iter().map(|param| format!("\n{indent}    {param},")).collect();
     format!("{head}({lines}\n{indent}){result}")
-}
-
-/// The name that an item brings to its file.
-fn brought(kind: &ItemKind) -> Option<String> {
-    match kind {
-        ItemKind::Use(path) => path.last().cloned(),
-        ItemKind::Mod(name) => Some(name.clone()),
-        ItemKind::Struct(structure) => Some(structure.name.clone()),
-        ItemKind::Enum(enumeration) => Some(enumeration.name.clone()),
-        ItemKind::Const(constant) => Some(constant.name.clone()),
-        ItemKind::Fn(_) | ItemKind::Impl(..) | ItemKind::Ghost => None,
-    }
 }
 
 /// Whether a type holds something that is lent to be changed; it cannot be copied then.

@@ -9,7 +9,7 @@ use crate::syntax::*;
 pub struct Known<'a> {
     pub module: &'a Module,
     pub item: &'a Item,
-    pub function: &'a Fn,
+    pub function: &'a Function,
 }
 
 pub struct Scope<'a> {

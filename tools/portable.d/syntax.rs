@@ -1,5 +1,4 @@
 //! The constructs that the translator knows. There are no others: what the parser cannot read as one of these it refuses.
-#![allow(dead_code)]
 use crate::lexer::Span;
 
 pub struct File {
@@ -23,7 +22,7 @@ pub enum ItemKind {
     Enum(Enum),
     /// Constants and functions of a type of the same file.
     Impl(String, Vec<Item>),
-    Fn(Fn),
+    Fn(Function),
 }
 
 pub struct Const {
@@ -34,13 +33,11 @@ pub struct Const {
 
 pub struct Struct {
     pub name: String,
-    pub lifetime: bool,
     pub fields: Vec<Field>,
 }
 
 pub struct Field {
     pub span: Span,
-    pub name: String,
     pub ty: Type,
 }
 
@@ -51,11 +48,10 @@ pub struct Enum {
 
 pub struct Variant {
     pub span: Span,
-    pub name: String,
     pub holds: Vec<Type>,
 }
 
-pub struct Fn {
+pub struct Function {
     pub name: String,
     /// Exported to C by #[no_mangle]: a front's call.
     pub exported: bool,
@@ -94,13 +90,12 @@ pub struct Block {
 pub enum Statement {
     Ghost(Span),
     Let(Let),
-    /// Whether a semicolon follows.
-    Expr(Expr, bool),
+    Expr(Expr),
 }
 
 pub struct Let {
-    pub span: Span,
     pub pattern: Pattern,
+    pub ty: Option<Type>,
     pub value: Expr,
     pub otherwise: Option<Block>,
 }
@@ -115,21 +110,21 @@ pub enum ExprKind {
     Path(Vec<String>),
     /// A sign before what it is for: `-`, `!`, `*`, `&`, `&mut `.
     Before(&'static str, Box<Expr>),
-    Binary(String, Box<Expr>, Box<Expr>),
+    Binary(Box<Expr>, Box<Expr>),
     /// `=` or a sign with it.
-    Assign(String, Box<Expr>, Box<Expr>),
+    Assign(Box<Expr>, Box<Expr>),
     Cast(Box<Expr>, Type),
     Call(Box<Expr>, Vec<Expr>),
     /// `.len()`, the only method.
     Len(Box<Expr>),
-    Field(Box<Expr>, String),
+    Field(Box<Expr>),
     Index(Box<Expr>, Box<Expr>),
     Range(Option<Box<Expr>>, Option<Box<Expr>>),
     Inner(Box<Expr>),
     List(Vec<Expr>),
     Repeat(Box<Expr>, Box<Expr>),
-    /// A struct by its path, with its fields; a field without a value has its own name for it.
-    Struct(Vec<String>, Vec<(String, Option<Expr>)>),
+    /// A struct by its path, with the values of its fields; a field without a value is the value of that name.
+    Struct(Vec<String>, Vec<Expr>),
     Block(Block),
     If(Box<Expr>, Block, Option<Box<Expr>>),
     /// `if let`.
@@ -148,7 +143,7 @@ pub struct Pattern {
 pub enum PatternKind {
     Any,
     Literal,
-    /// A name for what is there; whether it may be changed.
+    /// A name for what is there.
     Name(String),
     Path(Vec<String>),
     Range(Box<Pattern>, Box<Pattern>),

@@ -63,10 +63,11 @@ pub fn block<'a>(this: &'a Block, visit: Visit<'_, 'a>) {
             Statement::Let(bound) => {
                 visit(Node::Let(bound));
                 pattern(&bound.pattern, visit);
+                bound.ty.iter().for_each(|of| ty(of, visit));
                 expr(&bound.value, visit);
                 bound.otherwise.iter().for_each(|inner| block(inner, visit));
             }
-            Statement::Expr(value, _) => expr(value, visit),
+            Statement::Expr(value) => expr(value, visit),
         }
     }
 }
@@ -75,8 +76,8 @@ pub fn expr<'a>(this: &'a Expr, visit: Visit<'_, 'a>) {
     visit(Node::Expr(this));
     match &this.kind {
         ExprKind::Literal | ExprKind::Path(_) => {}
-        ExprKind::Before(_, one) | ExprKind::Len(one) | ExprKind::Field(one, _) | ExprKind::Inner(one) => expr(one, visit),
-        ExprKind::Binary(_, one, two) | ExprKind::Assign(_, one, two) | ExprKind::Index(one, two) | ExprKind::Repeat(one, two) => {
+        ExprKind::Before(_, one) | ExprKind::Len(one) | ExprKind::Field(one) | ExprKind::Inner(one) => expr(one, visit),
+        ExprKind::Binary(one, two) | ExprKind::Assign(one, two) | ExprKind::Index(one, two) | ExprKind::Repeat(one, two) => {
             expr(one, visit);
             expr(two, visit);
         }
@@ -92,8 +93,7 @@ pub fn expr<'a>(this: &'a Expr, visit: Visit<'_, 'a>) {
             low.iter().for_each(|one| expr(one, visit));
             high.iter().for_each(|one| expr(one, visit));
         }
-        ExprKind::List(all) => all.iter().for_each(|one| expr(one, visit)),
-        ExprKind::Struct(_, fields) => fields.iter().for_each(|(_, value)| value.iter().for_each(|one| expr(one, visit))),
+        ExprKind::List(all) | ExprKind::Struct(_, all) => all.iter().for_each(|one| expr(one, visit)),
         ExprKind::Block(inner) => block(inner, visit),
         ExprKind::If(test, then, otherwise) => {
             expr(test, visit);

@@ -1,8 +1,12 @@
 // Made from crates/ by tools/portable: do not change it here.
 //! The proved sources as Rust, made fast: the plain copy with steps on it that docs/PORTABLE.md tells, one copy of the text for each front.
 
+#![forbid(unsafe_code)]
 // The same files stand behind each front, so that what has one caller becomes a part of it.
 #![allow(clippy::duplicate_mod)]
+
+#[cfg(not(target_pointer_width = "64"))]
+compile_error!("the proofs are of a machine whose usize has 64 bits, and so is this text");
 
 #[path = "text/mod.rs"]
 mod for_difference;

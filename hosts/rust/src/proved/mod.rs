@@ -2,6 +2,7 @@
 //! The proved sources of the library as Rust: a module for each crate of `crates/`, copied without what is ghost. What each function requires and ensures stands in its docs, as
 //! the proofs have it. docs/PORTABLE.md tells what is dropped and what is rewritten.
 
+#![forbid(unsafe_code)]
 // Names stand for themselves where a comment would only say them again: fields, variants, constants.
 #![allow(missing_docs)]
 // The session program uses some functions that no exported call comes to.
@@ -10,6 +11,9 @@
 #![allow(unused_variables)]
 // The text is copied as it is proved: its loops and comparisons are not put into other words here.
 #![allow(clippy::style, clippy::complexity)]
+
+#[cfg(not(target_pointer_width = "64"))]
+compile_error!("the proofs are of a machine whose usize has 64 bits, and so is this text");
 
 pub mod access;
 pub mod answer;

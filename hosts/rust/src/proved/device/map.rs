@@ -79,13 +79,22 @@ pub fn decode(offset: usize) -> Cell {
     }
 }
 
+/// In 0x100..0x39f a Byte meets only route and vector bytes.
+///
+/// ```text
+/// ensures { λ r. ⌜ r ≡ inByteArea offset ⌝ }
+/// ```
+pub fn in_byte_area(offset: usize) -> bool {
+    PchPicState::ROUTE_ENTRY_BASE <= offset && offset < PchPicState::INT_ISR_LO
+}
+
 /// The offset, where a Byte access meets only route and vector bytes.
 ///
 /// ```text
 /// ensures { λ r. ⌜ r ≡ byteIndex offset ⌝ }
 /// ```
 pub fn reg8_offset(offset: usize) -> Index {
-    if PchPicState::ROUTE_ENTRY_BASE <= offset && offset < PchPicState::INT_ISR_LO {
+    if in_byte_area(offset) {
         Index::At(offset)
     } else {
         Index::None

@@ -4,6 +4,7 @@
 use super::super::bits;
 use super::super::device::map::Plain;
 use super::super::device::map::Register;
+use super::super::device::state::PchPicState;
 use super::super::fields::words;
 use super::super::image::form::Form;
 use super::masking::write_clear;
@@ -17,7 +18,7 @@ use super::masking::write_mask;
 /// ```
 pub fn value_of(image: &[u8], form: Form, register: Register) -> u64 {
     match register {
-        Register::Id => 0x003f_0001_0700_0000,
+        Register::Id => PchPicState::INT_ID,
         Register::Mask => words::mask(image, form),
         Register::Clear => 0,
         Register::Irr => words::irr(image, form),

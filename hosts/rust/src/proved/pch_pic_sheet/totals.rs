@@ -4,13 +4,12 @@
 use super::tally::cell;
 use super::tally::greater;
 use super::tally::put_cell;
+use super::tally::GREATEST;
 use super::tally::OPEN;
 
 const INPUTS: usize = 64;
 
 pub const COLUMNS: usize = 10;
-
-const GREATEST: usize = 7;
 
 /// The row of the total.
 pub const TOTAL: usize = 64;

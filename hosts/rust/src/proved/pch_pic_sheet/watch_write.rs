@@ -2,6 +2,7 @@
 //! Register writes as a pass takes them: of each width at most two halves of a register, of which it heeds MASK, CLEAR and ISR.
 
 use super::super::bits;
+use super::super::device::map::in_byte_area;
 use super::super::device::map::Cell;
 use super::super::device::map::Register;
 use super::super::device::map_low::decode_low;
@@ -56,15 +57,6 @@ fn value_of(w: Watched, register: Register) -> u64 {
 }
 
 // ---- a Byte, or a Dword
-
-/// In 0x100..0x39f a Byte meets only route and vector bytes.
-///
-/// ```text
-/// ensures { λ r. ⌜ r ≡ inByteArea offset ⌝ }
-/// ```
-fn in_byte_area(offset: usize) -> bool {
-    0x100 <= offset && offset < 0x3a0
-}
 
 /// The Dword that it is, or that it lies in.
 ///

@@ -5,10 +5,10 @@ use super::super::image::form::Form;
 use super::super::trace::record_bytes::LENGTH;
 use super::super::trace::record_view::record_at;
 use super::record_step::step;
+use super::record_step::DRAIN;
 
-const ANSWER: usize = 16;
-
-const DRAIN: u8 = 6;
+/// The bytes of an answer.
+pub const ANSWER: usize = 16;
 
 /// How many of the records drain.
 ///

@@ -10,7 +10,8 @@ use super::super::image::form::Form;
 use super::super::trace::record_bytes::Record;
 use super::record_call::call;
 
-const DRAIN: u8 = 6;
+/// The kind of a record that drains.
+pub const DRAIN: u8 = 6;
 
 /// The room of a drain of all.
 pub const ROOM: usize = 64;

@@ -2,20 +2,12 @@
 //! Bytes and Words, in place on an image.
 
 use super::super::bits;
+use super::super::device::map::in_byte_area;
 use super::super::image::form::Form;
 use super::cells::read_dword;
 use super::cells::read_entry;
 use super::cells::write_dword;
 use super::cells::write_entry;
-
-/// In 0x100..0x39f a Byte meets only route and vector bytes.
-///
-/// ```text
-/// ensures { λ r. ⌜ r ≡ inByteArea offset ⌝ }
-/// ```
-fn in_byte_area(offset: usize) -> bool {
-    0x100 <= offset && offset < 0x3a0
-}
 
 // ---- Byte
 

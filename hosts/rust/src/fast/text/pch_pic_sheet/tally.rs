@@ -19,7 +19,7 @@ const OFFERED: usize = 5;
 
 const DROPPED: usize = 6;
 
-const GREATEST: usize = 7;
+pub const GREATEST: usize = 7;
 
 const WITHDRAWN: usize = 8;
 

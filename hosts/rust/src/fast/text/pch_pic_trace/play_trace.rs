@@ -14,9 +14,8 @@ use super::super::trace::trace_refusals::of_trace;
 use super::super::trace::Tested;
 use super::play_records::count_drains;
 use super::play_records::play_all;
+use super::play_records::ANSWER;
 use super::record_step::ROOM;
-
-const ANSWER: usize = 16;
 
 /// Of the image the length alone is tested; what is refused changes nothing.
 ///
