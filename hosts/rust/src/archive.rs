@@ -80,6 +80,15 @@ linked! {
     fn pch_pic_sheet(trace: &[u8], sheet: &mut [u8], answer: &mut [u8]);
 }
 
+/// Which kind of archive is linked, as it says itself: 1 is the machine code of what is proved.
+pub(crate) fn kind() -> u8 {
+    extern "C" {
+        static pch_pic_built: u8;
+    }
+    // SAFETY: it is a constant of the archive, which nothing writes.
+    unsafe { pch_pic_built }
+}
+
 /// How far a number of an event is ahead of another.
 pub fn pch_pic_difference(later: u16, earlier: u16) -> i16 {
     extern "C" {

@@ -6,9 +6,9 @@ use core::fmt;
 #[derive(Clone, Copy, Debug, PartialEq, Eq, Hash)]
 #[non_exhaustive]
 pub enum Built {
-    /// The machine code of `libpch_pic.a`, which the kit made of the proved text: feature `archive`.
+    /// Machine code that the kit made of what it has proved: feature `archive`, with the `libpch_pic.a` of `tools/archive`.
     Archive,
-    /// What rustc made of the proved text: the default.
+    /// What rustc made of the proved text: the default. An archive for another machine is of this kind too.
     Rustc,
 }
 
@@ -27,16 +27,31 @@ impl fmt::Display for Built {
     }
 }
 
-/// What does the work in this build.
+/// What does the work in this build. An archive that is linked says it itself.
 ///
 /// ```
 /// println!("the interrupt controller is {}", pch_pic::built());
 /// ```
 #[must_use]
-pub const fn built() -> Built {
-    if cfg!(feature = "archive") {
-        Built::Archive
-    } else {
-        Built::Rustc
+pub fn built() -> Built {
+    #[cfg(feature = "archive")]
+    if crate::archive::kind() == PROVED {
+        return Built::Archive;
+    }
+    Built::Rustc
+}
+
+/// `PCH_PIC_BUILT_PROVED` of the header.
+#[cfg(feature = "archive")]
+const PROVED: u8 = 1;
+
+#[cfg(test)]
+mod tests {
+    use super::*;
+
+    /// The tests are run with the archive that is proved.
+    #[test]
+    fn the_one_that_is_linked_is_told() {
+        assert_eq!(built(), if cfg!(feature = "archive") { Built::Archive } else { Built::Rustc });
     }
 }
