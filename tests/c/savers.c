@@ -1,6 +1,7 @@
 /* What stands in a file when several save it, when a save is killed, and what a save leaves alone.
  *     savers FOLDER               the tests of the gate, with its files in FOLDER, which is empty; the last line is 'N passed, M failed'
- *     savers --kill COUNT FOLDER  four savers and a reader, and so many of the savers killed as they save
+ *     savers --kill COUNT FOLDER [PROGRAM]  four savers and a reader, and so many of the savers killed as they save; with PROGRAM, the path of an example
+ *                                 load_sample, two of them are that program
  *     savers --bytes FOLDER       a saved device with every other value at every byte, and of every other length
  *     savers --threads FOLDER     32 threads that load one file while two save it */
 #define _XOPEN_SOURCE 700
@@ -210,24 +211,41 @@ static void side_by_side(void)
     expect("and nothing is left beside it", unlink(path) == 0 && left_over(false) == 0);
 }
 
-/* Each is killed at some moment of its saves, and another begins. */
-static void killed(unsigned kills)
+/* One that saves for ever, or a program that saves once what another file holds. */
+static pid_t begin_any(const char *path, unsigned who, const char *from, const char *program)
 {
-    const char *path = in_folder("device");
-    pid_t savers[SAVERS];
-    unsigned lost = 0;
-    bool begun = save(path, 9);
-    for (unsigned who = 0; who < SAVERS; who++) {
-        savers[who] = begin_saver(path, who, 0);
+    if (program == NULL || who % 2 == 0) {
+        return begin_saver(path, who, 0);
     }
-    for (unsigned i = 0; i < kills; i++) {
+    pid_t child = fork();
+    if (child == 0) {
+        execl(program, program, "--form", "numbered", from, path, (char *)NULL);
+        _exit(1);
+    }
+    return child;
+}
+
+/* Each is killed at some moment of its saves, and another begins. One that had ended by itself does not count. */
+static void killed(unsigned kills, const char *program)
+{
+    const char *path = in_folder("device"), *from = in_folder("from");
+    pid_t savers[SAVERS];
+    unsigned lost = 0, failures = 0, done = 0;
+    bool begun = save(path, 9) && save(from, 8);
+    for (unsigned who = 0; who < SAVERS; who++) {
+        savers[who] = begin_any(path, who, from, program);
+    }
+    while (done < kills) {
         struct timespec while_saving = {0, 100000 + rand() % 3000000};
         unsigned who = (unsigned)rand() % SAVERS;
+        int status = 0;
         nanosleep(&while_saving, NULL);
         kill(savers[who], SIGKILL);
-        waitpid(savers[who], NULL, 0);
+        waitpid(savers[who], &status, 0);
+        done += WIFSIGNALED(status);
+        failures += WIFEXITED(status) && WEXITSTATUS(status) != 0;
         lost += saver_of(path) < 0;
-        savers[who] = begin_saver(path, who, 0);
+        savers[who] = begin_any(path, who, from, program);
     }
     for (unsigned who = 0; who < SAVERS; who++) {
         kill(savers[who], SIGKILL);
@@ -236,8 +254,9 @@ static void killed(unsigned kills)
     lost += saver_of(path) < 0;
     unsigned left = left_over(true);
     expect("a save that is killed loses nothing", begun && lost == 0);
+    expect("and hinders no other", failures == 0);
     expect("and leaves one file at most", left <= kills + SAVERS && left_over(false) == 0);
-    expect("the next save is done", save(path, 1) && saver_of(path) == 1 && unlink(path) == 0);
+    expect("the next save is done", save(path, 1) && saver_of(path) == 1 && unlink(path) == 0 && unlink(from) == 0);
     if (kills >= 100) {
         printf("%u savers killed, %u files lost, %u left beside it\n", kills, lost, left);
     }
@@ -319,22 +338,22 @@ static void threads(void)
 
 int main(int argc, char **argv)
 {
-    folder = argv[argc - 1];
+    folder = argc > 3 ? argv[3] : argv[argc - 1];
     if (argc == 2 && argv[1][0] != '-') {
         what_stays();
         links();
         phases();
         no_plain_file();
         side_by_side();
-        killed(20);
-    } else if (argc == 4 && strcmp(argv[1], "--kill") == 0) {
-        killed((unsigned)strtoul(argv[2], NULL, 10));
+        killed(20, NULL);
+    } else if ((argc == 4 || argc == 5) && strcmp(argv[1], "--kill") == 0) {
+        killed((unsigned)strtoul(argv[2], NULL, 10), argc == 5 ? argv[4] : NULL);
     } else if (argc == 3 && strcmp(argv[1], "--bytes") == 0) {
         every_byte();
     } else if (argc == 3 && strcmp(argv[1], "--threads") == 0) {
         threads();
     } else {
-        fprintf(stderr, "usage: savers FOLDER | savers --kill COUNT FOLDER | savers --bytes FOLDER | savers --threads FOLDER\n");
+        fprintf(stderr, "usage: savers FOLDER | savers --kill COUNT FOLDER [PROGRAM] | savers --bytes FOLDER | savers --threads FOLDER\n");
         return 2;
     }
     printf("%d passed, %d failed\n", passed, failed);
