@@ -133,7 +133,8 @@ int pic_save(const struct pic *pic, enum pic_form form, const char *path);
 int pic_load(struct pic *pic, const char *path, uint64_t *place);
 
 /* The same with some bytes that the host keeps beside the image, at most PIC_KEPT_MAX, in one file. Such a file and one without them are not taken for one
- * another: a load that asks for other bytes than were saved hands back PCH_PIC_LENGTH. One that fails leaves pic and kept as they were. */
+ * another: a load that asks for another number of bytes than were saved hands back PCH_PIC_LENGTH or PCH_PIC_CONTENTS. One that fails leaves pic and kept
+ * as they were. */
 enum { PIC_KEPT_MAX = 16 };
 int pic_save_with(const struct pic *pic, enum pic_form form, const uint8_t *kept, size_t kept_len, const char *path);
 int pic_load_with(struct pic *pic, uint8_t *kept, size_t kept_len, const char *path, uint64_t *place);

@@ -157,6 +157,12 @@ static void phases(void)
                                       hoist_load(&loaded, path, NULL) == PCH_PIC_DONE && hoist_running(&loaded) &&
                                       memcmp(loaded.pic.image, hoist.pic.image, sizeof hoist.pic.image) == 0);
     expect("its file is no device's", pic_load(&pic, path, NULL) == PCH_PIC_LENGTH);
+    for (unsigned asked = 2; asked <= PIC_KEPT_MAX; asked++) {
+        uint8_t kept[PIC_KEPT_MAX] = {0};
+        int number = pic_load_with(&pic, kept, asked, path, NULL);
+        done = done && (number == PCH_PIC_LENGTH || number == PCH_PIC_CONTENTS) && kept[0] == 0;
+    }
+    expect("nor is it loaded with more", done);
     loaded.phase = 0;
     expect("nor is a device's file a hoist's", save(path, 1) && hoist_load(&loaded, path, NULL) == PCH_PIC_LENGTH && !hoist_running(&loaded) && unlink(path) == 0);
 }
