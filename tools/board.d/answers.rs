@@ -26,13 +26,7 @@ pub fn replay(file: &[u8], areas: &mut Areas, score: &mut Score) -> Result<(), &
     if records.len() != told(8) * RECORD {
         return Err("the header tells of another number of records");
     }
-    for (name, length) in
-        [(IMAGE, IMAGE_BUFFER), (IMAGE_TWIN, IMAGE_BUFFER), (ANSWER, ANSWER_AREA), (ANSWER_TWIN, ANSWER_AREA), (EVENTS, EVENT_BUFFER)]
-    {
-        areas.0[name].length = length;
-        areas.0[name].bytes().fill(0);
-        areas.0[name].put_edges();
-    }
+    lay_out(areas);
     let (mut calls, mut number, mut left) = (0, 0, Bytes(records));
     while let Some(record) = left.take(RECORD).and_then(|bytes| bytes.first_chunk()) {
         match record[0] {
@@ -58,6 +52,17 @@ pub fn replay(file: &[u8], areas: &mut Areas, score: &mut Score) -> Result<(), &
         number += 1;
     }
     if calls == told(12) { Ok(()) } else { Err("the header tells of another number of calls") }
+}
+
+/// The areas as whoever replays the file has them at the start.
+fn lay_out(areas: &mut Areas) {
+    for (name, length) in
+        [(IMAGE, IMAGE_BUFFER), (IMAGE_TWIN, IMAGE_BUFFER), (ANSWER, ANSWER_AREA), (ANSWER_TWIN, ANSWER_AREA), (EVENTS, EVENT_BUFFER)]
+    {
+        areas.0[name].length = length;
+        areas.0[name].bytes().fill(0);
+        areas.0[name].put_edges();
+    }
 }
 
 fn numbers(record: &[u8; RECORD]) -> [u64; 5] {

@@ -1,5 +1,6 @@
 # Makes the replacements of an edit in the copy of a crate that stands in `folder`, and prints what each changes, a line each: 'fn PATH', or 'word NAME' for a
 # constant or a type. A 'file:' line holds for the pairs of 'old:' and 'new:' after it; an old text must be there exactly once. What is wrong is told, with status 1.
+# With `only_tell` nothing is written.
 
 function wrong(what) { print what; failed = 1; exit 1 }
 
@@ -56,7 +57,9 @@ function item_at(text, place,    n, i, lines, at, item, depth, type) {
     if (index(rest, old)) wrong("the text '" old "' is in " file " more than once")
     item = item_at(text, place)
     if (item == "") wrong("the text '" old "' of " file " stands in no function, constant or type")
-    print item
+    # A function's promise is what its callers rest on, so an edit of one is no edit of one function alone.
+    print old ~ /⌜|requires|ensures/ ? "promise " item : item
+    if (only_tell) next
     printf "%s%s%s", substr(text, 1, place - 1), new, rest > (folder "/" file)
     close(folder "/" file)
 }

@@ -1,6 +1,6 @@
 # Reads what the prover said of an edited crate, and tells in a line whether the functions that the edit changes (CHANGED, their paths) are refused. Such a function
 # counts where it is not proved and an error stands in its own proof, or where what it promises is not found. A function that is not proved for what it calls has
-# neither. And an error that only says that the proof has another shape shows nothing of the promise.
+# no error but that something was not admitted. And an error that only says that the proof has another shape shows nothing of the promise.
 
 # The functions in whose proof a place stands: proofs/MODULE/../FUNCTION/FILE. Those that call one another have one proof: proofs/MODULE/+ONE+OTHER/FILE.
 function owners(place, names,    path, last, n, i) {
@@ -18,7 +18,7 @@ function owners(place, names,    path, last, n, i) {
     return n
 }
 
-/^[^ ]+:[0-9]+:[0-9]+: error/ {
+/^[^ ]+:[0-9]+:[0-9]+: error/ && !/was not admitted/ {
     place = $1
     sub(/:$/, "", place)
     if (first == "") first = place
@@ -27,7 +27,7 @@ function owners(place, names,    path, last, n, i) {
     for (i = owners(path, names); i > 0; i--) {
         if (names[i] in error) continue
         error[names[i]] = place
-        shape[names[i]] = /that can be named from here/
+        shape[names[i]] = /that can be named from here|: record `[^`]*` has no field/
     }
 }
 /^fn .*: not proved/ {
@@ -49,7 +49,7 @@ function owners(place, names,    path, last, n, i) {
 END {
     if (proved) { print "FAILED: it survives: the crate is still proved with it"; exit }
     if (!refused) { print "FAILED: it does not reach the prover"; exit }
-    n = split(ENVIRON["CHANGED"], changed, "\n")
+    n = split(ENVIRON["CHANGED"], changed, " ")
     for (i = 1; i <= n; i++) {
         name = changed[i]
         if ((name in unproved) && (name in error)) {

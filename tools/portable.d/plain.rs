@@ -265,7 +265,7 @@ impl<'a> Copy<'a> {
         }
         let angles: Vec<String> = function.lifetime.iter().cloned().chain(lengths).collect();
         let signature = signed(&indent, public, &name, &angles, &params, result.as_deref());
-        let inlined = if steps.inlined(known) { format!("#[inline(always)]\n{indent}") } else { String::new() };
+        let inlined = if public && function.exported { String::new() } else { format!("{}\n{indent}", steps.inlining(known)) };
         let lines: String = steps.front_lines(address, known, &self.up(true)).iter().map(|line| format!("\n{indent}    {line}")).collect();
         if let Some(body) = steps.body(known) {
             let inner = Span { start: function.body.span.start + 1, end: function.body.span.end - 1 };

@@ -96,10 +96,11 @@ impl<'a> Steps<'a> {
         }
     }
 
-    /// Where a state or an array goes by value, a call would copy it: the function becomes part of its caller.
-    pub fn inlined(&self, known: &Known) -> bool {
+    /// Every function but a front has its body at hand where it is called, however the crate is split for the compiler. Where a state or an array goes by value, a call
+    /// would copy it: the function becomes part of its caller.
+    pub fn inlining(&self, known: &Known) -> &'static str {
         let types = known.function.params.iter().map(|param| &param.ty).chain(&known.function.result);
-        types.into_iter().any(|ty| self.is_large(known.module, ty))
+        if types.into_iter().any(|ty| self.is_large(known.module, ty)) { "#[inline(always)]" } else { "#[inline]" }
     }
 
     fn is_large(&self, module: &Module, ty: &Type) -> bool {
@@ -140,7 +141,8 @@ impl<'a> Steps<'a> {
             let head = signed("", place == 0, &this, &angles, &params, result);
             let tests = if place == 0 { tests } else { "" };
             let arms = self.arms_of(known, images[place].param, &next);
-            text.push_str(&format!("{head} {{\n{tests}{arms}}}\n\n"));
+            let inlined = if place == 0 { "" } else { "#[inline]\n" };
+            text.push_str(&format!("{inlined}{head} {{\n{tests}{arms}}}\n\n"));
         }
         text
     }

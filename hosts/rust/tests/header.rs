@@ -32,6 +32,7 @@ fn header() -> HashMap<String, u64> {
 fn sizes() {
     let header = header();
     for (name, value) in [
+        ("BUILT_PROVED", 1),
         ("IMAGE_LEN", IMAGE_LEN),
         ("IMAGE2_LEN", IMAGE2_LEN),
         ("IMAGE2_NUMBERED_LEN", IMAGE2_NUMBERED_LEN),

@@ -10,4 +10,4 @@ mod raw;
 mod typed;
 
 /// How often each call is made.
-pub const ROUNDS: usize = if cfg!(debug_assertions) { 2_000 } else { 20_000 };
+pub const ROUNDS: usize = if cfg!(debug_assertions) { 2_000 } else { 8_000 };

@@ -2,7 +2,9 @@
 
 use crate::dice::{Dice, FORMS};
 use crate::ROUNDS;
+use pch_pic::axdevice::LoongArchPchPic;
 use pch_pic::{difference, Board, Change, Device, Error, Event, Form, Hoist, Image, PchPic, Phase, Returned, Width, Window, Wires, EVENTS};
+use std::cell::RefCell;
 
 fn form(dice: &mut Dice) -> Form {
     dice.of(&[Form::One, Form::Two, Form::Numbered])
@@ -109,6 +111,30 @@ fn any_guest_of_a_hoist() {
     hoist.reset();
     assert_eq!((hoist.phase(), hoist.pic()), (Phase::StartUp, &PchPic::new()));
     assert!(done > ROUNDS / 10, "{done}");
+}
+
+/// The published module's functions, in windows that may be anywhere and of any size.
+#[test]
+fn any_guest_of_the_published_face() {
+    let (mut dice, mut done, mut events) = (Dice(9), 0, 0);
+    for _ in 0..ROUNDS / 100 {
+        let (base, size) = (dice.number() as usize, dice.of(&[0x400, 0x400, 0, 1, usize::MAX]));
+        let make = dice.of(&[LoongArchPchPic::<RefCell<_>>::new, LoongArchPchPic::wholly_inside]);
+        let face = make(base.into(), size);
+        for _ in 0..200 {
+            let ([_, _, address], width, value, input) = (dice.access(), width(&mut dice), dice.any() as usize, dice.input() as usize);
+            let address = if dice.once_in(3) { address as usize } else { base.wrapping_add(dice.offset() as usize) };
+            match dice.below(5) {
+                0 => assert!(face.set_irq_level(input, value & 1 == 1) < Some(256)),
+                1 => assert!(face.pending_vector(input) < Some(256)),
+                2 => done += usize::from(face.read_register(address.into(), width).is_ok()),
+                3 => done += usize::from(face.write_register(address.into(), width, value).is_ok()),
+                _ => face.drain_output_events(|event| events += usize::from(event.vector < 256)),
+            }
+            told(&mut dice, &face.snapshot());
+        }
+    }
+    assert!(done > ROUNDS / 10 && events > 0, "{done} {events}");
 }
 
 /// A device that does not keep to what it says: more events than there is room for, and inputs that are always refused.

@@ -8,7 +8,6 @@
 pub mod access;
 pub mod answer;
 pub mod bits;
-#[path = "../../proved/device/mod.rs"]
 pub mod device;
 #[path = "../../proved/difference/mod.rs"]
 pub mod difference;

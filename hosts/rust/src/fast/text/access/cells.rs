@@ -20,6 +20,7 @@ use super::super::lines::halves::write_half;
 /// requires { ⌜ length (now image) ≡ formLength (formView form) ⌝ }
 /// ensures { λ r. ⌜ Reads (now (image .entry)) r (λ d. entry (d .core) offset) ⌝ }
 /// ```
+#[inline]
 pub fn read_entry<const N: usize>(image: &[u8; N], offset: usize) -> u8 {
     match offset / 64 {
         4 => route(image, offset % 64),
@@ -32,6 +33,7 @@ pub fn read_entry<const N: usize>(image: &[u8; N], offset: usize) -> u8 {
 /// requires { ⌜ length (now image) ≡ formLength (formView form) ⌝ }
 /// ensures { λ _. ⌜ Writes (now (image .entry)) (now (image .exit)) 0 (λ c. entryActs offset val) ⌝ }
 /// ```
+#[inline]
 pub fn write_entry<const N: usize>(image: &mut [u8; N], offset: usize, val: u8) {
     match offset / 64 {
         4 => put_routes(image, offset % 64, 1, val as u64),
@@ -46,6 +48,7 @@ pub fn write_entry<const N: usize>(image: &mut [u8; N], offset: usize, val: u8) 
 /// requires { ⌜ (length (now image) ≡ formLength (formView form)) × Run offset n × (n ≤ 8) ⌝ }
 /// ensures { λ r. ⌜ Reads (now (image .entry)) r (λ d. numberOf (entriesOf (d .core) offset n)) ⌝ }
 /// ```
+#[inline]
 pub fn read_run<const N: usize>(image: &[u8; N], offset: usize, n: usize) -> u64 {
     assert!(n <= 8);
     if offset < 0x200 {
@@ -61,6 +64,7 @@ pub fn read_run<const N: usize>(image: &[u8; N], offset: usize, n: usize) -> u64
 /// requires { ⌜ (length (now image) ≡ formLength (formView form)) × Run offset n ⌝ }
 /// ensures { λ _. ⌜ Writes (now (image .entry)) (now (image .exit)) 0 (λ c. entriesActs offset n x) ⌝ }
 /// ```
+#[inline]
 pub fn write_run<const N: usize>(image: &mut [u8; N], offset: usize, n: usize, x: u64) {
     match offset / 64 {
         4 => put_routes(image, offset % 64, n, x),
@@ -73,6 +77,7 @@ pub fn write_run<const N: usize>(image: &mut [u8; N], offset: usize, n: usize, x
 /// requires { ⌜ (length (now image) ≡ formLength (formView form)) × (cellAt offset ≡ bytes) ⌝ }
 /// ensures { λ r. ⌜ Reads (now (image .entry)) r (λ d. readCell (d .core) offset bytes) ⌝ }
 /// ```
+#[inline]
 fn read_four<const N: usize>(image: &[u8; N], offset: usize) -> u32 {
     if offset % 64 <= 60 {
         return bits::half(read_run(image, offset, 4), false);
@@ -88,6 +93,7 @@ fn read_four<const N: usize>(image: &[u8; N], offset: usize) -> u32 {
 /// requires { ⌜ (length (now image) ≡ formLength (formView form)) × (cellAt offset ≡ bytes) ⌝ }
 /// ensures { λ _. ⌜ Writes (now (image .entry)) (now (image .exit)) 0 (λ c. cellActs offset val bytes) ⌝ }
 /// ```
+#[inline]
 fn write_four<const N: usize>(image: &mut [u8; N], offset: usize, val: u32) {
     if offset % 64 <= 60 {
         write_run(image, offset, 4, val as u64);
@@ -107,6 +113,7 @@ fn write_four<const N: usize>(image: &mut [u8; N], offset: usize, val: u32) {
 /// requires { ⌜ length (now image) ≡ formLength (formView form) ⌝ }
 /// ensures { λ r. ⌜ Reads (now (image .entry)) r (λ d. readDword (d .core) offset) ⌝ }
 /// ```
+#[inline]
 pub fn read_dword<const N: usize>(image: &[u8; N], offset: usize) -> u32 {
     match map_low::decode_low(offset) {
         Cell::Half(register, high) => bits::half(value_of(&*image, register), high),
@@ -119,6 +126,7 @@ pub fn read_dword<const N: usize>(image: &[u8; N], offset: usize) -> u32 {
 /// requires { ⌜ length (now image) ≡ formLength (formView form) ⌝ }
 /// ensures { λ r. ⌜ (r ≤ 65) × Writes (now (image .entry)) (now (image .exit)) r (λ c. dwordActs offset val) ⌝ }
 /// ```
+#[inline]
 pub fn write_dword<const N: usize>(image: &mut [u8; N], offset: usize, val: u32) -> u32 {
     match map_low::decode_low(offset) {
         Cell::Half(register, high) => write_half(image, register, val, high),

@@ -17,6 +17,7 @@ use super::cells::write_entry;
 /// requires { ⌜ length (now image) ≡ formLength (formView form) ⌝ }
 /// ensures { λ r. ⌜ Reads (now (image .entry)) r (λ d. readByte (d .core) offset) ⌝ }
 /// ```
+#[inline]
 pub fn read_byte<const N: usize>(image: &[u8; N], offset: usize) -> u8 {
     if in_byte_area(offset) {
         return read_entry(image, offset);
@@ -31,6 +32,7 @@ pub fn read_byte<const N: usize>(image: &[u8; N], offset: usize) -> u8 {
 /// requires { ⌜ length (now image) ≡ formLength (formView form) ⌝ }
 /// ensures { λ r. ⌜ (r ≤ 65) × Writes (now (image .entry)) (now (image .exit)) r (λ c. byteActs c offset val) ⌝ }
 /// ```
+#[inline]
 pub fn write_byte<const N: usize>(image: &mut [u8; N], offset: usize, val: u8) -> u32 {
     if in_byte_area(offset) {
         write_entry(image, offset, val);
@@ -49,6 +51,7 @@ pub fn write_byte<const N: usize>(image: &mut [u8; N], offset: usize, val: u8) -
 /// requires { ⌜ (length (now image) ≡ formLength (formView form)) × (offset + 2 ≤ 2 ^ 64 - 1) ⌝ }
 /// ensures { λ r. ⌜ Reads (now (image .entry)) r (λ d. readAt (d .core) word offset) ⌝ }
 /// ```
+#[inline]
 pub fn read_word<const N: usize>(image: &[u8; N], offset: usize) -> u64 {
     let low = read_byte(image, offset) as u64;
     let high = read_byte(image, offset + 1) as u64;
@@ -61,6 +64,7 @@ pub fn read_word<const N: usize>(image: &[u8; N], offset: usize) -> u64 {
 /// requires { ⌜ (length (now image) ≡ formLength (formView form)) × (offset + 2 ≤ 2 ^ 64 - 1) ⌝ }
 /// ensures { λ r. ⌜ (r ≤ 130) × Writes (now (image .entry)) (now (image .exit)) r (λ c. writeActs c word offset low) ⌝ }
 /// ```
+#[inline]
 pub fn write_word<const N: usize>(image: &mut [u8; N], offset: usize, low: u32) -> u32 {
     let first = write_byte(image, offset, bits::byte_of(low, 0));
     first + write_byte(image, offset + 1, bits::byte_of(low, 1))

@@ -13,6 +13,7 @@ use super::cells::write_run;
 /// ```text
 /// ensures { λ r. ⌜ (r ≡ true → Run offset 8) ⌝ }
 /// ```
+#[inline]
 fn eight_together(offset: usize) -> bool {
     match offset / 64 {
         4 => offset % 64 <= 56,
@@ -25,6 +26,7 @@ fn eight_together(offset: usize) -> bool {
 /// requires { ⌜ (length (now image) ≡ formLength (formView form)) × (offset + 8 ≤ 2 ^ 64 - 1) ⌝ }
 /// ensures { λ r. ⌜ Reads (now (image .entry)) r (λ d. readAt (d .core) qword offset) ⌝ }
 /// ```
+#[inline]
 pub fn read_qword<const N: usize>(image: &[u8; N], offset: usize) -> u64 {
     if eight_together(offset) {
         return read_run(image, offset, 8);
@@ -37,6 +39,7 @@ pub fn read_qword<const N: usize>(image: &[u8; N], offset: usize) -> u64 {
 /// requires { ⌜ (length (now image) ≡ formLength (formView form)) × (offset + 8 ≤ 2 ^ 64 - 1) ⌝ }
 /// ensures { λ r. ⌜ (r ≤ 130) × Writes (now (image .entry)) (now (image .exit)) r (λ c. writeActs c qword offset value) ⌝ }
 /// ```
+#[inline]
 pub fn write_qword<const N: usize>(image: &mut [u8; N], offset: usize, value: u64) -> u32 {
     if eight_together(offset) {
         write_run(image, offset, 8, value);

@@ -23,6 +23,7 @@ pub struct Told {
 /// ```text
 /// ensures { λ r. ⌜ Tells r 0 (valueView value) ⌝ }
 /// ```
+#[inline]
 pub fn done(value: Value) -> Told {
     Told { number: 0, value }
 }
@@ -30,6 +31,7 @@ pub fn done(value: Value) -> Told {
 /// ```text
 /// ensures { λ r. ⌜ r ≡ present (valueView value) ⌝ }
 /// ```
+#[inline]
 fn present_byte(value: Value) -> u8 {
     match value {
         Value::Absent => 0,
@@ -40,6 +42,7 @@ fn present_byte(value: Value) -> u8 {
 /// ```text
 /// ensures { λ r. ⌜ r ≡ amount (valueView value) ⌝ }
 /// ```
+#[inline]
 fn amount_of(value: Value) -> u64 {
     match value {
         Value::Absent => 0,
@@ -54,6 +57,7 @@ fn amount_of(value: Value) -> u64 {
 /// requires { ⌜ answerLength ≤ length (now answer) ⌝ }
 /// ensures { λ _. ⌜ now (answer .exit) ≡ answered number (valueView value) (now (answer .entry)) ⌝ }
 /// ```
+#[inline]
 pub fn put_answer(answer: &mut [u8], number: u8, value: Value) {
     assert!(16 <= answer.len());
     put_zeros(&mut answer[0..8]);
@@ -69,6 +73,7 @@ pub fn put_answer(answer: &mut [u8], number: u8, value: Value) {
 /// requires { ⌜ answerLength ≤ length (now answer) ⌝ }
 /// ensures { λ r. ⌜ (r ≡ told .number) × (now (answer .exit) ≡ answered (told .number) (valueView (told .value)) (now (answer .entry))) ⌝ }
 /// ```
+#[inline]
 pub fn tell(answer: &mut [u8], told: Told) -> u8 {
     assert!(16 <= answer.len());
     let number = told.number;

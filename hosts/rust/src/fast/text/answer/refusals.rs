@@ -14,6 +14,7 @@ use super::Value;
 /// ```text
 /// ensures { λ r. ⌜ Tells r (refusalNumber (asked.outside address)) (refusalValue (asked.outside address)) ⌝ }
 /// ```
+#[inline]
 pub fn outside(address: u64) -> Told {
     Told {
         number: 1,
@@ -24,6 +25,7 @@ pub fn outside(address: u64) -> Told {
 /// ```text
 /// ensures { λ r. ⌜ Tells r (refusalNumber noWidth) (refusalValue noWidth) ⌝ }
 /// ```
+#[inline]
 pub fn no_width() -> Told {
     Told {
         number: 2,
@@ -34,6 +36,7 @@ pub fn no_width() -> Told {
 /// ```text
 /// ensures { λ r. ⌜ Tells r (refusalNumber noInput) (refusalValue noInput) ⌝ }
 /// ```
+#[inline]
 pub fn no_input() -> Told {
     Told {
         number: 3,
@@ -44,6 +47,7 @@ pub fn no_input() -> Told {
 /// ```text
 /// ensures { λ r. ⌜ Tells r (refusalNumber wrongLength) (refusalValue wrongLength) ⌝ }
 /// ```
+#[inline]
 pub fn wrong_length() -> Told {
     Told {
         number: 4,
@@ -54,6 +58,7 @@ pub fn wrong_length() -> Told {
 /// ```text
 /// ensures { λ r. ⌜ r ≡ faultNumber (faultView fault) ⌝ }
 /// ```
+#[inline]
 fn fault_number(fault: Fault) -> u8 {
     match fault {
         Fault::Copy => 8,
@@ -68,6 +73,7 @@ fn fault_number(fault: Fault) -> u8 {
 /// ```text
 /// ensures { λ r. ⌜ r ≡ imageNumber (checkedView checked) ⌝ }
 /// ```
+#[inline]
 fn image_number(checked: Checked) -> u8 {
     match checked {
         Checked::Accepted => 0,
@@ -80,6 +86,7 @@ fn image_number(checked: Checked) -> u8 {
 /// ```text
 /// ensures { λ r. ⌜ valueView r ≡ imageValue (checkedView checked) ⌝ }
 /// ```
+#[inline]
 fn image_value(checked: Checked) -> Value {
     match checked {
         Checked::Accepted => Value::Absent,
@@ -92,6 +99,7 @@ fn image_value(checked: Checked) -> Value {
 /// ```text
 /// ensures { λ r. ⌜ r ≡ imageNumber (headTest head) ⌝ }
 /// ```
+#[inline]
 fn head_number(head: Head) -> u8 {
     match head {
         Head::WrongLength => 4,
@@ -105,6 +113,7 @@ fn head_number(head: Head) -> u8 {
 /// ```text
 /// ensures { λ r. ⌜ Tells r (imageNumber (headTest head)) none ⌝ }
 /// ```
+#[inline]
 pub fn of_head(head: Head) -> Told {
     Told {
         number: head_number(head),
@@ -118,6 +127,7 @@ pub fn of_head(head: Head) -> Told {
 /// requires { ⌜ length (now image) ≡ formLength (formView form) ⌝ }
 /// ensures { λ r. ⌜ Tells r (imageNumber (bodiesTest (formView form) (now (image .entry)))) (imageValue (bodiesTest (formView form) (now (image .entry)))) ⌝ }
 /// ```
+#[inline]
 pub fn of_bodies<const N: usize>(image: &[u8; N]) -> Told {
     let checked = first_fault(image);
     Told {

@@ -4,6 +4,7 @@
 /// ```text
 /// ensures { λ r. ⌜ r ≡ x ⌝ }
 /// ```
+#[inline]
 pub fn wide(x: u8) -> u64 {
     x as u64
 }
@@ -14,6 +15,7 @@ pub fn wide(x: u8) -> u64 {
 /// requires { ⌜ length (now b) ≤ 8 ⌝ }
 /// ensures { λ r. ⌜ r ≡ numberOf (now (b .entry)) ⌝ }
 /// ```
+#[inline]
 pub fn number(b: &[u8]) -> u64 {
     assert!(b.len() <= 8);
     let mut x = 0u64;
@@ -30,6 +32,7 @@ pub fn number(b: &[u8]) -> u64 {
 /// ```text
 /// ensures { λ _. ⌜ now (dst .exit) ≡ bytesOf (length (now (dst .entry))) x ⌝ }
 /// ```
+#[inline]
 pub fn put_number(dst: &mut [u8], x: u64) {
     let mut y = x;
     let mut i = 0;
@@ -46,6 +49,7 @@ pub fn put_number(dst: &mut [u8], x: u64) {
 /// requires { ⌜ at + 8 ≤ length (now image) ⌝ }
 /// ensures { λ r. ⌜ r ≡ registerAt at (now (image .entry)) ⌝ }
 /// ```
+#[inline]
 pub fn word_at(image: &[u8], at: usize) -> u64 {
     assert!(8 <= image.len() && at <= image.len() - 8);
     match image[at..].first_chunk::<8>() {
@@ -60,6 +64,7 @@ pub fn word_at(image: &[u8], at: usize) -> u64 {
 /// requires { ⌜ at + n ≤ length (now dst) ⌝ }
 /// ensures { λ _. ⌜ now (dst .exit) ≡ withBytes at n x (now (dst .entry)) ⌝ }
 /// ```
+#[inline]
 pub fn put_bytes(dst: &mut [u8], at: usize, n: usize, x: u64) {
     assert!(at <= dst.len() && n <= dst.len() - at);
     let end = at + n;
@@ -72,6 +77,7 @@ pub fn put_bytes(dst: &mut [u8], at: usize, n: usize, x: u64) {
 /// requires { ⌜ at + 8 ≤ length (now dst) ⌝ }
 /// ensures { λ _. ⌜ now (dst .exit) ≡ withWord at x (now (dst .entry)) ⌝ }
 /// ```
+#[inline]
 pub fn put_word(dst: &mut [u8], at: usize, x: u64) {
     assert!(8 <= dst.len() && at <= dst.len() - 8);
     if let Some(word) = dst[at..].first_chunk_mut::<8>() {
@@ -85,6 +91,7 @@ pub fn put_word(dst: &mut [u8], at: usize, x: u64) {
 /// requires { ⌜ length (now dst) ≡ length (now src) ⌝ }
 /// ensures { λ _. ⌜ now (dst .exit) ≡ now (src .entry) ⌝ }
 /// ```
+#[inline]
 pub fn copy(dst: &mut [u8], src: &[u8]) {
     assert!(dst.len() == src.len());
     dst.copy_from_slice(src);
@@ -95,6 +102,7 @@ pub fn copy(dst: &mut [u8], src: &[u8]) {
 /// ```text
 /// ensures { λ _. ⌜ now (dst .exit) ≡ replicate (length (now (dst .entry))) 0 ⌝ }
 /// ```
+#[inline]
 pub fn put_zeros(dst: &mut [u8]) {
     let mut i = 0;
     while i < dst.len() {

@@ -12,6 +12,7 @@ const HALF: u64 = 0x1_0000_0000;
 /// ```text
 /// ensures { λ r. ⌜ r ≡ withHalf high old val ⌝ }
 /// ```
+#[inline]
 pub fn replace_u32(old: u64, val: u32, high: bool) -> u64 {
     if high {
         (val as u64) * HALF + old % HALF
@@ -25,6 +26,7 @@ pub fn replace_u32(old: u64, val: u32, high: bool) -> u64 {
 /// ```text
 /// ensures { λ r. ⌜ r ≡ half high x ⌝ }
 /// ```
+#[inline]
 pub fn half(x: u64, high: bool) -> u32 {
     if high {
         (x >> 32) as u32
@@ -38,6 +40,7 @@ pub fn half(x: u64, high: bool) -> u32 {
 /// ```text
 /// ensures { λ r. ⌜ r ≡ asHalf high v ⌝ }
 /// ```
+#[inline]
 pub fn in_half(v: u32, high: bool) -> u64 {
     if high { (v as u64) << 32 } else { v as u64 }
 }
@@ -48,6 +51,7 @@ pub fn in_half(v: u32, high: bool) -> u64 {
 /// requires { ⌜ k < 4 ⌝ }
 /// ensures { λ r. ⌜ r ≡ byteOf x k ⌝ }
 /// ```
+#[inline]
 pub fn byte_of(x: u32, k: usize) -> u8 {
     assert!(k < 4);
     let shift = k * 8;
@@ -60,6 +64,7 @@ pub fn byte_of(x: u32, k: usize) -> u8 {
 /// requires { ⌜ k < 4 ⌝ }
 /// ensures { λ r. ⌜ r ≡ withByte old k val ⌝ }
 /// ```
+#[inline]
 pub fn with_byte(old: u32, k: usize, val: u8) -> u32 {
     assert!(k < 4);
     let shift = k * 8;

@@ -12,6 +12,7 @@ use super::shifts::shift;
 /// ```text
 /// ensures { λ r. ⌜ r ≡ min waiting (bytes / 4) ⌝ }
 /// ```
+#[inline]
 fn fitting(waiting: usize, bytes: usize) -> usize {
     let events = bytes / form::EVENT;
     if waiting < events { waiting } else { events }
@@ -21,6 +22,7 @@ fn fitting(waiting: usize, bytes: usize) -> usize {
 /// requires { ⌜ (length (now image) ≡ formLength (formView form)) × (countIn (formView form) (now image) ≤ capacity) ⌝ }
 /// ensures { λ r. ⌜ Drains (now (image .entry)) (now (image .exit)) (now (out .entry)) (now (out .exit)) r ⌝ }
 /// ```
+#[inline]
 pub fn drain<const N: usize>(image: &mut [u8; N], out: &mut [u8]) -> usize {
     let form = const { super::super::image::form::form_at(N) };
     let p = places_of(form);

@@ -13,6 +13,7 @@ use super::weave::put_events;
 /// requires { ⌜ (length (now image) ≡ formLength (formView form)) × (n ≤ capacity) × (length (now out) ≡ 4 * n) ⌝ }
 /// ensures { λ _. ⌜ CopiesOut (now (image .entry)) (now (out .exit)) n ⌝ }
 /// ```
+#[inline]
 pub fn copy_out<const N: usize>(image: &[u8; N], out: &mut [u8], n: usize) {
     let form = const { super::super::image::form::form_at(N) };
     assert!(n <= 16 && out.len() == 4 * n);

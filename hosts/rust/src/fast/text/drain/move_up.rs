@@ -9,6 +9,7 @@ use super::super::image::form;
 /// ```text
 /// ensures { λ r. ⌜ r ≡ getD (now (src .entry)) at 0 ⌝ }
 /// ```
+#[inline]
 fn byte_or_zero(src: &[u8], at: usize) -> u8 {
     if at < src.len() { src[at] } else { 0 }
 }
@@ -19,6 +20,7 @@ fn byte_or_zero(src: &[u8], at: usize) -> u8 {
 /// requires { ⌜ taken ≤ length (now dst) ⌝ }
 /// ensures { λ _. ⌜ now (dst .exit) ≡ drop taken (now (dst .entry)) ++ replicate taken 0 ⌝ }
 /// ```
+#[inline]
 fn drop_front(dst: &mut [u8], taken: usize) {
     assert!(taken <= dst.len());
     let mut i = 0;
@@ -34,6 +36,7 @@ fn drop_front(dst: &mut [u8], taken: usize) {
 /// requires { ⌜ (n ≤ len) × (len ≤ capacity) × (length (now dst) ≡ pairsLength) ⌝ }
 /// ensures { λ _. ⌜ Leaves (now (dst .entry)) (now (dst .exit)) len n ⌝ }
 /// ```
+#[inline]
 pub fn leave(dst: &mut [u8], n: usize, len: usize) {
     assert!(n <= len && len <= 16 && dst.len() == 32);
     if n < len {

@@ -12,6 +12,7 @@ use super::move_up::leave;
 /// requires { ⌜ (length (now image) ≡ formLength (formView form)) × (n ≤ len) × (len ≤ capacity) ⌝ }
 /// ensures { λ _. ⌜ NumbersLeave (formView form) (now (image .entry)) (now (image .exit)) len n ⌝ }
 /// ```
+#[inline]
 fn leave_numbers<const N: usize>(image: &mut [u8; N], n: usize, len: usize) {
     let form = const { super::super::image::form::form_at(N) };
     assert!(n <= len && len <= 16);
@@ -30,6 +31,7 @@ fn leave_numbers<const N: usize>(image: &mut [u8; N], n: usize, len: usize) {
 /// requires { ⌜ (length (now image) ≡ formLength (formView form)) × (n ≤ len) × (len ≤ capacity) ⌝ }
 /// ensures { λ _. ⌜ Shifts (now (image .entry)) (now (image .exit)) len n ⌝ }
 /// ```
+#[inline]
 pub fn shift<const N: usize>(image: &mut [u8; N], n: usize, len: usize) {
     let form = const { super::super::image::form::form_at(N) };
     assert!(n <= len && len <= 16);

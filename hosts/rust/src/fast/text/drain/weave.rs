@@ -9,6 +9,7 @@ use super::super::image::form;
 /// requires { ⌜ (length (now out) ≡ 4 * n) × (length (now pairs) ≡ 2 * n) × (length (now numbers) ≡ 2 * n) ⌝ }
 /// ensures { λ _. ⌜ now (out .exit) ≡ woven (now (pairs .entry)) (now (numbers .entry)) ⌝ }
 /// ```
+#[inline]
 pub fn put_events(out: &mut [u8], pairs: &[u8], numbers: &[u8], n: usize) {
     assert!(out.len() == 4 * n && pairs.len() == 2 * n && numbers.len() == 2 * n);
     let mut k = 0;

@@ -10,6 +10,7 @@ use super::super::image::form::Form;
 /// requires { ⌜ (length (now image) ≡ formLength (formView form)) × (input < 64) ⌝ }
 /// ensures { λ r. ⌜ Reads (now (image .entry)) r (λ d. getD (d .core .stored .routes) input 0) ⌝ }
 /// ```
+#[inline]
 pub fn route<const N: usize>(image: &[u8; N], input: usize) -> u8 {
     let form = const { super::super::image::form::form_at(N) };
     assert!(input < 64);
@@ -22,6 +23,7 @@ pub fn route<const N: usize>(image: &[u8; N], input: usize) -> u8 {
 /// requires { ⌜ (length (now image) ≡ formLength (formView form)) × (input < 64) ⌝ }
 /// ensures { λ r. ⌜ Reads (now (image .entry)) r (λ d. getD (d .core .vectors) input 0) ⌝ }
 /// ```
+#[inline]
 pub fn vector<const N: usize>(image: &[u8; N], input: usize) -> u8 {
     let form = const { super::super::image::form::form_at(N) };
     assert!(input < 64);
@@ -34,6 +36,7 @@ pub fn vector<const N: usize>(image: &[u8; N], input: usize) -> u8 {
 /// requires { ⌜ (length (now image) ≡ formLength (formView form)) × (input + n ≤ bytesLength) × (n ≤ 8) ⌝ }
 /// ensures { λ r. ⌜ Reads (now (image .entry)) r (λ d. numberOf (part input n (d .core .stored .routes))) ⌝ }
 /// ```
+#[inline]
 pub fn routes<const N: usize>(image: &[u8; N], input: usize, n: usize) -> u64 {
     let form = const { super::super::image::form::form_at(N) };
     assert!(input <= 64 && n <= 64 - input && n <= 8);
@@ -47,6 +50,7 @@ pub fn routes<const N: usize>(image: &[u8; N], input: usize, n: usize) -> u64 {
 /// requires { ⌜ (length (now image) ≡ formLength (formView form)) × (input + n ≤ bytesLength) × (n ≤ 8) ⌝ }
 /// ensures { λ r. ⌜ Reads (now (image .entry)) r (λ d. numberOf (part input n (d .core .vectors))) ⌝ }
 /// ```
+#[inline]
 pub fn vectors<const N: usize>(image: &[u8; N], input: usize, n: usize) -> u64 {
     let form = const { super::super::image::form::form_at(N) };
     assert!(input <= 64 && n <= 64 - input && n <= 8);
@@ -61,6 +65,7 @@ pub fn vectors<const N: usize>(image: &[u8; N], input: usize, n: usize) -> u64 {
 /// ensures { λ _. ⌜ Becomes (now (image .entry)) (now (image .exit))
 ///     (λ d. withStored d (withRoutes (d .core .stored) (withBytes input n x (d .core .stored .routes)))) ⌝ }
 /// ```
+#[inline]
 pub fn put_routes<const N: usize>(image: &mut [u8; N], input: usize, n: usize, x: u64) {
     let form = const { super::super::image::form::form_at(N) };
     assert!(input <= 64 && n <= 64 - input);
@@ -72,6 +77,7 @@ pub fn put_routes<const N: usize>(image: &mut [u8; N], input: usize, n: usize, x
 /// requires { ⌜ (length (now image) ≡ formLength (formView form)) × (input + n ≤ bytesLength) ⌝ }
 /// ensures { λ _. ⌜ Becomes (now (image .entry)) (now (image .exit)) (λ d. withVectors d (withBytes input n x (d .core .vectors))) ⌝ }
 /// ```
+#[inline]
 pub fn put_vectors<const N: usize>(image: &mut [u8; N], input: usize, n: usize, x: u64) {
     let form = const { super::super::image::form::form_at(N) };
     assert!(input <= 64 && n <= 64 - input);

@@ -13,6 +13,7 @@ use super::number_bytes::take_next;
 /// requires { ⌜ length (now image) ≡ formLength (formView form) ⌝ }
 /// ensures { λ r. ⌜ Taken (now (image .entry)) (now (image .exit)) r ⌝ }
 /// ```
+#[inline]
 pub fn take<const N: usize>(image: &mut [u8; N]) -> u16 {
     let form = const { super::super::image::form::form_at(N) };
     let p = places_of(form);
@@ -29,6 +30,7 @@ pub fn take<const N: usize>(image: &mut [u8; N]) -> u16 {
 /// requires { ⌜ length (now image) ≡ formLength (formView form) ⌝ }
 /// ensures { λ _. ⌜ NumberOffered (now (image .entry)) (now (image .exit)) ⌝ }
 /// ```
+#[inline]
 pub fn take_offered<const N: usize>(image: &mut [u8; N]) {
     let form = const { super::super::image::form::form_at(N) };
     let Form::Numbered = form else {

@@ -54,6 +54,7 @@ pub fn from_zero() -> [u8; 32] {
 /// requires { ⌜ at + 2 ≤ length (now image) ⌝ }
 /// ensures { λ r. ⌜ r ≡ numberOf (part at 2 (now (image .entry))) ⌝ }
 /// ```
+#[inline]
 fn number_at(image: &[u8], at: usize) -> u16 {
     assert!(2 <= image.len() && at <= image.len() - 2);
     let end = at + form::NUMBER;
@@ -66,6 +67,7 @@ fn number_at(image: &[u8], at: usize) -> u16 {
 /// requires { ⌜ at + 2 ≤ length (now image) ⌝ }
 /// ensures { λ r. ⌜ NextTaken at (now (image .entry)) (now (image .exit)) r ⌝ }
 /// ```
+#[inline]
 pub fn take_next(image: &mut [u8], at: usize) -> u16 {
     assert!(2 <= image.len() && at <= image.len() - 2);
     let taken = number_at(image, at);

@@ -13,6 +13,7 @@ use super::event_numbers;
 /// ```text
 /// ensures { λ r. ⌜ r ≡ min (drops + 1) stop ⌝ }
 /// ```
+#[inline]
 fn counted(drops: u64) -> u64 {
     if drops < 0xffff_ffff {
         drops + 1
@@ -24,6 +25,7 @@ fn counted(drops: u64) -> u64 {
 /// ```text
 /// ensures { λ r. ⌜ r ≡ flag asserted ⌝ }
 /// ```
+#[inline]
 fn flag_of(asserted: bool) -> u8 {
     if asserted { 1 } else { 0 }
 }
@@ -34,6 +36,7 @@ fn flag_of(asserted: bool) -> u8 {
 /// requires { ⌜ length (now body) ≡ ringLength ⌝ }
 /// ensures { λ r. ⌜ (r ≤ 1) × RingOffered (now (body .entry)) (now (body .exit)) r (event vector asserted) ⌝ }
 /// ```
+#[inline]
 fn offer_to(body: &mut [u8], vector: u8, asserted: bool) -> u32 {
     assert!(body.len() == 37);
     let len = body[form::COUNT] as usize;
@@ -55,6 +58,7 @@ fn offer_to(body: &mut [u8], vector: u8, asserted: bool) -> u32 {
 /// requires { ⌜ length (now image) ≡ formLength (formView form) ⌝ }
 /// ensures { λ r. ⌜ (r ≤ 1) × Offers (now (image .entry)) (now (image .exit)) r (λ d. offering vector asserted) ⌝ }
 /// ```
+#[inline]
 pub fn offer<const N: usize>(image: &mut [u8; N], vector: u8, asserted: bool) -> u32 {
     let form = const { super::super::image::form::form_at(N) };
     event_numbers::take_offered(image);

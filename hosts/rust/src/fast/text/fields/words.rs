@@ -11,6 +11,7 @@ use super::super::image::form::Form;
 /// requires { ⌜ length (now image) ≡ formLength (formView form) ⌝ }
 /// ensures { λ r. ⌜ Reads (now (image .entry)) r (λ d. d .core .lines .mask) ⌝ }
 /// ```
+#[inline]
 pub fn mask<const N: usize>(image: &[u8; N]) -> u64 {
     let form = const { super::super::image::form::form_at(N) };
     let p = places_of(form);
@@ -21,6 +22,7 @@ pub fn mask<const N: usize>(image: &[u8; N]) -> u64 {
 /// requires { ⌜ length (now image) ≡ formLength (formView form) ⌝ }
 /// ensures { λ r. ⌜ Reads (now (image .entry)) r (λ d. d .core .lines .irr) ⌝ }
 /// ```
+#[inline]
 pub fn irr<const N: usize>(image: &[u8; N]) -> u64 {
     let form = const { super::super::image::form::form_at(N) };
     let p = places_of(form);
@@ -31,6 +33,7 @@ pub fn irr<const N: usize>(image: &[u8; N]) -> u64 {
 /// requires { ⌜ length (now image) ≡ formLength (formView form) ⌝ }
 /// ensures { λ r. ⌜ Reads (now (image .entry)) r (λ d. d .core .lines .isr) ⌝ }
 /// ```
+#[inline]
 pub fn isr<const N: usize>(image: &[u8; N]) -> u64 {
     let form = const { super::super::image::form::form_at(N) };
     let p = places_of(form);
@@ -41,6 +44,7 @@ pub fn isr<const N: usize>(image: &[u8; N]) -> u64 {
 /// requires { ⌜ length (now image) ≡ formLength (formView form) ⌝ }
 /// ensures { λ _. ⌜ Becomes (now (image .entry)) (now (image .exit)) (λ d. withLines d (withMask (d .core .lines) x)) ⌝ }
 /// ```
+#[inline]
 pub fn put_mask<const N: usize>(image: &mut [u8; N], x: u64) {
     let form = const { super::super::image::form::form_at(N) };
     let p = places_of(form);
@@ -53,6 +57,7 @@ pub fn put_mask<const N: usize>(image: &mut [u8; N], x: u64) {
 /// requires { ⌜ length (now image) ≡ formLength (formView form) ⌝ }
 /// ensures { λ _. ⌜ Becomes (now (image .entry)) (now (image .exit)) (λ d. withLines d (withIrr (d .core .lines) x)) ⌝ }
 /// ```
+#[inline]
 pub fn put_irr<const N: usize>(image: &mut [u8; N], x: u64) {
     let form = const { super::super::image::form::form_at(N) };
     let p = places_of(form);
@@ -64,6 +69,7 @@ pub fn put_irr<const N: usize>(image: &mut [u8; N], x: u64) {
 /// requires { ⌜ length (now image) ≡ formLength (formView form) ⌝ }
 /// ensures { λ _. ⌜ Becomes (now (image .entry)) (now (image .exit)) (λ d. withLines d (withIsr (d .core .lines) x)) ⌝ }
 /// ```
+#[inline]
 pub fn put_isr<const N: usize>(image: &mut [u8; N], x: u64) {
     let form = const { super::super::image::form::form_at(N) };
     let p = places_of(form);
@@ -75,6 +81,7 @@ pub fn put_isr<const N: usize>(image: &mut [u8; N], x: u64) {
 /// ```text
 /// ensures { λ r. ⌜ r ≡ place (formView form) (word (stored (plainView register))) ⌝ }
 /// ```
+#[inline]
 fn place_of(form: Form, register: Plain) -> usize {
     let p = places_of(form);
     match register {
@@ -90,6 +97,7 @@ fn place_of(form: Form, register: Plain) -> usize {
 /// requires { ⌜ length (now image) ≡ formLength (formView form) ⌝ }
 /// ensures { λ r. ⌜ Reads (now (image .entry)) r (λ d. plain (d .core .stored) (plainView register)) ⌝ }
 /// ```
+#[inline]
 pub fn plain<const N: usize>(image: &[u8; N], register: Plain) -> u64 {
     let form = const { super::super::image::form::form_at(N) };
     word_at(image, place_of(form, register))
@@ -99,6 +107,7 @@ pub fn plain<const N: usize>(image: &[u8; N], register: Plain) -> u64 {
 /// requires { ⌜ length (now image) ≡ formLength (formView form) ⌝ }
 /// ensures { λ _. ⌜ Becomes (now (image .entry)) (now (image .exit)) (λ d. withStored d (withPlain (d .core .stored) (plainView register) x)) ⌝ }
 /// ```
+#[inline]
 pub fn put_plain<const N: usize>(image: &mut [u8; N], register: Plain, x: u64) {
     let form = const { super::super::image::form::form_at(N) };
     put_word(image, place_of(form, register), x);

@@ -10,6 +10,7 @@ use super::form::PAIR;
 /// requires { ⌜ (length (now pairs) ≡ 2 * capacity) × (count ≤ capacity) ⌝ }
 /// ensures { λ r. ⌜ First (flagRule count .bad) (now (pairs .entry)) r ⌝ }
 /// ```
+#[inline]
 pub fn bad_flag(count: usize, pairs: &[u8]) -> usize {
     assert!(pairs.len() == 32 && count <= 16);
     let mut i = 0;
@@ -29,6 +30,7 @@ pub fn bad_flag(count: usize, pairs: &[u8]) -> usize {
 /// requires { ⌜ (length (now pairs) ≡ 2 * capacity) × (count ≤ capacity) ⌝ }
 /// ensures { λ r. ⌜ First (unusedRule rules-form.pairs count .bad) (now (pairs .entry)) r ⌝ }
 /// ```
+#[inline]
 pub fn used_byte(count: usize, pairs: &[u8]) -> usize {
     assert!(pairs.len() == 32 && count <= 16);
     let mut i = PAIR * count;

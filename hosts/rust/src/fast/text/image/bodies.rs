@@ -22,6 +22,7 @@ pub enum Bodies {
 /// ```text
 /// ensures { λ r. ⌜ r ≡ spareAt (formView form) ⌝ }
 /// ```
+#[inline]
 fn spare_of(form: Form) -> usize {
     let p = places_of(form);
     match form {
@@ -37,6 +38,7 @@ fn spare_of(form: Form) -> usize {
 /// requires { ⌜ length (now image) ≡ formLength (formView form) ⌝ }
 /// ensures { λ r. ⌜ holds r ≡ bodiesGood (formView form) (now (image .entry)) ⌝ }
 /// ```
+#[inline]
 pub fn test_bodies<const N: usize>(image: &[u8; N]) -> Bodies {
     let form = const { super::super::image::form::form_at(N) };
     let p = places_of(form);

@@ -35,6 +35,7 @@ pub enum Checked {
 /// requires { ⌜ (at + 2 * capacity ≤ length (now image)) × (count ≤ capacity) ⌝ }
 /// ensures { λ r. ⌜ checkedView r ≡ bodyTest (pairFault at count (part at (2 * capacity) (now (image .entry)))) ⌝ }
 /// ```
+#[inline]
 fn pair_fault(image: &[u8], at: usize, count: usize) -> Checked {
     assert!(32 <= image.len() && at <= image.len() - 32 && count <= 16);
     let end = at + PAIRS_LENGTH;
@@ -55,6 +56,7 @@ fn pair_fault(image: &[u8], at: usize, count: usize) -> Checked {
 /// requires { ⌜ (length (now image) ≡ formLength (formView form)) × (count ≤ capacity) ⌝ }
 /// ensures { λ r. ⌜ checkedView r ≡ bodyTest (finding (formView form) (now (image .entry)) (unusedRule rules-form.numbers count)) ⌝ }
 /// ```
+#[inline]
 fn number_fault<const N: usize>(image: &[u8; N], count: usize) -> Checked {
     let form = const { super::super::image::form::form_at(N) };
     assert!(count <= 16);
@@ -77,6 +79,7 @@ fn number_fault<const N: usize>(image: &[u8; N], count: usize) -> Checked {
 /// requires { ⌜ length (now image) ≡ formLength (formView form) ⌝ }
 /// ensures { λ r. ⌜ checkedView r ≡ bodyTest (firstFault (formView form) (now (image .entry)) (rules (formView form) (now (image .entry)))) ⌝ }
 /// ```
+#[inline]
 pub fn first_fault<const N: usize>(image: &[u8; N]) -> Checked {
     let form = const { super::super::image::form::form_at(N) };
     let p = places_of(form);

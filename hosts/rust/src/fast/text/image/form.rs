@@ -18,6 +18,7 @@ pub enum KnownForm {
 /// ```text
 /// ensures { λ r. ⌜ formKnown r ≡ formOf length ⌝ }
 /// ```
+#[inline]
 pub fn form_of(length: usize) -> KnownForm {
     match length {
         259 => KnownForm::As(Form::One),
@@ -62,6 +63,7 @@ pub struct Places {
 /// ```text
 /// ensures { λ r. ⌜ (r ≡ contentsLength (formView form)) × (r ≤ 27) ⌝ }
 /// ```
+#[inline]
 fn contents_length(form: Form) -> usize {
     match form {
         Form::One => 22,
@@ -75,6 +77,7 @@ fn contents_length(form: Form) -> usize {
 /// ```text
 /// ensures { λ r. ⌜ (r ≡ copyLength (formView form)) × (r ≤ 8) ⌝ }
 /// ```
+#[inline]
 fn copy_length(form: Form) -> usize {
     match form {
         Form::One => 8,
@@ -88,6 +91,7 @@ fn copy_length(form: Form) -> usize {
 /// ```text
 /// ensures { λ r. ⌜ PlacesOf (formView form) r ⌝ }
 /// ```
+#[inline]
 pub fn places_of(form: Form) -> Places {
     let head = contents_length(form);
     let behind = head + copy_length(form);
@@ -155,6 +159,7 @@ pub struct Contents {
 /// ```text
 /// ensures { λ r. ⌜ ContentsOf (formView form) r ⌝ }
 /// ```
+#[inline]
 pub fn contents_of(form: Form) -> Contents {
     match form {
         Form::One => Contents {

@@ -20,6 +20,7 @@ pub enum Head {
 /// requires { ⌜ length (now image) ≡ formLength (formView form) ⌝ }
 /// ensures { λ r. ⌜ r ≡ headGood (formView form) (now (image .entry)) ⌝ }
 /// ```
+#[inline]
 fn contents_good<const N: usize>(image: &[u8; N]) -> bool {
     let form = const { super::super::image::form::form_at(N) };
     let c = contents_of(form);
@@ -39,6 +40,7 @@ fn contents_good<const N: usize>(image: &[u8; N]) -> bool {
 /// requires { ⌜ formOf (length (now image)) ≡ known (formView form) ⌝ }
 /// ensures { λ r. ⌜ Headed r (now (image .entry)) ⌝ }
 /// ```
+#[inline]
 fn headed<const N: usize>(image: &[u8; N]) -> Head {
     let form = const { super::super::image::form::form_at(N) };
     if contents_good(image) {
@@ -52,6 +54,7 @@ fn headed<const N: usize>(image: &[u8; N]) -> Head {
 /// ```text
 /// ensures { λ r. ⌜ Headed r (now (image .entry)) ⌝ }
 /// ```
+#[inline]
 pub fn test_head<const N: usize>(image: &[u8; N]) -> Head {
     let KnownForm::As(form) = form_of(image.len()) else {
         return Head::WrongLength;

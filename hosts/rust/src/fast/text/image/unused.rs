@@ -10,6 +10,7 @@ use super::form::CAPACITY;
 /// requires { ⌜ length (now pairs) ≡ 2 * capacity ⌝ }
 /// ensures { λ r. ⌜ r ≡ bitsOf 4 (now (pairs .entry)) ⌝ }
 /// ```
+#[inline]
 pub fn all_bits(pairs: &[u8]) -> u64 {
     assert!(pairs.len() == 32);
     let mut found = 0u64;
@@ -27,6 +28,7 @@ pub fn all_bits(pairs: &[u8]) -> u64 {
 /// requires { ⌜ (length (now pairs) ≡ 2 * capacity) × (length (now spare) ≡ 2 * capacity) × (count ≤ capacity) ⌝ }
 /// ensures { λ r. ⌜ r ≡ (allZero (drop (2 * count) (now (pairs .entry))) && allZero (drop (2 * count) (now (spare .entry)))) ⌝ }
 /// ```
+#[inline]
 pub fn unused_zero(count: usize, pairs: &[u8], spare: &[u8]) -> bool {
     assert!(pairs.len() == 32 && spare.len() == 32 && count <= 16);
     if count == CAPACITY {

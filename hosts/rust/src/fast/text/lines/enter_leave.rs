@@ -13,6 +13,7 @@ use super::super::image::form::Form;
 /// requires { ⌜ length (now image) ≡ formLength (formView form) ⌝ }
 /// ensures { λ r. ⌜ MovesIn (now (image .entry)) (now (image .exit)) (answerValue r) untaken given (λ vs. lines.enter vs false (on set)) ⌝ }
 /// ```
+#[inline]
 pub fn enter<const N: usize>(image: &mut [u8; N], set: u64) -> Answer {
     let isr = words::isr(image);
     let waiting = decide::pending(set, words::irr(image), words::mask(image), isr);
@@ -30,6 +31,7 @@ pub fn enter<const N: usize>(image: &mut [u8; N], set: u64) -> Answer {
 /// requires { ⌜ (length (now image) ≡ formLength (formView form)) × (irq < 64) ⌝ }
 /// ensures { λ r. ⌜ MovesIn (now (image .entry)) (now (image .exit)) (answerValue r) untaken given (λ vs. lines.leave vs false (only irq)) ⌝ }
 /// ```
+#[inline]
 pub fn leave_one<const N: usize>(image: &mut [u8; N], irq: usize) -> Answer {
     assert!(irq < 64);
     let isr = words::isr(image);

@@ -12,6 +12,7 @@ use super::super::image::form::Form;
 /// requires { ⌜ length (now image) ≡ formLength (formView form) ⌝ }
 /// ensures { λ r. ⌜ (r ≤ 1) × Offers (now (image .entry)) (now (image .exit)) r (λ d. assertOf (answerValue entered)) ⌝ }
 /// ```
+#[inline]
 pub fn offer_entered<const N: usize>(image: &mut [u8; N], entered: Answer) -> u32 {
     match entered {
         Answer::None => 0,
@@ -25,6 +26,7 @@ pub fn offer_entered<const N: usize>(image: &mut [u8; N], entered: Answer) -> u3
 /// requires { ⌜ length (now image) ≡ formLength (formView form) ⌝ }
 /// ensures { λ r. ⌜ (r ≤ length (inputs (on set))) × Offers (now (image .entry)) (now (image .exit)) r (λ d. deasserts (d .core) set) ⌝ }
 /// ```
+#[inline]
 fn offer_rest<const N: usize>(image: &mut [u8; N], set: u64) -> u32 {
     let mut left = set;
     let mut dropped = 0;
@@ -43,6 +45,7 @@ fn offer_rest<const N: usize>(image: &mut [u8; N], set: u64) -> u32 {
 /// requires { ⌜ length (now image) ≡ formLength (formView form) ⌝ }
 /// ensures { λ r. ⌜ (r ≤ 64) × Offers (now (image .entry)) (now (image .exit)) r (λ d. deasserts (d .core) set) ⌝ }
 /// ```
+#[inline]
 pub fn offer_each<const N: usize>(image: &mut [u8; N], set: u64) -> u32 {
     let mut left = set;
     while left != 0 {

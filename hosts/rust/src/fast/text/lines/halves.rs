@@ -16,6 +16,7 @@ use super::masking::write_mask;
 /// requires { ⌜ length (now image) ≡ formLength (formView form) ⌝ }
 /// ensures { λ r. ⌜ Reads (now (image .entry)) r (λ d. valueOf (d .core) (registerView register)) ⌝ }
 /// ```
+#[inline]
 pub fn value_of<const N: usize>(image: &[u8; N], register: Register) -> u64 {
     match register {
         Register::Id => PchPicState::INT_ID,
@@ -33,6 +34,7 @@ pub fn value_of<const N: usize>(image: &[u8; N], register: Register) -> u64 {
 /// requires { ⌜ length (now image) ≡ formLength (formView form) ⌝ }
 /// ensures { λ _. ⌜ Writes (now (image .entry)) (now (image .exit)) 0 (λ c. setIsr high val ∷ []) ⌝ }
 /// ```
+#[inline]
 fn write_isr<const N: usize>(image: &mut [u8; N], val: u32, high: bool) {
     let old = words::isr(image);
     words::put_isr(image, bits::replace_u32(old, val, high));
@@ -42,6 +44,7 @@ fn write_isr<const N: usize>(image: &mut [u8; N], val: u32, high: bool) {
 /// requires { ⌜ length (now image) ≡ formLength (formView form) ⌝ }
 /// ensures { λ _. ⌜ Writes (now (image .entry)) (now (image .exit)) 0 (λ c. store (setPlain (plainView plain) high val) ∷ []) ⌝ }
 /// ```
+#[inline]
 fn write_plain<const N: usize>(image: &mut [u8; N], plain: Plain, val: u32, high: bool) {
     let old = words::plain(image, plain);
     words::put_plain(image, plain, bits::replace_u32(old, val, high));
@@ -53,6 +56,7 @@ fn write_plain<const N: usize>(image: &mut [u8; N], plain: Plain, val: u32, high
 /// requires { ⌜ length (now image) ≡ formLength (formView form) ⌝ }
 /// ensures { λ r. ⌜ (r ≤ 65) × Writes (now (image .entry)) (now (image .exit)) r (λ c. registerActs (registerView register) high val) ⌝ }
 /// ```
+#[inline]
 pub fn write_half<const N: usize>(
     image: &mut [u8; N],
     register: Register,

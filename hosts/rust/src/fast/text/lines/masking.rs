@@ -15,6 +15,7 @@ use super::events::offer_entered;
 /// requires { ⌜ length (now image) ≡ formLength (formView form) ⌝ }
 /// ensures { λ r. ⌜ (r ≤ 64) × MovesIn (now (image .entry)) (now (image .exit)) r takesAll lost (λ vs. lines.leave vs true (on set)) ⌝ }
 /// ```
+#[inline]
 fn leave<const N: usize>(image: &mut [u8; N], set: u64) -> u32 {
     let isr = words::isr(image);
     let served = decide::served(set, isr);
@@ -31,6 +32,7 @@ fn leave<const N: usize>(image: &mut [u8; N], set: u64) -> u32 {
 /// requires { ⌜ length (now image) ≡ formLength (formView form) ⌝ }
 /// ensures { λ r. ⌜ (r ≤ 65) × Writes (now (image .entry)) (now (image .exit)) r (λ c. core.move (core.setMask high val) ∷ []) ⌝ }
 /// ```
+#[inline]
 pub fn write_mask<const N: usize>(image: &mut [u8; N], val: u32, high: bool) -> u32 {
     let old = words::mask(image);
     words::put_mask(image, bits::replace_u32(old, val, high));
@@ -45,6 +47,7 @@ pub fn write_mask<const N: usize>(image: &mut [u8; N], val: u32, high: bool) -> 
 /// requires { ⌜ length (now image) ≡ formLength (formView form) ⌝ }
 /// ensures { λ r. ⌜ (r ≤ 65) × Writes (now (image .entry)) (now (image .exit)) r (λ c. core.move (core.clear bits) ∷ []) ⌝ }
 /// ```
+#[inline]
 pub fn write_clear<const N: usize>(image: &mut [u8; N], bits: u64) -> u32 {
     let irr = words::irr(image);
     words::put_irr(image, irr & !bits);

@@ -11,6 +11,7 @@ use super::enter_leave::leave_one;
 /// requires { ⌜ (length (now image) ≡ formLength (formView form)) × (irq < 64) ⌝ }
 /// ensures { λ r. ⌜ Returns (now (image .entry)) (now (image .exit)) (answerValue r) (core.poll irq) ⌝ }
 /// ```
+#[inline]
 pub fn poll<const N: usize>(image: &mut [u8; N], irq: usize) -> Answer {
     assert!(irq < 64);
     enter(image, 1u64 << irq)
@@ -22,6 +23,7 @@ pub fn poll<const N: usize>(image: &mut [u8; N], irq: usize) -> Answer {
 /// requires { ⌜ (length (now image) ≡ formLength (formView form)) × (irq < 64) ⌝ }
 /// ensures { λ r. ⌜ Returns (now (image .entry)) (now (image .exit)) (answerValue r) (core.raise irq) ⌝ }
 /// ```
+#[inline]
 fn raise<const N: usize>(image: &mut [u8; N], irq: usize) -> Answer {
     assert!(irq < 64);
     let irr = words::irr(image);
@@ -36,6 +38,7 @@ fn raise<const N: usize>(image: &mut [u8; N], irq: usize) -> Answer {
 /// requires { ⌜ (length (now image) ≡ formLength (formView form)) × (irq < 64) ⌝ }
 /// ensures { λ r. ⌜ Returns (now (image .entry)) (now (image .exit)) (answerValue r) (core.lower irq) ⌝ }
 /// ```
+#[inline]
 fn lower<const N: usize>(image: &mut [u8; N], irq: usize) -> Answer {
     assert!(irq < 64);
     let irr = words::irr(image);
@@ -47,6 +50,7 @@ fn lower<const N: usize>(image: &mut [u8; N], irq: usize) -> Answer {
 /// requires { ⌜ (length (now image) ≡ formLength (formView form)) × (irq < 64) ⌝ }
 /// ensures { λ r. ⌜ Returns (now (image .entry)) (now (image .exit)) (answerValue r) (levelMove irq level) ⌝ }
 /// ```
+#[inline]
 pub fn set_level<const N: usize>(image: &mut [u8; N], irq: usize, level: bool) -> Answer {
     assert!(irq < 64);
     if level {

@@ -26,6 +26,7 @@ pub fn pch_pic_reset(image: &mut [u8], answer: &mut [u8]) -> u8 {
     pch_pic_reset_of(&mut [0u8; 0], answer)
 }
 
+#[inline]
 fn pch_pic_reset_of<const N: usize>(image: &mut [u8; N], answer: &mut [u8]) -> u8 {
     let told = reset_drain::reset(image);
     answer::tell(answer, told)
@@ -58,6 +59,7 @@ pub fn pch_pic_read(
     pch_pic_read_of(&[0u8; 0], base, size, address, width, answer)
 }
 
+#[inline]
 fn pch_pic_read_of<const N: usize>(
     image: &[u8; N],
     base: u64,
@@ -98,6 +100,7 @@ pub fn pch_pic_write(
     pch_pic_write_of(&mut [0u8; 0], base, size, address, width, value, answer)
 }
 
+#[inline]
 fn pch_pic_write_of<const N: usize>(
     image: &mut [u8; N],
     base: u64,
@@ -130,6 +133,7 @@ pub fn pch_pic_level(image: &mut [u8], input: u64, level: u64, answer: &mut [u8]
     pch_pic_level_of(&mut [0u8; 0], input, level, answer)
 }
 
+#[inline]
 fn pch_pic_level_of<const N: usize>(
     image: &mut [u8; N],
     input: u64,
@@ -159,6 +163,7 @@ pub fn pch_pic_poll(image: &mut [u8], input: u64, answer: &mut [u8]) -> u8 {
     pch_pic_poll_of(&mut [0u8; 0], input, answer)
 }
 
+#[inline]
 fn pch_pic_poll_of<const N: usize>(image: &mut [u8; N], input: u64, answer: &mut [u8]) -> u8 {
     let told = tested_input::poll(image, input);
     answer::tell(answer, told)
@@ -187,6 +192,7 @@ pub fn pch_pic_drain(image: &mut [u8], events: &mut [u8], place: usize, answer: 
     pch_pic_drain_of(&mut [0u8; 0], events, place, answer)
 }
 
+#[inline]
 fn pch_pic_drain_of<const N: usize>(
     image: &mut [u8; N],
     events: &mut [u8],

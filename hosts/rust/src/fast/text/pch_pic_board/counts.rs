@@ -14,6 +14,7 @@ use super::super::image::form::KnownForm;
 /// requires { ⌜ (length (now image) ≡ formLength (formView form)) × (boardLength ≤ length (now board)) ⌝ }
 /// ensures { λ _. ⌜ Reads (now (image .entry)) (now (board .exit)) (λ d. recounted (d .core) (now (board .entry))) ⌝ }
 /// ```
+#[inline]
 pub fn recount<const N: usize>(image: &[u8; N], board: &mut [u8]) {
     assert!(256 <= board.len());
     put_zeros(&mut board[0..256]);
@@ -32,6 +33,7 @@ pub fn recount<const N: usize>(image: &[u8; N], board: &mut [u8]) {
 /// requires { ⌜ (number ≡ 0 → imageTest (now image) ≡ accepted) × (boardLength ≤ length (now board)) ⌝ }
 /// ensures { λ _. ⌜ now (board .exit) ≡ boardAfter number (now (image .entry)) (now (board .entry)) ⌝ }
 /// ```
+#[inline]
 pub fn bring<const N: usize>(image: &[u8; N], board: &mut [u8], number: u8) {
     assert!(256 <= board.len());
     if number != 0 {
@@ -49,6 +51,7 @@ pub fn bring<const N: usize>(image: &[u8; N], board: &mut [u8], number: u8) {
 /// ```text
 /// ensures { λ r. ⌜ r ≡ heardCount flag count ⌝ }
 /// ```
+#[inline]
 fn heard(flag: u8, count: u8) -> u8 {
     if flag == 0 {
         if count == 0 {
@@ -68,6 +71,7 @@ fn heard(flag: u8, count: u8) -> u8 {
 /// requires { ⌜ boardLength ≤ length (now board) ⌝ }
 /// ensures { λ r. ⌜ (r ≡ heardCount flag (getD (now (board .entry)) vector 0)) × (now (board .exit) ≡ set (now (board .entry)) vector r) ⌝ }
 /// ```
+#[inline]
 pub fn hear(board: &mut [u8], vector: u8, flag: u8) -> u8 {
     assert!(256 <= board.len());
     let at = vector as usize;

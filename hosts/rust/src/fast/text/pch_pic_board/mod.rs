@@ -18,6 +18,7 @@ use super::six_calls::tested_input;
 /// requires { ⌜ Finishing told (now image) (now board) (now answer) ⌝ }
 /// ensures { λ r. ⌜ Finished told (now (image .entry)) (now (board .entry)) (now (answer .entry)) r (now (board .exit)) (now (answer .exit)) ⌝ }
 /// ```
+#[inline]
 fn finish<const N: usize>(image: &[u8; N], board: &mut [u8], answer: &mut [u8], told: Told) -> u8 {
     assert!(256 <= board.len() && 16 <= answer.len());
     let number = told.number;
@@ -48,6 +49,7 @@ pub fn pch_pic_board_reset(image: &mut [u8], board: &mut [u8], answer: &mut [u8]
     pch_pic_board_reset_of(&mut [0u8; 0], board, answer)
 }
 
+#[inline]
 fn pch_pic_board_reset_of<const N: usize>(
     image: &mut [u8; N],
     board: &mut [u8],
@@ -88,6 +90,7 @@ pub fn pch_pic_board_read(
     pch_pic_board_read_of(&[0u8; 0], board, base, size, address, width, answer)
 }
 
+#[inline]
 fn pch_pic_board_read_of<const N: usize>(
     image: &[u8; N],
     board: &mut [u8],
@@ -133,6 +136,7 @@ pub fn pch_pic_board_write(
     pch_pic_board_write_of(&mut [0u8; 0], board, base, size, address, width, value, answer)
 }
 
+#[inline]
 fn pch_pic_board_write_of<const N: usize>(
     image: &mut [u8; N],
     board: &mut [u8],
@@ -176,6 +180,7 @@ pub fn pch_pic_board_level(
     pch_pic_board_level_of(&mut [0u8; 0], board, input, level, answer)
 }
 
+#[inline]
 fn pch_pic_board_level_of<const N: usize>(
     image: &mut [u8; N],
     board: &mut [u8],
@@ -210,6 +215,7 @@ pub fn pch_pic_board_poll(image: &mut [u8], board: &mut [u8], input: u64, answer
     pch_pic_board_poll_of(&mut [0u8; 0], board, input, answer)
 }
 
+#[inline]
 fn pch_pic_board_poll_of<const N: usize>(
     image: &mut [u8; N],
     board: &mut [u8],
@@ -252,6 +258,7 @@ pub fn pch_pic_board_drain(
     pch_pic_board_drain_of(&mut [0u8; 0], board, events, place, answer)
 }
 
+#[inline]
 fn pch_pic_board_drain_of<const N: usize>(
     image: &mut [u8; N],
     board: &mut [u8],

@@ -23,6 +23,7 @@ use super::load_state;
 /// ```text
 /// ensures { λ r. ⌜ ends r (now (target .exit)) [] ≡ convertEnding (now (image .entry)) (now (target .entry)) ⌝ }
 /// ```
+#[inline]
 pub fn convert<const N: usize, const M: usize>(image: &[u8; N], target: &mut [u8; M]) -> Told {
     let KnownForm::As(_) = form_of(image.len()) else {
         return wrong_length();

@@ -14,6 +14,7 @@ use super::super::stored::pairs::ring_of;
 /// requires { ⌜ at + 4 ≤ length (now image) ⌝ }
 /// ensures { λ r. ⌜ r ≡ numberOf (part at 4 (now (image .entry))) ⌝ }
 /// ```
+#[inline]
 fn drops_at(image: &[u8], at: usize) -> u32 {
     assert!(4 <= image.len() && at <= image.len() - 4);
     let end = at + form::DROPS_LENGTH;

@@ -32,6 +32,7 @@ pub fn pch_pic_convert(image: &[u8], target: &mut [u8], answer: &mut [u8]) -> u8
     pch_pic_convert_1(&[0u8; 0], target, answer)
 }
 
+#[inline]
 fn pch_pic_convert_1<const N: usize>(image: &[u8; N], target: &mut [u8], answer: &mut [u8]) -> u8 {
     if let Ok(target) = <&mut [u8; 259]>::try_from(&mut *target) {
         return pch_pic_convert_of(image, target, answer);
@@ -45,6 +46,7 @@ fn pch_pic_convert_1<const N: usize>(image: &[u8; N], target: &mut [u8], answer:
     pch_pic_convert_of(image, &mut [0u8; 0], answer)
 }
 
+#[inline]
 fn pch_pic_convert_of<const N: usize, const M: usize>(
     image: &[u8; N],
     target: &mut [u8; M],

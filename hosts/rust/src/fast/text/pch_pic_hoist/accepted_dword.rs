@@ -24,6 +24,7 @@ use super::profile::Aligned;
 /// requires { ⌜ Passed (formView form) (now image) ⌝ }
 /// ensures { λ r. ⌜ ends r (now (image .entry)) [] ≡ hoistEnding false (asked.read base size address width) (now (image .entry)) ⌝ }
 /// ```
+#[inline]
 pub fn read<const N: usize>(
     image: &[u8; N],
     base: u64,
@@ -49,6 +50,7 @@ pub fn read<const N: usize>(
 /// requires { ⌜ Passed (formView form) (now image) ⌝ }
 /// ensures { λ r. ⌜ ends r (now (image .exit)) [] ≡ hoistEnding running (asked.write base size address width value) (now (image .entry)) ⌝ }
 /// ```
+#[inline]
 pub fn write<const N: usize>(
     image: &mut [u8; N],
     running: bool,

@@ -22,6 +22,7 @@ pub enum Fit {
 /// requires { ⌜ (length (now image) ≡ formLength (formView form)) × (0x200 ≤ offset) × (offset + 4 ≤ 0x240) ⌝ }
 /// ensures { λ r. ⌜ Reads (now (image .entry)) (refuses r) (λ d. changesServed d (write dword offset value)) ⌝ }
 /// ```
+#[inline]
 fn judge_vectors<const N: usize>(image: &[u8; N], offset: usize, value: u64) -> Fit {
     let isr = words::isr(image);
     let old = read_dword(image, offset);
@@ -38,6 +39,7 @@ fn judge_vectors<const N: usize>(image: &[u8; N], offset: usize, value: u64) -> 
 /// requires { ⌜ (length (now image) ≡ formLength (formView form)) × (offset % 4 ≡ 0) ⌝ }
 /// ensures { λ r. ⌜ Reads (now (image .entry)) (refuses r) (λ d. forbidden running d offset value) ⌝ }
 /// ```
+#[inline]
 pub fn judge<const N: usize>(image: &[u8; N], running: bool, offset: usize, value: u64) -> Fit {
     if is_isr(offset) {
         return Fit::Refused;
@@ -57,6 +59,7 @@ pub fn judge<const N: usize>(image: &[u8; N], running: bool, offset: usize, valu
 /// requires { ⌜ length (now image) ≡ formLength (formView form) ⌝ }
 /// ensures { λ r. ⌜ Reads (now (image .entry)) (refuses r) (λ d. cannotEnd running d) ⌝ }
 /// ```
+#[inline]
 pub fn judge_end<const N: usize>(image: &[u8; N], running: bool) -> Fit {
     if running {
         return Fit::Refused;

@@ -37,6 +37,7 @@ pub fn pch_pic_hoist_reset(image: &mut [u8], phase: &mut [u8], answer: &mut [u8]
     pch_pic_hoist_reset_of(&mut [0u8; 0], phase, answer)
 }
 
+#[inline]
 fn pch_pic_hoist_reset_of<const N: usize>(
     image: &mut [u8; N],
     phase: &mut [u8],
@@ -75,6 +76,7 @@ pub fn pch_pic_hoist_read(
     pch_pic_hoist_read_of(&[0u8; 0], base, size, address, width, answer)
 }
 
+#[inline]
 fn pch_pic_hoist_read_of<const N: usize>(
     image: &[u8; N],
     base: u64,
@@ -119,6 +121,7 @@ pub fn pch_pic_hoist_write(
     pch_pic_hoist_write_of(&mut [0u8; 0], phase, base, size, address, width, value, answer)
 }
 
+#[inline]
 fn pch_pic_hoist_write_of<const N: usize>(
     image: &mut [u8; N],
     phase: &[u8],
@@ -159,6 +162,7 @@ pub fn pch_pic_hoist_end_startup(image: &[u8], phase: &mut [u8], answer: &mut [u
     pch_pic_hoist_end_startup_of(&[0u8; 0], phase, answer)
 }
 
+#[inline]
 fn pch_pic_hoist_end_startup_of<const N: usize>(
     image: &[u8; N],
     phase: &mut [u8],

@@ -5,6 +5,7 @@
 /// requires { ⌜ 1 ≤ length (now phase) ⌝ }
 /// ensures { λ r. ⌜ r ≡ running (now (phase .entry)) ⌝ }
 /// ```
+#[inline]
 pub fn is_running(phase: &[u8]) -> bool {
     assert!(1 <= phase.len());
     phase[0] != 0
@@ -14,6 +15,7 @@ pub fn is_running(phase: &[u8]) -> bool {
 /// requires { ⌜ 1 ≤ length (now phase) ⌝ }
 /// ensures { λ _. ⌜ now (phase .exit) ≡ cond (eqb number 0) (inStartUp (now (phase .entry))) (now (phase .entry)) ⌝ }
 /// ```
+#[inline]
 pub fn begin_startup(phase: &mut [u8], number: u8) {
     assert!(1 <= phase.len());
     if number == 0 {
@@ -25,6 +27,7 @@ pub fn begin_startup(phase: &mut [u8], number: u8) {
 /// requires { ⌜ 1 ≤ length (now phase) ⌝ }
 /// ensures { λ _. ⌜ now (phase .exit) ≡ cond (eqb number 0) (afterStartUp (now (phase .entry))) (now (phase .entry)) ⌝ }
 /// ```
+#[inline]
 pub fn end_startup(phase: &mut [u8], number: u8) {
     assert!(1 <= phase.len());
     if number == 0 {

@@ -13,6 +13,7 @@ use super::super::device::state::PchPicState;
 /// ```text
 /// ensures { λ r. ⌜ Tells r unalignedNumber none ⌝ }
 /// ```
+#[inline]
 pub fn unaligned() -> Told {
     Told {
         number: 14,
@@ -23,6 +24,7 @@ pub fn unaligned() -> Told {
 /// ```text
 /// ensures { λ r. ⌜ Tells r unfitNumber none ⌝ }
 /// ```
+#[inline]
 pub fn unfit() -> Told {
     Told {
         number: 15,
@@ -42,6 +44,7 @@ pub enum Aligned {
 /// ```text
 /// ensures { λ r. ⌜ alignedView r ≡ alignedDword (widthView width) offset ⌝ }
 /// ```
+#[inline]
 pub fn test_aligned(width: Width, offset: usize) -> Aligned {
     let Width::Dword = width else {
         return Aligned::Other;
@@ -58,6 +61,7 @@ pub fn test_aligned(width: Width, offset: usize) -> Aligned {
 /// ```text
 /// ensures { λ r. ⌜ r ≡ isIsr offset ⌝ }
 /// ```
+#[inline]
 pub fn is_isr(offset: usize) -> bool {
     (offset == PchPicState::INT_ISR_LO) | (offset == PchPicState::INT_ISR_HI)
 }
@@ -65,6 +69,7 @@ pub fn is_isr(offset: usize) -> bool {
 /// ```text
 /// ensures { λ r. ⌜ r ≡ inVectors offset ⌝ }
 /// ```
+#[inline]
 pub fn in_vectors(offset: usize) -> bool {
     (PchPicState::HTMSI_VEC_BASE <= offset) & (offset < PchPicState::HTMSI_VEC_BASE + 64)
 }
@@ -75,6 +80,7 @@ pub fn in_vectors(offset: usize) -> bool {
 /// requires { ⌜ (k < 4) × (input + k < 64) ⌝ }
 /// ensures { λ r. ⌜ r ≡ changesByte isr input old new k ⌝ }
 /// ```
+#[inline]
 fn changes_byte(isr: u64, input: usize, old: u32, new: u32, k: usize) -> bool {
     assert!(k < 4 && input <= 64 && k < 64 - input);
     let n = input + k;
@@ -87,6 +93,7 @@ fn changes_byte(isr: u64, input: usize, old: u32, new: u32, k: usize) -> bool {
 /// requires { ⌜ input + 4 ≤ 64 ⌝ }
 /// ensures { λ r. ⌜ r ≡ changesFour isr input old new ⌝ }
 /// ```
+#[inline]
 pub fn changes_served(isr: u64, input: usize, old: u32, new: u32) -> bool {
     assert!(input <= 60);
     let a = changes_byte(isr, input, old, new, 0);

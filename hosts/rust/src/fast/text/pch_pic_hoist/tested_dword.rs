@@ -19,6 +19,7 @@ use super::profile::unfit;
 /// ```text
 /// ensures { λ r. ⌜ ends r (now (image .entry)) [] ≡ hoistEnding false (asked.read base size address width) (now (image .entry)) ⌝ }
 /// ```
+#[inline]
 pub fn read<const N: usize>(
     image: &[u8; N],
     base: u64,
@@ -41,6 +42,7 @@ pub fn read<const N: usize>(
 /// ```text
 /// ensures { λ r. ⌜ ends r (now (image .exit)) [] ≡ hoistEnding running (asked.write base size address width value) (now (image .entry)) ⌝ }
 /// ```
+#[inline]
 pub fn write<const N: usize>(
     image: &mut [u8; N],
     running: bool,
@@ -65,6 +67,7 @@ pub fn write<const N: usize>(
 /// ```text
 /// ensures { λ r. ⌜ ends r (now (image .entry)) [] ≡ endEnding running (now (image .entry)) ⌝ }
 /// ```
+#[inline]
 pub fn end_startup<const N: usize>(image: &[u8; N], running: bool) -> Told {
     let told = test_head(image);
     let Head::Of(form) = told else {

@@ -13,6 +13,7 @@ use super::torn::look;
 /// requires { ⌜ (at + 4 ≤ length (now out)) × (m < 2 ^ 16) × (n < 2 ^ 16) ⌝ }
 /// ensures { λ _. ⌜ now (out .exit) ≡ withTwo at m n (now (out .entry)) ⌝ }
 /// ```
+#[inline]
 fn put_two(out: &mut [u8], at: usize, m: usize, n: usize) {
     assert!(4 <= out.len() && at <= out.len() - 4);
     put_bytes(out, at, 4, (m + 65536 * n) as u64);
@@ -24,6 +25,7 @@ fn put_two(out: &mut [u8], at: usize, m: usize, n: usize) {
 /// requires { ⌜ (length (now dst) ≡ recordLength * records) × (length (now src) ≡ recordLength * records) ⌝ }
 /// ensures { λ _. ⌜ now (dst .exit) ≡ now (src .entry) ⌝ }
 /// ```
+#[inline]
 fn copy_records(dst: &mut [u8], src: &[u8], records: usize) {
     assert!(dst.len() == 16 * records && src.len() == 16 * records);
     dst.copy_from_slice(src);
@@ -35,6 +37,7 @@ fn copy_records(dst: &mut [u8], src: &[u8], records: usize) {
 /// requires { ⌜ Ready (now bads) (now trace) blocks (newContents blocks (now trace)) (now out) × (left ≡ length (leftOf blocks (now trace))) ⌝ }
 /// ensures { λ _. ⌜ now (out .exit) ≡ inFront (newContents blocks (now (trace .entry))) (now (out .entry)) ⌝ }
 /// ```
+#[inline]
 pub fn put_contents(trace: &[u8], blocks: usize, bads: &[u16; 64], left: usize, out: &mut [u8]) {
     put_bytes(out, 0, 2, left as u64);
     let mut at = 2;
@@ -58,6 +61,7 @@ pub fn put_contents(trace: &[u8], blocks: usize, bads: &[u16; 64], left: usize, 
 /// requires { ⌜ Ready (now bads) (now trace) blocks (newBlocks blocks (now trace)) (now out) ⌝ }
 /// ensures { λ _. ⌜ now (out .exit) ≡ inFront (newBlocks blocks (now (trace .entry))) (now (out .entry)) ⌝ }
 /// ```
+#[inline]
 pub fn put_blocks(trace: &[u8], blocks: usize, bads: &[u16; 64], out: &mut [u8]) {
     let mut at = 0;
     let mut b = 0;
@@ -81,6 +85,7 @@ pub fn put_blocks(trace: &[u8], blocks: usize, bads: &[u16; 64], out: &mut [u8])
 /// requires { ⌜ Ready (now bads) (now trace) blocks (newList blocks (now trace)) (now out) ⌝ }
 /// ensures { λ _. ⌜ now (out .exit) ≡ inFront (newList blocks (now (trace .entry))) (now (out .entry)) ⌝ }
 /// ```
+#[inline]
 pub fn put_list(trace: &[u8], blocks: usize, bads: &[u16; 64], out: &mut [u8]) {
     let mut at = 0;
     let mut b = 0;

@@ -23,6 +23,7 @@ use super::torn::survey;
 /// ```text
 /// ensures { λ t. ⌜ Tells t nothingLeft none ⌝ }
 /// ```
+#[inline]
 fn nothing_left() -> Told {
     Told {
         number: 16,
@@ -34,6 +35,7 @@ fn nothing_left() -> Told {
 /// ensures { λ t. ⌜ ends t (now (second .exit)) (now (list .exit))
 ///     ≡ salvageEnding (now (trace .entry)) (now (second .entry)) (now (list .entry)) ⌝ }
 /// ```
+#[inline]
 pub fn salvage(trace: &[u8], second: &mut [u8], list: &mut [u8]) -> Told {
     let Contents::Good(_, _) = contents_of(trace) else {
         return of_trace(Tested::WrongContents);

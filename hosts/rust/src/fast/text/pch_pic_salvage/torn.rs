@@ -15,6 +15,7 @@ struct Block {
 /// requires { ⌜ listedAt b + 4 ≤ length (now trace) ⌝ }
 /// ensures { λ r. ⌜ blockView r ≡ blockAt b (now (trace .entry)) ⌝ }
 /// ```
+#[inline]
 fn block_at(trace: &[u8], b: usize) -> Block {
     assert!(6 <= trace.len() && 4 * b <= trace.len() - 6);
     let at = 2 + 4 * b;
@@ -55,6 +56,7 @@ pub struct Looked {
 /// requires { ⌜ Seen (now bads) (now trace) b ⌝ }
 /// ensures { λ r. ⌜ Looks r (now (trace .entry)) b ⌝ }
 /// ```
+#[inline]
 pub fn look(trace: &[u8], bads: &[u16; 64], b: usize) -> Looked {
     assert!(6 <= trace.len() && 4 * b <= trace.len() - 6 && b < 64);
     let block = block_at(trace, b);
@@ -79,6 +81,7 @@ pub struct Left {
 /// requires { ⌜ Surveyed (now bads) (now trace) blocks ⌝ }
 /// ensures { λ r. ⌜ Counts r (now (trace .entry)) blocks ⌝ }
 /// ```
+#[inline]
 pub fn count(trace: &[u8], blocks: usize, bads: &[u16; 64]) -> Left {
     let mut left = 0;
     let mut all = 0;

@@ -26,6 +26,7 @@ const ALL: u64 = 0xffff_ffff_ffff_ffff;
 /// requires { ⌜ (sheetLength ≤ length (now sheet)) × (n < 65) ⌝ }
 /// ensures { λ _. ⌜ Becomes (now (sheet .entry)) (now (sheet .exit)) (λ f. rowCleared f n 10) ⌝ }
 /// ```
+#[inline]
 fn zero_row(sheet: &mut [u8], n: usize) {
     assert!(2600 <= sheet.len() && n < 65);
     let mut c = 0;
@@ -39,6 +40,7 @@ fn zero_row(sheet: &mut [u8], n: usize) {
 /// requires { ⌜ sheetLength ≤ length (now sheet) ⌝ }
 /// ensures { λ _. ⌜ Becomes (now (sheet .entry)) (now (sheet .exit)) (λ f. cleared f allInputs) ⌝ }
 /// ```
+#[inline]
 fn zero(sheet: &mut [u8]) {
     assert!(2600 <= sheet.len());
     let mut left = ALL;
@@ -57,6 +59,7 @@ fn zero(sheet: &mut [u8]) {
 /// requires { ⌜ Reaches (now trace) first records × (sheetLength ≤ length (now sheet)) ⌝ }
 /// ensures { λ _. ⌜ Takes (now (sheet .entry)) (now (sheet .exit)) (dayMarks 0 reset (map itemOf (recordsFrom (now (trace .entry)) records 0))) ⌝ }
 /// ```
+#[inline]
 fn follow(trace: &[u8], first: usize, records: usize, sheet: &mut [u8]) {
     assert!(records <= 4000 && first <= trace.len() && 16 * records <= trace.len() - first && 2600 <= sheet.len());
     let mut w = Watched {
@@ -80,6 +83,7 @@ fn follow(trace: &[u8], first: usize, records: usize, sheet: &mut [u8]) {
 /// requires { ⌜ sheetLength ≤ length (now sheet) ⌝ }
 /// ensures { λ t. ⌜ told t (now (sheet .exit)) ≡ madeOf (now (trace .entry)) (now (sheet .entry)) ⌝ }
 /// ```
+#[inline]
 pub fn make(trace: &[u8], sheet: &mut [u8]) -> Told {
     assert!(2600 <= sheet.len());
     let tested = trace::test(trace);

@@ -39,6 +39,7 @@ pub enum Fate {
 /// requires { ⌜ (sheetLength ≤ length (now sheet)) × (row < 65) × (column < 10) ⌝ }
 /// ensures { λ r. ⌜ Reads (now (sheet .entry)) r (λ f. f row column) ⌝ }
 /// ```
+#[inline]
 pub fn cell(sheet: &[u8], row: usize, column: usize) -> u64 {
     assert!(2600 <= sheet.len() && row < 65 && column < 10);
     let at = 40 * row + 4 * column;
@@ -50,6 +51,7 @@ pub fn cell(sheet: &[u8], row: usize, column: usize) -> u64 {
 /// requires { ⌜ (sheetLength ≤ length (now sheet)) × (row < 65) × (column < 10) ⌝ }
 /// ensures { λ _. ⌜ Becomes (now (sheet .entry)) (now (sheet .exit)) (λ f. put f row column x) ⌝ }
 /// ```
+#[inline]
 pub fn put_cell(sheet: &mut [u8], row: usize, column: usize, x: u64) {
     assert!(2600 <= sheet.len() && row < 65 && column < 10);
     let at = 40 * row + 4 * column;
@@ -62,6 +64,7 @@ pub fn put_cell(sheet: &mut [u8], row: usize, column: usize, x: u64) {
 /// requires { ⌜ (sheetLength ≤ length (now sheet)) × (row < 65) × (column < 10) ⌝ }
 /// ensures { λ _. ⌜ Becomes (now (sheet .entry)) (now (sheet .exit)) (λ f. bump f row column) ⌝ }
 /// ```
+#[inline]
 pub fn count(sheet: &mut [u8], row: usize, column: usize) {
     assert!(2600 <= sheet.len() && row < 65 && column < 10);
     let x = cell(sheet, row, column);
@@ -76,6 +79,7 @@ pub fn count(sheet: &mut [u8], row: usize, column: usize) {
 /// requires { ⌜ k < 4000 ⌝ }
 /// ensures { λ r. ⌜ r ≡ k + 1 - since ⌝ }
 /// ```
+#[inline]
 fn elapsed(k: u64, since: u64) -> u64 {
     assert!(k < 4000);
     if since <= k { k + 1 - since } else { 0 }
@@ -84,6 +88,7 @@ fn elapsed(k: u64, since: u64) -> u64 {
 /// ```text
 /// ensures { λ r. ⌜ r ≡ max a b ⌝ }
 /// ```
+#[inline]
 pub fn greater(a: u64, b: u64) -> u64 {
     if a < b { b } else { a }
 }
@@ -94,6 +99,7 @@ pub fn greater(a: u64, b: u64) -> u64 {
 /// requires { ⌜ Ready (now sheet) n k ⌝ }
 /// ensures { λ _. ⌜ Takes (now (sheet .entry)) (now (sheet .exit)) (began n k ∷ []) ⌝ }
 /// ```
+#[inline]
 pub fn begin(sheet: &mut [u8], n: usize, k: u64) {
     assert!(2600 <= sheet.len() && n < 64 && k < 4000);
     put_cell(sheet, n, OPEN, k + 1);
@@ -105,6 +111,7 @@ pub fn begin(sheet: &mut [u8], n: usize, k: u64) {
 /// requires { ⌜ Ready (now sheet) n k ⌝ }
 /// ensures { λ _. ⌜ Becomes (now (sheet .entry)) (now (sheet .exit)) (λ f. settled f n k) ⌝ }
 /// ```
+#[inline]
 fn settle(sheet: &mut [u8], n: usize, k: u64) {
     assert!(2600 <= sheet.len() && n < 64 && k < 4000);
     let since = cell(sheet, n, OPEN);
@@ -122,6 +129,7 @@ fn settle(sheet: &mut [u8], n: usize, k: u64) {
 /// requires { ⌜ (sheetLength ≤ length (now sheet)) × (n < 64) ⌝ }
 /// ensures { λ _. ⌜ Takes (now (sheet .entry)) (now (sheet .exit)) (takenBack n ∷ []) ⌝ }
 /// ```
+#[inline]
 pub fn withdraw(sheet: &mut [u8], n: usize) {
     assert!(2600 <= sheet.len() && n < 64);
     let since = cell(sheet, n, OPEN);
@@ -137,6 +145,7 @@ pub fn withdraw(sheet: &mut [u8], n: usize) {
 /// ```text
 /// ensures { λ r. ⌜ r ≡ kindColumn asserted ⌝ }
 /// ```
+#[inline]
 fn kind_column(asserted: bool) -> usize {
     if asserted { ASSERTS } else { DEASSERTS }
 }
@@ -147,6 +156,7 @@ fn kind_column(asserted: bool) -> usize {
 /// requires { ⌜ (sheetLength ≤ length (now sheet)) × (n < 64) ⌝ }
 /// ensures { λ _. ⌜ Becomes (now (sheet .entry)) (now (sheet .exit)) (λ f. bumped f n (fateColumns (fateView fate))) ⌝ }
 /// ```
+#[inline]
 fn count_fate(sheet: &mut [u8], n: usize, fate: Fate) {
     assert!(2600 <= sheet.len() && n < 64);
     match fate {
@@ -165,6 +175,7 @@ fn count_fate(sheet: &mut [u8], n: usize, fate: Fate) {
 /// requires { ⌜ Ready (now sheet) n k ⌝ }
 /// ensures { λ _. ⌜ Takes (now (sheet .entry)) (now (sheet .exit)) (happened (noteWith n k asserted (fateView fate)) ∷ []) ⌝ }
 /// ```
+#[inline]
 pub fn event(sheet: &mut [u8], n: usize, k: u64, asserted: bool, fate: Fate) {
     assert!(2600 <= sheet.len() && n < 64 && k < 4000);
     count(sheet, n, kind_column(asserted));

@@ -17,6 +17,7 @@ pub const TOTAL: usize = 64;
 /// ```text
 /// ensures { λ r. ⌜ r ≡ isOn x ⌝ }
 /// ```
+#[inline]
 fn is_on(x: u64) -> u64 {
     if x == 0 { 0 } else { 1 }
 }
@@ -27,6 +28,7 @@ fn is_on(x: u64) -> u64 {
 /// requires { ⌜ (sheetLength ≤ length (now sheet)) × (n < 64) ⌝ }
 /// ensures { λ _. ⌜ Becomes (now (sheet .entry)) (now (sheet .exit)) (λ f. shut f n) ⌝ }
 /// ```
+#[inline]
 fn close(sheet: &mut [u8], n: usize) {
     assert!(2600 <= sheet.len() && n < 64);
     let since = cell(sheet, n, OPEN);
@@ -38,6 +40,7 @@ fn close(sheet: &mut [u8], n: usize) {
 /// ```text
 /// ensures { λ r. ⌜ r % 2 ^ 32 ≡ joined column total x % 2 ^ 32 ⌝ }
 /// ```
+#[inline]
 fn join_with(column: usize, total: u64, x: u64) -> u64 {
     if column == GREATEST {
         return greater(total, x);
@@ -49,6 +52,7 @@ fn join_with(column: usize, total: u64, x: u64) -> u64 {
 /// requires { ⌜ (sheetLength ≤ length (now sheet)) × (n < 64) × (column < 10) ⌝ }
 /// ensures { λ _. ⌜ Becomes (now (sheet .entry)) (now (sheet .exit)) (λ f. put f 64 column (joined column (f 64 column) (f n column))) ⌝ }
 /// ```
+#[inline]
 fn join(sheet: &mut [u8], n: usize, column: usize) {
     assert!(2600 <= sheet.len() && n < 64 && column < 10);
     let x = cell(sheet, n, column);
@@ -60,6 +64,7 @@ fn join(sheet: &mut [u8], n: usize, column: usize) {
 /// requires { ⌜ (sheetLength ≤ length (now sheet)) × (n < 64) ⌝ }
 /// ensures { λ _. ⌜ Becomes (now (sheet .entry)) (now (sheet .exit)) (λ f. rowJoined f n 10) ⌝ }
 /// ```
+#[inline]
 fn join_row(sheet: &mut [u8], n: usize) {
     assert!(2600 <= sheet.len() && n < 64);
     let mut c = 0;
@@ -73,6 +78,7 @@ fn join_row(sheet: &mut [u8], n: usize) {
 /// requires { ⌜ sheetLength ≤ length (now sheet) ⌝ }
 /// ensures { λ _. ⌜ Becomes (now (sheet .entry)) (now (sheet .exit)) (λ f. finished f 64) ⌝ }
 /// ```
+#[inline]
 pub fn join_all(sheet: &mut [u8]) {
     assert!(2600 <= sheet.len());
     let mut n = 0;

@@ -30,6 +30,7 @@ const ROOM: u64 = 16;
 /// requires { ⌜ Ready (now sheet) n k ⌝ }
 /// ensures { λ r. ⌜ Offers (now (sheet .entry)) (now (sheet .exit)) k waiting r (λ vs. lines.event vs true asserted n ∷ []) ⌝ }
 /// ```
+#[inline]
 fn offer(sheet: &mut [u8], n: usize, k: u64, asserted: bool, waiting: u64) -> u64 {
     assert!(2600 <= sheet.len() && n < 64 && k < 4000);
     if waiting < ROOM {
@@ -46,6 +47,7 @@ fn offer(sheet: &mut [u8], n: usize, k: u64, asserted: bool, waiting: u64) -> u6
 /// requires { ⌜ (sheetLength ≤ length (now sheet)) × (k < 4000) ⌝ }
 /// ensures { λ r. ⌜ Offers (now (sheet .entry)) (now (sheet .exit)) k waiting r (λ vs. map (lines.event vs true false) (inputs (on set))) ⌝ }
 /// ```
+#[inline]
 fn offer_each(sheet: &mut [u8], set: u64, k: u64, waiting: u64) -> u64 {
     assert!(2600 <= sheet.len() && k < 4000);
     let mut left = set;
@@ -64,6 +66,7 @@ fn offer_each(sheet: &mut [u8], set: u64, k: u64, waiting: u64) -> u64 {
 /// requires { ⌜ sheetLength ≤ length (now sheet) ⌝ }
 /// ensures { λ _. ⌜ Takes (now (sheet .entry)) (now (sheet .exit)) (map takenBack (inputs (on set))) ⌝ }
 /// ```
+#[inline]
 fn withdraw_each(sheet: &mut [u8], set: u64) {
     assert!(2600 <= sheet.len());
     let mut left = set;
@@ -82,6 +85,7 @@ fn withdraw_each(sheet: &mut [u8], set: u64) {
 /// requires { ⌜ (sheetLength ≤ length (now sheet)) × (k < 4000) ⌝ }
 /// ensures { λ r. ⌜ Turns (linesOf r) (now (sheet .entry)) (now (sheet .exit)) k (w .waiting) (r .waiting) (λ vs. lines.enter vs true (on set) (linesOf w)) ⌝ }
 /// ```
+#[inline]
 fn enter(sheet: &mut [u8], w: Watched, set: u64, k: u64) -> Watched {
     assert!(2600 <= sheet.len() && k < 4000);
     let waits = decide::pending(set, w.irr, w.mask, w.isr);
@@ -104,6 +108,7 @@ fn enter(sheet: &mut [u8], w: Watched, set: u64, k: u64) -> Watched {
 /// requires { ⌜ (sheetLength ≤ length (now sheet)) × (k < 4000) ⌝ }
 /// ensures { λ r. ⌜ Turns (linesOf r) (now (sheet .entry)) (now (sheet .exit)) k (w .waiting) (r .waiting) (λ vs. lines.leave vs true (on set) (linesOf w)) ⌝ }
 /// ```
+#[inline]
 fn leave(sheet: &mut [u8], w: Watched, set: u64, k: u64) -> Watched {
     assert!(2600 <= sheet.len() && k < 4000);
     let served = decide::served(set, w.isr);
@@ -123,6 +128,7 @@ fn leave(sheet: &mut [u8], w: Watched, set: u64, k: u64) -> Watched {
 /// ensures { λ r. ⌜ Turns (linesOf r) (now (sheet .entry)) (now (sheet .exit)) k (w .waiting) (r .waiting)
 ///     (λ vs. lines.enter vs false (only n) (linesOf w)) ⌝ }
 /// ```
+#[inline]
 fn enter_one(sheet: &mut [u8], w: Watched, n: usize, k: u64) -> Watched {
     assert!(2600 <= sheet.len() && n < 64 && k < 4000);
     let bit = 1u64 << n;
@@ -145,6 +151,7 @@ fn enter_one(sheet: &mut [u8], w: Watched, n: usize, k: u64) -> Watched {
 /// ensures { λ r. ⌜ Turns (linesOf r) (now (sheet .entry)) (now (sheet .exit)) k (w .waiting) (r .waiting)
 ///     (λ vs. lines.leave vs false (only n) (linesOf w)) ⌝ }
 /// ```
+#[inline]
 fn leave_one(sheet: &mut [u8], w: Watched, n: usize, k: u64) -> Watched {
     assert!(2600 <= sheet.len() && n < 64 && k < 4000);
     let bit = 1u64 << n;
@@ -167,6 +174,7 @@ fn leave_one(sheet: &mut [u8], w: Watched, n: usize, k: u64) -> Watched {
 /// ensures { λ r. ⌜ Follows (linesOf w) (w .waiting) (linesOf r) (r .waiting) (now (sheet .entry)) (now (sheet .exit)) k
 ///     (λ c. core.move (core.poll n) ∷ []) ⌝ }
 /// ```
+#[inline]
 pub fn poll(sheet: &mut [u8], w: Watched, n: usize, k: u64) -> Watched {
     assert!(2600 <= sheet.len() && n < 64 && k < 4000);
     enter_one(sheet, w, n, k)
@@ -178,6 +186,7 @@ pub fn poll(sheet: &mut [u8], w: Watched, n: usize, k: u64) -> Watched {
 /// requires { ⌜ Ready (now sheet) n k ⌝ }
 /// ensures { λ _. ⌜ Takes (now (sheet .entry)) (now (sheet .exit)) (raised n ∷ cond (idleIn (linesOf w) n) (began n k ∷ []) []) ⌝ }
 /// ```
+#[inline]
 fn count_raise(sheet: &mut [u8], w: Watched, n: usize, k: u64) {
     assert!(2600 <= sheet.len() && n < 64 && k < 4000);
     count(sheet, n, RAISES);
@@ -194,6 +203,7 @@ fn count_raise(sheet: &mut [u8], w: Watched, n: usize, k: u64) {
 /// ensures { λ r. ⌜ Follows (linesOf w) (w .waiting) (linesOf r) (r .waiting) (now (sheet .entry)) (now (sheet .exit)) k
 ///     (λ c. core.move (core.raise n) ∷ []) ⌝ }
 /// ```
+#[inline]
 pub fn raise(sheet: &mut [u8], w: Watched, n: usize, k: u64) -> Watched {
     assert!(2600 <= sheet.len() && n < 64 && k < 4000);
     count_raise(sheet, w, n, k);
@@ -213,6 +223,7 @@ pub fn raise(sheet: &mut [u8], w: Watched, n: usize, k: u64) -> Watched {
 /// ensures { λ r. ⌜ Follows (linesOf w) (w .waiting) (linesOf r) (r .waiting) (now (sheet .entry)) (now (sheet .exit)) k
 ///     (λ c. core.move (core.lower n) ∷ []) ⌝ }
 /// ```
+#[inline]
 pub fn lower(sheet: &mut [u8], w: Watched, n: usize, k: u64) -> Watched {
     assert!(2600 <= sheet.len() && n < 64 && k < 4000);
     count(sheet, n, LOWERS);
@@ -233,6 +244,7 @@ pub fn lower(sheet: &mut [u8], w: Watched, n: usize, k: u64) -> Watched {
 /// ensures { λ r. ⌜ Follows (linesOf w) (w .waiting) (linesOf r) (r .waiting) (now (sheet .entry)) (now (sheet .exit)) k
 ///     (λ c. core.move (core.setMask high val) ∷ []) ⌝ }
 /// ```
+#[inline]
 pub fn write_mask(sheet: &mut [u8], w: Watched, k: u64, val: u32, high: bool) -> Watched {
     assert!(2600 <= sheet.len() && k < 4000);
     let old = w.mask;
@@ -251,6 +263,7 @@ pub fn write_mask(sheet: &mut [u8], w: Watched, k: u64, val: u32, high: bool) ->
 /// ensures { λ r. ⌜ Follows (linesOf w) (w .waiting) (linesOf r) (r .waiting) (now (sheet .entry)) (now (sheet .exit)) k
 ///     (λ c. core.move (core.clear bits) ∷ []) ⌝ }
 /// ```
+#[inline]
 pub fn write_clear(sheet: &mut [u8], w: Watched, k: u64, bits: u64) -> Watched {
     assert!(2600 <= sheet.len() && k < 4000);
     withdraw_each(sheet, bits);

@@ -20,6 +20,7 @@ const SIZE: u64 = 0x1_0000;
 /// ensures { λ r. ⌜ FollowsItem (linesOf w) (w .waiting) (linesOf r) (r .waiting) (now (sheet .entry)) (now (sheet .exit)) k
 ///     (asItem (calls (inputCall n (device.level n true)))) ⌝ }
 /// ```
+#[inline]
 fn raise(sheet: &mut [u8], w: Watched, k: u64, n: u64) -> Watched {
     assert!(2600 <= sheet.len() && k < 4000);
     if n < INPUTS {
@@ -33,6 +34,7 @@ fn raise(sheet: &mut [u8], w: Watched, k: u64, n: u64) -> Watched {
 /// ensures { λ r. ⌜ FollowsItem (linesOf w) (w .waiting) (linesOf r) (r .waiting) (now (sheet .entry)) (now (sheet .exit)) k
 ///     (asItem (calls (inputCall n (device.level n false)))) ⌝ }
 /// ```
+#[inline]
 fn lower(sheet: &mut [u8], w: Watched, k: u64, n: u64) -> Watched {
     assert!(2600 <= sheet.len() && k < 4000);
     if n < INPUTS {
@@ -46,6 +48,7 @@ fn lower(sheet: &mut [u8], w: Watched, k: u64, n: u64) -> Watched {
 /// ensures { λ r. ⌜ FollowsItem (linesOf w) (w .waiting) (linesOf r) (r .waiting) (now (sheet .entry)) (now (sheet .exit)) k
 ///     (asItem (calls (inputCall n (device.poll n)))) ⌝ }
 /// ```
+#[inline]
 fn poll(sheet: &mut [u8], w: Watched, k: u64, n: u64) -> Watched {
     assert!(2600 <= sheet.len() && k < 4000);
     if n < INPUTS {
@@ -61,6 +64,7 @@ fn poll(sheet: &mut [u8], w: Watched, k: u64, n: u64) -> Watched {
 /// ensures { λ r. ⌜ FollowsItem (linesOf w) (w .waiting) (linesOf r) (r .waiting) (now (sheet .entry)) (now (sheet .exit)) k
 ///     (asItem (askedBy (asked.write 0 65536 address width value))) ⌝ }
 /// ```
+#[inline]
 fn write(sheet: &mut [u8], w: Watched, k: u64, address: u64, width: u64, value: u64) -> Watched {
     assert!(2600 <= sheet.len() && k < 4000);
     let Known::As(_) = window::width_of(width) else {
@@ -80,6 +84,7 @@ fn write(sheet: &mut [u8], w: Watched, k: u64, address: u64, width: u64, value: 
 /// requires { ⌜ (sheetLength ≤ length (now sheet)) × (k < 4000) ⌝ }
 /// ensures { λ v. ⌜ FollowsItem (linesOf w) (w .waiting) (linesOf v) (v .waiting) (now (sheet .entry)) (now (sheet .exit)) k (itemOf (recordView r)) ⌝ }
 /// ```
+#[inline]
 pub fn step(sheet: &mut [u8], w: Watched, k: u64, r: Record) -> Watched {
     assert!(2600 <= sheet.len() && k < 4000);
     let kind = r.kind;

@@ -17,6 +17,7 @@ use super::watch::Watched;
 /// ensures { λ r. ⌜ Follows (linesOf w) (w .waiting) (linesOf r) (r .waiting) (now (sheet .entry)) (now (sheet .exit)) k
 ///     (λ c. registerActs (registerView register) high val) ⌝ }
 /// ```
+#[inline]
 fn write_half(
     sheet: &mut [u8],
     w: Watched,
@@ -46,6 +47,7 @@ fn write_half(
 /// ```text
 /// ensures { λ r. ⌜ ReadsAs (linesOf w) r (registerView register) ⌝ }
 /// ```
+#[inline]
 fn value_of(w: Watched, register: Register) -> u64 {
     match register {
         Register::Id => 0,
@@ -64,6 +66,7 @@ fn value_of(w: Watched, register: Register) -> u64 {
 /// ```text
 /// ensures { λ r. ⌜ r ≡ cond narrow (placeOf offset) offset ⌝ }
 /// ```
+#[inline]
 fn place_of(offset: usize, narrow: bool) -> usize {
     if narrow { offset & !0x3 } else { offset }
 }
@@ -73,6 +76,7 @@ fn place_of(offset: usize, narrow: bool) -> usize {
 /// ```text
 /// ensures { λ r. ⌜ PutIn (linesOf w) (registerView register) high offset narrow x r ⌝ }
 /// ```
+#[inline]
 fn value_in(
     w: Watched,
     register: Register,
@@ -95,6 +99,7 @@ fn value_in(
 /// ensures { λ r. ⌜ Follows (linesOf w) (w .waiting) (linesOf r) (r .waiting) (now (sheet .entry)) (now (sheet .exit)) k
 ///     (λ c. writeActs c (pieceWidth narrow) offset x) ⌝ }
 /// ```
+#[inline]
 fn write_piece(
     sheet: &mut [u8],
     w: Watched,
@@ -126,6 +131,7 @@ fn write_piece(
 /// ensures { λ r. ⌜ Follows (linesOf w) (w .waiting) (linesOf r) (r .waiting) (now (sheet .entry)) (now (sheet .exit)) k
 ///     (λ c. writeActs c (widthOf width) offset value) ⌝ }
 /// ```
+#[inline]
 pub fn write(
     sheet: &mut [u8],
     w: Watched,

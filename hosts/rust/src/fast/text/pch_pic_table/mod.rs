@@ -35,6 +35,7 @@ pub fn pch_pic_table_read(
     pch_pic_table_read_of(&[0u8; 0], base, size, address, width, answer)
 }
 
+#[inline]
 fn pch_pic_table_read_of<const N: usize>(
     image: &[u8; N],
     base: u64,
@@ -75,6 +76,7 @@ pub fn pch_pic_table_write(
     pch_pic_table_write_of(&mut [0u8; 0], base, size, address, width, value, answer)
 }
 
+#[inline]
 fn pch_pic_table_write_of<const N: usize>(
     image: &mut [u8; N],
     base: u64,

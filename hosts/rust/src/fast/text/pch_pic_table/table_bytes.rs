@@ -16,6 +16,7 @@ use super::super::table::Place;
 /// requires { ⌜ (length (now image) ≡ formLength (formView form)) × Agrees (now table) ⌝ }
 /// ensures { λ r. ⌜ Reads (now (image .entry)) r (λ d. readByte (d .core) offset) ⌝ }
 /// ```
+#[inline]
 pub fn read_byte<const N: usize>(image: &[u8; N], table: &[[u8; 32]; 32], offset: usize) -> u8 {
     match look(table, offset) {
         Place::Part(register, high, byte, silent) => {
@@ -34,6 +35,7 @@ pub fn read_byte<const N: usize>(image: &[u8; N], table: &[[u8; 32]; 32], offset
 /// requires { ⌜ (length (now image) ≡ formLength (formView form)) × Agrees (now table) ⌝ }
 /// ensures { λ r. ⌜ (r ≤ 65) × Writes (now (image .entry)) (now (image .exit)) r (λ c. byteActs c offset val) ⌝ }
 /// ```
+#[inline]
 pub fn write_byte<const N: usize>(
     image: &mut [u8; N],
     table: &[[u8; 32]; 32],

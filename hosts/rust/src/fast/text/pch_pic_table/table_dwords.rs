@@ -14,6 +14,7 @@ use super::table_bytes::write_byte;
 /// requires { ⌜ (length (now image) ≡ formLength (formView form)) × Agrees (now table) × (cellAt offset ≡ bytes) ⌝ }
 /// ensures { λ r. ⌜ Reads (now (image .entry)) r (λ d. readDword (d .core) offset) ⌝ }
 /// ```
+#[inline]
 fn read_four<const N: usize>(image: &[u8; N], table: &[[u8; 32]; 32], offset: usize) -> u32 {
     let a = read_byte(image, table, offset) as u32;
     let b = read_byte(image, table, offset + 1) as u32;
@@ -26,6 +27,7 @@ fn read_four<const N: usize>(image: &[u8; N], table: &[[u8; 32]; 32], offset: us
 /// requires { ⌜ (length (now image) ≡ formLength (formView form)) × Agrees (now table) ⌝ }
 /// ensures { λ r. ⌜ Reads (now (image .entry)) r (λ d. readDword (d .core) offset) ⌝ }
 /// ```
+#[inline]
 pub fn read_dword<const N: usize>(image: &[u8; N], table: &[[u8; 32]; 32], offset: usize) -> u32 {
     match look(table, offset) {
         Place::Part(register, high, byte, _silent) => {
@@ -46,6 +48,7 @@ pub fn read_dword<const N: usize>(image: &[u8; N], table: &[[u8; 32]; 32], offse
 /// requires { ⌜ (length (now image) ≡ formLength (formView form)) × Agrees (now table) × (cellAt offset ≡ bytes) ⌝ }
 /// ensures { λ _. ⌜ Writes (now (image .entry)) (now (image .exit)) 0 (λ c. dwordActs offset val) ⌝ }
 /// ```
+#[inline]
 fn write_four<const N: usize>(
     image: &mut [u8; N],
     table: &[[u8; 32]; 32],
@@ -62,6 +65,7 @@ fn write_four<const N: usize>(
 /// requires { ⌜ (length (now image) ≡ formLength (formView form)) × Agrees (now table) ⌝ }
 /// ensures { λ r. ⌜ (r ≤ 65) × Writes (now (image .entry)) (now (image .exit)) r (λ c. dwordActs offset val) ⌝ }
 /// ```
+#[inline]
 pub fn write_dword<const N: usize>(
     image: &mut [u8; N],
     table: &[[u8; 32]; 32],

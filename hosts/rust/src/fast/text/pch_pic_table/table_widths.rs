@@ -13,6 +13,7 @@ use super::table_dwords::write_dword;
 /// requires { ⌜ (length (now image) ≡ formLength (formView form)) × Agrees (now table) × (offset + 2 ≤ 2 ^ 64 - 1) ⌝ }
 /// ensures { λ r. ⌜ Reads (now (image .entry)) r (λ d. readAt (d .core) word offset) ⌝ }
 /// ```
+#[inline]
 fn read_word<const N: usize>(image: &[u8; N], table: &[[u8; 32]; 32], offset: usize) -> u64 {
     let low = read_byte(image, table, offset) as u64;
     let high = read_byte(image, table, offset + 1) as u64;
@@ -23,6 +24,7 @@ fn read_word<const N: usize>(image: &[u8; N], table: &[[u8; 32]; 32], offset: us
 /// requires { ⌜ (length (now image) ≡ formLength (formView form)) × Agrees (now table) × (offset + 8 ≤ 2 ^ 64 - 1) ⌝ }
 /// ensures { λ r. ⌜ Reads (now (image .entry)) r (λ d. readAt (d .core) qword offset) ⌝ }
 /// ```
+#[inline]
 fn read_qword<const N: usize>(image: &[u8; N], table: &[[u8; 32]; 32], offset: usize) -> u64 {
     let low = read_dword(image, table, offset) as u64;
     low | ((read_dword(image, table, offset + 4) as u64) << 32)
@@ -34,6 +36,7 @@ fn read_qword<const N: usize>(image: &[u8; N], table: &[[u8; 32]; 32], offset: u
 /// requires { ⌜ (length (now image) ≡ formLength (formView form)) × Agrees (now table) × (offset + bytesIn (widthView width) ≤ 2 ^ 64 - 1) ⌝ }
 /// ensures { λ r. ⌜ Reads (now (image .entry)) r (λ d. readAt (d .core) (widthView width) offset) ⌝ }
 /// ```
+#[inline]
 pub fn read_access<const N: usize>(
     image: &[u8; N],
     table: &[[u8; 32]; 32],
@@ -54,6 +57,7 @@ pub fn read_access<const N: usize>(
 /// requires { ⌜ (length (now image) ≡ formLength (formView form)) × Agrees (now table) × (offset + 2 ≤ 2 ^ 64 - 1) ⌝ }
 /// ensures { λ r. ⌜ (r ≤ 130) × Writes (now (image .entry)) (now (image .exit)) r (λ c. writeActs c word offset low) ⌝ }
 /// ```
+#[inline]
 fn write_word<const N: usize>(
     image: &mut [u8; N],
     table: &[[u8; 32]; 32],
@@ -68,6 +72,7 @@ fn write_word<const N: usize>(
 /// requires { ⌜ (length (now image) ≡ formLength (formView form)) × Agrees (now table) × (offset + 8 ≤ 2 ^ 64 - 1) ⌝ }
 /// ensures { λ r. ⌜ (r ≤ 130) × Writes (now (image .entry)) (now (image .exit)) r (λ c. writeActs c qword offset value) ⌝ }
 /// ```
+#[inline]
 fn write_qword<const N: usize>(
     image: &mut [u8; N],
     table: &[[u8; 32]; 32],
@@ -84,6 +89,7 @@ fn write_qword<const N: usize>(
 /// requires { ⌜ (length (now image) ≡ formLength (formView form)) × Agrees (now table) × (offset + bytesIn (widthView width) ≤ 2 ^ 64 - 1) ⌝ }
 /// ensures { λ r. ⌜ (r ≤ 130) × Writes (now (image .entry)) (now (image .exit)) r (λ c. writeActs c (widthView width) offset value) ⌝ }
 /// ```
+#[inline]
 pub fn write_access<const N: usize>(
     image: &mut [u8; N],
     table: &[[u8; 32]; 32],

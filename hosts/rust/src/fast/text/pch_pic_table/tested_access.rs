@@ -21,6 +21,7 @@ use super::table_widths;
 /// ```text
 /// ensures { λ r. ⌜ ends r (now (image .entry)) [] ≡ ending (asked.read base size address width) (now (image .entry)) ⌝ }
 /// ```
+#[inline]
 pub fn read<const N: usize>(
     image: &[u8; N],
     base: u64,
@@ -49,6 +50,7 @@ pub fn read<const N: usize>(
 /// ```text
 /// ensures { λ r. ⌜ ends r (now (image .exit)) [] ≡ ending (asked.write base size address width value) (now (image .entry)) ⌝ }
 /// ```
+#[inline]
 pub fn write<const N: usize>(
     image: &mut [u8; N],
     base: u64,

@@ -37,6 +37,7 @@ pub fn pch_pic_play(
     pch_pic_play_of(trace, &mut [0u8; 0], answers, events, answer)
 }
 
+#[inline]
 fn pch_pic_play_of<const N: usize>(
     trace: &[u8],
     image: &mut [u8; N],

@@ -16,6 +16,7 @@ pub const ANSWER: usize = 16;
 /// requires { ⌜ Reaches (now trace) first records ⌝ }
 /// ensures { λ r. ⌜ r ≡ drainsIn (recordsFrom (now (trace .entry)) records 0) ⌝ }
 /// ```
+#[inline]
 pub fn count_drains(trace: &[u8], first: usize, records: usize) -> usize {
     assert!(records <= 4000 && first <= trace.len() && 16 * records <= trace.len() - first);
     let mut drains = 0;
@@ -40,6 +41,7 @@ pub fn count_drains(trace: &[u8], first: usize, records: usize) -> usize {
 /// ensures { λ _. ⌜ PlayedTo (now (trace .entry)) records (now (image .entry)) (now (answers .entry)) (now (events .entry))
 ///     (now (image .exit)) (now (answers .exit)) (now (events .exit)) ⌝ }
 /// ```
+#[inline]
 pub fn play_all<const N: usize>(
     trace: &[u8],
     first: usize,

@@ -23,6 +23,7 @@ use super::record_step::ROOM;
 /// ensures { λ t. ⌜ ends t (now (image .exit)) (now (answers .exit)) (now (events .exit))
 ///     ≡ playEnding (now (trace .entry)) (now (image .entry)) (now (answers .entry)) (now (events .entry)) ⌝ }
 /// ```
+#[inline]
 pub fn play<const N: usize>(
     trace: &[u8],
     image: &mut [u8; N],

@@ -15,6 +15,7 @@ const SIZE: u64 = 0x1_0000;
 /// requires { ⌜ Callable (formView form) (recordView r) (now image) ⌝ }
 /// ensures { λ t. ⌜ ends t (now (image .exit)) [] ≡ ending (requestOf (recordView r)) (now (image .entry)) ⌝ }
 /// ```
+#[inline]
 pub fn call<const N: usize>(image: &mut [u8; N], r: Record) -> Told {
     let kind = r.kind;
     let byte = r.byte as u64;

@@ -22,6 +22,7 @@ pub const ROOM: usize = 64;
 /// requires { ⌜ Drainable (formView form) (recordView r) (now image) (now answer) (now out) ⌝ }
 /// ensures { λ n. ⌜ Steps (recordView r) (now (image .entry)) (now (image .exit)) (now (answer .exit)) (now (out .entry)) (now (out .exit)) n ⌝ }
 /// ```
+#[inline]
 fn drain_all<const N: usize>(
     image: &mut [u8; N],
     r: Record,
@@ -40,6 +41,7 @@ fn drain_all<const N: usize>(
 /// requires { ⌜ Playable (formView form) (recordView r) (now image) (now answer) (now events) ⌝ }
 /// ensures { λ n. ⌜ Steps (recordView r) (now (image .entry)) (now (image .exit)) (now (answer .exit)) (now (events .entry)) (now (events .exit)) n ⌝ }
 /// ```
+#[inline]
 pub fn step<const N: usize>(
     image: &mut [u8; N],
     r: Record,

@@ -27,6 +27,7 @@ use super::super::image::form::Form;
 /// ```text
 /// ensures { λ r. ⌜ Tells r 0 (some number) ⌝ }
 /// ```
+#[inline]
 fn gives(number: u64) -> Told {
     done(Value::Present(number))
 }
@@ -35,6 +36,7 @@ fn gives(number: u64) -> Told {
 /// requires { ⌜ Passed (formView form) (now image) ⌝ }
 /// ensures { λ r. ⌜ ends r (now (image .entry)) [] ≡ ending (asked.read base size address width) (now (image .entry)) ⌝ }
 /// ```
+#[inline]
 pub fn read<const N: usize>(
     image: &[u8; N],
     base: u64,
@@ -62,6 +64,7 @@ pub fn read<const N: usize>(
 /// requires { ⌜ Passed (formView form) (now image) ⌝ }
 /// ensures { λ r. ⌜ ends r (now (image .exit)) [] ≡ ending (asked.write base size address width value) (now (image .entry)) ⌝ }
 /// ```
+#[inline]
 pub fn write<const N: usize>(
     image: &mut [u8; N],
     base: u64,

@@ -16,6 +16,7 @@ use super::super::lines::service;
 /// requires { ⌜ length (now image) ≡ formLength (formView form) ⌝ }
 /// ensures { λ r. ⌜ TakesNumber (now (image .entry)) (now (image .exit)) (answerValue answer) (valueView r) ⌝ }
 /// ```
+#[inline]
 fn numbered<const N: usize>(image: &mut [u8; N], answer: state::Answer) -> Value {
     match answer {
         state::Answer::Vector(vector) => {
@@ -30,6 +31,7 @@ fn numbered<const N: usize>(image: &mut [u8; N], answer: state::Answer) -> Value
 /// requires { ⌜ Passed (formView form) (now image) ⌝ }
 /// ensures { λ r. ⌜ ends r (now (image .exit)) [] ≡ ending (asked.level input level) (now (image .entry)) ⌝ }
 /// ```
+#[inline]
 pub fn level<const N: usize>(image: &mut [u8; N], input: u64, level: u64) -> Told {
     if 64 <= input {
         return no_input();
@@ -42,6 +44,7 @@ pub fn level<const N: usize>(image: &mut [u8; N], input: u64, level: u64) -> Tol
 /// requires { ⌜ Passed (formView form) (now image) ⌝ }
 /// ensures { λ r. ⌜ ends r (now (image .exit)) [] ≡ ending (asked.poll input) (now (image .entry)) ⌝ }
 /// ```
+#[inline]
 pub fn poll<const N: usize>(image: &mut [u8; N], input: u64) -> Told {
     if 64 <= input {
         return no_input();

@@ -22,6 +22,7 @@ use super::super::stored::save_state;
 /// ```text
 /// ensures { λ r. ⌜ ends r (now (image .exit)) [] ≡ ending asked.reset (now (image .entry)) ⌝ }
 /// ```
+#[inline]
 pub fn reset<const N: usize>(image: &mut [u8; N]) -> Told {
     let length = image.len();
     let KnownForm::As(form) = form_of(length) else {
@@ -37,6 +38,7 @@ pub fn reset<const N: usize>(image: &mut [u8; N]) -> Told {
 /// ```text
 /// ensures { λ r. ⌜ ends r (now (image .exit)) (now (events .exit)) ≡ ending (asked.drain (now (events .entry)) 0) (now (image .entry)) ⌝ }
 /// ```
+#[inline]
 pub fn drain<const N: usize>(image: &mut [u8; N], events: &mut [u8]) -> Told {
     let told = test_head(image);
     let Head::Of(form) = told else {

@@ -13,6 +13,7 @@ use super::accepted_input;
 /// ```text
 /// ensures { λ r. ⌜ ends r (now (image .exit)) [] ≡ ending (asked.level input level) (now (image .entry)) ⌝ }
 /// ```
+#[inline]
 pub fn level<const N: usize>(image: &mut [u8; N], input: u64, level: u64) -> Told {
     let told = test_head(image);
     let Head::Of(form) = told else {
@@ -27,6 +28,7 @@ pub fn level<const N: usize>(image: &mut [u8; N], input: u64, level: u64) -> Tol
 /// ```text
 /// ensures { λ r. ⌜ ends r (now (image .exit)) [] ≡ ending (asked.poll input) (now (image .entry)) ⌝ }
 /// ```
+#[inline]
 pub fn poll<const N: usize>(image: &mut [u8; N], input: u64) -> Told {
     let told = test_head(image);
     let Head::Of(form) = told else {

@@ -35,6 +35,7 @@ pub fn ring_of(pairs: &[u8], len: usize, drops: u32) -> Ring {
 /// ```text
 /// ensures { λ r. ⌜ r ≡ flag asserted ⌝ }
 /// ```
+#[inline]
 fn flag_byte(asserted: bool) -> u8 {
     if asserted { 1 } else { 0 }
 }

@@ -47,6 +47,7 @@ pub fn save_ring<const N: usize>(image: &mut [u8; N], ring: Ring) {
 /// requires { ⌜ length (now image) ≡ formLength (formView form) ⌝ }
 /// ensures { λ _. ⌜ SavesNumbers (formView form) (now (body .entry)) (now (image .entry)) (now (image .exit)) ⌝ }
 /// ```
+#[inline]
 pub fn save_numbers<const N: usize>(image: &mut [u8; N], body: &[u8; 34]) {
     let form = const { super::super::image::form::form_at(N) };
     let Form::Numbered = form else {

@@ -12,6 +12,7 @@ use super::super::image::form::Form;
 /// requires { ⌜ length (now image) ≡ formLength (formView form) ⌝ }
 /// ensures { λ _. ⌜ now (image .exit) ≡ contentsOf (formView form) ++ drop (contentsLength (formView form)) (now (image .entry)) ⌝ }
 /// ```
+#[inline]
 pub fn put_contents<const N: usize>(image: &mut [u8; N]) {
     let form = const { super::super::image::form::form_at(N) };
     let c = contents_of(form);

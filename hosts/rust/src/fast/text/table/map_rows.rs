@@ -7,6 +7,7 @@ use super::Place;
 /// ```text
 /// ensures { λ r. ⌜ r ≡ isNothing (placeView place) ⌝ }
 /// ```
+#[inline]
 fn is_nothing(place: Place) -> bool {
     match place {
         Place::Part(register, high, byte, silent) => false,
@@ -21,6 +22,7 @@ fn is_nothing(place: Place) -> bool {
 /// ```text
 /// ensures { λ r. ⌜ r ≡ begins (placeView first) (placeView next) ⌝ }
 /// ```
+#[inline]
 fn begins(first: Place, next: Place) -> bool {
     match next {
         Place::Part(register, high, byte, silent) => byte == 0,
@@ -36,6 +38,7 @@ fn begins(first: Place, next: Place) -> bool {
 /// requires { ⌜ Agrees (now table) × (start < 1024) ⌝ }
 /// ensures { λ r. ⌜ Row start r ⌝ }
 /// ```
+#[inline]
 pub fn row_end(table: &[[u8; 32]; 32], start: usize) -> usize {
     assert!(start < 1024);
     let first = look(table, start);

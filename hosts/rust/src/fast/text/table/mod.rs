@@ -25,6 +25,7 @@ const SILENT: u8 = 0x70;
 /// ```text
 /// ensures { λ r. ⌜ placeView r ≡ partOf (registerView register) entry ⌝ }
 /// ```
+#[inline]
 fn part_of(register: Register, entry: u8) -> Place {
     Place::Part(
         register,
@@ -39,6 +40,7 @@ fn part_of(register: Register, entry: u8) -> Place {
 /// ```text
 /// ensures { λ r. ⌜ placeView r ≡ reading entry ⌝ }
 /// ```
+#[inline]
 pub fn place_of(entry: u8) -> Place {
     match entry / 8 {
         1 => part_of(Register::Id, entry),
@@ -63,6 +65,7 @@ pub fn place_of(entry: u8) -> Place {
 /// requires { ⌜ Agrees (now table) ⌝ }
 /// ensures { λ r. ⌜ placeView r ≡ meant offset ⌝ }
 /// ```
+#[inline]
 pub fn look(table: &[[u8; 32]; 32], offset: usize) -> Place {
     if offset >= 1024 {
         return Place::Nothing;

@@ -11,6 +11,7 @@ const MOST_RECORDS: usize = 4000;
 /// requires { ⌜ at + 2 ≤ length (now trace) ⌝ }
 /// ensures { λ r. ⌜ (r ≡ twoAt at (now (trace .entry))) × (r < 2 ^ 16) ⌝ }
 /// ```
+#[inline]
 pub fn two_at(trace: &[u8], at: usize) -> usize {
     assert!(2 <= trace.len() && at <= trace.len() - 2);
     let low = trace[at] as usize;
@@ -31,6 +32,7 @@ pub enum Listed {
 /// requires { ⌜ (blocks ≤ mostBlocks) × (listedAt blocks ≤ length (now trace)) ⌝ }
 /// ensures { λ r. ⌜ r ≡ listedAs blocks (now (trace .entry)) ⌝ }
 /// ```
+#[inline]
 pub fn count_records(trace: &[u8], blocks: usize) -> Listed {
     assert!(blocks <= 64 && 2 <= trace.len() && 4 * blocks <= trace.len() - 2);
     let first = 2 + 4 * blocks;

@@ -18,6 +18,7 @@ pub enum Contents {
 /// ```text
 /// ensures { λ r. ⌜ r ≡ contentsAs (now (trace .entry)) ⌝ }
 /// ```
+#[inline]
 pub fn contents_of(trace: &[u8]) -> Contents {
     if trace.len() < 2 {
         return Contents::Wrong;

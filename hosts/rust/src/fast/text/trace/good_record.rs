@@ -9,6 +9,7 @@ use super::record_bytes::Record;
 /// ```text
 /// ensures { λ t. ⌜ t ≡ isGood (recordView r) ⌝ }
 /// ```
+#[inline]
 pub fn is_good(r: Record) -> bool {
     let kind = r.kind;
     if r.zeros != 0 {

@@ -20,6 +20,7 @@ use self::record_view::record_at;
 /// requires { ⌜ (records ≤ mostRecords) × (first + recordLength * records ≤ length (now trace)) ⌝ }
 /// ensures { λ r. ⌜ r ≡ firstBad (badFrom first (now (trace .entry))) records 0 ⌝ }
 /// ```
+#[inline]
 pub fn first_bad(trace: &[u8], first: usize, records: usize) -> usize {
     assert!(records <= 4000 && first <= trace.len() && 16 * records <= trace.len() - first);
     let mut k = 0;
@@ -44,6 +45,7 @@ pub enum Tested {
 /// ```text
 /// ensures { λ r. ⌜ testedView r ≡ traceTest (now (trace .entry)) ⌝ }
 /// ```
+#[inline]
 pub fn test(trace: &[u8]) -> Tested {
     let Contents::Good(first, records) = contents_of(trace) else {
         return Tested::WrongContents;

@@ -22,6 +22,7 @@ pub struct Record {
 /// requires { ⌜ place + recordLength ≤ length (now trace) ⌝ }
 /// ensures { λ r. ⌜ now r ≡ part place recordLength (now (trace .entry)) ⌝ }
 /// ```
+#[inline]
 pub fn part_at<'a>(trace: &'a [u8], place: usize) -> &'a [u8] {
     assert!(16 <= trace.len() && place <= trace.len() - 16);
     let end = place + LENGTH;
@@ -34,6 +35,7 @@ pub fn part_at<'a>(trace: &'a [u8], place: usize) -> &'a [u8] {
 /// requires { ⌜ length (now shown) ≡ recordLength ⌝ }
 /// ensures { λ r. ⌜ recordView r ≡ recordOf (now (shown .entry)) ⌝ }
 /// ```
+#[inline]
 pub fn fields(shown: &[u8]) -> Record {
     assert!(shown.len() == 16);
     Record {

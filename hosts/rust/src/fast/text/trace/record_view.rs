@@ -19,6 +19,7 @@ pub struct View<'a> {
 /// requires { ⌜ place + recordLength ≤ length (now trace) ⌝ }
 /// ensures { λ v. ⌜ Shows v (now (trace .entry)) place ⌝ }
 /// ```
+#[inline]
 pub fn view_at<'a>(trace: &'a [u8], place: usize) -> View<'a> {
     assert!(16 <= trace.len() && place <= trace.len() - 16);
     View { trace, place }
@@ -30,6 +31,7 @@ pub fn view_at<'a>(trace: &'a [u8], place: usize) -> View<'a> {
 /// requires { ⌜ Inside v ⌝ }
 /// ensures { λ s. ⌜ now s ≡ partShown (v .entry) ⌝ }
 /// ```
+#[inline]
 pub fn shown<'a>(v: View<'a>) -> &'a [u8] {
     part_at(v.trace, v.place)
 }
@@ -40,6 +42,7 @@ pub fn shown<'a>(v: View<'a>) -> &'a [u8] {
 /// requires { ⌜ Inside v ⌝ }
 /// ensures { λ r. ⌜ recordView r ≡ recordOf (partShown (v .entry)) ⌝ }
 /// ```
+#[inline]
 pub fn record_of<'a>(v: View<'a>) -> Record {
     fields(shown(v))
 }
@@ -50,6 +53,7 @@ pub fn record_of<'a>(v: View<'a>) -> Record {
 /// requires { ⌜ Inside v ⌝ }
 /// ensures { λ w. ⌜ Shows w (now (v .entry .trace)) (v .entry .place + recordLength) ⌝ }
 /// ```
+#[inline]
 pub fn next<'a>(v: View<'a>) -> View<'a> {
     View {
         trace: v.trace,
@@ -63,6 +67,7 @@ pub fn next<'a>(v: View<'a>) -> View<'a> {
 /// requires { ⌜ place + recordLength ≤ length (now trace) ⌝ }
 /// ensures { λ r. ⌜ recordView r ≡ recordAt place (now (trace .entry)) ⌝ }
 /// ```
+#[inline]
 pub fn record_at(trace: &[u8], place: usize) -> Record {
     assert!(16 <= trace.len() && place <= trace.len() - 16);
     record_of(view_at(trace, place))

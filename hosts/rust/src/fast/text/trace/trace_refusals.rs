@@ -10,6 +10,7 @@ pub const NO_ROOM: u8 = 7;
 /// ```text
 /// ensures { λ t. ⌜ Tells t 7 none ⌝ }
 /// ```
+#[inline]
 pub fn no_room() -> Told {
     Told {
         number: NO_ROOM,
@@ -20,6 +21,7 @@ pub fn no_room() -> Told {
 /// ```text
 /// ensures { λ t. ⌜ Tells t (traceNumber (testedView tested)) (traceValue (testedView tested)) ⌝ }
 /// ```
+#[inline]
 pub fn of_trace(tested: Tested) -> Told {
     match tested {
         Tested::Good(_, _) => Told {
