@@ -133,6 +133,15 @@
  * input, withdraws it. Masking does not end it, nor does a write to ISR, which makes no event. The total has the sum of each column, and of the waits
  * the greatest. hosts/c/sheet.c and Trace::sheet of hosts/rust name the columns, './run --sheet FILE' prints them, and tools/day draws the day.
  *
+ * THE STACK. Nothing is on the heap. Below its caller a call of the proved archive uses so many bytes of stack, the return address included, as tools/bench
+ * --stack measured them (docs/PERFORMANCE.md says on what); a difference uses the return address alone:
+ *     pch_pic_reset 16, pch_pic_read 104, pch_pic_write 144, pch_pic_level 80, pch_pic_poll 64, pch_pic_drain 105,
+ *     pch_pic_convert 500, pch_pic_play 288, pch_pic_salvage 192, pch_pic_sheet 120,
+ *     pch_pic_board_reset 32, pch_pic_board_read 120, pch_pic_board_write 160, pch_pic_board_level 104, pch_pic_board_poll 88, pch_pic_board_drain 129,
+ *     pch_pic_board_event 8,
+ *     pch_pic_hoist_reset 24, pch_pic_hoist_read 88, pch_pic_hoist_write 144, pch_pic_hoist_end_startup 57,
+ *     pch_pic_table_read 1944, pch_pic_table_write 1896
+ *
  * WHAT A HOST MUST DO. hosts/c/pic.c and crate pch-pic in hosts/rust do all of this (pic_settle, pic_line, pic_resume):
  *     - After each write of the guest, drain, and pass the events on in their order. Then poll all 64 inputs, in any order, and pass on what they
  *       return: an unmask announces only the lowest input that waits, and this sweep wakes the others. Once each input is polled, with no MASK, CLEAR

@@ -384,7 +384,7 @@ static void files(const char *path)
     expect("so is a broken rule", forged(path, saved, SAVED_LEN, IMAGE_LEN - 1, 1, PCH_PIC_UNUSED));
     remove(path);
     expect("no file, no load", refused(path, PIC_FILE));
-    expect("what an earlier save left is no hindrance", mkfifo(beside, 0600) == 0 && pic_save(&pic, PIC_FORM_2, path) == PCH_PIC_DONE);
+    expect("what stands beside it stays", mkfifo(beside, 0600) == 0 && pic_save(&pic, PIC_FORM_2, path) == PCH_PIC_DONE && remove(beside) == 0);
     remove(path);
     expect("what is no plain file is not replaced", mkfifo(path, 0600) == 0 && pic_save(&pic, PIC_FORM_2, path) == PIC_FILE);
     remove(path);

@@ -6,6 +6,7 @@
  *                                   one of before 0.6.0 loads form 1 alone */
 #include "pic.h"
 
+#include <errno.h>
 #include <inttypes.h>
 #include <stdio.h>
 #include <stdlib.h>
@@ -242,6 +243,16 @@ static void second_board(void)
     print_on("On by the recorder's:", heard);
 }
 
+/* All of standard output is written, or it is told. */
+static int written(int status)
+{
+    if (fflush(stdout) != 0 || ferror(stdout)) {
+        fprintf(stderr, "load_sample: standard output: %s\n", strerror(errno));
+        return 1;
+    }
+    return status;
+}
+
 static int play(const char *path)
 {
     struct host host = new_host();
@@ -286,11 +297,11 @@ static int form_of(const char *word)
 int main(int argc, char **argv)
 {
     if (argc == 2 && argv[1][0] != '-') {
-        return play(argv[1]);
+        return written(play(argv[1]));
     }
     if (argc == 3 && strcmp(argv[1], "--show") == 0) {
         show(argv[2]);
-        return 0;
+        return written(0);
     }
     if (argc == 5 && strcmp(argv[1], "--form") == 0 && form_of(argv[2]) != 0) {
         convert((enum pic_form)form_of(argv[2]), argv[3], argv[4]);

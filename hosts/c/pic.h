@@ -128,12 +128,20 @@ size_t pic_image(const struct pic *pic, enum pic_form form, uint8_t image[PCH_PI
 int pic_take(struct pic *pic, const uint8_t *image, size_t image_len, uint64_t *place);
 
 /* The same to a file and back (pic_file.c). The file has a magic, a length and a checksum, and is replaced whole or not at all. A file of any form
- * is loaded, as pic_take takes its image. */
+ * is loaded, as pic_take takes its image; what is no plain file is not: it is PIC_FILE, and nothing waits for a writer. */
 int pic_save(const struct pic *pic, enum pic_form form, const char *path);
 int pic_load(struct pic *pic, const char *path, uint64_t *place);
 
-/* Makes a file of these bytes, or replaces one, whole or not at all: they go to a file beside it, path.new, which takes its name only when it is on the
- * disk. What is there and no plain file is not replaced. 0 or PIC_FILE. */
+/* The same with some bytes that the host keeps beside the image, at most PIC_KEPT_MAX, in one file. Such a file and one without them are not taken for one
+ * another: a load that asks for another number of bytes than were saved hands back PCH_PIC_LENGTH or PCH_PIC_CONTENTS. One that fails leaves pic and kept
+ * as they were. */
+enum { PIC_KEPT_MAX = 16 };
+int pic_save_with(const struct pic *pic, enum pic_form form, const uint8_t *kept, size_t kept_len, const char *path);
+int pic_load_with(struct pic *pic, uint8_t *kept, size_t kept_len, const char *path, uint64_t *place);
+
+/* Makes a file of these bytes, or replaces one, whole or not at all: they go to a file of their own beside it, which takes
+ * its name only when it is on the disk. Several may save at once, and the last one wins. Owner and mode of the old file stay, a symbolic link is followed, and
+ * what is no plain file is not replaced. Who is killed on the way leaves a file .pch-pic-*.new there, which nobody needs. 0 or PIC_FILE. */
 int pic_replace(const char *path, const uint8_t *bytes, size_t len);
 
 const char *pic_why(int number);

@@ -126,6 +126,8 @@ mod proved;
 mod recorder;
 pub mod reg;
 #[cfg(feature = "std")]
+mod replace;
+#[cfg(feature = "std")]
 pub mod sheet;
 #[cfg(feature = "std")]
 pub mod trace;
