@@ -115,9 +115,10 @@
  *
  * LINUX AND THE PROFILE. No version of Linux's driver (irq-loongson-pch-pic.c) fits it: Linux gets the plain calls. Of 6.1, 6.12 and 7.2 these are refused
  * with 14:
- *     - the Byte writes of routes and vectors at start-up, and in 6.12 and 7.2 after a suspend too;
- *     - the Qword read of ID in 6.1 and 6.12; 7.2 reads a Dword;
- *     - in 6.12 and 7.2 the Byte write of a vector whenever a device's driver asks for an input, so also once start-up has ended.
+ *     - the Byte writes of all routes at start-up, and in 6.12 and 7.2 after a suspend too;
+ *     - the Byte writes of vectors: in 6.1 of all at start-up; in 6.12 and 7.2 of one whenever a device's driver asks for an input, so also once start-up has
+ *       ended, and of all after a suspend. For a vector that has no input yet these write a Byte at 0x2ff, where no register stands;
+ *     - the Qword read of ID in 6.1 and 6.12; 7.2 reads a Dword.
  * All else that they do passes. A driver for the profile reads ID's high half by a Dword, and sets all vectors and routes, four at a time, before it unmasks
  * anything. Then it ends start-up, and from there on it writes MASK, CLEAR, EDGE and POL by Dwords, as Linux's does.
  *
