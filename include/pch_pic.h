@@ -1,8 +1,13 @@
 /* A LoongArch PCH-PIC interrupt controller as a library: calls over bytes. This header is all that a host needs to read.
  *
- * Link with libpch_pic.a (tools/archive writes it to target/archive) and with no other library. The archive is for x86-64 Linux in user
- * space, and for nothing else: it uses the SSE registers and the red zone below the stack pointer, which a kernel must not, and it has no
- * .eh_frame, so nothing can be unwound through its frames.
+ * Link with libpch_pic.a and with no other library. There are two kinds of it, and this header is for both:
+ *     - the proved one, which tools/archive writes to target/archive: machine code of what is proved. It is for x86-64 Linux in user space, and for
+ *       nothing else. It uses the SSE registers and the red zone below the stack pointer, which a kernel must not. It has no .eh_frame, so nothing can
+ *       be unwound through its frames;
+ *     - those that rustc makes of the proved text, which tools/archive --target writes to a folder of target/archive each: for LoongArch, AArch64 and
+ *       RISC-V of 64 bits, and for x86-64 kernels. docs/BOARD.md says what is assumed of these. A kernel on x86-64 defines PCH_PIC_BARE
+ *       before it includes this header, and so says that it links the one for x86_64-unknown-none.
+ * The constant pch_pic_built says which kind is linked. In all else they are alike, byte for byte.
  *
  * THE IMAGE. The device is an image of 290, 259 or 251 bytes, which the host owns and lends to each call. Nothing is allocated, and nothing is kept
  * from one call to the next. So to save a device is to copy its image, and to load it is to lend the copy. pch_pic_reset makes an image of any bytes of
@@ -172,10 +177,13 @@
 #ifndef PCH_PIC_H
 #define PCH_PIC_H
 
-#if !defined(__x86_64__) || defined(__ILP32__) || !defined(__linux__)
-#error "pch_pic.h: libpch_pic.a is for x86-64 Linux only; this is another target"
-#elif !defined(__SSE2__) || defined(__KERNEL__)
-#error "pch_pic.h: libpch_pic.a is for user space only; it uses SSE registers and the red zone"
+#if defined(__ILP32__) || (defined(__BYTE_ORDER__) && __BYTE_ORDER__ != __ORDER_LITTLE_ENDIAN__) || \
+    (!defined(__x86_64__) && !defined(__aarch64__) && !defined(__loongarch64) && !(defined(__riscv) && __riscv_xlen == 64))
+#error "pch_pic.h: no libpch_pic.a is for this target; tools/archive --list-targets tells which there are"
+#elif defined(__x86_64__) && !defined(__linux__) && !defined(PCH_PIC_BARE)
+#error "pch_pic.h: libpch_pic.a is for x86-64 Linux only; define PCH_PIC_BARE where the one for x86_64-unknown-none is linked"
+#elif defined(__x86_64__) && (!defined(__SSE2__) || defined(__KERNEL__)) && !defined(PCH_PIC_BARE)
+#error "pch_pic.h: libpch_pic.a is for user space only, it uses SSE and the red zone; define PCH_PIC_BARE where the one for x86_64-unknown-none is linked"
 #endif
 
 #include <stddef.h>
@@ -190,6 +198,13 @@
 #ifdef __cplusplus
 extern "C" {
 #endif
+
+/* Which kind of archive is linked. The constant stands in the archive itself, so it is that of no other. */
+enum {
+    PCH_PIC_BUILT_PROVED = 1,  /* machine code of what is proved, from tools/archive */
+    PCH_PIC_BUILT_BY_RUSTC = 2 /* rustc's code of the proved text, from tools/archive --target */
+};
+extern const uint8_t pch_pic_built;
 
 /* Sizes. */
 enum {

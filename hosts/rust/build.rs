@@ -1,5 +1,5 @@
-//! Links libpch_pic.a, from PCH_PIC_LIB_DIR or from the repository's target/archive. It says what to run where the library is missing, and
-//! refuses a target that the library is not for.
+//! With feature `archive`: links libpch_pic.a, from PCH_PIC_LIB_DIR or from the repository's target/archive. It says what to run where the library is
+//! missing, and refuses a target that the library is not for. Without the feature there is nothing to do.
 
 use std::env;
 use std::path::{Path, PathBuf};
@@ -24,10 +24,14 @@ fn library_dir() -> PathBuf {
 }
 
 fn main() {
+    println!("cargo:rerun-if-changed=build.rs");
+    if env::var_os("CARGO_FEATURE_ARCHIVE").is_none() {
+        return;
+    }
     println!("cargo:rerun-if-env-changed=PCH_PIC_LIB_DIR");
     if [target("ARCH"), target("OS"), target("POINTER_WIDTH")] != ["x86_64", "linux", "64"] {
         let name = env::var("TARGET").unwrap_or_default();
-        eprintln!("{LIBRARY} is for x86-64 Linux in user space; the target {name} is not served");
+        eprintln!("{LIBRARY} is for x86-64 Linux in user space; the target {name} is not served by feature archive");
         exit(1);
     }
     let dir = library_dir();

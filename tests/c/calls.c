@@ -14,6 +14,11 @@ enum {
     EVENTS = PCH_PIC_EVENTS * PCH_PIC_EVENT_LEN
 };
 
+/* The kind of archive that this is built against: the proved one where nothing else is said. */
+#ifndef BUILT
+#define BUILT PCH_PIC_BUILT_PROVED
+#endif
+
 static int passed, failed;
 
 static void expect(const char *what, int ok)
@@ -1110,6 +1115,7 @@ int main(void)
     traces();
     boards();
     hoists();
+    expect("the archive says which kind it is", pch_pic_built == BUILT);
 
     printf("%d passed, %d failed\n", passed, failed);
     return failed != 0;

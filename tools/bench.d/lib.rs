@@ -59,7 +59,7 @@ fn asked() -> Result<Asked, String> {
         calls: 6400,
         day: 20_000,
         kinds: vec!["all".into()],
-        sides: if WITH_C { vec!['n', 'a', 'b', 'c', 'd'] } else { vec!['n', 'a', 'b', 'd'] },
+        sides: if WITH_C { vec!['n', 'a', 'b', 'c', 'd', 'p'] } else { vec!['n', 'a', 'b', 'd', 'p'] },
         times: true,
         instructions: true,
         markdown: false,
@@ -94,8 +94,8 @@ fn sides(list: &str) -> Result<Vec<char>, String> {
     for side in list.split(',') {
         match side {
             "c" if !WITH_C => eprintln!("bench: side c is left out: it was built without the published Rust"),
-            "a" | "b" | "c" | "d" | "n" => sides.extend(side.chars()),
-            _ => return Err(format!("no side {side}: a, b, c, d or n")),
+            "a" | "b" | "c" | "d" | "p" | "n" => sides.extend(side.chars()),
+            _ => return Err(format!("no side {side}: a, b, c, d, p or n")),
         }
     }
     if sides.is_empty() { Err("no side is left".into()) } else { Ok(sides) }
@@ -264,7 +264,9 @@ fn has_c(_kind: &Kind) -> bool {
 /// What the figures are.
 fn tell(asked: &Asked, rows: &[Row], cpu: Option<usize>, day: Option<&[Call]>) {
     println!();
-    println!("a: the library. b: plain Rust, whole load and save. c: the published Rust in memory, with a mutex. d: lean Rust, in place.");
+    println!(
+        "a: the library. b: plain Rust, whole load and save. c: the published Rust in memory, with a mutex. d: lean Rust, in place. p: the library's sources as Rust."
+    );
     if let Some(empty) = table::empty(rows, &asked.sides) {
         println!("An empty call in the same loop, not subtracted: {empty}.");
     }

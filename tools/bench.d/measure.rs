@@ -145,6 +145,7 @@ fn each(side: char) -> fn(&Kind, &mut [Slot]) {
         'a' => sides::bench_timed_each_a,
         'b' => sides::bench_timed_each_b,
         'd' => sides::bench_timed_each_d,
+        'p' => sides::bench_timed_each_p,
         _ => sides::bench_timed_each_n,
     }
 }
@@ -155,6 +156,7 @@ fn each_beside(side: char) -> fn(&beside::Kind, &mut [beside::Lent]) {
         'a' => beside::sides::bench_timed_beside_a,
         'b' => beside::sides::bench_timed_beside_b,
         'd' => beside::sides::bench_timed_beside_d,
+        'p' => beside::sides::bench_timed_beside_p,
         _ => beside::sides::bench_timed_beside_n,
     }
 }
@@ -165,6 +167,7 @@ fn day(side: char) -> fn(&[Call], &mut Slot, usize) {
         'a' => sides::bench_timed_day_a,
         'b' => sides::bench_timed_day_b,
         'd' => sides::bench_timed_day_d,
+        'p' => sides::bench_timed_day_p,
         _ => sides::bench_timed_day_n,
     }
 }
@@ -175,6 +178,7 @@ fn play(side: char) -> fn(&Play, &mut Lent, usize) {
         'a' => sides::bench_timed_play_a,
         'b' => sides::bench_timed_play_b,
         'd' => sides::bench_timed_play_d,
+        'p' => sides::bench_timed_play_p,
         _ => sides::bench_timed_play_n,
     }
 }

@@ -170,6 +170,19 @@ macro_rules! rust {
 rust!(Plain, plain);
 rust!(Lean, lean);
 
+/// The calls of the portable text by the names that the sides have.
+pub mod portable {
+    pub use text::calls::{
+        pch_pic_board_drain as board_drain, pch_pic_board_event as board_event, pch_pic_board_level as board_level,
+        pch_pic_board_poll as board_poll, pch_pic_board_read as board_read, pch_pic_board_reset as board_reset,
+        pch_pic_board_write as board_write, pch_pic_convert as convert, pch_pic_drain as drain,
+        pch_pic_hoist_end_startup as hoist_end_startup, pch_pic_hoist_read as hoist_read, pch_pic_hoist_reset as hoist_reset,
+        pch_pic_hoist_write as hoist_write, pch_pic_level as level, pch_pic_play as play, pch_pic_poll as poll, pch_pic_read as read,
+        pch_pic_reset as reset, pch_pic_salvage as salvage, pch_pic_sheet as sheet, pch_pic_write as write,
+    };
+}
+rust!(Portable, portable);
+
 pub struct Nothing;
 
 #[inline(never)]
@@ -382,4 +395,5 @@ macro_rules! timed {
 timed!(Library, bench_timed_each_a, bench_timed_day_a, bench_timed_play_a);
 timed!(Plain, bench_timed_each_b, bench_timed_day_b, bench_timed_play_b);
 timed!(Lean, bench_timed_each_d, bench_timed_day_d, bench_timed_play_d);
+timed!(Portable, bench_timed_each_p, bench_timed_day_p, bench_timed_play_p);
 timed!(Nothing, bench_timed_each_n, bench_timed_day_n, bench_timed_play_n);

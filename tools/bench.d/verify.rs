@@ -4,7 +4,7 @@ use crate::call::Call;
 use crate::chance::Chance;
 use crate::kinds::{BASE, Kind, LENGTH, LENGTHS, NUMBERED, Prepared, SIZE, Slot, count_at, moved};
 use crate::plays::{self, Lent, Play, Way, blocks};
-use crate::sides::{Lean, Library, Plain, Side, converted, make, one_by_one, play, salvage, sheet};
+use crate::sides::{Lean, Library, Plain, Portable, Side, converted, make, one_by_one, play, salvage, sheet};
 
 /// What a side hands back, and the target of a conversion.
 fn by<S: Side>(call: &Call, slot: &mut Slot, image_len: usize, answer_len: usize) -> (u8, [u8; NUMBERED]) {
@@ -16,11 +16,12 @@ fn by<S: Side>(call: &Call, slot: &mut Slot, image_len: usize, answer_len: usize
 
 /// The sides make the call; they must hand back the same number and leave the same bytes. The number, and the image or target that is left.
 fn same(what: &str, call: &Call, slot: &mut Slot, image_len: usize, answer_len: usize) -> Result<(u8, [u8; NUMBERED]), String> {
-    let (mut plain, mut lean) = (slot.clone(), slot.clone());
+    let (mut plain, mut lean, mut portable) = (slot.clone(), slot.clone(), slot.clone());
     let (number, target) = by::<Library>(call, slot, image_len, answer_len);
     let others = [
         ("plain Rust", by::<Plain>(call, &mut plain, image_len, answer_len), plain),
         ("lean Rust", by::<Lean>(call, &mut lean, image_len, answer_len), lean),
+        ("portable Rust", by::<Portable>(call, &mut portable, image_len, answer_len), portable),
     ];
     let first = |a: &[u8], b: &[u8]| a.iter().zip(b).position(|(a, b)| a != b);
     for (name, (handed, written), other) in &others {
@@ -130,9 +131,13 @@ pub fn random() -> Result<[u64; 12], String> {
 
 /// The sides play the trace, and must hand back the same number and leave the same bytes.
 fn same_play(what: &str, trace: &[u8], lent: &mut Lent) -> Result<u8, String> {
-    let (mut plain, mut lean) = (lent.clone(), lent.clone());
+    let (mut plain, mut lean, mut portable) = (lent.clone(), lent.clone(), lent.clone());
     let number = play::<Library>(trace, lent);
-    let others = [("plain Rust", play::<Plain>(trace, &mut plain), plain), ("lean Rust", play::<Lean>(trace, &mut lean), lean)];
+    let others = [
+        ("plain Rust", play::<Plain>(trace, &mut plain), plain),
+        ("lean Rust", play::<Lean>(trace, &mut lean), lean),
+        ("portable Rust", play::<Portable>(trace, &mut portable), portable),
+    ];
     match others.iter().find(|other| other.1 != number || other.2 != *lent) {
         Some((name, handed, _)) => Err(format!("{what}: a play hands back {number}, that of {name} {handed}, or leaves other bytes")),
         None => Ok(number),
@@ -141,8 +146,8 @@ fn same_play(what: &str, trace: &[u8], lent: &mut Lent) -> Result<u8, String> {
 
 /// The calls of what was played, made one by one on each side, must leave the same bytes but in the answer area, which told the reset last.
 fn same_calls(what: &str, calls: &[Call], before: &Lent, left: &Lent) -> Result<(), String> {
-    let sides = [one_by_one::<Library>, one_by_one::<Plain>, one_by_one::<Lean>];
-    for (name, side) in ["the library", "plain Rust", "lean Rust"].into_iter().zip(sides) {
+    let sides = [one_by_one::<Library>, one_by_one::<Plain>, one_by_one::<Lean>, one_by_one::<Portable>];
+    for (name, side) in ["the library", "plain Rust", "lean Rust", "portable Rust"].into_iter().zip(sides) {
         let mut lent = before.clone();
         side(calls, &mut lent);
         lent.answer.clone_from(&left.answer);
@@ -155,9 +160,13 @@ fn same_calls(what: &str, calls: &[Call], before: &Lent, left: &Lent) -> Result<
 
 /// The sides salvage the trace, and must hand back the same number and leave the same bytes.
 fn same_salvage(what: &str, trace: &[u8], lent: &mut Lent) -> Result<u8, String> {
-    let (mut plain, mut lean) = (lent.clone(), lent.clone());
+    let (mut plain, mut lean, mut portable) = (lent.clone(), lent.clone(), lent.clone());
     let number = salvage::<Library>(trace, lent);
-    let others = [("plain Rust", salvage::<Plain>(trace, &mut plain), plain), ("lean Rust", salvage::<Lean>(trace, &mut lean), lean)];
+    let others = [
+        ("plain Rust", salvage::<Plain>(trace, &mut plain), plain),
+        ("lean Rust", salvage::<Lean>(trace, &mut lean), lean),
+        ("portable Rust", salvage::<Portable>(trace, &mut portable), portable),
+    ];
     match others.iter().find(|other| other.1 != number || other.2 != *lent) {
         Some((name, handed, _)) => Err(format!("{what}: a salvage hands back {number}, that of {name} {handed}, or leaves other bytes")),
         None => Ok(number),
@@ -190,9 +199,13 @@ fn salvaged(of: &Play) -> Result<(), String> {
 
 /// The sides make the sheet of the trace, and must hand back the same number and leave the same bytes.
 fn same_sheet(what: &str, trace: &[u8], lent: &mut Lent) -> Result<u8, String> {
-    let (mut plain, mut lean) = (lent.clone(), lent.clone());
+    let (mut plain, mut lean, mut portable) = (lent.clone(), lent.clone(), lent.clone());
     let number = sheet::<Library>(trace, lent);
-    let others = [("plain Rust", sheet::<Plain>(trace, &mut plain), plain), ("lean Rust", sheet::<Lean>(trace, &mut lean), lean)];
+    let others = [
+        ("plain Rust", sheet::<Plain>(trace, &mut plain), plain),
+        ("lean Rust", sheet::<Lean>(trace, &mut lean), lean),
+        ("portable Rust", sheet::<Portable>(trace, &mut portable), portable),
+    ];
     match others.iter().find(|other| other.1 != number || other.2 != *lent) {
         Some((name, handed, other)) => {
             let first = lent.sheet.iter().zip(&other.sheet).position(|(a, b)| a != b);

@@ -84,7 +84,7 @@ impl Day {
     pub fn new(trace: &Trace) -> Self {
         let (history, sheet) = (trace.history(), trace.sheet());
         let moved = history.moments().iter().fold(0, |moved, moment| moved | moment.latched | moment.in_service);
-        let at_work = (0..INPUTS).filter(|input| moved >> input & 1 == 1 || !sheet.input(*input).is_idle());
+        let at_work = (0..INPUTS).filter(|input| moved >> input & 1 == 1 || !sheet.inputs()[*input].is_idle());
         let lanes = at_work.map(|input| Lane::new(&history, input)).collect();
         Day { records: trace.records().len(), blocks: trace.blocks().collect(), history, sheet, lanes }
     }
@@ -93,7 +93,7 @@ impl Day {
     pub fn holds(&self) -> Result<(), String> {
         let differ = |input: usize| format!("input {input}: the waits that are drawn are not those of the sheet");
         for lane in &self.lanes {
-            let row = self.sheet.input(lane.input);
+            let row = &self.sheet.inputs()[lane.input];
             let greatest = lane.greatest().and_then(Wait::length).unwrap_or(0);
             let drawn = [greatest, lane.withdrawn().count(), usize::from(lane.open().is_some())];
             let drops = lane.dropped.len() == row.dropped as usize;

@@ -15,7 +15,7 @@ fn tile(class: &str, number: u32, name: &str, more: &str) -> String {
 /// The day's counts; those that tell of trouble come first, and stand out where they are not 0.
 fn tiles(asked: &Asked, day: &Day) -> String {
     let total = day.sheet.total();
-    let of = |lane: &&Lane| day.sheet.input(lane.input).greatest_wait;
+    let of = |lane: &&Lane| day.sheet.inputs()[lane.input].greatest_wait;
     let longest = day.lanes.iter().rev().filter(|lane| of(lane) > 0).max_by_key(of);
     let who = longest.map_or(String::new(), |lane| format!("records, {}", asked.name(lane.input)));
     let trouble = [
@@ -65,7 +65,7 @@ fn rows(day: &Day) -> String {
     let rows = day
         .lanes
         .iter()
-        .map(|lane| row(&lane.input.to_string(), &format!(" data-input=\"{}\"", lane.input), day.sheet.input(lane.input), most));
+        .map(|lane| row(&lane.input.to_string(), &format!(" data-input=\"{}\"", lane.input), &day.sheet.inputs()[lane.input], most));
     rows.collect()
 }
 

@@ -1,4 +1,4 @@
-//! The library under test where its Rattle sources are read as Rust (tools/harness/as-rust): the C shape of the exported calls, over slices.
+//! The library under test where its Rattle sources are read as Rust, plain (tools/harness/as-rust) or as they ship (--portable): the C shape of the exported calls, over slices.
 
 /// SAFETY: the pointer has so many bytes, or is null and has none.
 unsafe fn area<'a>(pointer: *mut u8, len: usize) -> &'a mut [u8] {
@@ -6,7 +6,7 @@ unsafe fn area<'a>(pointer: *mut u8, len: usize) -> &'a mut [u8] {
 }
 
 pub unsafe fn pch_pic_reset(image: *mut u8, image_len: usize, answer: *mut u8, answer_len: usize) -> u8 {
-    unsafe { pch_pic::pch_pic_reset(area(image, image_len), area(answer, answer_len)) }
+    unsafe { text::calls::pch_pic_reset(area(image, image_len), area(answer, answer_len)) }
 }
 
 pub unsafe fn pch_pic_read(
@@ -19,7 +19,7 @@ pub unsafe fn pch_pic_read(
     answer: *mut u8,
     answer_len: usize,
 ) -> u8 {
-    unsafe { pch_pic::pch_pic_read(area(image.cast_mut(), image_len), base, size, address, width, area(answer, answer_len)) }
+    unsafe { text::calls::pch_pic_read(area(image.cast_mut(), image_len), base, size, address, width, area(answer, answer_len)) }
 }
 
 pub unsafe fn pch_pic_write(
@@ -33,15 +33,15 @@ pub unsafe fn pch_pic_write(
     answer: *mut u8,
     answer_len: usize,
 ) -> u8 {
-    unsafe { pch_pic::pch_pic_write(area(image, image_len), base, size, address, width, value, area(answer, answer_len)) }
+    unsafe { text::calls::pch_pic_write(area(image, image_len), base, size, address, width, value, area(answer, answer_len)) }
 }
 
 pub unsafe fn pch_pic_level(image: *mut u8, image_len: usize, input: u64, level: u64, answer: *mut u8, answer_len: usize) -> u8 {
-    unsafe { pch_pic::pch_pic_level(area(image, image_len), input, level, area(answer, answer_len)) }
+    unsafe { text::calls::pch_pic_level(area(image, image_len), input, level, area(answer, answer_len)) }
 }
 
 pub unsafe fn pch_pic_poll(image: *mut u8, image_len: usize, input: u64, answer: *mut u8, answer_len: usize) -> u8 {
-    unsafe { pch_pic::pch_pic_poll(area(image, image_len), input, area(answer, answer_len)) }
+    unsafe { text::calls::pch_pic_poll(area(image, image_len), input, area(answer, answer_len)) }
 }
 
 pub unsafe fn pch_pic_drain(
@@ -53,7 +53,7 @@ pub unsafe fn pch_pic_drain(
     answer: *mut u8,
     answer_len: usize,
 ) -> u8 {
-    unsafe { pch_pic::pch_pic_drain(area(image, image_len), area(events, events_len), place, area(answer, answer_len)) }
+    unsafe { text::calls::pch_pic_drain(area(image, image_len), area(events, events_len), place, area(answer, answer_len)) }
 }
 
 pub unsafe fn pch_pic_convert(
@@ -64,7 +64,7 @@ pub unsafe fn pch_pic_convert(
     answer: *mut u8,
     answer_len: usize,
 ) -> u8 {
-    unsafe { pch_pic_convert::pch_pic_convert(area(image.cast_mut(), image_len), area(target, target_len), area(answer, answer_len)) }
+    unsafe { text::calls::pch_pic_convert(area(image.cast_mut(), image_len), area(target, target_len), area(answer, answer_len)) }
 }
 
 pub unsafe fn pch_pic_table_read(
@@ -77,7 +77,7 @@ pub unsafe fn pch_pic_table_read(
     answer: *mut u8,
     answer_len: usize,
 ) -> u8 {
-    unsafe { pch_pic_table::pch_pic_table_read(area(image.cast_mut(), image_len), base, size, address, width, area(answer, answer_len)) }
+    unsafe { text::calls::pch_pic_table_read(area(image.cast_mut(), image_len), base, size, address, width, area(answer, answer_len)) }
 }
 
 pub unsafe fn pch_pic_table_write(
@@ -91,7 +91,7 @@ pub unsafe fn pch_pic_table_write(
     answer: *mut u8,
     answer_len: usize,
 ) -> u8 {
-    unsafe { pch_pic_table::pch_pic_table_write(area(image, image_len), base, size, address, width, value, area(answer, answer_len)) }
+    unsafe { text::calls::pch_pic_table_write(area(image, image_len), base, size, address, width, value, area(answer, answer_len)) }
 }
 
 pub unsafe fn pch_pic_play(
@@ -108,7 +108,7 @@ pub unsafe fn pch_pic_play(
 ) -> u8 {
     unsafe {
         let (image, answers, events) = (area(image, image_len), area(answers, answers_len), area(events, events_len));
-        pch_pic_trace::pch_pic_play(area(trace.cast_mut(), trace_len), image, answers, events, area(answer, answer_len))
+        text::calls::pch_pic_play(area(trace.cast_mut(), trace_len), image, answers, events, area(answer, answer_len))
     }
 }
 
@@ -123,7 +123,7 @@ pub unsafe fn pch_pic_salvage(
     answer_len: usize,
 ) -> u8 {
     unsafe {
-        pch_pic_salvage::pch_pic_salvage(
+        text::calls::pch_pic_salvage(
             area(trace.cast_mut(), trace_len),
             area(kept, kept_len),
             area(list, list_len),
@@ -140,7 +140,7 @@ pub unsafe fn pch_pic_board_reset(
     answer: *mut u8,
     answer_len: usize,
 ) -> u8 {
-    unsafe { pch_pic_board::pch_pic_board_reset(area(image, image_len), area(board, board_len), area(answer, answer_len)) }
+    unsafe { text::calls::pch_pic_board_reset(area(image, image_len), area(board, board_len), area(answer, answer_len)) }
 }
 
 pub unsafe fn pch_pic_board_read(
@@ -156,7 +156,7 @@ pub unsafe fn pch_pic_board_read(
     answer_len: usize,
 ) -> u8 {
     unsafe {
-        pch_pic_board::pch_pic_board_read(
+        text::calls::pch_pic_board_read(
             area(image.cast_mut(), image_len),
             area(board, board_len),
             base,
@@ -182,7 +182,7 @@ pub unsafe fn pch_pic_board_write(
     answer_len: usize,
 ) -> u8 {
     unsafe {
-        pch_pic_board::pch_pic_board_write(
+        text::calls::pch_pic_board_write(
             area(image, image_len),
             area(board, board_len),
             base,
@@ -205,7 +205,7 @@ pub unsafe fn pch_pic_board_level(
     answer: *mut u8,
     answer_len: usize,
 ) -> u8 {
-    unsafe { pch_pic_board::pch_pic_board_level(area(image, image_len), area(board, board_len), input, level, area(answer, answer_len)) }
+    unsafe { text::calls::pch_pic_board_level(area(image, image_len), area(board, board_len), input, level, area(answer, answer_len)) }
 }
 
 pub unsafe fn pch_pic_board_poll(
@@ -217,7 +217,7 @@ pub unsafe fn pch_pic_board_poll(
     answer: *mut u8,
     answer_len: usize,
 ) -> u8 {
-    unsafe { pch_pic_board::pch_pic_board_poll(area(image, image_len), area(board, board_len), input, area(answer, answer_len)) }
+    unsafe { text::calls::pch_pic_board_poll(area(image, image_len), area(board, board_len), input, area(answer, answer_len)) }
 }
 
 pub unsafe fn pch_pic_board_drain(
@@ -232,7 +232,7 @@ pub unsafe fn pch_pic_board_drain(
     answer_len: usize,
 ) -> u8 {
     unsafe {
-        pch_pic_board::pch_pic_board_drain(
+        text::calls::pch_pic_board_drain(
             area(image, image_len),
             area(board, board_len),
             area(events, events_len),
@@ -243,7 +243,7 @@ pub unsafe fn pch_pic_board_drain(
 }
 
 pub unsafe fn pch_pic_board_event(board: *mut u8, board_len: usize, vector: u8, flag: u8, answer: *mut u8, answer_len: usize) -> u8 {
-    unsafe { pch_pic_board::pch_pic_board_event(area(board, board_len), vector, flag, area(answer, answer_len)) }
+    unsafe { text::calls::pch_pic_board_event(area(board, board_len), vector, flag, area(answer, answer_len)) }
 }
 
 pub unsafe fn pch_pic_hoist_reset(
@@ -254,7 +254,7 @@ pub unsafe fn pch_pic_hoist_reset(
     answer: *mut u8,
     answer_len: usize,
 ) -> u8 {
-    unsafe { pch_pic_hoist::pch_pic_hoist_reset(area(image, image_len), area(phase, phase_len), area(answer, answer_len)) }
+    unsafe { text::calls::pch_pic_hoist_reset(area(image, image_len), area(phase, phase_len), area(answer, answer_len)) }
 }
 
 pub unsafe fn pch_pic_hoist_read(
@@ -267,7 +267,7 @@ pub unsafe fn pch_pic_hoist_read(
     answer: *mut u8,
     answer_len: usize,
 ) -> u8 {
-    unsafe { pch_pic_hoist::pch_pic_hoist_read(area(image.cast_mut(), image_len), base, size, address, width, area(answer, answer_len)) }
+    unsafe { text::calls::pch_pic_hoist_read(area(image.cast_mut(), image_len), base, size, address, width, area(answer, answer_len)) }
 }
 
 pub unsafe fn pch_pic_hoist_write(
@@ -284,7 +284,7 @@ pub unsafe fn pch_pic_hoist_write(
     answer_len: usize,
 ) -> u8 {
     unsafe {
-        pch_pic_hoist::pch_pic_hoist_write(
+        text::calls::pch_pic_hoist_write(
             area(image, image_len),
             area(phase.cast_mut(), phase_len),
             base,
@@ -305,7 +305,7 @@ pub unsafe fn pch_pic_hoist_end_startup(
     answer: *mut u8,
     answer_len: usize,
 ) -> u8 {
-    unsafe { pch_pic_hoist::pch_pic_hoist_end_startup(area(image.cast_mut(), image_len), area(phase, phase_len), area(answer, answer_len)) }
+    unsafe { text::calls::pch_pic_hoist_end_startup(area(image.cast_mut(), image_len), area(phase, phase_len), area(answer, answer_len)) }
 }
 
 pub unsafe fn pch_pic_sheet(
@@ -316,9 +316,9 @@ pub unsafe fn pch_pic_sheet(
     answer: *mut u8,
     answer_len: usize,
 ) -> u8 {
-    unsafe { pch_pic_sheet::pch_pic_sheet(area(trace.cast_mut(), trace_len), area(sheet, sheet_len), area(answer, answer_len)) }
+    unsafe { text::calls::pch_pic_sheet(area(trace.cast_mut(), trace_len), area(sheet, sheet_len), area(answer, answer_len)) }
 }
 
 pub unsafe fn pch_pic_difference(later: u16, earlier: u16) -> i16 {
-    difference::pch_pic_difference(later, earlier)
+    text::calls::pch_pic_difference(later, earlier)
 }

@@ -1,5 +1,6 @@
 //! The session program where its Rattle sources are read as Rust (tools/harness/as-rust): standard input is fed in chunks of a changing size.
 
+use session_text::session;
 use std::io::{Read, Write};
 
 fn main() {

@@ -1,68 +1,55 @@
-# Files out of Debian's packages, without installing any. Sourced. Lists and downloads are its own: what apt knows of this system stays as it is.
+# Debian's packages, unpacked into a folder of their own: nothing is installed, and root is not needed. Sourced; 'tool' is the name that errors begin with.
 #
-#   debian_cache NAME            prints the folder NAME in the user's cache folder (PCH_PIC_CACHE, or pch-pic in it), which may not be there yet
-#   debian_open FOLDER SUITE..   makes lists of these suites in FOLDER, from the mirror that this system uses. Further calls take FOLDER
-#   debian_deb FOLDER PACKAGE    fetches a package of any of the suites, the newest there is, and prints its file
-#   debian_source FOLDER PACKAGE SUITE  fetches the original tar file of a source package, and prints its file
+#   kept_folder NAME       where what is fetched is kept between runs: NAME in the user's cache folder
+#   debian_start FOLDER KIND..  makes a place beside FOLDER, with lists for these kinds of machine (amd64 ..): sets work, which goes at the end, and apt
+#   debian_lacking PACKAGE..    prints these packages and what they need that this system lacks
+#   debian_unpack PACKAGE..     fetches packages and unpacks them into $work/unpacked
+#   debian_keep FOLDER PROOF    moves that to FOLDER. Another run may have been quicker: then PROOF is there, and that is as well
 #
-# Each ends with 1 where it cannot be had, and sets why, or prints nothing.
+# Each ends the tool with 1 and one line where it cannot be done.
 
-why=''
-
-debian_cache() { echo "${PCH_PIC_CACHE:-${XDG_CACHE_HOME:-${HOME:-/tmp}/.cache}/pch-pic}/$1"; }
-
-# The archive that apt is set to on this machine: no mirror is named here.
-debian_mirror() {
-    local lists
-    lists=$(apt-config shell folder Dir::Etc/d 2>/dev/null) || return 1
-    local folder=/etc/apt/
-    eval "$lists"
-    cat "$folder"sources.list "$folder"sources.list.d/*.list "$folder"sources.list.d/*.sources 2>/dev/null | awk '/^#/ { next }
-        $1 == "URIs:" { for (i = 2; i <= NF; i++) print $i }
-        $1 == "deb" { for (i = 2; i <= NF; i++) if ($i ~ /:\/\//) print $i }' |
-        grep -E '/debian/?$' | head -n 1
+die() {
+    echo "$tool: $1" >&2
+    exit 1
 }
 
-debian_apt=()
-debian_options() {
-    debian_apt=(-o "Dir::State=$1/state" -o "Dir::State::status=$1/status" -o "Dir::Cache=$1/cache" -o "Dir::Etc::sourcelist=$1/sources.list"
-        -o Dir::Etc::sourceparts=- -o APT::Sandbox::User=root -o Acquire::Languages=none -o Acquire::http::Timeout=30 -o Acquire::Retries=2 -qq)
-}
+kept_folder() { echo "${XDG_CACHE_HOME:-${HOME:-/tmp}/.cache}/pch-pic/$1"; }
 
-debian_open() {
-    local folder=$1 mirror suite
+debian_start() {
+    local folder=$1 command kind
     shift
-    if ! command -v apt-get >/dev/null 2>&1 || ! command -v dpkg-deb >/dev/null 2>&1; then
-        why="apt-get or dpkg-deb is missing: Debian's packages cannot be fetched"
-        return 1
-    fi
-    mirror=$(debian_mirror)
-    [ -n "$mirror" ] || { why="apt knows no mirror of Debian here"; return 1; }
-    mkdir -p "$folder/state/lists/partial" "$folder/cache/archives/partial" || { why="cannot make $folder"; return 1; }
-    : >"$folder/status"
-    for suite; do
-        echo "deb $mirror $suite main"
-        echo "deb-src $mirror $suite main"
-    done >"$folder/sources.list"
-    debian_options "$folder"
-    apt-get "${debian_apt[@]}" update >"$folder/log" 2>&1 || { why="Debian's lists cannot be fetched: $(tail -n 1 "$folder/log")"; return 1; }
+    for command in apt-get apt-cache dpkg; do
+        command -v $command >/dev/null 2>&1 || die "$command is missing: Debian's packages cannot be fetched"
+    done
+    mkdir -p "$(dirname "$folder")" || die "cannot make $(dirname "$folder")"
+    work=$(mktemp -d "$folder.XXXXXX") || die "cannot write beside $folder"
+    trap 'rm -rf "$work"' EXIT
+    mkdir -p "$work/state/lists/partial" "$work/cache/archives/partial" "$work/debs" "$work/unpacked"
+    # Lists and caches of its own: what apt knows of this system stays as it is.
+    apt=(-o "Dir::State=$work/state" -o Dir::State::status=/var/lib/dpkg/status -o "Dir::Cache=$work/cache" -o APT::Sandbox::User=root
+        -o Acquire::http::Timeout=30 -qq)
+    for kind in "$@"; do apt+=(-o "APT::Architectures::=$kind"); done
+    apt-get "${apt[@]}" update >&2 || die "Debian's lists cannot be fetched"
 }
 
-debian_deb() {
-    local folder=$1 package=$2 version
-    debian_options "$folder"
-    rm -f "$folder/$package"_*.deb
-    # A backport is no candidate by itself, so the version is named.
-    version=$(apt-cache "${debian_apt[@]}" show "$package" 2>/dev/null | awk '$1 == "Version:" { print $2; exit }')
-    [ -n "$version" ] || return 1
-    (cd "$folder" && apt-get "${debian_apt[@]}" download "$package=$version" >>log 2>&1) || return 1
-    compgen -G "$folder/${package}_*.deb"
+debian_lacking() {
+    apt-get "${apt[@]}" install -s --no-install-recommends "$@" | awk '$1 == "Inst" { print $2 }'
 }
 
-debian_source() {
-    local folder=$1 package=$2 suite=$3
-    debian_options "$folder"
-    rm -f "$folder/$package"_*.orig.tar.*
-    (cd "$folder" && apt-get "${debian_apt[@]}" --download-only --only-source -t "$suite" source "$package" >>log 2>&1) || return 1
-    compgen -G "$folder/${package}_*.orig.tar.*" | grep -v '\.asc$' | head -n 1
+debian_unpack() {
+    local file
+    (cd "$work/debs" && apt-get "${apt[@]}" download "$@") >&2 || die "Debian's packages cannot be fetched"
+    for file in "$work"/debs/*.deb; do
+        case ${file##*/} in
+        # Of the compiler's sources only what core is made of, a tenth of them.
+        rust*-src_*) dpkg --fsys-tarfile "$file" | tar -xC "$work/unpacked" --wildcards './usr/src/*/library/core/*' './usr/src/*/library/stdarch/*' \
+            './usr/src/*/library/portable-simd/*' || die "${file##*/} has no source of core" ;;
+        *) dpkg -x "$file" "$work/unpacked" || die "${file##*/} cannot be unpacked" ;;
+        esac
+        rm "$file"
+    done
+}
+
+debian_keep() {
+    mv -T "$work/unpacked" "$1" 2>/dev/null || [ -e "$2" ] || die "cannot make $1"
 }

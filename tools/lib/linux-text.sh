@@ -1,4 +1,4 @@
-# The few files of Linux that the tools take out of Debian's package linux-source-VERSION. Sourced, after debian.sh; a tool sets 'tool' to its name.
+# The few files of Linux that the tools take out of Debian's package linux-source-VERSION. Sourced, after suites.sh; a tool sets 'tool' to its name.
 #
 #   text_of VERSION                sets text to a folder with them in the user's cache folder, fetched where they are not there
 #   unpack VERSION PACKAGE FOLDER  takes them out of a package at hand

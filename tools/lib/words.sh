@@ -52,3 +52,10 @@ recorded() {
     local name
     for name in plays conversions differences salvages boards hoists sheets; do echo "$1/$name.bin"; done
 }
+
+# damaged FILE PLACE: the file with one bit of the byte at a place changed.
+damaged() {
+    local byte
+    byte=$(od -An -tu1 -j "$2" -N 1 "$1")
+    head -c "$2" "$1" && printf '%b' "\\x$(printf %02x $((byte ^ 16)))" && tail -c +$(($2 + 2)) "$1"
+}

@@ -1,6 +1,6 @@
 //! Which vectors are on.
 
-use crate::{ffi, Event, VECTORS};
+use crate::{outcome, Event, VECTORS};
 use core::fmt;
 
 /// A board: for each vector how many inputs in service carry it, masked ones too. A vector is on while its count is not 0.
@@ -51,7 +51,7 @@ impl Board {
 
     /// An event moves the count of its vector, by one, within 0 and 255. The answer is the count after.
     pub fn hear(&mut self, event: Event) -> u8 {
-        let count = ffi::hear(&mut self.0, event.vector, u8::from(event.asserted)).expect("a board has 256 bytes");
+        let count = outcome::hear(&mut self.0, event.vector, u8::from(event.asserted)).expect("a board has 256 bytes");
         count.expect("an event that is heard has a count") as u8
     }
 

@@ -1,7 +1,8 @@
 //! The device: an image of its own, and the calls on it.
 
 use crate::{
-    contents, event, ffi, reg, Board, Error, Event, Events, Form, Image, Returned, Width, Window, EVENTS, EVENT_LEN, IMAGE2_NUMBERED_LEN,
+    contents, event, outcome, reg, Board, Error, Event, Events, Form, Image, Returned, Width, Window, EVENTS, EVENT_LEN,
+    IMAGE2_NUMBERED_LEN,
 };
 use core::fmt;
 
@@ -55,7 +56,7 @@ impl PchPic {
     /// It is not `const`: the bytes come from the proved reset, which runs. A `static` takes a `LazyLock`.
     pub fn new() -> Self {
         let mut pic = PchPic::blank();
-        ffi::reset(&mut pic.image, pic.board.bytes()).expect("a reset takes any 290 bytes");
+        outcome::reset(&mut pic.image, pic.board.bytes()).expect("a reset takes any 290 bytes");
         pic
     }
 
@@ -66,7 +67,7 @@ impl PchPic {
 
     /// Brings the board up to date after a call that was not lent it.
     pub(crate) fn count(&mut self) {
-        ffi::count(&self.image, self.board.bytes()).expect("a device's image is accepted");
+        outcome::count(&self.image, self.board.bytes()).expect("a device's image is accepted");
     }
 
     /// Back to the state after reset.
@@ -89,7 +90,7 @@ impl PchPic {
     ///
     /// [`Error::Outside`] where the access is not wholly inside the window.
     pub fn read(&self, window: Window, address: u64, width: Width) -> Result<u64, Error> {
-        let value = ffi::read(&self.image, window, address, width.bytes())?;
+        let value = outcome::read(&self.image, window, address, width.bytes())?;
         Ok(value.expect("a done read has a value"))
     }
 
@@ -110,7 +111,7 @@ impl PchPic {
     ///
     /// [`Error::Outside`] where the access is not wholly inside the window.
     pub fn write(&mut self, window: Window, address: u64, width: Width, value: u64) -> Result<u32, Error> {
-        ffi::write(&mut self.image, self.board.bytes(), window, address, width.bytes(), value).map(lost)
+        outcome::write(&mut self.image, self.board.bytes(), window, address, width.bytes(), value).map(lost)
     }
 
     /// As [`PchPic::read`], decoded by the table that `./run --map` prints: the same answer, in more time.
@@ -126,7 +127,7 @@ impl PchPic {
     ///
     /// [`Error::Outside`] where the access is not wholly inside the window.
     pub fn table_read(&self, window: Window, address: u64, width: Width) -> Result<u64, Error> {
-        let value = ffi::table_read(&self.image, window, address, width.bytes())?;
+        let value = outcome::table_read(&self.image, window, address, width.bytes())?;
         Ok(value.expect("a done read has a value"))
     }
 
@@ -136,7 +137,7 @@ impl PchPic {
     ///
     /// [`Error::Outside`] where the access is not wholly inside the window.
     pub fn table_write(&mut self, window: Window, address: u64, width: Width, value: u64) -> Result<u32, Error> {
-        let dropped = ffi::table_write(&mut self.image, window, address, width.bytes(), value).map(lost)?;
+        let dropped = outcome::table_write(&mut self.image, window, address, width.bytes(), value).map(lost)?;
         self.count();
         Ok(dropped)
     }
@@ -158,7 +159,7 @@ impl PchPic {
     ///
     /// [`Error::Width`] where `data` has not 1, 2, 4 or 8 bytes, else [`Error::Outside`]. `data` then stays as it was.
     pub fn mmio_read(&self, window: Window, address: u64, data: &mut [u8]) -> Result<(), Error> {
-        let value = ffi::read(&self.image, window, address, data.len())?.expect("a done read has a value");
+        let value = outcome::read(&self.image, window, address, data.len())?.expect("a done read has a value");
         data.copy_from_slice(&value.to_le_bytes()[..data.len()]);
         Ok(())
     }
@@ -174,7 +175,7 @@ impl PchPic {
             *to = *from;
         }
         let value = u64::from_le_bytes(bytes);
-        ffi::write(&mut self.image, self.board.bytes(), window, address, data.len(), value).map(lost)
+        outcome::write(&mut self.image, self.board.bytes(), window, address, data.len(), value).map(lost)
     }
 
     /// An input's line goes up (`true`) or down. The event, if there is one, is to be passed on at once; it does not wait.
@@ -183,7 +184,7 @@ impl PchPic {
     ///
     /// [`Error::Input`] where the input is 64 or more.
     pub fn set_level(&mut self, input: u64, level: bool) -> Result<Returned, Error> {
-        let value = ffi::level(&mut self.image, self.board.bytes(), input, level)?;
+        let value = outcome::level(&mut self.image, self.board.bytes(), input, level)?;
         Ok(Returned(value.map(|value| event::returned(value, level))))
     }
 
@@ -204,7 +205,7 @@ impl PchPic {
     ///
     /// [`Error::Input`] where the input is 64 or more.
     pub fn poll(&mut self, input: u64) -> Result<Returned, Error> {
-        let value = ffi::poll(&mut self.image, self.board.bytes(), input)?;
+        let value = outcome::poll(&mut self.image, self.board.bytes(), input)?;
         Ok(Returned(value.map(|value| event::returned(value, true))))
     }
 
@@ -234,7 +235,7 @@ impl PchPic {
     ///
     /// [`Error::Room`] where `place` is past the end of `buffer`.
     pub fn drain_bytes(&mut self, buffer: &mut [u8], place: usize) -> Result<usize, Error> {
-        let count = ffi::drain(&mut self.image, self.board.bytes(), buffer, place)?;
+        let count = outcome::drain(&mut self.image, self.board.bytes(), buffer, place)?;
         Ok(count.expect("a done drain has a count") as usize)
     }
 
@@ -348,7 +349,7 @@ impl TryFrom<&[u8]> for PchPic {
     fn try_from(image: &[u8]) -> Result<Self, Error> {
         // A conversion tests the image.
         let mut pic = PchPic::blank();
-        ffi::convert(image, &mut pic.image)?;
+        outcome::convert(image, &mut pic.image)?;
         pic.count();
         Ok(pic)
     }

@@ -1,6 +1,6 @@
 //! What comes out of the device.
 
-use crate::{ffi, PchPic};
+use crate::{calls, PchPic};
 use core::fmt;
 
 /// A vector to assert or to deassert at the interrupt controller above.
@@ -71,7 +71,7 @@ impl Event {
 /// ```
 #[must_use]
 pub fn difference(later: u16, earlier: u16) -> i16 {
-    ffi::difference(later, earlier)
+    calls::pch_pic_difference(later, earlier)
 }
 
 impl fmt::Display for Event {

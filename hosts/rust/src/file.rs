@@ -125,12 +125,19 @@ fn write_and_sync(path: &Path, bytes: &[u8]) -> io::Result<()> {
 }
 
 /// The new name is on the disk only when the folder is. Some file systems cannot sync a folder, and say so.
+#[cfg(unix)]
 fn sync_folder(path: &Path) -> io::Result<()> {
     let folder = path.parent().filter(|folder| !folder.as_os_str().is_empty()).unwrap_or(Path::new("."));
     match File::open(folder)?.sync_all() {
         Err(why) if why.kind() == io::ErrorKind::InvalidInput => Ok(()),
         synced => synced,
     }
+}
+
+/// Elsewhere a folder cannot be opened, and the system alone says when the new name is on the disk.
+#[cfg(not(unix))]
+fn sync_folder(_: &Path) -> io::Result<()> {
+    Ok(())
 }
 
 /// The bytes go to a file beside the old one, which takes its name only when it is whole and on the disk.

@@ -1,6 +1,6 @@
 //! The forms of a saved image.
 
-use crate::{ffi, Error, IMAGE2_LEN, IMAGE2_NUMBERED_LEN, IMAGE_LEN};
+use crate::{outcome, Error, IMAGE2_LEN, IMAGE2_NUMBERED_LEN, IMAGE_LEN};
 use core::fmt;
 use core::ops::Deref;
 
@@ -89,7 +89,7 @@ impl Image {
     /// Those of [`PchPic::load`](crate::PchPic::load).
     pub fn converted(image: &[u8], form: Form) -> Result<Self, Error> {
         let mut bytes = [0; IMAGE2_NUMBERED_LEN];
-        ffi::convert(image, &mut bytes[..form.image_len()])?;
+        outcome::convert(image, &mut bytes[..form.image_len()])?;
         Ok(Image { form, bytes })
     }
 

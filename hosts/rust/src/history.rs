@@ -87,7 +87,7 @@ impl Wait {
     /// By how much the record number of the assert is above that of the raise; none where no assert came.
     pub fn length(&self) -> Option<usize> {
         match self.end {
-            End::Asserted(record) => Some(record - self.raised),
+            End::Asserted(record) => record.checked_sub(self.raised),
             End::Withdrawn(_) | End::Open => None,
         }
     }

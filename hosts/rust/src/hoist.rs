@@ -1,6 +1,6 @@
 //! The hoist profile: a device for a guest that uses aligned Dwords alone, and leaves ISR and, once it runs, the vectors alone.
 
-use crate::{device, ffi, Device, Error, Event, PchPic, Returned, Width, Window};
+use crate::{device, outcome, Device, Error, Event, PchPic, Returned, Width, Window};
 
 /// The phase of a [`Hoist`].
 #[derive(Clone, Copy, Debug, PartialEq, Eq, Hash)]
@@ -51,13 +51,13 @@ impl Hoist {
 
     /// Back to the state after reset, and to start-up.
     pub fn reset(&mut self) {
-        ffi::hoist_reset(&mut self.pic.image, &mut self.phase).expect("a reset takes any 290 bytes");
+        outcome::hoist_reset(&mut self.pic.image, &mut self.phase).expect("a reset takes any 290 bytes");
         self.pic.count();
     }
 
     /// A write of so many bytes; the board follows it.
     fn put(&mut self, window: Window, address: u64, bytes: usize, value: u64) -> Result<u32, Error> {
-        let dropped = ffi::hoist_write(&mut self.pic.image, &self.phase, window, address, bytes, value).map(device::lost)?;
+        let dropped = outcome::hoist_write(&mut self.pic.image, &self.phase, window, address, bytes, value).map(device::lost)?;
         self.pic.count();
         Ok(dropped)
     }
@@ -88,7 +88,7 @@ impl Hoist {
     ///
     /// [`Error::Outside`] where the access is not wholly inside the window, else [`Error::Align`].
     pub fn read(&self, window: Window, address: u64, width: Width) -> Result<u64, Error> {
-        let value = ffi::hoist_read(&self.pic.image, window, address, width.bytes())?;
+        let value = outcome::hoist_read(&self.pic.image, window, address, width.bytes())?;
         Ok(value.expect("a done read has a value"))
     }
 
@@ -107,7 +107,7 @@ impl Hoist {
     ///
     /// [`Error::Width`] where `data` has not 1, 2, 4 or 8 bytes, else as [`Hoist::read`]. `data` then stays as it was.
     pub fn mmio_read(&self, window: Window, address: u64, data: &mut [u8]) -> Result<(), Error> {
-        let value = ffi::hoist_read(&self.pic.image, window, address, data.len())?.expect("a done read has a value");
+        let value = outcome::hoist_read(&self.pic.image, window, address, data.len())?.expect("a done read has a value");
         data.copy_from_slice(&value.to_le_bytes()[..data.len()]);
         Ok(())
     }
@@ -144,7 +144,7 @@ impl Hoist {
     ///
     /// [`Error::Profile`] while an input is in service, masked or not, and the second time.
     pub fn end_startup(&mut self) -> Result<(), Error> {
-        ffi::hoist_end_startup(&self.pic.image, &mut self.phase).map(|_| ())
+        outcome::hoist_end_startup(&self.pic.image, &mut self.phase).map(|_| ())
     }
 }
 

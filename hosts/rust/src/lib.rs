@@ -2,9 +2,8 @@
 //!
 //! [`PchPic`] is a device model that knows nothing of buses, locks and logs. The guest's accesses go to [`read`](PchPic::read) and
 //! [`write`](PchPic::write), the lines of other devices to [`set_level`](PchPic::set_level), and what comes out is [`Event`]s: vectors
-//! to assert or deassert at the interrupt controller above. The work is done by `libpch_pic.a`, which is written in Rattle and proved;
-//! this crate adds types. It allocates nothing, has no dependencies, and is `no_std` without its feature `std`. The library is for x86-64
-//! Linux in user space, and so is the crate.
+//! to assert or deassert at the interrupt controller above. It allocates nothing, has no dependencies and no `unsafe`, and is `no_std` without its
+//! feature `std`.
 //!
 //! ```
 //! use pch_pic::{reg, Event, PchPic, Width, Window};
@@ -64,26 +63,66 @@
 //! A [`Trace`] has the calls of a day from a reset on, and [playing](Trace::play) it gives every byte again. [`Recorded`] is a device whose calls are recorded
 //! as they are made, and [`Recorder`] takes calls one by one. Of a damaged trace [`Trace::salvage`] keeps the blocks that are whole. [`Trace::sheet`] counts the
 //! day in ten exact numbers for each input, and [`Trace::history`] tells where in the day they come from. They are there with feature `std`.
+//!
+//! # What does the work
+//!
+//! The device is written in Rattle, a Rust with contracts, and proved: every call leaves exactly the bytes that the rules give, on any input. This crate
+//! has that text as Rust, and adds types; [`calls`] are the calls themselves. [`built()`] tells what does the work:
+//!
+//! - **By default** rustc compiles the text, for every 64-bit target. Beside the proof this takes rustc, and the rules by which the text became Rust.
+//! - **Feature `archive`** links `libpch_pic.a`, the machine code of the proved text, on x86-64 Linux in user space. Everything else stays the same. `unsafe`
+//!   is then in one file, `src/archive.rs`.
+//!
+//! What is not one of the calls, as [`Wires`] and [`Recorder`], is plain Rust: tested, and not proved. `docs/ASSUMPTIONS.md` of the repository has what each
+//! takes, side by side.
+//!
+//! # Features
+//!
+//! - `std`, on by default: files, recorders and traces.
+//! - `archive`: the proved machine code does the work.
+//! - `plain`: the proved text line by line, without the steps that make it quick. It answers the same, in more than twice the time; it is there to be tested.
+//!
+//! # Panics
+//!
+//! No call of the crate panics, whatever the bytes, numbers and lengths are; only memory can run out where a [`Trace`] is made.
+//! `tests/hostile` tries it.
 
 #![cfg_attr(not(any(feature = "std", test)), no_std)]
+#![cfg_attr(not(feature = "archive"), forbid(unsafe_code))]
+#![cfg_attr(feature = "archive", deny(unsafe_code))]
+// The pages speak of what is there with std.
+#![cfg_attr(not(feature = "std"), allow(rustdoc::broken_intra_doc_links))]
 
+// An offset in the guest's window has 64 bits, and the proved text keeps it as a usize: a shorter one would cut it, and an access far behind the registers
+// would meet one of them.
 #[cfg(not(target_pointer_width = "64"))]
-compile_error!("pch-pic serves 64-bit hosts only");
+compile_error!("pch-pic serves 64-bit targets only: the proved text keeps an offset of 64 bits as a usize");
 
 mod access;
+#[cfg(feature = "archive")]
+#[allow(unsafe_code, clippy::too_many_arguments)]
+mod archive;
 pub mod axdevice;
 mod board;
+mod built;
+pub mod calls;
 mod contents;
 mod device;
 mod error;
 mod event;
-mod ffi;
+#[cfg(not(any(feature = "archive", feature = "plain")))]
+#[rustfmt::skip]
+mod fast;
 #[cfg(feature = "std")]
 pub mod file;
 mod form;
 #[cfg(feature = "std")]
 pub mod history;
 mod hoist;
+mod outcome;
+#[cfg(all(feature = "plain", not(feature = "archive")))]
+#[rustfmt::skip]
+mod proved;
 #[cfg(feature = "std")]
 mod recorder;
 pub mod reg;
@@ -95,6 +134,7 @@ mod wires;
 
 pub use access::{Width, Window};
 pub use board::Board;
+pub use built::{built, Built};
 pub use device::PchPic;
 pub use error::Error;
 pub use event::{difference, Event, Events, Returned};

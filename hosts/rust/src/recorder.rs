@@ -7,8 +7,7 @@ use crate::{
 };
 use core::fmt;
 use std::fs::{File, OpenOptions};
-use std::io;
-use std::os::unix::fs::FileExt;
+use std::io::{self, Seek, SeekFrom, Write};
 use std::path::Path;
 
 /// Why a recorder takes no more, or not this. It is left as it was.
@@ -129,11 +128,14 @@ impl Recorder {
     ///
     /// [`RecordError::Plan`].
     pub fn planned(plan: &[u16]) -> Result<Self, RecordError> {
-        let records = plan.iter().map(|records| usize::from(*records)).sum::<usize>();
-        if plan.is_empty() || plan.len() > BLOCKS_MAX || plan.contains(&0) || records > RECORDS_MAX {
+        if plan.is_empty() || plan.len() > BLOCKS_MAX || plan.contains(&0) {
             return Err(RecordError::Plan);
         }
-        Ok(Recorder { plan: plan.to_vec(), ..Recorder::new() })
+        let recorder = Recorder { plan: plan.to_vec(), ..Recorder::new() };
+        if recorder.most() > RECORDS_MAX {
+            return Err(RecordError::Plan);
+        }
+        Ok(recorder)
     }
 
     /// A planned day that is kept in a file as it goes.
@@ -258,8 +260,10 @@ impl Recorder {
 
     /// Writes a record at its place in the file; a full block goes to the disk, so that it outlasts a lost power.
     fn keep(&self, record: Record, full: bool) -> io::Result<()> {
-        let Some(file) = &self.file else { return Ok(()) };
-        file.write_all_at(&record.to_bytes(), (contents_len(self.plan.len()) + self.records.len()) as u64)?;
+        let Some(mut file) = self.file.as_ref() else { return Ok(()) };
+        // Each time from the start of the file: of a record that was written in part nothing may stay between two others.
+        file.seek(SeekFrom::Start((contents_len(self.plan.len()) + self.records.len()) as u64))?;
+        file.write_all(&record.to_bytes())?;
         if full {
             file.sync_data()?;
         }

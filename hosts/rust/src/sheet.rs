@@ -7,12 +7,13 @@
 //! let _ = day.set_level(5, true)?; // record 0: masked, so it waits
 //! day.write(Window::at(0), reg::MASK, Width::Dword, 0)?; // record 1: its assert is offered
 //! let sheet = day.recorder().finish()?.sheet();
-//! assert_eq!((sheet.input(5).raises, sheet.input(5).offered, sheet.input(5).greatest_wait), (1, 1, 1));
+//! let five = sheet.inputs()[5];
+//! assert_eq!((five.raises, five.offered, five.greatest_wait), (1, 1, 1));
 //! println!("{sheet}");
 //! # Ok::<(), Box<dyn std::error::Error>>(())
 //! ```
 
-use crate::{contents, ffi, Trace, INPUTS, SHEET_LEN};
+use crate::{contents, outcome, Trace, INPUTS, SHEET_LEN};
 use core::fmt;
 
 /// The columns of a sheet, in its order, as its table names them.
@@ -98,7 +99,7 @@ impl Trace {
     /// Counts the day: the library goes through the trace from a reset on and fills in the sheet.
     pub fn sheet(&self) -> Sheet {
         let mut bytes = [0; SHEET_LEN];
-        let records = ffi::sheet(self.as_bytes(), &mut bytes).expect("a good trace has a sheet");
+        let records = outcome::sheet(self.as_bytes(), &mut bytes).expect("a good trace has a sheet");
         let row = |number: usize| Row::from_bytes(&bytes[ROW_LEN * number..][..ROW_LEN]);
         Sheet { records: records.expect("a done sheet has a value") as usize, inputs: core::array::from_fn(row), total: row(INPUTS) }
     }
@@ -110,13 +111,9 @@ impl Sheet {
         self.records
     }
 
-    /// The row of an input.
-    ///
-    /// # Panics
-    ///
-    /// Where the input is 64 or more.
-    pub fn input(&self, input: usize) -> &Row {
-        &self.inputs[input]
+    /// The row of an input; none where it is 64 or more.
+    pub fn input(&self, input: usize) -> Option<&Row> {
+        self.inputs.get(input)
     }
 
     /// The rows of inputs 0 to 63.
@@ -178,12 +175,12 @@ mod tests {
         let (mut trace, mut sheet) = (RAISED, [0xa5; SHEET_LEN + 1]);
         trace[0] = 2;
         trace[7 + 1] = 1;
-        assert_eq!(ffi::sheet(&trace, &mut sheet[..SHEET_LEN - 1]), Err(crate::Error::Room));
-        assert_eq!(ffi::sheet(&trace, &mut sheet), Err(crate::Error::Trace));
+        assert_eq!(outcome::sheet(&trace, &mut sheet[..SHEET_LEN - 1]), Err(crate::Error::Room));
+        assert_eq!(outcome::sheet(&trace, &mut sheet), Err(crate::Error::Trace));
         trace[0] = 1;
-        assert_eq!(ffi::sheet(&trace, &mut sheet), Err(crate::Error::Record(0)));
+        assert_eq!(outcome::sheet(&trace, &mut sheet), Err(crate::Error::Record(0)));
         assert_eq!(sheet, [0xa5; SHEET_LEN + 1]);
-        assert_eq!(ffi::sheet(&RAISED, &mut sheet), Ok(Some(1)));
+        assert_eq!(outcome::sheet(&RAISED, &mut sheet), Ok(Some(1)));
         let wanted = |at: usize| match at {
             SHEET_LEN => 0xa5,
             // A raise, and an open wait, of input 5 and of the total.

@@ -20,7 +20,8 @@
 //! ```
 
 use crate::{
-    contents, event, ffi, file, Error, Event, Form, Image, PchPic, DRAIN_ROOM, DROPPED_LEN, DROPPED_MAX, EVENT_LEN, RECORD_LEN, TRACE_MAX,
+    contents, event, file, outcome, Error, Event, Form, Image, PchPic, DRAIN_ROOM, DROPPED_LEN, DROPPED_MAX, EVENT_LEN, RECORD_LEN,
+    TRACE_MAX,
 };
 use core::fmt;
 use std::fs::File;
@@ -202,7 +203,7 @@ impl TryFrom<Vec<u8>> for Trace {
     /// [`Error::Trace`] where contents or length are wrong, else [`Error::Record`] where a record is bad.
     fn try_from(bytes: Vec<u8>) -> Result<Self, Error> {
         // With no room for answers a good trace, which has a record, is refused with 7, and that last.
-        match ffi::play(&bytes, &mut [0; crate::IMAGE2_NUMBERED_LEN], &mut [], &mut []) {
+        match outcome::play(&bytes, &mut [0; crate::IMAGE2_NUMBERED_LEN], &mut [], &mut []) {
             Err(Error::Room) => Ok(Trace { bytes }),
             Err(why) => Err(why),
             Ok(_) => unreachable!("a play without room is refused"),
@@ -253,7 +254,7 @@ impl Trace {
     /// [`Error::Trace`] where contents or length are wrong, [`Error::Empty`] where no block is left.
     pub fn salvage(bytes: &[u8]) -> Result<Salvaged, Error> {
         let (mut kept, mut list) = (vec![0; bytes.len()], [0; DROPPED_MAX]);
-        let len = ffi::salvage(bytes, &mut kept, &mut list)?.expect("a done salvage has a value");
+        let len = outcome::salvage(bytes, &mut kept, &mut list)?.expect("a done salvage has a value");
         kept.truncate(len as usize);
         let blocks = |bytes: &[u8]| contents::number(&bytes[..ENTRIES]) as usize;
         let dropped = list[..DROPPED_LEN * (blocks(bytes) - blocks(&kept))]
@@ -309,9 +310,9 @@ impl Trace {
     pub fn play_in(&self, form: Form) -> Played<'_> {
         let drains = self.records().filter(|record| *record == Record::Drain).count();
         let mut image = vec![0; form.image_len()];
-        let mut answers = vec![0; ffi::ANSWER_LEN * self.records().len()];
+        let mut answers = vec![0; outcome::ANSWER_LEN * self.records().len()];
         let mut events = vec![0; DRAIN_ROOM * drains];
-        ffi::play(&self.bytes, &mut image, &mut answers, &mut events).expect("a good trace plays where there is room");
+        outcome::play(&self.bytes, &mut image, &mut answers, &mut events).expect("a good trace plays where there is room");
         let image = Image::converted(&image, form).expect("what a play leaves is accepted");
         let mut played = Played { trace: self, image, answers, events };
         let drained = played.steps().map(|step| step.events.len()).sum();
@@ -389,7 +390,7 @@ impl<'a> Played<'a> {
     /// Each record with what it gave, in order.
     pub fn steps(&self) -> impl Iterator<Item = Step<'_>> {
         let mut events = &self.events[..];
-        let records = self.trace.records().zip(self.answers.chunks_exact(ffi::ANSWER_LEN)).enumerate();
+        let records = self.trace.records().zip(self.answers.chunks_exact(outcome::ANSWER_LEN)).enumerate();
         records.map(move |(number, (record, answer))| {
             let answer = answer.try_into().expect("a chunk of 16 bytes");
             let mut step = Step { number, record, answer, events: &[] };
@@ -408,20 +409,24 @@ pub struct Step<'a> {
     pub number: usize,
     /// What was asked.
     pub record: Record,
-    /// Its 16 answer bytes.
-    pub answer: &'a [u8; ffi::ANSWER_LEN],
+    answer: &'a [u8; outcome::ANSWER_LEN],
     /// What it drained, [`EVENT_LEN`] bytes each.
     events: &'a [u8],
 }
 
 impl<'a> Step<'a> {
+    /// Its 16 answer bytes.
+    pub fn answer(&self) -> &'a [u8; outcome::ANSWER_LEN] {
+        self.answer
+    }
+
     /// The value, if there is one, or why the call was refused.
     ///
     /// # Errors
     ///
     /// That of the call: [`Error::Input`], [`Error::Width`] or [`Error::Outside`], with the offset.
     pub fn outcome(&self) -> Result<Option<u64>, Error> {
-        ffi::outcome(self.answer[0], self.answer)
+        outcome::of(self.answer[0], self.answer)
     }
 
     /// The events that it told: what a raise, lower or poll returned, or what was drained.

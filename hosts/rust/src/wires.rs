@@ -234,7 +234,7 @@ impl Wires {
         let mut events = [Event::default(); EVENTS];
         let count = pic.drain(&mut events);
         let board = pic.pic().board();
-        for event in &events[..count] {
+        for event in events.iter().take(count) {
             self.pass_on(board, *event, route);
         }
         for vector in 0..=u8::MAX {

@@ -48,20 +48,6 @@ fn there_and_back() {
     assert_eq!(folder.names(), ["device"]);
 }
 
-/// What the example of version 0.5.0 saved, which knew form 1 alone.
-#[test]
-fn a_file_of_an_older_host_is_loaded() {
-    let folder = Folder::new("older");
-    let path = folder.0.join("device");
-    let older = include_bytes!("../../saved-0.5.0.device");
-    fs::write(&path, older).unwrap();
-    let pic = file::load(&path).unwrap();
-    assert_eq!((pic.latched(), pic.in_service(), pic.waiting(), pic.vector(21)), (1 << 21, 1 << 21, 1, Some(0x55)));
-    assert_eq!(pic.next_number(), 1);
-    file::save(&pic, Form::One, &path).unwrap();
-    assert_eq!(fs::read(&path).unwrap(), older);
-}
-
 #[test]
 fn what_is_damaged_is_not_loaded() {
     let folder = Folder::new("damaged");

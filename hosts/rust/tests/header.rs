@@ -1,4 +1,9 @@
-//! The C header and this crate name the same numbers.
+//! The C header and this crate name the same numbers. It needs the repository around the crate, and so it is not in a package.
+
+/// Where an image has what: the crate keeps this to itself.
+#[allow(dead_code)]
+#[path = "../src/contents.rs"]
+mod contents;
 
 use pch_pic::{
     reg, Error, BLOCKS_MAX, DRAIN_ROOM, EVENTS, EVENT_LEN, IMAGE2_LEN, IMAGE2_NUMBERED_LEN, IMAGE_LEN, INPUTS, RECORDS_MAX, RECORD_LEN,
@@ -75,6 +80,28 @@ fn refusals() {
         // The crate's text tells the address, the place or the record too.
         let ours = error.to_string().replace(" at 0x0", "").replace(", at byte 0", "").replace(", number 0 from 0 on", "");
         assert_eq!(text(name), Some(ours), "{name}");
+    }
+}
+
+#[test]
+fn places_in_an_image() {
+    let header = header();
+    for (name, value) in [
+        ("IMAGE_BODIES", contents::BODIES),
+        ("IMAGE_ENTRIES", contents::ENTRIES),
+        ("ENTRY_LEN", contents::ENTRY_LEN),
+        ("KIND_REGISTERS", usize::from(contents::REGISTERS)),
+        ("KIND_ROUTES", usize::from(contents::ROUTES)),
+        ("KIND_VECTORS", usize::from(contents::VECTORS)),
+        ("KIND_EVENTS", usize::from(contents::EVENTS)),
+        ("KIND_NUMBERS", usize::from(contents::NUMBERS)),
+        ("REGISTERS_IRR_BACK", contents::IRR_BACK),
+        ("REGISTERS_ISR_BACK", contents::ISR_BACK),
+        ("EVENTS_WAITING", contents::WAITING),
+        ("EVENTS_DROPS", contents::DROPS),
+        ("NUMBERS_NEXT", contents::NEXT),
+    ] {
+        assert_eq!(header[name], value as u64, "{name}");
     }
 }
 

@@ -86,7 +86,7 @@ fn a_raise_that_is_announced_at_once_waits_0() {
     let records = [write(4, MASK, 0), Record::Raise(5), Record::Lower(5), Record::Raise(5)];
     assert_eq!(waits(&records)[1], Wait { input: 5, raised: 3, end: End::Asserted(3) });
     let sheet = day(&records).sheet();
-    assert_eq!(*sheet.input(5), Row { raises: 2, lowers: 1, asserts: 2, deasserts: 1, returned: 3, ..Row::default() });
+    assert_eq!(*sheet.input(5).unwrap(), Row { raises: 2, lowers: 1, asserts: 2, deasserts: 1, returned: 3, ..Row::default() });
     assert!(sheet.inputs().iter().enumerate().all(|(input, row)| input == 5 || row.is_idle()));
 }
 
@@ -99,7 +99,7 @@ fn a_wait_ends_at_the_first_assert() {
     assert_eq!(waits(&records), [three, nine]);
     assert_eq!((three.length(), nine.length()), (Some(3), Some(4)));
     let sheet = day(&records).sheet();
-    assert_eq!((sheet.input(3).offered, sheet.input(9).returned, sheet.total().greatest_wait), (1, 1, 4));
+    assert_eq!((sheet.inputs()[3].offered, sheet.inputs()[9].returned, sheet.total().greatest_wait), (1, 1, 4));
 }
 
 #[test]
@@ -137,7 +137,7 @@ fn a_dropped_assert_ends_a_wait_too() {
     records.extend([Record::Raise(63), Record::Poll(63), write(4, MASK + 4, 0)]);
     assert_eq!(waits(&records), [Wait { input: 63, raised: 48, end: End::Asserted(50) }]);
     let sheet = day(&records).sheet();
-    assert_eq!((sheet.input(63).dropped, sheet.input(63).offered, sheet.input(63).greatest_wait), (1, 1, 2));
+    assert_eq!((sheet.inputs()[63].dropped, sheet.inputs()[63].offered, sheet.inputs()[63].greatest_wait), (1, 1, 2));
     assert_eq!(sheet.total().offered, 17);
 }
 

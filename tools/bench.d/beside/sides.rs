@@ -3,7 +3,7 @@
 use super::{Asked, Kind, Lengths, Lent, WHOLE};
 use crate::call::Call;
 use crate::kinds::NUMBERED;
-use crate::sides::{Area, Lean, Library, Nothing, Plain, nothing};
+use crate::sides::{Area, Lean, Library, Nothing, Plain, Portable, nothing, portable};
 use std::hint::black_box;
 use std::slice::{from_raw_parts, from_raw_parts_mut};
 
@@ -226,6 +226,7 @@ macro_rules! rust {
 }
 rust!(Plain, plain);
 rust!(Lean, lean);
+rust!(Portable, portable);
 
 /// The areas of what is lent.
 struct Areas {
@@ -324,4 +325,5 @@ macro_rules! timed {
 timed!(Library, bench_timed_beside_a);
 timed!(Plain, bench_timed_beside_b);
 timed!(Lean, bench_timed_beside_d);
+timed!(Portable, bench_timed_beside_p);
 timed!(Nothing, bench_timed_beside_n);

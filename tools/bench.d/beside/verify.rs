@@ -6,7 +6,7 @@ use super::{Asked, Kind, Lengths, Lent, WHOLE};
 use crate::call::Call;
 use crate::chance::Chance;
 use crate::kinds::{BASE, LENGTH, LENGTH_2, LENGTHS, NUMBERED, Prepared, SIZE, count_at};
-use crate::sides::{Lean, Library, Plain};
+use crate::sides::{Lean, Library, Plain, Portable};
 use crate::verify::{random_call, random_image};
 
 /// The sides make the call; they must hand back the same number and leave the same bytes.
@@ -16,7 +16,12 @@ fn same(what: &str, asked: &Asked, lent: &mut Lent, lengths: Lengths) -> Result<
         (sides::make::<S>(asked, &mut lent, lengths), lent)
     }
     let library = by::<Library>(asked, lent, lengths);
-    for (name, other) in [("plain Rust", by::<Plain>(asked, lent, lengths)), ("lean Rust", by::<Lean>(asked, lent, lengths))] {
+    let others = [
+        ("plain Rust", by::<Plain>(asked, lent, lengths)),
+        ("lean Rust", by::<Lean>(asked, lent, lengths)),
+        ("portable Rust", by::<Portable>(asked, lent, lengths)),
+    ];
+    for (name, other) in others {
         if library != other {
             let numbers = (library.0, other.0);
             return Err(format!("{what}: {asked:?} on {lengths:?}: the library and {name} hand back {numbers:?}, or leave other bytes"));

@@ -1,0 +1,198 @@
+// Made from crates/pch_pic/src/lib.rt by tools/portable: do not change it here.
+//! The calls that a host makes, over a lent image, numbers and a lent answer area: 01's six. None requires anything: every input has its outcome.
+//! Here is what lacks room, 01's refusal 7, which comes first; the crates below make the call, and what it tells goes into the answer area.
+
+use super::answer;
+use super::six_calls::reset_drain;
+use super::six_calls::tested_access;
+use super::six_calls::tested_input;
+
+/// ```text
+/// ensures { λ r. ⌜ leaves r (now (image .exit)) (now (answer .exit)) [] ≡ outcome asked.reset (now (image .entry)) (now (answer .entry)) ⌝ }
+/// ```
+pub fn pch_pic_reset(image: &mut [u8], answer: &mut [u8]) -> u8 {
+    if answer.len() < 16 {
+        return 7;
+    }
+    if let Ok(image) = <&mut [u8; 259]>::try_from(&mut *image) {
+        return pch_pic_reset_of(image, answer);
+    }
+    if let Ok(image) = <&mut [u8; 251]>::try_from(&mut *image) {
+        return pch_pic_reset_of(image, answer);
+    }
+    if let Ok(image) = <&mut [u8; 290]>::try_from(&mut *image) {
+        return pch_pic_reset_of(image, answer);
+    }
+    pch_pic_reset_of(&mut [0u8; 0], answer)
+}
+
+fn pch_pic_reset_of<const N: usize>(image: &mut [u8; N], answer: &mut [u8]) -> u8 {
+    let told = reset_drain::reset(image);
+    answer::tell(answer, told)
+}
+
+/// ```text
+/// ensures { λ r. ⌜ leaves r (now (image .entry)) (now (answer .exit)) []
+///     ≡ outcome (asked.read base size address width) (now (image .entry)) (now (answer .entry)) ⌝ }
+/// ```
+pub fn pch_pic_read(
+    image: &[u8],
+    base: u64,
+    size: u64,
+    address: u64,
+    width: u64,
+    answer: &mut [u8],
+) -> u8 {
+    if answer.len() < 16 {
+        return 7;
+    }
+    if let Ok(image) = <&[u8; 259]>::try_from(image) {
+        return pch_pic_read_of(image, base, size, address, width, answer);
+    }
+    if let Ok(image) = <&[u8; 251]>::try_from(image) {
+        return pch_pic_read_of(image, base, size, address, width, answer);
+    }
+    if let Ok(image) = <&[u8; 290]>::try_from(image) {
+        return pch_pic_read_of(image, base, size, address, width, answer);
+    }
+    pch_pic_read_of(&[0u8; 0], base, size, address, width, answer)
+}
+
+fn pch_pic_read_of<const N: usize>(
+    image: &[u8; N],
+    base: u64,
+    size: u64,
+    address: u64,
+    width: u64,
+    answer: &mut [u8],
+) -> u8 {
+    let told = tested_access::read(image, base, size, address, width);
+    answer::tell(answer, told)
+}
+
+/// ```text
+/// ensures { λ r. ⌜ leaves r (now (image .exit)) (now (answer .exit)) []
+///     ≡ outcome (asked.write base size address width value) (now (image .entry)) (now (answer .entry)) ⌝ }
+/// ```
+pub fn pch_pic_write(
+    image: &mut [u8],
+    base: u64,
+    size: u64,
+    address: u64,
+    width: u64,
+    value: u64,
+    answer: &mut [u8],
+) -> u8 {
+    if answer.len() < 16 {
+        return 7;
+    }
+    if let Ok(image) = <&mut [u8; 259]>::try_from(&mut *image) {
+        return pch_pic_write_of(image, base, size, address, width, value, answer);
+    }
+    if let Ok(image) = <&mut [u8; 251]>::try_from(&mut *image) {
+        return pch_pic_write_of(image, base, size, address, width, value, answer);
+    }
+    if let Ok(image) = <&mut [u8; 290]>::try_from(&mut *image) {
+        return pch_pic_write_of(image, base, size, address, width, value, answer);
+    }
+    pch_pic_write_of(&mut [0u8; 0], base, size, address, width, value, answer)
+}
+
+fn pch_pic_write_of<const N: usize>(
+    image: &mut [u8; N],
+    base: u64,
+    size: u64,
+    address: u64,
+    width: u64,
+    value: u64,
+    answer: &mut [u8],
+) -> u8 {
+    let told = tested_access::write(image, base, size, address, width, value);
+    answer::tell(answer, told)
+}
+
+/// ```text
+/// ensures { λ r. ⌜ leaves r (now (image .exit)) (now (answer .exit)) [] ≡ outcome (asked.level input level) (now (image .entry)) (now (answer .entry)) ⌝ }
+/// ```
+pub fn pch_pic_level(image: &mut [u8], input: u64, level: u64, answer: &mut [u8]) -> u8 {
+    if answer.len() < 16 {
+        return 7;
+    }
+    if let Ok(image) = <&mut [u8; 259]>::try_from(&mut *image) {
+        return pch_pic_level_of(image, input, level, answer);
+    }
+    if let Ok(image) = <&mut [u8; 251]>::try_from(&mut *image) {
+        return pch_pic_level_of(image, input, level, answer);
+    }
+    if let Ok(image) = <&mut [u8; 290]>::try_from(&mut *image) {
+        return pch_pic_level_of(image, input, level, answer);
+    }
+    pch_pic_level_of(&mut [0u8; 0], input, level, answer)
+}
+
+fn pch_pic_level_of<const N: usize>(
+    image: &mut [u8; N],
+    input: u64,
+    level: u64,
+    answer: &mut [u8],
+) -> u8 {
+    let told = tested_input::level(image, input, level);
+    answer::tell(answer, told)
+}
+
+/// ```text
+/// ensures { λ r. ⌜ leaves r (now (image .exit)) (now (answer .exit)) [] ≡ outcome (asked.poll input) (now (image .entry)) (now (answer .entry)) ⌝ }
+/// ```
+pub fn pch_pic_poll(image: &mut [u8], input: u64, answer: &mut [u8]) -> u8 {
+    if answer.len() < 16 {
+        return 7;
+    }
+    if let Ok(image) = <&mut [u8; 259]>::try_from(&mut *image) {
+        return pch_pic_poll_of(image, input, answer);
+    }
+    if let Ok(image) = <&mut [u8; 251]>::try_from(&mut *image) {
+        return pch_pic_poll_of(image, input, answer);
+    }
+    if let Ok(image) = <&mut [u8; 290]>::try_from(&mut *image) {
+        return pch_pic_poll_of(image, input, answer);
+    }
+    pch_pic_poll_of(&mut [0u8; 0], input, answer)
+}
+
+fn pch_pic_poll_of<const N: usize>(image: &mut [u8; N], input: u64, answer: &mut [u8]) -> u8 {
+    let told = tested_input::poll(image, input);
+    answer::tell(answer, told)
+}
+
+/// ```text
+/// ensures { λ r. ⌜ leaves r (now (image .exit)) (now (answer .exit)) (now (events .exit))
+///     ≡ outcome (asked.drain (now (events .entry)) place) (now (image .entry)) (now (answer .entry)) ⌝ }
+/// ```
+pub fn pch_pic_drain(image: &mut [u8], events: &mut [u8], place: usize, answer: &mut [u8]) -> u8 {
+    if answer.len() < 16 {
+        return 7;
+    }
+    if events.len() < place {
+        return 7;
+    }
+    if let Ok(image) = <&mut [u8; 259]>::try_from(&mut *image) {
+        return pch_pic_drain_of(image, events, place, answer);
+    }
+    if let Ok(image) = <&mut [u8; 251]>::try_from(&mut *image) {
+        return pch_pic_drain_of(image, events, place, answer);
+    }
+    if let Ok(image) = <&mut [u8; 290]>::try_from(&mut *image) {
+        return pch_pic_drain_of(image, events, place, answer);
+    }
+    pch_pic_drain_of(&mut [0u8; 0], events, place, answer)
+}
+
+fn pch_pic_drain_of<const N: usize>(
+    image: &mut [u8; N],
+    events: &mut [u8],
+    place: usize,
+    answer: &mut [u8],
+) -> u8 {
+    let told = reset_drain::drain(image, &mut events[place..]);
+    answer::tell(answer, told)
+}

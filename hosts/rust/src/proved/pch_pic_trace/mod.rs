@@ -1,0 +1,34 @@
+// Made from crates/pch_pic_trace/src/lib.rt by tools/portable: do not change it here.
+//! The calls on a lent trace. None requires anything: every input has its outcome. Here is what lacks room, refusal 7, which writes no byte; the crates below test and play.
+
+pub mod play_records;
+pub mod play_trace;
+pub mod record_call;
+pub mod record_step;
+
+use super::answer;
+use super::trace::trace_refusals::NO_ROOM;
+
+/// A trace played from reset on the image: each record's sixteen answer bytes, and the drained events back to back.
+///
+/// ```text
+/// ensures { λ r. ⌜ playLeaves r (now (image .exit)) (now (answers .exit)) (now (events .exit)) (now (answer .exit))
+///     ≡ playing (now (trace .entry)) (now (image .entry)) (now (answers .entry)) (now (events .entry)) (now (answer .entry)) ⌝ }
+/// ```
+pub fn pch_pic_play(
+    trace: &[u8],
+    image: &mut [u8],
+    answers: &mut [u8],
+    events: &mut [u8],
+    answer: &mut [u8],
+) -> u8 {
+    if answer.len() < 16 {
+        return NO_ROOM;
+    }
+    let told = play_trace::play(trace, image, answers, events);
+    let number = told.number;
+    if number == NO_ROOM {
+        return NO_ROOM;
+    }
+    answer::tell(answer, told)
+}
