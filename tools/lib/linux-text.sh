@@ -44,7 +44,8 @@ text_of() {
     if ! debian_open "$lists" $(suites_of "$version"); then
         status=1
     elif ! package=$(debian_deb "$lists" "linux-source-$version"); then
-        why="linux-source-$version cannot be fetched: $(tail -n 1 "$lists/log")" status=1
+        why=$(tail -n 1 "$lists/log") status=1
+        why="linux-source-$version cannot be fetched: ${why:-none of $(suites_of "$version" | sed 's/ / and /') has it}"
     else
         unpack "$version" "$package" "$text" || status=1
     fi

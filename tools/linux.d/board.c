@@ -2,9 +2,6 @@
 #include "hosts.h"
 #include "kernel_shim.h"
 
-const char *const wire_names[WIRES] = {"whole", "loses an assert", "loses a deassert", "says the next vector", "says a deassert as an assert", "loses a rise of a line",
-                                       "loses a fall of a line"};
-
 static const struct host *host;
 static enum wire wire;
 static bool keeps;

@@ -20,10 +20,9 @@ struct host {
     bool (*on)(unsigned vector); /* what the EIOINTC was told last */
 };
 
-/* What may be wrong with the wire, so that the tests can be tested: each happens once in WIRE_EVERY times. */
+/* What may be wrong with the wire, so that the tests can be tested: each happens once in WIRE_EVERY times. tools/try-linux has the same in words. */
 enum wire { WIRE_WHOLE, WIRE_LOSES_ASSERT, WIRE_LOSES_DEASSERT, WIRE_NEXT_VECTOR, WIRE_ASSERTS_ONLY, WIRE_LOSES_RISE, WIRE_LOSES_FALL, WIRES };
 enum { WIRE_EVERY = 500 };
-extern const char *const wire_names[WIRES];
 
 void board_start(const struct host *host, enum wire wire, bool keeps); /* keeps: an EIOINTC that does not let a deassert take a bit back */
 void board_reset(void);                                                /* the power goes off and on; the lines stay */

@@ -39,6 +39,8 @@ static bool word(const char *word)
         soak_keeps = true;
     } else if (strcmp(word, "--told") == 0) {
         told = true;
+    } else if (strcmp(word, "--accesses") == 0) {
+        told = accesses_told = true;
     } else if (number(word, "--without=", &value)) {
         host = &host_duties;
         duties = DUTY_ALL & ~(unsigned)value;

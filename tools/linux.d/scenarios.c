@@ -7,6 +7,7 @@
 #include <stdio.h>
 
 typedef unsigned long long ull;
+_Bool accesses_told;
 
 static void boots(void)
 {
@@ -36,7 +37,9 @@ static void boots(void)
     run(100);
     all_called(1);
     at_rest();
-    board_print_accesses();
+    if (accesses_told) {
+        board_print_accesses();
+    }
 }
 
 static void levels(void)

@@ -10,6 +10,9 @@ struct scenario {
 extern const struct scenario scenarios[];
 extern const unsigned scenarios_count;
 
+/* Whether the accesses of the driver are printed. */
+extern _Bool accesses_told;
+
 /* The soak's own words. */
 extern uint64_t soak_steps, soak_seed;
 extern _Bool soak_keeps; /* the EIOINTC keeps bits, so handlers may be called for nothing */
