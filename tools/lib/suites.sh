@@ -46,7 +46,7 @@ debian_open() {
         echo "deb-src $mirror $suite main"
     done >"$folder/sources.list"
     debian_options "$folder"
-    apt-get "${debian_apt[@]}" update >"$folder/log" 2>&1 || { why="Debian's lists cannot be fetched: $(tail -n 1 "$folder/log")"; return 1; }
+    apt-get "${debian_apt[@]}" -o APT::Update::Error-Mode=any update >"$folder/log" 2>&1 || { why="Debian's lists cannot be fetched: $(tail -n 1 "$folder/log")"; return 1; }
 }
 
 debian_deb() {
