@@ -200,9 +200,9 @@
 
 /* The version of the header and of what it says about the library. */
 #define PCH_PIC_VERSION_MAJOR 0
-#define PCH_PIC_VERSION_MINOR 13
+#define PCH_PIC_VERSION_MINOR 14
 #define PCH_PIC_VERSION_PATCH 0
-#define PCH_PIC_VERSION "0.13.0"
+#define PCH_PIC_VERSION "0.14.0"
 
 #ifdef __cplusplus
 extern "C" {
