@@ -5,6 +5,7 @@
  *     day --csv FILE              the same for a program, with commas
  *     day --salvage FILE TO       makes the trace TO of the blocks of FILE that have no bad record, and prints which others there are
  * It ends with 0; with 1 where something cannot be read or written, a line is no record or a trace is refused; and with 2 where its words are wrong. */
+#define _POSIX_C_SOURCE 200809L
 #include "recorder.h"
 #include "sheet.h"
 
@@ -13,6 +14,7 @@
 #include <stdio.h>
 #include <stdlib.h>
 #include <string.h>
+#include <sys/stat.h>
 
 /* The longest line of a session has 25 bytes. A block of 64 records has 1 KiB, and 63 blocks take the longest day. */
 enum { LINE_LEN = 64, BLOCK = 64 };
@@ -146,9 +148,19 @@ static void saved(const char *file, int number)
     }
 }
 
+/* What is read is not to be lost by what is written: one file cannot be both. */
+static void apart(const char *name, const char *file)
+{
+    struct stat from, to;
+    if (stat(opened(name), &from) == 0 && stat(file, &to) == 0 && from.st_dev == to.st_dev && from.st_ino == to.st_ino && S_ISREG(to.st_mode)) {
+        fail(file, "it is what is read, and is not overwritten");
+    }
+}
+
 static void record(const char *file, const char *name)
 {
     static struct pic_recorder recorder;
+    apart(name, file);
     pic_recorder_begin(&recorder);
     record_lines(&recorder, name);
     int number = pic_recorder_save(&recorder, file);
@@ -297,6 +309,7 @@ static void salvage(const char *name, const char *file)
 {
     static struct pic_salvaged salvaged;
     struct pic_dropped dropped;
+    apart(name, file);
     size_t len = load(name);
     refused(name, pic_trace_salvage(trace, len, &salvaged));
     saved(file, pic_salvaged_save(&salvaged, file));

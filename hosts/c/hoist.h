@@ -10,7 +10,7 @@
 extern "C" {
 #endif
 
-/* The phase is kept beside the device: who saves the device saves this byte too, and sets it after a load. */
+/* The phase is kept beside the device: who saves the device saves this byte too, and sets it after a load. hoist_save and hoist_load do that. */
 struct hoist {
     struct pic pic;
     uint8_t phase; /* 0 in start-up, any other value after it */
@@ -27,6 +27,11 @@ int hoist_write(struct hoist *hoist, uint64_t address, uint64_t width, uint64_t 
 /* The guest's driver is ready. PCH_PIC_PROFILE while an input is in service, and the second time. */
 int hoist_end_startup(struct hoist *hoist);
 bool hoist_running(const struct hoist *hoist);
+
+/* The device and its phase to a file and back, as pic_save and pic_load do it for a device alone (hoist_file.c, which needs pic_file.c). A file without a
+ * phase is not loaded here, nor one with a phase by pic_load: PCH_PIC_LENGTH says so. hoist_init comes before a load, and pic_resume after it. */
+int hoist_save(const struct hoist *hoist, enum pic_form form, const char *path);
+int hoist_load(struct hoist *hoist, const char *path, uint64_t *place);
 
 #ifdef __cplusplus
 }

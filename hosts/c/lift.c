@@ -3,9 +3,11 @@
  *     lift    plays it */
 #include "hoist.h"
 
+#include <errno.h>
 #include <inttypes.h>
 #include <stdio.h>
 #include <stdlib.h>
+#include <string.h>
 
 enum { BASE = 0x10000000, SAMPLE = 21, FIRST_VECTOR = 0x40, SAMPLES = 3 };
 
@@ -122,5 +124,9 @@ int main(void)
         left += host.wires.on[vector];
     }
     printf("Vectors left on: %d. The next event gets number %u.\n", left, (unsigned)pic_next(&host.hoist.pic));
+    if (fflush(stdout) != 0 || ferror(stdout)) {
+        fprintf(stderr, "lift: standard output: %s\n", strerror(errno));
+        return 1;
+    }
     return 0;
 }

@@ -62,11 +62,13 @@ struct pic_event {
     int32_t number;
 };
 
-/* The wires of a device. All zero is a start: every line low, every vector off, nobody told.
+/* The wires of a device. All zero is a start: every line low, every vector off, nobody told. One of these goes with one device: it knows which lines were high and
+ * which inputs were edge-triggered.
  * route is called for each vector that is to be asserted or deasserted above. It must not call back into the same device. An assert may come
  * for a vector that is on: another input that carries it wants service. A deassert comes only when no input carries it any more. */
 struct pic_wires {
     uint64_t high;        /* in: bit n is set while a device of the host holds line n up */
+    uint64_t edges;       /* pic_settle's own: the inputs that EDGE had when it last looked */
     bool on[PIC_VECTORS]; /* out: what the controller above was told last */
     void (*route)(void *above, struct pic_event event);
     void *above;
@@ -111,14 +113,18 @@ bool pic_on(const struct pic *pic, uint8_t vector);
 int pic_hear(uint8_t board[PCH_PIC_BOARD_LEN], struct pic_event event);
 
 /* Brings the wires in line with the device, whatever the guest did: drains and passes on, counts afresh which vectors are on and passes on what no
- * event told, polls all 64 inputs, and raises each line again that is still high. Then every latched and unmasked input is in service. Call it after
- * each write and each reset. */
+ * event told, polls all 64 inputs, and raises each line again that is still high and no edge. Then every latched and unmasked input is in service. Call it after
+ * each write and each reset. Once it has been called a level is latched while its line is high, and an edge from its rise until the guest clears it; an edge
+ * that the guest makes a level follows its line from then on. */
 int pic_settle(struct pic *pic, struct pic_wires *wires);
 
-/* A device of the host moves a line, and what comes of it is passed on. */
+/* A device of the host moves a line, and what comes of it is passed on. Where the guest has the input in EDGE, only a rise from low to high is told to the device:
+ * neither a fall nor a line that is high already. So a pulse is two calls, high and low, and one interrupt. */
 int pic_line(struct pic *pic, struct pic_wires *wires, uint64_t input, bool high);
 
-/* After a load: the lines are as high says, and the rest follows. wires->on says what the controller above has on: nothing where it is new. */
+/* After a load: the lines are as high says, and the rest follows. wires->on says what the controller above has on: nothing where it is new. An edge that was
+ * latched stays so, whatever its line; one that is high makes no new edge. So give the lines as they were at the save, and then move by pic_line those that
+ * moved since: a rise in between is told then, and else lost. */
 int pic_resume(struct pic *pic, struct pic_wires *wires, uint64_t high);
 
 /* The device as an image of that form, and back from an image of any; its length says which. pic_image says how many bytes it wrote, 0 where pic
@@ -128,12 +134,20 @@ size_t pic_image(const struct pic *pic, enum pic_form form, uint8_t image[PCH_PI
 int pic_take(struct pic *pic, const uint8_t *image, size_t image_len, uint64_t *place);
 
 /* The same to a file and back (pic_file.c). The file has a magic, a length and a checksum, and is replaced whole or not at all. A file of any form
- * is loaded, as pic_take takes its image. */
+ * is loaded, as pic_take takes its image; what is no plain file is not: it is PIC_FILE, and nothing waits for a writer. */
 int pic_save(const struct pic *pic, enum pic_form form, const char *path);
 int pic_load(struct pic *pic, const char *path, uint64_t *place);
 
-/* Makes a file of these bytes, or replaces one, whole or not at all: they go to a file beside it, path.new, which takes its name only when it is on the
- * disk. What is there and no plain file is not replaced. 0 or PIC_FILE. */
+/* The same with some bytes that the host keeps beside the image, at most PIC_KEPT_MAX, in one file. Such a file and one without them are not taken for one
+ * another: a load that asks for another number of bytes than were saved hands back PCH_PIC_LENGTH or PCH_PIC_CONTENTS. One that fails leaves pic and kept
+ * as they were. */
+enum { PIC_KEPT_MAX = 16 };
+int pic_save_with(const struct pic *pic, enum pic_form form, const uint8_t *kept, size_t kept_len, const char *path);
+int pic_load_with(struct pic *pic, uint8_t *kept, size_t kept_len, const char *path, uint64_t *place);
+
+/* Makes a file of these bytes, or replaces one, whole or not at all: they go to a file of their own beside it, which takes
+ * its name only when it is on the disk. Several may save at once, and the last one wins. Owner and mode of the old file stay, a symbolic link is followed, and
+ * what is no plain file is not replaced. Who is killed on the way leaves a file .pch-pic-*.new there, which nobody needs. 0 or PIC_FILE. */
 int pic_replace(const char *path, const uint8_t *bytes, size_t len);
 
 const char *pic_why(int number);

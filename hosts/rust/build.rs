@@ -1,9 +1,9 @@
-//! With feature `archive`: links libpch_pic.a, from PCH_PIC_LIB_DIR or from the repository's target/archive. It says what to run where the library is
-//! missing, and refuses a target that the library is not for. Without the feature there is nothing to do.
+//! With feature `archive`: links libpch_pic.a, from PCH_PIC_LIB_DIR, from the repository's target/archive, or from where pkg-config says that it is installed.
+//! It says what to do where the library is missing, and refuses a target that the library is not for. Without the feature there is nothing to do.
 
 use std::env;
 use std::path::{Path, PathBuf};
-use std::process::exit;
+use std::process::{exit, Command};
 
 const LIBRARY: &str = "libpch_pic.a";
 
@@ -12,15 +12,55 @@ fn target(part: &str) -> String {
     env::var(format!("CARGO_CFG_TARGET_{part}")).unwrap_or_default()
 }
 
-/// Where the library is looked for.
-fn library_dir() -> PathBuf {
-    match env::var_os("PCH_PIC_LIB_DIR") {
-        Some(dir) => PathBuf::from(dir),
-        None => {
-            let here = env::var_os("CARGO_MANIFEST_DIR").expect("cargo tells where the crate stands");
-            Path::new(&here).join("../../target/archive")
-        }
+/// The folder that PCH_PIC_LIB_DIR names, whole, since the linker is run elsewhere; or what is wrong with it.
+fn named(dir: &Path) -> Result<PathBuf, String> {
+    let shown = format!("PCH_PIC_LIB_DIR names '{}'", dir.display());
+    let whole = dir.canonicalize().map_err(|why| format!("{shown}: {why}"))?;
+    if whole.is_file() {
+        return Err(format!("{shown}, which is a file: it has to name the folder of {LIBRARY}"));
     }
+    if !whole.join(LIBRARY).is_file() {
+        return Err(format!("{shown}, and there is no {LIBRARY} in it"));
+    }
+    Ok(whole)
+}
+
+/// What pkg-config answers; none where it is not there, or knows no such library.
+fn pkg_config(word: &str) -> Option<String> {
+    let asked = Command::new(env::var_os("PKG_CONFIG").unwrap_or("pkg-config".into())).args([word, "pch_pic"]).output().ok()?;
+    let text = String::from_utf8(asked.stdout).ok()?;
+    asked.status.success().then(|| text.trim_end().to_string())
+}
+
+/// The library that is installed. It has to be of this minor version: another may have other calls.
+fn installed() -> Result<PathBuf, String> {
+    let dir =
+        pkg_config("--variable=libdir").map(PathBuf::from).filter(|dir| dir.join(LIBRARY).is_file()).ok_or("pkg-config knows none")?;
+    let (version, own) = (pkg_config("--modversion").unwrap_or_default(), env::var("CARGO_PKG_VERSION").unwrap_or_default());
+    let minor = |version: &str| version.rsplit_once('.').map(|(minor, _)| minor.to_string());
+    if minor(&version) != minor(&own) {
+        return Err(format!("the one in {} is of version {version}, and this crate of {own}", dir.display()));
+    }
+    Ok(dir)
+}
+
+/// Where the library is, or the lines that say why it is nowhere.
+fn library_dir() -> Result<PathBuf, String> {
+    if let Some(dir) = env::var_os("PCH_PIC_LIB_DIR") {
+        return named(Path::new(&dir));
+    }
+    let here = env::var_os("CARGO_MANIFEST_DIR").unwrap_or_default();
+    let made = Path::new(&here).join("../../target/archive");
+    println!("cargo:rerun-if-changed={}", made.join(LIBRARY).display());
+    if let Some(whole) = made.canonicalize().ok().filter(|whole| whole.join(LIBRARY).is_file()) {
+        return Ok(whole);
+    }
+    installed().map_err(|why| {
+        let shown = made.display();
+        format!(
+            "{LIBRARY} is neither in {shown} nor installed ({why})\nTo prove and build it, run tools/archive at the top of the repository."
+        )
+    })
 }
 
 fn main() {
@@ -28,24 +68,22 @@ fn main() {
     if env::var_os("CARGO_FEATURE_ARCHIVE").is_none() {
         return;
     }
-    println!("cargo:rerun-if-env-changed=PCH_PIC_LIB_DIR");
+    for name in ["PCH_PIC_LIB_DIR", "PKG_CONFIG", "PKG_CONFIG_PATH"] {
+        println!("cargo:rerun-if-env-changed={name}");
+    }
     if [target("ARCH"), target("OS"), target("POINTER_WIDTH")] != ["x86_64", "linux", "64"] {
         let name = env::var("TARGET").unwrap_or_default();
         eprintln!("{LIBRARY} is for x86-64 Linux in user space; the target {name} is not served by feature archive");
         exit(1);
     }
-    let dir = library_dir();
-    println!("cargo:rerun-if-changed={}", dir.join(LIBRARY).display());
-    // The linker is run elsewhere, so the path must be whole.
-    match dir.canonicalize() {
-        Ok(whole) if whole.join(LIBRARY).is_file() => {
+    match library_dir() {
+        Ok(whole) => {
+            println!("cargo:rerun-if-changed={}", whole.join(LIBRARY).display());
             println!("cargo:rustc-link-search=native={}", whole.display());
             println!("cargo:rustc-link-lib=static=pch_pic");
         }
-        _ => {
-            eprintln!("{LIBRARY} is not in {}", dir.display());
-            eprintln!("To prove and build it, run tools/archive at the top of the repository.");
-            eprintln!("If it stands elsewhere, set PCH_PIC_LIB_DIR to its folder.");
+        Err(why) => {
+            eprintln!("{why}\nIf it stands elsewhere, set PCH_PIC_LIB_DIR to its folder.");
             exit(1);
         }
     }

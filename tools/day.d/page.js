@@ -122,7 +122,7 @@
     link.addEventListener("click", (event) => {
       const record = Number(link.dataset.record), index = lanes.findIndex((lane) => lane.dataset.input === link.dataset.input);
       event.preventDefault();
-      document.getElementById("n" + link.dataset.input).scrollIntoView({ block: "nearest" });
+      (document.getElementById("n" + link.dataset.input) || picture).scrollIntoView({ block: "nearest" });
       show(record);
       pinned = true;
       tell(record, index);

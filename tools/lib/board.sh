@@ -6,7 +6,7 @@
 #
 # The last ends with 1 where it cannot be had, and sets why to one line.
 
-board_lib=$(cd "$(dirname "${BASH_SOURCE[0]}")" && pwd) || exit 2
+board_lib=$(dirname "$(readlink -f "${BASH_SOURCE[0]}")") || exit 2
 . "$board_lib/target.sh"
 . "$board_lib/debian.sh"
 rustc=() made_by='' why=''

@@ -16,8 +16,8 @@
 triple=x86_64-unknown-linux-gnu
 cross=/usr/x86_64-linux-gnu
 run=() cc=() cxx=() rustc=() checks=() valgrind=() why=''
-target_lib=$(cd "$(dirname "${BASH_SOURCE[0]}")" && pwd) || exit 2
-target_root=$(cd "$target_lib/../.." && pwd) || exit 2
+target_lib=$(dirname "$(readlink -f "${BASH_SOURCE[0]}")") || exit 2
+target_root=$(dirname "$(dirname "$target_lib")") || exit 2
 
 on_x86() { [ "$(uname -m)" = x86_64 ]; }
 

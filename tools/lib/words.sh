@@ -3,11 +3,17 @@
 # Options are read before anything is built. A word that a tool does not know ends it with status 2 and one line; --help tells the usage; a reader that has
 # closed its pipe ends it quietly.
 
-# bad WHAT: what is wrong with the words.
-bad() {
-    echo "$tool: $1 (see --help)" >&2
-    exit 2
+# Where the caller looks for folders is not where the tools do.
+unset CDPATH
+
+# stop STATUS WHAT: one line of reason, whatever the names in it hold.
+stop() {
+    echo "$tool: ${2//[[:cntrl:]]/?}" >&2
+    exit "$1"
 }
+
+# bad WHAT: what is wrong with the words.
+bad() { stop 2 "$1 (see --help)"; }
 
 # wants OPTION WHAT COUNT: an option that has a value must have a word after it; COUNT is how many words there are, with the option.
 wants() { [ "$3" -gt 1 ] || bad "$1 wants $2"; }
@@ -24,6 +30,7 @@ no_words() {
 number() {
     case $2 in
     '' | *[!0-9]*) bad "$1 wants a number, and not '$2'" ;;
+    ???????????????????*) bad "$1 wants a number of 18 digits at most" ;;
     esac
 }
 
@@ -32,10 +39,7 @@ file() { [ -f "$2" ] && [ -r "$2" ] || bad "$1 wants a file that can be read, an
 
 # needs_rt: what rt builds, only rt builds.
 needs_rt() {
-    command -v rt >/dev/null 2>&1 || {
-        echo "$tool: Rattle's command rt is needed to make $1, and it is not on the PATH" >&2
-        exit 2
-    }
+    command -v rt >/dev/null 2>&1 || stop 2 "Rattle's command rt is needed to make $1, and it is not on the PATH"
 }
 
 # recorded_answers: the file of recorded answers, which is data of the crate that replays it.

@@ -1,5 +1,8 @@
 //! A hypervisor that knows the published module's functions, over this device: its own lock, its sink, and a guest that uses one input.
 
+#[macro_use]
+mod common;
+
 use pch_pic::axdevice::{AccessWidth, DeviceError, DeviceResult, GuestPhysAddr, Lock, LoongArchPchPic, PchPicOutputEvent};
 use pch_pic::{reg, PchPic};
 use std::sync::{Arc, Mutex, PoisonError};
@@ -26,7 +29,7 @@ type Pic = LoongArchPchPic<HostLock>;
 
 /// A real host moves the vector at the controller above here.
 fn publish(event: PchPicOutputEvent) {
-    println!("  {} vector {:#04x}", if event.asserted { "assert" } else { "deassert" }, event.vector);
+    say!("  {} vector {:#04x}", if event.asserted { "assert" } else { "deassert" }, event.vector);
 }
 
 /// A guest's write, and then all that it made.
@@ -47,20 +50,20 @@ fn line_moves(pic: &Arc<Pic>, level: bool) {
 
 fn main() -> DeviceResult {
     let pic = Arc::new(Pic::new(BASE.into(), 0x400));
-    println!("The guest gives input {INPUT} its vector and unmasks it.");
+    say!("The guest gives input {INPUT} its vector and unmasks it.");
     guest_writes(&pic, reg::VECTORS + INPUT as u64, AccessWidth::Byte, VECTOR)?;
     guest_writes(&pic, reg::MASK, AccessWidth::Dword, !(1 << INPUT))?;
-    println!("Its line goes up.");
+    say!("Its line goes up.");
     line_moves(&pic, true);
-    println!("The guest masks it, and unmasks it again.");
+    say!("The guest masks it, and unmasks it again.");
     guest_writes(&pic, reg::MASK, AccessWidth::Dword, !0)?;
     guest_writes(&pic, reg::MASK, AccessWidth::Dword, !(1 << INPUT))?;
-    println!("The line goes down.");
+    say!("The line goes down.");
     line_moves(&pic, false);
-    println!("An input that is not there: {:?}.", pic.pending_vector(64));
+    say!("An input that is not there: {:?}.", pic.pending_vector(64));
     if let Err(error @ DeviceError::OutOfRange { .. }) = guest_writes(&pic, reg::WINDOW_LEN, AccessWidth::Dword, 0) {
-        println!("A write behind the window: {error}.");
+        say!("A write behind the window: {error}.");
     }
-    println!("Dropped events: {}.", pic.drops());
+    say!("Dropped events: {}.", pic.drops());
     Ok(())
 }

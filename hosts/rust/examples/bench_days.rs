@@ -5,6 +5,8 @@
 //! The days in tests/days are made so, and are the same bytes each time. docs/BENCH-DAY.md goes on from there.
 
 use pch_pic::{reg, Error, Event, RecordError, Recorded, Width, Window, EVENTS};
+use std::ffi::OsString;
+use std::path::Path;
 use std::process::ExitCode;
 
 const WINDOW: Window = Window::at(0x1000_0000);
@@ -125,7 +127,8 @@ impl Bench {
         Ok(())
     }
 
-    /// As Linux's driver does it, four bytes at a time: vectors and routes, then everything masked and cleared, and then the hoist's own lines unmasked.
+    /// As a driver for the hoist profile does it, by aligned Dwords: vectors and routes four at a time, then everything masked and cleared, and then the hoist's own lines
+    /// unmasked. Linux's driver writes Bytes, and does not fit the profile.
     fn starts_up(&mut self) -> Result<(), Error> {
         let _ = (self.reads(reg::ID)?, self.reads(reg::ID + reg::HIGH)?);
         for first in (0..64).step_by(4) {
@@ -243,22 +246,22 @@ impl Bench {
     }
 }
 
-fn record(day: fn(&mut Bench) -> Result<(), Error>, file: &str) -> Result<(), Box<dyn std::error::Error>> {
+fn record(day: fn(&mut Bench) -> Result<(), Error>, file: &Path) -> Result<(), Box<dyn std::error::Error>> {
     let mut bench = Bench::new();
     day(&mut bench)?;
     if let Some(why) = bench.day.stopped().filter(|why| !matches!(why, RecordError::Full)) {
         return Err(why.to_string().into());
     }
-    bench.day.recorder().finish()?.save(file).map_err(|why| format!("{file}: {why}").into())
+    bench.day.recorder().finish()?.save(file).map_err(|why| format!("{}: {why}", file.display()).into())
 }
 
 fn main() -> ExitCode {
-    let words: Vec<String> = std::env::args().skip(1).collect();
-    let words: Vec<&str> = words.iter().map(String::as_str).collect();
-    let done = match words[..] {
-        ["quiet", file] => record(Bench::quiet, file),
-        ["rough", file] => record(Bench::rough, file),
-        ["long", file] => record(Bench::long, file),
+    let words: Vec<OsString> = std::env::args_os().skip(1).collect();
+    let text: Vec<Option<&str>> = words.iter().map(|word| word.to_str()).collect();
+    let done = match text[..] {
+        [Some("quiet"), _] => record(Bench::quiet, Path::new(&words[1])),
+        [Some("rough"), _] => record(Bench::rough, Path::new(&words[1])),
+        [Some("long"), _] => record(Bench::long, Path::new(&words[1])),
         _ => {
             eprintln!("usage: bench_days quiet|rough|long FILE");
             return ExitCode::from(2);

@@ -8,8 +8,11 @@
 use pch_pic::trace::LoadError;
 use pch_pic::{RecordError, Recorder, Salvaged, Trace, Window, EVENTS};
 use std::env;
+use std::ffi::OsString;
 use std::fmt::Display;
+use std::fs;
 use std::io::{self, Write};
+use std::path::Path;
 use std::process::ExitCode;
 
 /// A block of 64 records has 1 KiB, and 63 blocks take the longest day.
@@ -18,20 +21,29 @@ const BLOCK: usize = 64;
 /// A session has base 0 and 0x400 bytes.
 const WINDOW: Window = Window::at(0);
 
-fn path(name: &str) -> &str {
-    if name == "-" {
-        "/dev/stdin"
+fn path(name: &Path) -> &Path {
+    if name == Path::new("-") {
+        Path::new("/dev/stdin")
     } else {
         name
     }
 }
 
-fn told(name: &str) -> &str {
-    if name == "-" {
-        "standard input"
+fn told(name: &Path) -> String {
+    if name == Path::new("-") {
+        "standard input".into()
     } else {
-        name
+        name.display().to_string()
     }
+}
+
+/// What is read is not to be lost by what is written: one file cannot be both.
+fn apart(name: &Path, file: &Path) -> Result<(), String> {
+    let same = fs::canonicalize(path(name)).is_ok_and(|from| from.is_file() && fs::canonicalize(file).is_ok_and(|to| from == to));
+    if same {
+        return Err(format!("{}: it is what is read, and is not overwritten", file.display()));
+    }
+    Ok(())
 }
 
 /// A number of so many lower-case hex digits.
@@ -54,10 +66,14 @@ fn take(recorder: &mut Recorder, line: &str) -> Option<Result<(), RecordError>> 
     })
 }
 
+fn at(name: &Path, why: &dyn Display) -> String {
+    format!("{}: {why}", told(name))
+}
+
 /// The lines of a text; a last one needs no ending, unless it is empty.
-fn record(file: &str, name: &str) -> Result<(), String> {
-    let at = |name: &str, why: &dyn Display| format!("{}: {why}", told(name));
-    let text = std::fs::read(path(name)).map_err(|why| at(name, &why))?;
+fn record(file: &Path, name: &Path) -> Result<(), String> {
+    apart(name, file)?;
+    let text = fs::read(path(name)).map_err(|why| at(name, &why))?;
     let mut recorder = Recorder::new();
     let lines = text.split_inclusive(|byte| *byte == b'\n').map(|line| line.strip_suffix(b"\n").unwrap_or(line));
     for (number, line) in lines.enumerate() {
@@ -74,14 +90,14 @@ fn record(file: &str, name: &str) -> Result<(), String> {
 }
 
 /// What a trace is refused for.
-fn refused(name: &str, why: LoadError) -> String {
+fn refused(name: &Path, why: LoadError) -> String {
     match why {
         LoadError::Trace(why) => format!("{}: refused with {}: {why}", told(name), why.number()),
         other => format!("{}: {other}", told(name)),
     }
 }
 
-fn load(name: &str) -> Result<Trace, String> {
+fn load(name: &Path) -> Result<Trace, String> {
     Trace::load(path(name)).map_err(|why| refused(name, why))
 }
 
@@ -96,9 +112,10 @@ fn print(text: String) -> io::Result<()> {
 }
 
 /// The new trace is there before anything is printed, whoever reads that.
-fn salvage(name: &str, file: &str) -> Result<(), String> {
+fn salvage(name: &Path, file: &Path) -> Result<(), String> {
+    apart(name, file)?;
     let salvaged = Trace::salvage_file(path(name)).map_err(|why| refused(name, why))?;
-    salvaged.trace.save(file).map_err(|why| format!("{file}: {why}"))?;
+    salvaged.trace.save(file).map_err(|why| at(file, &why))?;
     written(print_salvaged(&salvaged))
 }
 
@@ -121,15 +138,17 @@ fn play(trace: &Trace) -> io::Result<()> {
 }
 
 fn main() -> ExitCode {
-    let words: Vec<String> = env::args().skip(1).collect();
-    let words: Vec<&str> = words.iter().map(String::as_str).collect();
-    let done = match words[..] {
-        ["--play", file] => load(file).and_then(|trace| written(play(&trace))),
-        ["--sheet", file] => load(file).and_then(|trace| written(print(format!("{}\n", trace.sheet())))),
-        ["--csv", file] => load(file).and_then(|trace| written(print(trace.sheet().csv()))),
-        ["--record", file] => record(file, "-"),
-        ["--record", file, lines] => record(file, lines),
-        ["--salvage", file, to] => salvage(file, to),
+    let words: Vec<OsString> = env::args_os().skip(1).collect();
+    // A file's name may be anything, and the first word is text.
+    let first = words.first().and_then(|word| word.to_str());
+    let files: Vec<&Path> = words.iter().skip(1).map(Path::new).collect();
+    let done = match (first, &files[..]) {
+        (Some("--play"), [file]) => load(file).and_then(|trace| written(play(&trace))),
+        (Some("--sheet"), [file]) => load(file).and_then(|trace| written(print(format!("{}\n", trace.sheet())))),
+        (Some("--csv"), [file]) => load(file).and_then(|trace| written(print(trace.sheet().csv()))),
+        (Some("--record"), [file]) => record(file, Path::new("-")),
+        (Some("--record"), [file, lines]) => record(file, lines),
+        (Some("--salvage"), [file, to]) => salvage(file, to),
         _ => {
             eprintln!("usage: day --play FILE | day --sheet FILE | day --csv FILE | day --record FILE [LINES] | day --salvage FILE TO");
             return ExitCode::from(2);

@@ -1,5 +1,8 @@
 //! A lift of a hoist guest under the hoist profile, told in plain words; hosts/c/lift.c tells the same.
 
+#[macro_use]
+mod common;
+
 use pch_pic::{reg, Change, Error, Hoist, Width, Window, Wires};
 
 const WINDOW: Window = Window::at(0x1000_0000);
@@ -14,7 +17,7 @@ struct Host {
 
 /// A real host asserts or deasserts the vector at its CPUs here.
 fn route(change: Change) {
-    println!("  {change}");
+    say!("  {change}");
 }
 
 impl Host {
@@ -31,14 +34,14 @@ impl Host {
     /// What the profile refuses changes nothing, so the host has nothing to settle: it tells the guest, or stops it.
     fn tries(&mut self, what: &str, offset: u64, width: Width, value: u64) {
         if let Err(error) = self.hoist.write(WINDOW, WINDOW.base + offset, width, value) {
-            println!("The guest tries {what}: refused with {}, {error}.", error.number());
+            say!("The guest tries {what}: refused with {}, {error}.", error.number());
         }
     }
 
     fn ends_startup(&mut self) {
         match self.hoist.end_startup() {
-            Ok(()) => println!("The guest says that start-up is over."),
-            Err(error) => println!("The guest says that start-up is over: refused with {}, {error}.", error.number()),
+            Ok(()) => say!("The guest says that start-up is over."),
+            Err(error) => say!("The guest says that start-up is over: refused with {}, {error}.", error.number()),
         }
     }
 
@@ -48,7 +51,7 @@ impl Host {
 
     /// Four vectors a write, low input first, then everything masked and cleared.
     fn start_up(&mut self) -> Result<(), Error> {
-        println!("The guest starts up: vectors and routes four at a time, all inputs masked and cleared.");
+        say!("The guest starts up: vectors and routes four at a time, all inputs masked and cleared.");
         for input in (0..64).step_by(4) {
             let first = FIRST_VECTOR + input;
             self.guest_writes(reg::VECTORS + input, first | (first + 1) << 8 | (first + 2) << 16 | (first + 3) << 24)?;
@@ -64,22 +67,22 @@ impl Host {
 
     /// A sample that comes too early: its input is in service, and so start-up cannot end, nor can its vector change.
     fn early_sample(&mut self) -> Result<(), Error> {
-        println!("It unmasks input {SAMPLE}, and a load sample is ready at once: line {SAMPLE} goes up.");
+        say!("It unmasks input {SAMPLE}, and a load sample is ready at once: line {SAMPLE} goes up.");
         self.guest_writes(reg::MASK, 0xffff_ffff & !(1 << SAMPLE))?;
         self.line(true)?;
         self.ends_startup();
         self.tries("to change its vector", reg::VECTORS + SAMPLE - SAMPLE % 4, Width::Dword, 0);
         self.tries("to write a Byte", reg::EDGE, Width::Byte, 0);
-        println!("It takes the sample; the line goes down.");
+        say!("It takes the sample; the line goes down.");
         self.line(false)
     }
 
     fn lift(&mut self) -> Result<(), Error> {
-        println!("The hook goes up.");
+        say!("The hook goes up.");
         for sample in 1..=3 {
-            println!("Load sample {sample}: line {SAMPLE} goes up.");
+            say!("Load sample {sample}: line {SAMPLE} goes up.");
             self.line(true)?;
-            println!("The guest reads ISR {:#010x} and takes it; the line goes down.", self.guest_reads(reg::ISR)?);
+            say!("The guest reads ISR {:#010x} and takes it; the line goes down.", self.guest_reads(reg::ISR)?);
             self.line(false)?;
         }
         Ok(())
@@ -96,6 +99,6 @@ fn main() -> Result<(), Error> {
     host.tries("to write ISR", reg::ISR, Width::Dword, 0);
     host.lift()?;
     let (pic, _) = host.hoist.into_parts();
-    println!("Vectors left on: {}. The next event gets number {}.", host.wires.vectors_on().count(), pic.next_number());
+    say!("Vectors left on: {}. The next event gets number {}.", host.wires.vectors_on().count(), pic.next_number());
     Ok(())
 }

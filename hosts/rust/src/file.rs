@@ -1,7 +1,8 @@
 //! A device in a file, which is replaced whole or not at all.
 //!
 //! A file has 8 bytes of magic, the image's length (4 bytes), the image, and a checksum of all before it (4 bytes); numbers have the
-//! little end first. The checksum is the usual CRC-32, as in gzip. `hosts/c/pic_file.c` writes and reads the same files. A file of any form is
+//! little end first. What is kept with the device stands behind the image and counts in the length: of a [`Hoist`] that is its phase, one byte.
+//! The checksum is the usual CRC-32, as in gzip. `hosts/c/pic_file.c` writes and reads the same files. A file of any form is
 //! loaded, those of older hosts too; hosts of before version 0.8.0 do not load [`Form::Numbered`], and those of before 0.6.0 load form 1 alone.
 //!
 //! ```
@@ -18,12 +19,11 @@
 //! # Ok::<(), Box<dyn std::error::Error>>(())
 //! ```
 
-use crate::{contents, Error, Form, PchPic};
+use crate::replace::{open_plain, replace};
+use crate::{contents, Device, Error, Form, Hoist, PchPic, Phase};
 use core::fmt;
-use std::ffi::OsString;
-use std::fs::{self, File};
-use std::io::{self, Read, Write};
-use std::path::{Path, PathBuf};
+use std::io::{self, Read};
+use std::path::Path;
 
 const MAGIC: &[u8; 8] = b"PCH-PIC\n";
 const HEAD_LEN: usize = MAGIC.len() + 4;
@@ -96,6 +96,13 @@ fn sealed(image: &[u8]) -> Vec<u8> {
     bytes
 }
 
+/// A file's bytes. More is asked for than a device has, so that a longer file is seen.
+fn read(path: &Path) -> io::Result<Vec<u8>> {
+    let mut bytes = Vec::new();
+    open_plain(path)?.take(MOST).read_to_end(&mut bytes)?;
+    Ok(bytes)
+}
+
 /// The image in a file's bytes.
 fn opened(bytes: &[u8]) -> Result<&[u8], LoadError> {
     let rest = bytes.strip_prefix(MAGIC).ok_or(LoadError::Foreign)?;
@@ -110,50 +117,10 @@ fn opened(bytes: &[u8]) -> Result<&[u8], LoadError> {
     Ok(image)
 }
 
-fn beside(path: &Path) -> PathBuf {
-    let mut name = OsString::from(path);
-    name.push(".new");
-    name.into()
-}
-
-/// A new file with these bytes, on the disk. What is left there of a save that did not end is taken away first: it may be anything.
-fn write_and_sync(path: &Path, bytes: &[u8]) -> io::Result<()> {
-    let _ = fs::remove_file(path);
-    let mut file = File::create_new(path)?;
-    file.write_all(bytes)?;
-    file.sync_all()
-}
-
-/// The new name is on the disk only when the folder is. Some file systems cannot sync a folder, and say so.
-#[cfg(unix)]
-fn sync_folder(path: &Path) -> io::Result<()> {
-    let folder = path.parent().filter(|folder| !folder.as_os_str().is_empty()).unwrap_or(Path::new("."));
-    match File::open(folder)?.sync_all() {
-        Err(why) if why.kind() == io::ErrorKind::InvalidInput => Ok(()),
-        synced => synced,
-    }
-}
-
-/// Elsewhere a folder cannot be opened, and the system alone says when the new name is on the disk.
-#[cfg(not(unix))]
-fn sync_folder(_: &Path) -> io::Result<()> {
-    Ok(())
-}
-
-/// The bytes go to a file beside the old one, which takes its name only when it is whole and on the disk.
-pub(crate) fn replace(path: &Path, bytes: &[u8]) -> io::Result<()> {
-    if fs::metadata(path).is_ok_and(|old| !old.is_file()) {
-        return Err(io::Error::new(io::ErrorKind::InvalidInput, "what is there is no plain file"));
-    }
-    let beside = beside(path);
-    let written = write_and_sync(&beside, bytes).and_then(|()| fs::rename(&beside, path));
-    if written.is_err() {
-        let _ = fs::remove_file(&beside);
-    }
-    written.and_then(|()| sync_folder(path))
-}
-
 /// Saves a device in this form. The file is replaced whole or not at all.
+///
+/// Several may save one file at once: the last one wins. The old file's mode and, where the system allows it, its owner stay; a symbolic link is followed.
+/// Who is killed on the way leaves a file `.pch-pic-*.new` beside it, which nobody needs.
 ///
 /// # Errors
 ///
@@ -166,12 +133,45 @@ pub fn save(pic: &PchPic, form: Form, path: impl AsRef<Path>) -> io::Result<()> 
 ///
 /// # Errors
 ///
-/// A [`LoadError`], where the file cannot be read, is damaged, or holds an image that the library refuses.
+/// A [`LoadError`], where it is no plain file or cannot be read, is damaged, or holds an image that the library refuses.
 pub fn load(path: impl AsRef<Path>) -> Result<PchPic, LoadError> {
-    let mut bytes = Vec::new();
-    // More is asked for than a device has, so that a longer file is seen.
-    File::open(path)?.take(MOST).read_to_end(&mut bytes)?;
-    Ok(PchPic::try_from(opened(&bytes)?)?)
+    Ok(PchPic::try_from(opened(&read(path.as_ref())?)?)?)
+}
+
+/// Saves a hoist's device in this form, with its phase, as [`save`] does.
+///
+/// ```
+/// use pch_pic::{file, Form, Hoist, Phase};
+///
+/// # let folder = std::env::temp_dir().join(format!("pch-pic-hoist-{}", std::process::id()));
+/// # std::fs::create_dir_all(&folder)?;
+/// # let path = folder.join("hoist");
+/// let mut hoist = Hoist::new();
+/// hoist.end_startup()?;
+/// file::save_hoist(&hoist, Form::Numbered, &path)?;
+/// assert_eq!(file::load_hoist(&path)?.phase(), Phase::Running);
+/// # std::fs::remove_dir_all(&folder)?;
+/// # Ok::<(), Box<dyn std::error::Error>>(())
+/// ```
+///
+/// # Errors
+///
+/// As [`save`].
+pub fn save_hoist(hoist: &Hoist, form: Form, path: impl AsRef<Path>) -> io::Result<()> {
+    let phase = u8::from(hoist.phase() == Phase::Running);
+    replace(path.as_ref(), &sealed(&[&hoist.pic().save(form)[..], &[phase]].concat()))
+}
+
+/// Loads a hoist's device with its phase. A file that [`save`] made has none, and is refused; so does [`load`] refuse a hoist's.
+///
+/// # Errors
+///
+/// As [`load`]; [`Error::Length`] where there is no phase in it.
+pub fn load_hoist(path: impl AsRef<Path>) -> Result<Hoist, LoadError> {
+    let bytes = read(path.as_ref())?;
+    let (phase, image) = opened(&bytes)?.split_last().ok_or(Error::Length)?;
+    let phase = if *phase == 0 { Phase::StartUp } else { Phase::Running };
+    Ok(Hoist::from_parts(PchPic::try_from(image)?, phase))
 }
 
 #[cfg(test)]

@@ -2,7 +2,7 @@
 
 use crate::trace::{contents_len, contents_of};
 use crate::{
-    file, Device, Error, Event, PchPic, Record, Returned, Trace, Width, Window, BLOCKS_MAX, EVENTS, PLAYED, RECORDS_MAX, RECORD_LEN,
+    replace, Device, Error, Event, PchPic, Record, Returned, Trace, Width, Window, BLOCKS_MAX, EVENTS, PLAYED, RECORDS_MAX, RECORD_LEN,
     TRACE_MAX,
 };
 use core::fmt;
@@ -152,7 +152,7 @@ impl Recorder {
         let recorder = Recorder::planned(plan)?;
         let mut bytes = contents_of(plan);
         bytes.resize(bytes.len() + RECORD_LEN * recorder.most(), 0);
-        file::replace(path.as_ref(), &bytes)?;
+        replace::replace(path.as_ref(), &bytes)?;
         let file = OpenOptions::new().write(true).open(path)?;
         Ok(Recorder { file: Some(file), ..recorder })
     }

@@ -20,7 +20,7 @@
 //! ```
 
 use crate::{
-    contents, event, file, outcome, Error, Event, Form, Image, PchPic, DRAIN_ROOM, DROPPED_LEN, DROPPED_MAX, EVENT_LEN, RECORD_LEN,
+    contents, event, outcome, replace, Error, Event, Form, Image, PchPic, DRAIN_ROOM, DROPPED_LEN, DROPPED_MAX, EVENT_LEN, RECORD_LEN,
     TRACE_MAX,
 };
 use core::fmt;
@@ -278,7 +278,7 @@ impl Trace {
     ///
     /// Those of the file system; and what is there and no plain file is not replaced.
     pub fn save(&self, path: impl AsRef<Path>) -> io::Result<()> {
-        file::replace(path.as_ref(), &self.bytes)
+        replace::replace(path.as_ref(), &self.bytes)
     }
 
     /// The bytes.

@@ -2,9 +2,9 @@
 #![cfg(feature = "std")]
 
 use pch_pic::file::{self, LoadError};
-use pch_pic::{reg, Error, Form, PchPic, Width, Window};
+use pch_pic::{reg, Error, Form, Hoist, PchPic, Phase, Width, Window};
 use std::fs;
-use std::path::PathBuf;
+use std::path::{Path, PathBuf};
 
 /// A folder of its own, gone at the end.
 struct Folder(PathBuf);
@@ -80,13 +80,121 @@ fn what_is_no_plain_file_is_not_replaced() {
     assert!(file::save(&PchPic::new(), Form::Two, folder.0.join("nothing/device")).is_err());
 }
 
+/// The vector of input 0 says who saved it.
+fn signed(who: u8) -> PchPic {
+    let mut pic = PchPic::new();
+    pic.write(Window::at(0), reg::VECTORS, Width::Byte, who.into()).unwrap();
+    pic
+}
+
+fn saver(path: &Path) -> Option<u8> {
+    file::load(path).ok()?.vector(0)
+}
+
 #[test]
-fn what_an_earlier_save_left_is_no_hindrance() {
-    let folder = Folder::new("left");
+fn what_stands_beside_it_stays() {
+    let folder = Folder::new("beside");
+    let (path, beside) = (folder.0.join("device"), folder.0.join("device.new"));
+    fs::write(&beside, "mine").unwrap();
+    file::save(&signed(1), Form::One, &path).unwrap();
+    assert_eq!((saver(&path), fs::read(&beside).unwrap()), (Some(1), b"mine".to_vec()));
+    fs::remove_file(&beside).unwrap();
+    fs::create_dir(&beside).unwrap();
+    file::save(&signed(2), Form::One, &path).unwrap();
+    assert_eq!(saver(&path), Some(2));
+    fs::remove_dir(&beside).unwrap();
+    let long = folder.0.join("n".repeat(255));
+    file::save(&signed(3), Form::One, &long).unwrap();
+    assert_eq!(saver(&long), Some(3));
+    fs::remove_file(long).unwrap();
+    assert_eq!(folder.names(), ["device"]);
+}
+
+#[test]
+fn several_save_one_file_at_once() {
+    let folder = Folder::new("several");
     let path = folder.0.join("device");
-    fs::write(folder.0.join("kept"), "kept").unwrap();
-    std::os::unix::fs::symlink(folder.0.join("kept"), folder.0.join("device.new")).unwrap();
-    file::save(&PchPic::new(), Form::One, &path).unwrap();
-    assert_eq!(file::load(&path).unwrap(), PchPic::new());
-    assert_eq!(fs::read(folder.0.join("kept")).unwrap(), b"kept");
+    file::save(&signed(0), Form::Numbered, &path).unwrap();
+    std::thread::scope(|scope| {
+        for who in 1..=4 {
+            let path = &path;
+            scope.spawn(move || (0..25).for_each(|_| file::save(&signed(who), Form::Numbered, path).unwrap()));
+        }
+        for _ in 0..100 {
+            assert!(saver(&path).is_some_and(|who| who <= 4));
+        }
+    });
+    assert_ne!(saver(&path), Some(0));
+    assert_eq!(folder.names(), ["device"]);
+}
+
+#[test]
+fn a_hoist_keeps_its_phase() {
+    let folder = Folder::new("hoist");
+    let path = folder.0.join("device");
+    let mut hoist = Hoist::new();
+    hoist.write(Window::at(0), reg::VECTORS, Width::Dword, 0x4342_4140).unwrap();
+    for _ in 0..2 {
+        for form in [Form::One, Form::Two, Form::Numbered] {
+            file::save_hoist(&hoist, form, &path).unwrap();
+            assert_eq!(file::load_hoist(&path).unwrap(), hoist);
+            assert!(matches!(file::load(&path), Err(LoadError::Image(Error::Length))));
+        }
+        let _ = hoist.end_startup();
+    }
+    assert_eq!(file::load_hoist(&path).unwrap().phase(), Phase::Running);
+    file::save(&signed(1), Form::Two, &path).unwrap();
+    assert!(matches!(file::load_hoist(&path), Err(LoadError::Image(Error::Length))));
+    // An image of no byte at all has no phase either.
+    fs::write(&path, b"PCH-PIC\n\0\0\0\0\x22\x62\x1e\xb1").unwrap();
+    assert!(matches!(file::load_hoist(&path), Err(LoadError::Image(Error::Length))));
+}
+
+/// What files are on Unix.
+#[cfg(unix)]
+mod unix {
+    use super::*;
+    use std::os::unix::fs::{symlink, MetadataExt, PermissionsExt};
+
+    #[test]
+    fn the_mode_stays() {
+        let folder = Folder::new("mode");
+        let path = folder.0.join("device");
+        file::save(&signed(1), Form::One, &path).unwrap();
+        for mode in [0o604, 0o400] {
+            fs::set_permissions(&path, fs::Permissions::from_mode(mode)).unwrap();
+            file::save(&signed(2), Form::One, &path).unwrap();
+            assert_eq!((saver(&path), fs::metadata(&path).unwrap().mode() & 0o7777), (Some(2), mode));
+        }
+    }
+
+    #[test]
+    fn a_link_is_followed() {
+        let folder = Folder::new("links");
+        let (link, second, apart) = (folder.0.join("link"), folder.0.join("second"), folder.0.join("apart"));
+        fs::create_dir(&apart).unwrap();
+        symlink("apart/device", &link).unwrap();
+        symlink(&link, &second).unwrap();
+        for (who, path) in [(1, &link), (2, &second), (3, &link)] {
+            file::save(&signed(who), Form::Two, path).unwrap();
+            assert_eq!(saver(&apart.join("device")), Some(who));
+            assert!(fs::symlink_metadata(path).unwrap().is_symlink());
+        }
+        let round = folder.0.join("round");
+        symlink("round", &round).unwrap();
+        assert!(file::save(&signed(4), Form::Two, &round).is_err());
+        assert_eq!(fs::read_dir(&apart).unwrap().count(), 1);
+    }
+
+    #[test]
+    fn what_is_no_plain_file_is_not_waited_for() {
+        let folder = Folder::new("pipe");
+        let path = folder.0.join("pipe");
+        let made = std::process::Command::new("mkfifo").arg(&path).status();
+        let devices = ["/dev/null", "/dev/zero"].map(PathBuf::from);
+        for path in devices.iter().chain(made.is_ok_and(|status| status.success()).then_some(&path)).chain([&folder.0]) {
+            assert!(matches!(file::load(path), Err(LoadError::Io(_))));
+            assert!(file::save(&signed(1), Form::Two, path).is_err());
+        }
+    }
 }

@@ -1,6 +1,6 @@
 -- `recount`: after each turn, what was counted so far and what is left come to all.
-use Rattle.basics.proofs.Prelude.{_<_, _≤_, lt-of-le-of-lt, arith, _∙_, trailingZeros, trailing-le, length, needs, on, inputs, first-below}
-use Rattle.pch_pic_board.proofs.counts.Counting.{Counting, counting-starts, counting-next, counting-done, zeroed-length, zeroed-past, one-fits, one-less}
+use Rattle.basics.proofs.Prelude.{_<_, _≤_, lt-of-le-of-lt, arith, _∙_, trailingZeros, trailing-le, length, needs, on, inputs, first-below, one-less}
+use Rattle.pch_pic_board.proofs.counts.Counting.{Counting, counting-starts, counting-next, counting-done, zeroed-length, zeroed-past, one-fits}
 use Rattle.pch_pic_board.proofs.counts.recount.Statement.{statement}
 use Rattle.pch_pic_board.proofs.counts.recount.Tie as tie
 
