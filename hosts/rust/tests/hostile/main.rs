@@ -9,5 +9,8 @@ mod proved;
 mod raw;
 mod typed;
 
-/// How often each call is made.
-pub const ROUNDS: usize = if cfg!(debug_assertions) { 2_000 } else { 8_000 };
+/// How often each call is made. PCH_PIC_ROUNDS asks for another number: 440,000 are ten million calls.
+pub fn rounds() -> usize {
+    let usual = if cfg!(debug_assertions) { 2_000 } else { 8_000 };
+    std::env::var("PCH_PIC_ROUNDS").ok().and_then(|asked| asked.parse().ok()).unwrap_or(usual)
+}

@@ -1,7 +1,7 @@
 //! The 24 calls as they are, each made twice: by what does the work in this build, and by the plain copy of the proved text. Both leave the same bytes.
 
 use crate::dice::{Dice, FORMS};
-use crate::{proved, ROUNDS};
+use crate::{proved, rounds};
 use pch_pic::calls::{self, pch_pic_difference, pch_pic_read, pch_pic_reset, pch_pic_write};
 use pch_pic::{SHEET_LEN, VECTORS};
 
@@ -164,7 +164,7 @@ impl Bench {
 #[test]
 fn any_bytes_at_any_call() {
     let mut bench = Bench::new(1);
-    for _ in 0..ROUNDS {
+    for _ in 0..rounds() {
         bench.plain_calls();
         bench.board_calls();
         bench.hoist_calls();
@@ -173,7 +173,7 @@ fn any_bytes_at_any_call() {
     for number in NUMBERS {
         assert!(bench.told[usize::from(number)] > 0, "no call handed back {number}: {:?}", bench.told);
     }
-    assert!(bench.told[0] > 8 * ROUNDS, "{:?}", bench.told);
+    assert!(bench.told[0] > 8 * rounds(), "{:?}", bench.told);
 }
 
 /// A window may be anywhere, and of any size: what is far behind the registers reads 0 and takes nothing, and no access at the end of the addresses goes

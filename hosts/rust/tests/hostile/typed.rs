@@ -1,7 +1,7 @@
 //! The types of the crate.
 
 use crate::dice::{Dice, FORMS};
-use crate::ROUNDS;
+use crate::rounds;
 use pch_pic::axdevice::LoongArchPchPic;
 use pch_pic::{difference, Board, Change, Device, Error, Event, Form, Hoist, Image, PchPic, Phase, Returned, Width, Window, Wires, EVENTS};
 use std::cell::RefCell;
@@ -62,7 +62,7 @@ fn told(dice: &mut Dice, pic: &PchPic) {
 #[test]
 fn any_bytes_as_a_device() {
     let (mut dice, mut good, mut loaded) = (Dice(2), PchPic::new(), 0);
-    for _ in 0..ROUNDS {
+    for _ in 0..rounds() {
         let (form, as_form) = (form(&mut dice), form(&mut dice));
         let saved = good.save(form);
         let bytes = match dice.below(4) {
@@ -85,13 +85,13 @@ fn any_bytes_as_a_device() {
             good.reset();
         }
     }
-    assert!(loaded > ROUNDS / 4, "{loaded}");
+    assert!(loaded > rounds() / 4, "{loaded}");
 }
 
 #[test]
 fn any_guest_of_a_hoist() {
     let (mut dice, mut hoist, mut done) = (Dice(3), Hoist::new(), 0);
-    for _ in 0..ROUNDS {
+    for _ in 0..rounds() {
         let ((window, address), width, value) = (access(&mut dice), width(&mut dice), dice.any());
         let mut data = dice.area(4);
         let (mut pic, phase) = hoist.into_parts();
@@ -110,14 +110,14 @@ fn any_guest_of_a_hoist() {
     }
     hoist.reset();
     assert_eq!((hoist.phase(), hoist.pic()), (Phase::StartUp, &PchPic::new()));
-    assert!(done > ROUNDS / 10, "{done}");
+    assert!(done > rounds() / 10, "{done}");
 }
 
 /// The published module's functions, in windows that may be anywhere and of any size.
 #[test]
 fn any_guest_of_the_published_face() {
     let (mut dice, mut done, mut events) = (Dice(9), 0, 0);
-    for _ in 0..ROUNDS / 100 {
+    for _ in 0..rounds() / 100 {
         let (base, size) = (dice.number() as usize, dice.of(&[0x400, 0x400, 0, 1, usize::MAX]));
         let make = dice.of(&[LoongArchPchPic::<RefCell<_>>::new, LoongArchPchPic::wholly_inside]);
         let face = make(base.into(), size);
@@ -134,7 +134,7 @@ fn any_guest_of_the_published_face() {
             told(&mut dice, &face.snapshot());
         }
     }
-    assert!(done > ROUNDS / 10 && events > 0, "{done} {events}");
+    assert!(done > rounds() / 10 && events > 0, "{done} {events}");
 }
 
 /// A device that does not keep to what it says: more events than there is room for, and inputs that are always refused.
@@ -163,7 +163,7 @@ impl Device for Liar {
 fn any_wires() {
     let (mut dice, mut pic, mut wires) = (Dice(4), PchPic::new(), Wires::new());
     let mut above = [false; 256];
-    for _ in 0..ROUNDS / 4 {
+    for _ in 0..rounds() / 4 {
         moved(&mut dice, &mut pic);
         let mut route = |change: Change| above[usize::from(change.vector)] = change.asserted;
         match dice.below(3) {
@@ -190,7 +190,7 @@ fn any_wires() {
 #[test]
 fn any_event() {
     let (mut dice, mut board) = (Dice(5), Board::new());
-    for _ in 0..ROUNDS {
+    for _ in 0..rounds() {
         let mut events: Vec<Event> = (0..dice.below(40))
             .map(|_| Event { vector: dice.number() as u8, asserted: dice.once_in(2), number: dice.number() as u16 })
             .collect();
@@ -237,7 +237,7 @@ mod days {
     #[test]
     fn any_bytes_as_a_trace() {
         let (mut dice, mut good, mut salvaged) = (Dice(6), 0, 0);
-        for _ in 0..ROUNDS / 4 {
+        for _ in 0..rounds() / 4 {
             let bytes = if dice.once_in(10) { dice.area(100) } else { dice.trace() };
             if let Ok(trace) = Trace::try_from(bytes.clone()) {
                 went_through(&mut dice, &trace);
@@ -248,7 +248,7 @@ mod days {
                 salvaged += usize::from(!left.dropped.is_empty());
             }
         }
-        assert!(good > ROUNDS / 20 && salvaged > ROUNDS / 40, "{good} {salvaged}");
+        assert!(good > rounds() / 20 && salvaged > rounds() / 40, "{good} {salvaged}");
     }
 
     #[test]
@@ -271,7 +271,7 @@ mod days {
     #[test]
     fn any_day_is_recorded_or_refused() {
         let mut dice = Dice(8);
-        for _ in 0..ROUNDS / 100 {
+        for _ in 0..rounds() / 100 {
             let plan: Vec<u16> = (0..dice.below(70)).map(|_| dice.number() as u16 >> dice.below(17).min(15)).collect();
             let recorder = Recorder::planned(&plan).unwrap_or_default();
             let mut day = Recorded::with_recorder(recorder).unwrap();
