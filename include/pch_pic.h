@@ -118,6 +118,15 @@
  * deasserts and the inputs in service that carry it, dropped events counted; an input that is latched and unmasked, and then not lowered, cleared or
  * masked, is in service from the first poll or raise on; and no vector byte changes while its input is in service, nor any once start-up has ended.
  *
+ * LINUX AND THE PROFILE. No version of Linux's driver (irq-loongson-pch-pic.c) fits it: Linux gets the plain calls. Of 6.1, 6.12 and 7.2 these are refused
+ * with 14:
+ *     - the Byte writes of all routes at start-up, and in 6.12 and 7.2 after a suspend too;
+ *     - the Byte writes of vectors: in 6.1 of all at start-up; in 6.12 and 7.2 of one whenever a device's driver asks for an input, so also once start-up has
+ *       ended, and of all after a suspend. For a vector that has no input yet these write a Byte at 0x2ff, where no register stands;
+ *     - the Qword read of ID in 6.1 and 6.12; 7.2 reads a Dword.
+ * All else that they do passes. A driver for the profile reads ID's high half by a Dword, and sets all vectors and routes, four at a time, before it unmasks
+ * anything. Then it ends start-up, and from there on it writes MASK, CLEAR, EDGE and POL by Dwords, as Linux's does.
+ *
  * THE SHEET. pch_pic_sheet counts a trace's day: 65 rows of ten numbers, those of inputs 0 to 63 and the total, each a u32 with its little end first, 2600
  * bytes in all. Refused records count as none, and keep their number. Columns 0 to 9:
  *
@@ -146,7 +155,12 @@
  *     - After each write of the guest, drain, and pass the events on in their order. Then poll all 64 inputs, in any order, and pass on what they
  *       return: an unmask announces only the lowest input that waits, and this sweep wakes the others. Once each input is polled, with no MASK, CLEAR
  *       or ISR written, no line lowered, no reset and no other image lent in between, every latched and unmasked input is in service, and each was
- *       asserted at most once. And raise each line again that is still high: a CLEAR takes the latch of a line though it is high.
+ *       asserted at most once. And raise each level again whose line is still high: a CLEAR takes the latch of a line though it is high.
+ *     - Make edges of the inputs that the guest has in EDGE: the device stores that register and knows levels alone. Raise such an input once, when its line goes
+ *       from low to high. Do not lower it when the line falls, and do not raise it again while the line stays high. So it is latched from its rise until the
+ *       guest's CLEAR; a second rise before that adds nothing. After a write, an input that has left EDGE is a level again: lower it where it is latched and its
+ *       line is low. Treated as a level, a pulse is taken back before the guest looks, and a line that is held comes again after each CLEAR. POL is only stored:
+ *       to raise is to make active, whichever way the wire turns.
  *     - Hold a vector on while any input in service carries it. Inputs may share a vector: then it is asserted once for each of them, and is off
  *       only after as many deasserts.
  *     - Do not trust that each deassert had an assert. Where the guest changes the vector byte of an input in service, the deassert names the
@@ -156,9 +170,10 @@
  *       each call. (A read of register 0x3a0 leaves out masked inputs, and those can be in service too, after a write of ISR or a load.) What it says
  *       must be passed on when a write's value is not 0, since a dropped event is never told, and after a write to ISR or to a vector byte. It may be
  *       passed on at any time when no event waits, so the simplest host does it after each call.
- *     - After a load, rebuild what is not in the image. Lower each input that is latched (IRR) while its line is low now, drain, count afresh
- *       against what the controller above has on, poll all 64 inputs, and raise each line that is high. The same goes for a reset while the guest
- *       runs.
+ *     - After a load, rebuild what is not in the image. Lower each level that is latched (IRR) while its line is low now, drain, count afresh
+ *       against what the controller above has on, poll all 64 inputs, and raise each level whose line is high. The same goes for a reset while the guest
+ *       runs. An edge that is latched stays so, whatever its line. The image does not say which lines were high: keep them beside it, or an edge that rose
+ *       between save and load is lost.
  *     - Pass the events of one call on before the next call is made on that image: who holds the image's lock keeps it until then.
  *
  * THE HOST'S DUTIES. No call can test these:
@@ -185,9 +200,9 @@
 
 /* The version of the header and of what it says about the library. */
 #define PCH_PIC_VERSION_MAJOR 0
-#define PCH_PIC_VERSION_MINOR 13
+#define PCH_PIC_VERSION_MINOR 14
 #define PCH_PIC_VERSION_PATCH 0
-#define PCH_PIC_VERSION "0.13.0"
+#define PCH_PIC_VERSION "0.14.0"
 
 #ifdef __cplusplus
 extern "C" {
@@ -363,7 +378,7 @@ enum {
     PCH_PIC_REG_ID = 0x000,       /* 0x07000000, high half 0x003f0001; writes are ignored */
     PCH_PIC_REG_MASK = 0x020,     /* 1: the input is masked; all ones after reset. A write can make events */
     PCH_PIC_REG_HTMSI_EN = 0x040, /* stored, changes nothing else */
-    PCH_PIC_REG_EDGE = 0x060,     /* stored, changes nothing else */
+    PCH_PIC_REG_EDGE = 0x060,     /* stored, changes nothing else: edges are the host's to make */
     PCH_PIC_REG_CLEAR = 0x080,    /* a 1 takes the input's latch and service away, until it is raised again; can make events; reads 0 */
     PCH_PIC_REG_AUTO0 = 0x0c0,    /* stored, changes nothing else */
     PCH_PIC_REG_AUTO1 = 0x0e0,    /* stored, changes nothing else */

@@ -263,6 +263,112 @@ static void a_restore(const char *path)
     remove(path);
 }
 
+/* An unmasked input 7, edge-triggered. */
+static void start_edge(struct host *host)
+{
+    start(host);
+    writes(host, PCH_PIC_REG_EDGE, 8, 1 << 7);
+    writes(host, PCH_PIC_REG_MASK, 8, 0);
+}
+
+static void pulse(struct host *host, uint64_t input)
+{
+    line(host, input, true);
+    line(host, input, false);
+}
+
+static void edges_are_told_once(void)
+{
+    struct host host;
+    bool each = true;
+    start_edge(&host);
+    for (unsigned count = 0; count < 100; count++) {
+        pulse(&host, 7);
+        each = each && ONLY(&host, 7) && host.above.told == 2 * count + 1;
+        writes(&host, PCH_PIC_REG_CLEAR, 4, 1 << 7);
+        each = each && NONE(&host) && host.above.told == 2 * count + 2;
+    }
+    expect("100 pulses, 100 announced, each until the guest clears it", each && host.above.told == 200 && host.above.again == 0);
+    line(&host, 7, true);
+    line(&host, 7, true);
+    expect("a held edge is announced once", ONLY(&host, 7) && host.above.told == 201);
+    for (unsigned count = 0; count < 100; count++) {
+        writes(&host, PCH_PIC_REG_CLEAR, 4, 1 << 7);
+        writes(&host, PCH_PIC_REG_MASK, 4, 1 << 7);
+        writes(&host, PCH_PIC_REG_MASK, 4, 0);
+    }
+    expect("and never again, whatever the guest writes", NONE(&host) && host.above.told == 202 && pic_latched(&host.pic) == 0);
+    line(&host, 7, false);
+    expect("its fall is not told", NONE(&host) && host.above.told == 202);
+    pulse(&host, 7);
+    pulse(&host, 7);
+    expect("a second edge before the guest clears the first adds nothing", ONLY(&host, 7) && host.above.told == 203);
+    writes(&host, PCH_PIC_REG_CLEAR, 4, 1 << 7);
+    writes(&host, PCH_PIC_REG_MASK, 4, 1 << 7);
+    pulse(&host, 7);
+    expect("masked, a pulse waits", NONE(&host) && pic_latched(&host.pic) == 1 << 7);
+    writes(&host, PCH_PIC_REG_MASK, 4, 0);
+    expect("and comes with the unmask", ONLY(&host, 7) && host.above.told == 205);
+    expect("a reset makes levels of all", pic_reset(&host.pic) == PCH_PIC_DONE && pic_settle(&host.pic, &host.wires) == PCH_PIC_DONE && NONE(&host));
+}
+
+static void level_to_edge_and_back(void)
+{
+    struct host host;
+    start(&host);
+    writes(&host, PCH_PIC_REG_MASK, 8, 0);
+    line(&host, 7, true);
+    writes(&host, PCH_PIC_REG_EDGE, 8, 1 << 7);
+    expect("a level in service that becomes an edge stays", ONLY(&host, 7) && host.above.told == 1);
+    line(&host, 7, false);
+    expect("though its line falls", ONLY(&host, 7) && host.above.told == 1);
+    writes(&host, PCH_PIC_REG_EDGE, 8, 0);
+    expect("as a level it follows its line, and goes off", NONE(&host) && host.above.told == 2 && pic_latched(&host.pic) == 0);
+    writes(&host, PCH_PIC_REG_EDGE, 8, 1 << 7);
+    line(&host, 7, true);
+    writes(&host, PCH_PIC_REG_CLEAR, 8, 1 << 7);
+    expect("an edge that was served, its line held", NONE(&host) && host.above.told == 4);
+    writes(&host, PCH_PIC_REG_EDGE, 8, 0);
+    expect("as a level it is high, and comes", ONLY(&host, 7) && host.above.told == 5);
+    writes(&host, PCH_PIC_REG_CLEAR, 8, 1 << 7);
+    expect("a level that is cleared comes again", ONLY(&host, 7) && host.above.told == 7);
+    line(&host, 7, false);
+    writes(&host, PCH_PIC_REG_MASK, 8, UINT64_MAX);
+    writes(&host, PCH_PIC_REG_EDGE, 8, 1 << 7);
+    pulse(&host, 7);
+    writes(&host, PCH_PIC_REG_EDGE, 8, 0);
+    writes(&host, PCH_PIC_REG_MASK, 8, 0);
+    expect("a masked edge that becomes a level is gone with its line", NONE(&host) && host.above.told == 8);
+}
+
+/* Saved: 3 latched and masked, its line fell; 4 in service, its line fell; 5 served, its line held; 6 not yet risen. */
+static void edges_across_a_load(void)
+{
+    for (int form = PIC_FORM_1; form <= PIC_FORM_NUMBERED; form++) {
+        struct host old, fresh;
+        uint8_t image[IMAGE_LEN];
+        start(&old);
+        writes(&old, PCH_PIC_REG_EDGE, 8, 0x78);
+        writes(&old, PCH_PIC_REG_MASK, 8, ~UINT64_C(0x70));
+        pulse(&old, 3);
+        pulse(&old, 4);
+        line(&old, 5, true);
+        writes(&old, PCH_PIC_REG_CLEAR, 8, 1 << 5);
+        size_t len = pic_image(&old.pic, (enum pic_form)form, image);
+        start(&fresh);
+        expect("edges are loaded", pic_take(&fresh.pic, image, len, NULL) == PCH_PIC_DONE && pic_resume(&fresh.pic, &fresh.wires, old.wires.high) == PCH_PIC_DONE);
+        expect("what was in service is on, though its line is low", ONLY(&fresh, 4) && fresh.above.told == 1 && pic_latched(&fresh.pic) == 0x18);
+        line(&fresh, 6, true);
+        expect("an edge that rose since is told", ONLY(&fresh, 4, 6) && fresh.above.told == 2);
+        writes(&fresh, PCH_PIC_REG_MASK, 8, ~UINT64_C(0x78));
+        expect("one that was masked comes with its unmask", ONLY(&fresh, 3, 4, 6) && fresh.above.told == 3);
+        writes(&fresh, PCH_PIC_REG_CLEAR, 8, 0x78);
+        expect("each is cleared, and the held one does not come again", NONE(&fresh) && fresh.above.told == 6);
+        writes(&fresh, PCH_PIC_REG_EDGE, 8, 0);
+        expect("as levels the held ones come", ONLY(&fresh, 5, 6));
+    }
+}
+
 static uint64_t chance(void)
 {
     static uint64_t state = 0x9e3779b97f4a7c15;
@@ -272,25 +378,31 @@ static uint64_t chance(void)
     return state;
 }
 
+/* The same device below a new controller. */
+static void any_load(struct host *host)
+{
+    struct pic saved = host->pic;
+    uint64_t high = host->wires.high;
+    start(host);
+    passed--;
+    host->pic = saved;
+    if (pic_resume(&host->pic, &host->wires, high) != PCH_PIC_DONE) {
+        expect("a load at any time", false);
+    }
+}
+
 static void any_step(struct host *host)
 {
-    static const uint16_t places[] = {PCH_PIC_REG_MASK, PCH_PIC_REG_CLEAR, PCH_PIC_REG_ISR, PCH_PIC_REG_VECTORS};
+    static const uint16_t places[] = {PCH_PIC_REG_MASK, PCH_PIC_REG_CLEAR, PCH_PIC_REG_ISR, PCH_PIC_REG_VECTORS, PCH_PIC_REG_EDGE};
     uint64_t what = chance() % 16;
     if (what < 8) {
         line(host, chance() % PCH_PIC_INPUTS, chance() % 2 == 0);
     } else if (what < 15) {
-        uint64_t place = places[chance() % 4];
+        uint64_t place = places[chance() % 5];
         uint64_t offset = place + (place == PCH_PIC_REG_VECTORS ? chance() % 64 : chance() % 8);
         writes(host, offset, UINT64_C(1) << chance() % 4, chance() & chance() & chance());
     } else {
-        struct pic saved = host->pic;
-        struct pic_wires wires = host->wires;
-        start(host);
-        passed--;
-        host->pic = saved;
-        if (pic_resume(&host->pic, &host->wires, wires.high) != PCH_PIC_DONE) {
-            expect("a load at any time", false);
-        }
+        any_load(host);
     }
 }
 
@@ -301,15 +413,60 @@ static void any_guest(void)
     unsigned most = 0;
     start(&host);
     for (int step = 0; step < 20000 && right; step++) {
-        uint64_t masked = 0;
+        uint64_t masked = 0, edges = 0;
         host.above.told = 0;
         any_step(&host);
-        right = in_line(&host) && pic_read(&host.pic, BASE + PCH_PIC_REG_MASK, 8, &masked) == PCH_PIC_DONE;
-        right = right && ((host.wires.high | pic_latched(&host.pic)) & ~masked & ~pic_service(&host.pic)) == 0;
+        right = in_line(&host) && pic_read(&host.pic, BASE + PCH_PIC_REG_MASK, 8, &masked) == PCH_PIC_DONE &&
+                pic_read(&host.pic, BASE + PCH_PIC_REG_EDGE, 8, &edges) == PCH_PIC_DONE;
+        right = right && (((host.wires.high & ~edges) | pic_latched(&host.pic)) & ~masked & ~pic_service(&host.pic)) == 0;
         most = host.above.told > most ? host.above.told : most;
     }
-    expect("any guest: what is on is in service, and what is high or latched, and unmasked, is on", right);
+    expect("any guest: what is on is in service, and what is high and no edge, or latched, and unmasked, is on", right);
     expect("no step tells more than the events, the vectors and the lines there are", most <= PCH_PIC_EVENTS + PIC_VECTORS + PCH_PIC_INPUTS);
+}
+
+/* Guests that flip EDGE at any time, among lines, masks, clears, loads and resets. What is latched is worked out beside the device: a level's latch is its line; an
+ * edge's comes with a rise, and goes with a CLEAR or as it becomes a level while its line is low. */
+static void any_flip_of_edge(void)
+{
+    struct host host;
+    uint64_t edges = 0, latched = 0;
+    bool right = true;
+    start(&host);
+    for (int step = 0; step < 20000 && right; step++) {
+        uint64_t half = chance() % 2 * 32, bits = (chance() & chance() & chance() & 0xffffffff) << half, masked = 0;
+        unsigned input = chance() % PCH_PIC_INPUTS;
+        bool high = chance() % 2 == 0, was = host.wires.high >> input & 1;
+        switch (chance() % 16) {
+        case 0: case 1:
+            edges = (edges & ~(UINT64_C(0xffffffff) << half)) | bits;
+            writes(&host, PCH_PIC_REG_EDGE + half / 8, 4, bits >> half);
+            break;
+        case 2: case 3:
+            latched &= ~bits;
+            writes(&host, PCH_PIC_REG_CLEAR + half / 8, 4, bits >> half);
+            break;
+        case 4: case 5:
+            writes(&host, PCH_PIC_REG_MASK + half / 8, 4, bits >> half);
+            break;
+        case 6:
+            any_load(&host);
+            break;
+        case 7:
+            if (chance() % 8 == 0) {
+                edges = latched = 0;
+                right = pic_reset(&host.pic) == PCH_PIC_DONE && pic_settle(&host.pic, &host.wires) == PCH_PIC_DONE;
+            }
+            break;
+        default:
+            latched |= high && !was ? UINT64_C(1) << input : 0;
+            line(&host, input, high);
+        }
+        latched = (latched & edges) | (host.wires.high & ~edges);
+        right = right && in_line(&host) && pic_latched(&host.pic) == latched && pic_read(&host.pic, BASE + PCH_PIC_REG_MASK, 8, &masked) == PCH_PIC_DONE;
+        right = right && pic_service(&host.pic) == (latched & ~masked);
+    }
+    expect("any flip of EDGE: a level's latch is its line, an edge's stays until it is cleared, and what is latched and unmasked is in service", right);
 }
 
 static uint32_t checksum(const uint8_t *bytes, size_t len)
@@ -651,7 +808,11 @@ int main(int argc, char **argv)
     one_sweep();
     dropped_events();
     a_restore(path);
+    edges_are_told_once();
+    level_to_edge_and_back();
+    edges_across_a_load();
     any_guest();
+    any_flip_of_edge();
     files(path);
     forms(path);
     in_order();

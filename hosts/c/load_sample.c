@@ -1,5 +1,6 @@
 /* A guest's day with a PCH-PIC, told in plain words: start-up as Linux's driver does it, a load sample's line up and down, the device saved to a
- * file and loaded into a fresh host, what comes after sixteen events, a guest that is unkind, a recorder that puts events in order, and its own board.
+ * file and loaded into a fresh host, what comes after sixteen events, a guest that is unkind, a button that is an edge, a recorder that puts events in
+ * order, and its own board.
  *     load_sample FILE              plays it; the device goes to FILE, with the numbers of its events
  *     load_sample --show FILE       tells what a saved device holds
  *     load_sample --form F FROM TO  saves what FROM holds to TO, in form 1, 2 or numbered: a host of before version 0.8.0 does not load numbered, and
@@ -12,7 +13,7 @@
 #include <stdlib.h>
 #include <string.h>
 
-enum { BASE = 0x10000000, SAMPLE = 21, FIRST_VECTOR = 0x40, OTHER_VECTOR = 0x77 };
+enum { BASE = 0x10000000, SAMPLE = 21, BUTTON = 7, FIRST_VECTOR = 0x40, OTHER_VECTOR = 0x77 };
 
 /* The host's side: the device and its wires. */
 struct host {
@@ -180,6 +181,25 @@ static void unkind(struct host *host)
     line(host, 1, false);
 }
 
+/* The button is an edge: pressed and let go before the guest looks, it has come all the same, and held down it comes once. */
+static void button(struct host *host)
+{
+    printf("The guest makes input %d an edge, for a button, and unmasks it alone.\n", BUTTON);
+    guest_writes(host, PCH_PIC_REG_MASK, 8, ~(UINT64_C(1) << BUTTON));
+    guest_writes(host, PCH_PIC_REG_EDGE, 4, UINT64_C(1) << BUTTON);
+    printf("The button is pressed and let go: the line goes up and down.\n");
+    line(host, BUTTON, true);
+    line(host, BUTTON, false);
+    printf("The guest clears the edge and takes the press.\n");
+    guest_writes(host, PCH_PIC_REG_CLEAR, 4, UINT64_C(1) << BUTTON);
+    printf("The button is held down: the line goes up and stays.\n");
+    line(host, BUTTON, true);
+    printf("The guest clears the edge; the line is still up, and no second edge.\n");
+    guest_writes(host, PCH_PIC_REG_CLEAR, 4, UINT64_C(1) << BUTTON);
+    line(host, BUTTON, false);
+    guest_writes(host, PCH_PIC_REG_EDGE, 4, 0);
+}
+
 static void print_events(const struct pic_event *events, size_t count)
 {
     for (size_t i = 0; i < count; i++) {
@@ -262,6 +282,7 @@ static int play(const char *path)
     save_and_load(&host, path);
     after_sixteen(&host);
     unkind(&host);
+    button(&host);
     recorded(&host);
     second_board();
     for (unsigned vector = 0; vector < PIC_VECTORS; vector++) {

@@ -322,37 +322,61 @@ static int sweep(struct pic *pic, struct pic_wires *wires)
     return number;
 }
 
-/* Waiting events are older than those of the inputs, so they go first; and a line that a CLEAR took goes off above before it goes on again. */
-int pic_settle(struct pic *pic, struct pic_wires *wires)
+static int move_all(struct pic *pic, struct pic_wires *wires, uint64_t inputs, bool high)
 {
-    int number = catch_up(pic, wires);
-    if (number == PCH_PIC_DONE) {
-        number = sweep(pic, wires);
-    }
+    int number = PCH_PIC_DONE;
     for (unsigned input = 0; input < PCH_PIC_INPUTS && number == PCH_PIC_DONE; input++) {
-        if (wires->high >> input & 1) {
-            number = move(pic, wires, input, true);
+        if (inputs >> input & 1) {
+            number = move(pic, wires, input, high);
         }
     }
     return number;
 }
 
+/* The inputs that the guest has made edge-triggered. The device keeps EDGE and knows levels alone, so what an edge is, is made of them here. No watcher is told of
+ * this read: it is the host's, and no record of a day. */
+static uint64_t edge_inputs(const struct pic *pic)
+{
+    uint8_t answer[PCH_PIC_ANSWER_LEN];
+    int number = pch_pic_read(pic->image, sizeof pic->image, 0, PCH_PIC_WINDOW_LEN, PCH_PIC_REG_EDGE, 8, answer, sizeof answer);
+    return number == PCH_PIC_DONE ? value_of(answer) : 0;
+}
+
+/* Waiting events are older than those of the inputs, so they go first; and a line that a CLEAR took goes off above before it goes on again. An edge whose line has
+ * fallen, and that is a level now, is lowered before the sweep would wake it. */
+int pic_settle(struct pic *pic, struct pic_wires *wires)
+{
+    uint64_t edges = edge_inputs(pic);
+    int number = catch_up(pic, wires);
+    if (number == PCH_PIC_DONE) {
+        uint64_t levels_again = wires->edges & ~edges;
+        wires->edges = edges;
+        number = move_all(pic, wires, levels_again & pic_latched(pic) & ~wires->high, false);
+    }
+    if (number == PCH_PIC_DONE) {
+        number = sweep(pic, wires);
+    }
+    return number == PCH_PIC_DONE ? move_all(pic, wires, wires->high & ~edges, true) : number;
+}
+
+/* Of an edge only the rise is told: its latch stays though the line falls, and a line that is high already makes no second edge. */
 int pic_line(struct pic *pic, struct pic_wires *wires, uint64_t input, bool high)
 {
     if (input >= PCH_PIC_INPUTS) {
         return PCH_PIC_INPUT;
     }
     uint64_t bit = UINT64_C(1) << input;
+    bool told = (edge_inputs(pic) & bit) == 0 || (high && (wires->high & bit) == 0);
     wires->high = high ? wires->high | bit : wires->high & ~bit;
     int number = catch_up(pic, wires);
-    return number == PCH_PIC_DONE ? move(pic, wires, input, high) : number;
+    return number == PCH_PIC_DONE && told ? move(pic, wires, input, high) : number;
 }
 
-/* A line that was high when the device was saved may have gone low since: then its input is still latched, and nothing else would lower it. What
- * a lowering returns is left to the count. */
+/* A line that was high when the device was saved may have gone low since: then its input is still latched, and nothing else would lower it. Not so
+ * an edge: it stays until the guest clears it. What a lowering returns is left to the count. */
 int pic_resume(struct pic *pic, struct pic_wires *wires, uint64_t high)
 {
-    uint64_t fallen = pic_latched(pic) & ~high;
+    uint64_t fallen = pic_latched(pic) & ~high & ~edge_inputs(pic);
     struct pic_event event;
     int number = PCH_PIC_DONE;
     for (unsigned input = 0; input < PCH_PIC_INPUTS && number == PCH_PIC_DONE; input++) {

@@ -62,11 +62,13 @@ struct pic_event {
     int32_t number;
 };
 
-/* The wires of a device. All zero is a start: every line low, every vector off, nobody told.
+/* The wires of a device. All zero is a start: every line low, every vector off, nobody told. One of these goes with one device: it knows which lines were high and
+ * which inputs were edge-triggered.
  * route is called for each vector that is to be asserted or deasserted above. It must not call back into the same device. An assert may come
  * for a vector that is on: another input that carries it wants service. A deassert comes only when no input carries it any more. */
 struct pic_wires {
     uint64_t high;        /* in: bit n is set while a device of the host holds line n up */
+    uint64_t edges;       /* pic_settle's own: the inputs that EDGE had when it last looked */
     bool on[PIC_VECTORS]; /* out: what the controller above was told last */
     void (*route)(void *above, struct pic_event event);
     void *above;
@@ -111,14 +113,18 @@ bool pic_on(const struct pic *pic, uint8_t vector);
 int pic_hear(uint8_t board[PCH_PIC_BOARD_LEN], struct pic_event event);
 
 /* Brings the wires in line with the device, whatever the guest did: drains and passes on, counts afresh which vectors are on and passes on what no
- * event told, polls all 64 inputs, and raises each line again that is still high. Then every latched and unmasked input is in service. Call it after
- * each write and each reset. */
+ * event told, polls all 64 inputs, and raises each line again that is still high and no edge. Then every latched and unmasked input is in service. Call it after
+ * each write and each reset. Once it has been called a level is latched while its line is high, and an edge from its rise until the guest clears it; an edge
+ * that the guest makes a level follows its line from then on. */
 int pic_settle(struct pic *pic, struct pic_wires *wires);
 
-/* A device of the host moves a line, and what comes of it is passed on. */
+/* A device of the host moves a line, and what comes of it is passed on. Where the guest has the input in EDGE, only a rise from low to high is told to the device:
+ * neither a fall nor a line that is high already. So a pulse is two calls, high and low, and one interrupt. */
 int pic_line(struct pic *pic, struct pic_wires *wires, uint64_t input, bool high);
 
-/* After a load: the lines are as high says, and the rest follows. wires->on says what the controller above has on: nothing where it is new. */
+/* After a load: the lines are as high says, and the rest follows. wires->on says what the controller above has on: nothing where it is new. An edge that was
+ * latched stays so, whatever its line; one that is high makes no new edge. So give the lines as they were at the save, and then move by pic_line those that
+ * moved since: a rise in between is told then, and else lost. */
 int pic_resume(struct pic *pic, struct pic_wires *wires, uint64_t high);
 
 /* The device as an image of that form, and back from an image of any; its length says which. pic_image says how many bytes it wrote, 0 where pic

@@ -22,13 +22,15 @@ use steps::{BASE, Line, SIZE, Script, Step};
 struct Ours {
     areas: Areas,
     high: [bool; 256],
+    /// The lines that are up, for a host's duties.
+    lines: u64,
 }
 
 impl Ours {
     fn start() -> Result<Self, String> {
         let mut areas = Areas::new();
         (areas.image.len, areas.answer.len, areas.events.len) = (259, 16, 64);
-        let mut ours = Ours { areas, high: [false; 256] };
+        let mut ours = Ours { areas, high: [false; 256], lines: 0 };
         ours.call(Call::Reset)?;
         Ok(ours)
     }
@@ -41,6 +43,30 @@ impl Ours {
             0 => Ok((answer[1] == 1).then(|| u64::from_le_bytes(answer[8..16].try_into().unwrap()))),
             _ => Err(format!("the library refuses {call:?} with {number}")),
         }
+    }
+
+    /// A host's duties after a write: each input is polled, and each line that is up is raised again. What that made is behind the step's own.
+    fn settles(&mut self) -> Result<Vec<(u8, bool)>, String> {
+        let mut events = Vec::new();
+        for input in 0..64 {
+            events.extend(self.call(Call::Poll { input })?.map(|vector| (vector as u8, true)));
+            if self.lines >> input & 1 == 1 {
+                events.extend(self.call(Call::Level { input, level: 1 })?.map(|vector| (vector as u8, true)));
+            }
+        }
+        events.retain(|&(vector, level)| std::mem::replace(&mut self.high[vector as usize], level) != level);
+        Ok(events)
+    }
+
+    fn make_as_host(&mut self, step: Step) -> Result<Shown, String> {
+        let (read, mut events) = self.make(step)?;
+        match step {
+            Step::Raise(input) => self.lines |= 1 << input,
+            Step::Lower(input) => self.lines &= !(1 << input),
+            Step::Write { .. } => events.extend(self.settles()?),
+            Step::Read { .. } => {}
+        }
+        Ok((read, at_the_end(&events)))
     }
 
     fn make(&mut self, step: Step) -> Result<Shown, String> {
@@ -59,6 +85,19 @@ impl Ours {
         events.retain(|&(vector, level)| std::mem::replace(&mut self.high[vector as usize], level) != level);
         Ok((read, events))
     }
+}
+
+/// Of the changes of a step, those that hold at its end: a line that went off and on has not changed.
+fn at_the_end(changes: &[(u8, bool)]) -> Vec<(u8, bool)> {
+    let mut net: Vec<(u8, bool)> = Vec::new();
+    for &(vector, level) in changes {
+        match net.iter().position(|change| change.0 == vector) {
+            Some(at) => drop(net.remove(at)),
+            None => net.push((vector, level)),
+        }
+    }
+    net.sort_unstable();
+    net
 }
 
 /// What a step showed, in words: the value read, or the lines that changed.
@@ -119,7 +158,13 @@ fn judge(line: &Line, ours: &str, theirs: &str) -> (Verdict, String) {
 fn play_line(line: &Line, ours: &mut Ours, qemu: &mut Qemu, all: bool, counts: &mut Counts) -> Result<(), String> {
     let mut counted = Counts::default();
     for &step in &line.steps {
-        let (mine, theirs) = (words(step, &ours.make(step)?), words(step, &qemu.make(step)?));
+        let (mine, theirs) = if line.hosted {
+            let (read, changes) = qemu.make(step)?;
+            (ours.make_as_host(step)?, (read, at_the_end(&changes)))
+        } else {
+            (ours.make(step)?, qemu.make(step)?)
+        };
+        let (mine, theirs) = (words(step, &mine), words(step, &theirs));
         let (verdict, said) = judge(line, &mine, &theirs);
         if verdict != Verdict::Agree || all || line.steps.len() == 1 {
             row(&step.to_string(), &mine, &theirs, &said);

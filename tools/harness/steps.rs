@@ -25,6 +25,8 @@ pub struct Known {
 pub struct Line {
     pub text: String,
     pub steps: Vec<Step>,
+    /// Whether our side does a host's duties too: then a CLEAR takes no line that is high, and only what has changed at the end of a step is compared.
+    pub hosted: bool,
     pub known: Option<Known>,
 }
 
@@ -71,7 +73,8 @@ fn one_line(line: &str) -> Option<Line> {
             (text.trim(), Some(Known { entry: entry.trim().into(), ours: ours.trim().into(), theirs: theirs.trim().into() }))
         }
     };
-    Some(Line { text: text.into(), steps: steps(&text.split_whitespace().collect::<Vec<_>>())?, known })
+    let words: Vec<&str> = text.split_whitespace().collect();
+    Some(Line { text: text.into(), steps: steps(&words)?, hosted: matches!(words[0], "driver" | "calm"), known })
 }
 
 fn hex(word: &str) -> Option<u64> {
@@ -98,6 +101,8 @@ fn steps(words: &[&str]) -> Option<Vec<Step>> {
             each("1", first, last)?.map(|offset| Step::Write { width: 1, offset, value: offset - from }).collect()
         }
         ["random", seed, count] => random(hex(seed)?, count.parse().ok()?),
+        ["driver", seed, count] => driver(hex(seed)?, count.parse().ok()?, false),
+        ["calm", seed, count] => driver(hex(seed)?, count.parse().ok()?, true),
         _ => return None,
     })
 }
@@ -154,4 +159,38 @@ fn random_step(chance: &mut Chance, mask: &mut [u64; 2]) -> Step {
         90..95 => Step::Read { width: 8, offset: chance.one_of(&registers) },
         _ => Step::Read { width, offset: chance.one_of(&[0x100, 0x200]) + entry },
     }
+}
+
+/// What Linux's driver does with level-triggered inputs 0 to 31, by chance, with lines that move in between: a CLEAR of the input just before each unmask, one bit of MASK
+/// at a time. A calm one masks no input whose line is high.
+fn driver(seed: u64, count: usize, calm: bool) -> Vec<Step> {
+    let mut chance = Chance::new(seed);
+    let (mut mask, mut lines) = (0xffff_ffff_u64, 0_u64);
+    let mut steps: Vec<Step> = (0..32).map(|input| Step::Write { width: 1, offset: 0x200 + input, value: input }).collect();
+    while steps.len() < count {
+        let input = chance.below(32);
+        let bit = 1 << input;
+        match chance.below(10) {
+            0..3 => {
+                lines |= bit;
+                steps.push(Step::Raise(input));
+            }
+            3..5 => {
+                lines &= !bit;
+                steps.push(Step::Lower(input));
+            }
+            5..7 => {
+                mask &= !bit;
+                steps.push(Step::Write { width: 4, offset: 0x080, value: bit });
+                steps.push(Step::Read { width: 4, offset: 0x020 });
+                steps.push(Step::Write { width: 4, offset: 0x020, value: mask });
+            }
+            7..9 if !calm || lines & bit == 0 => {
+                mask |= bit;
+                steps.push(Step::Write { width: 4, offset: 0x020, value: mask });
+            }
+            _ => steps.push(Step::Read { width: 4, offset: 0x3a0 }),
+        }
+    }
+    steps
 }

@@ -1,2 +1,3 @@
 -- What is proved of the definitions: laws that all above cite.
 pub mod laws
+pub mod Prelude

@@ -1,4 +1,5 @@
 -- Lemmas about the definitions, each stated once, over the width, the index or the list.
+pub mod Truth
 pub mod Bits
 pub mod Inputs
 pub mod Lists

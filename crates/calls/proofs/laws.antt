@@ -4,3 +4,4 @@ pub mod Outcomes
 pub mod Conversions
 pub mod Refusals
 pub mod Answers
+pub mod Requests

@@ -1,11 +1,8 @@
 -- An integer by how far it is over 0 and how far under, one of which is 0: so that sums, products and orders of integers become facts of naturals.
-use mathlib.Core.Path.{_≡_, refl, ap}
-use mathlib.Core.Bool.{Bool, true, false, cond}
-use Prim.Native.Nat.{ℕ, zero, suc, _+_, _-_, _*_, _<_, _≤_}
+use mathlib.Core.{Path._≡_, Path.refl, Path.ap, Bool.Bool, Bool.true, Bool.false, Bool.cond}
+use Prim.Native.Nat.{ℕ, zero, suc, _+_, _*_, _<_, _≤_}
 use native.Mathlib.Omega.{arith}
-use lib.Dec.{ltb, leb→le, le→leb, ltb→lt, lt→ltb}
-use lib.IntN.{ℤ, pos, negsuc, negℤ, subℕ, _+ℤ_, _-ℤ_, _*ℤ_}
-use lib.Signed.{mag, _≤ℤ_, _<ℤ_}
+use lib.{Dec.ltb, Dec.leb→le, Dec.le→leb, Dec.ltb→lt, Dec.lt→ltb, IntN.ℤ, IntN.pos, IntN.negsuc, IntN.negℤ, IntN.subℕ, IntN._+ℤ_, IntN._-ℤ_, IntN._*ℤ_, Signed.mag, Signed._≤ℤ_, Signed._<ℤ_}
 use borrow.Author.Tests.{ltb-true, ltb-false}
 
 abbrev pub over : ℤ → ℕ

@@ -1,11 +1,9 @@
 -- 02, C-19: 'the only one in that range that is congruent to later minus earlier modulo 65,536', and 'So 32,768 ahead reads as -32,768'. The exported call
 -- returns `differenceOf` of its two numbers, so what is said of that here is said of what it returns.
-use mathlib.Core.Path.{_≡_, sym, ap, subst}
-use mathlib.Core.Bool.{cond}
+use mathlib.Core.{Path._≡_, Path.sym, Path.ap, Path.subst, Bool.cond}
 use Prim.Native.Nat.{ℕ, _+_, _-_, _*_, _/_, _%_, _<_}
 use native.Mathlib.Omega.{arith}
-use lib.Dec.{ltb}
-use lib.IntN.{ℤ, pos, negℤ, _+ℤ_, _-ℤ_, _*ℤ_}
+use lib.{Dec.ltb, IntN.ℤ, IntN.pos, IntN.negℤ, IntN._+ℤ_, IntN._-ℤ_, IntN._*ℤ_}
 use borrow.Author.Tests.{ltb-true, ltb-false}
 use Rattle.difference.specs.Difference.{ahead, isAhead, differenceOf, Congruent, IsDifference}
 use Rattle.difference.proofs.Integers.{over, under, same, choice, sum, minus, times, of-≤ℤ, to-≤ℤ}

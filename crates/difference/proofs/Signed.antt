@@ -3,9 +3,7 @@ use mathlib.Core.Path.{_≡_, sym, ap, subst, _∙_}
 use Prim.Native.Nat.{ℕ, _+_, _<_, _≤_}
 use native.Mathlib.Omega.{arith}
 use lib.IntN.{ℤ, pos, _+ℤ_}
-use mir.Syntax.{w16, w32}
-use mir.Val.{SFits, toZ, ofZ}
-use mir.ValLaws.{toZ-pos, toZ-ofZ}
+use mir.{Syntax.w16, Syntax.w32, Val.SFits, Val.toZ, Val.ofZ, ValLaws.toZ-pos, ValLaws.toZ-ofZ}
 use borrow.Author.Tests.{ltb-true, ltb-false}
 use Rattle.difference.specs.Difference.{ahead, isAhead, differenceOf}
 use Rattle.difference.proofs.Integers.{over, under, same, choice, sum, minus, mag-below}

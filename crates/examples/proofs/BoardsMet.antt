@@ -1,36 +1,19 @@
 -- The premises of the theorems on boards can be met (02, C-20): exported calls from a reset of 290 bytes, by which two inputs that share a vector come into service and one
 -- leaves it, with events returned and drained out of the order of making. By rising number a second board ends equal to the first; as they came it would not. And a count that a
 -- call changes.
-use mathlib.Core.Path.{_≡_, refl, sym, ap, subst, _∙_}
-use mathlib.Core.Bool.{true, false}
-use mathlib.Core.List.{List, [], _∷_}
-use Prim.Native.Nat.{ℕ, _≤_}
-use native.Mathlib.Omega.{arith}
-use lib.Dec.{lit<, lit≤}
-use lib.ListN.{length, take, getD, replicate}
-use lib.Seq.{take-all}
-use Rattle.rules.specs.Access.{byte, dword}
-use Rattle.rules.specs.Device.{Device, Call, level, write, drain, reset, withLines}
-use Rattle.rules.specs.Numbering.{Numbered, fromZero, eventsIn}
-use Rattle.rules.specs.History.{history, fromReset}
-use Rattle.images.specs.Form.{numbered}
-use Rattle.images.specs.Image.{encodeAs, decode}
-use Rattle.calls.specs.Calls.{Request}
-use Rattle.calls.specs.Calls as request
+use Rattle.basics.proofs.Prelude.{_≡_, refl, sym, ap, subst, _∙_, true, false, List, [], _∷_, ℕ, _≤_, arith, lit<, lit≤, length, take, getD, replicate, take-all}
+use Rattle.rules.specs.{Access.byte, Access.dword, Device.Device, Device.Call, Device.level, Device.write, Device.drain, Device.reset, Device.withLines}
+use Rattle.rules.specs.{Numbering.Numbered, Numbering.fromZero, Numbering.eventsIn, History.history, History.fromReset, Account.carrying}
+use Rattle.images.specs.{Form.numbered, Image.encodeAs, Image.decode}
+use Rattle.calls.{specs.Calls.Request, proofs.laws.Computing.computing}
 use Rattle.histories.specs.exported.Exported.{Exported, leftBy, isDone, Underway, carriedOn, carriedThrough, NoLoads, doneCalls, inImage, afterReset}
+use Rattle.histories.proofs.exported.{laws.Chains.faithful-after-reset, demands.FromCalls.handed-on-is-no-load, demands.FromCalls.image-holds-history}
 use Rattle.order.specs.Read.{returnedRead, drainedRead}
-use Rattle.rules.specs.Account.{carrying}
-use Rattle.boards.specs.Board.{countsBy, recount, Touching}
-use Rattle.boards.specs.Boarding.{boarding, boardBy, boardThrough, hearing}
+use Rattle.boards.specs.{Board.countsBy, Board.recount, Board.Touching, Boarding.boarding, Boarding.boardBy, Boarding.boardThrough, Boarding.hearing}
 use Rattle.boards.specs.Hearing.{blank, heardThrough, Complete, Interleaves, neither, first, second, inserted, byNumber}
-use Rattle.calls.proofs.laws.Computing.{computing}
-use Rattle.histories.proofs.exported.laws.Chains.{faithful-after-reset}
-use Rattle.histories.proofs.exported.demands.FromCalls.{handed-on-is-no-load, image-holds-history}
-use Rattle.boards.proofs.laws.Counts.{counts-length}
-use Rattle.boards.proofs.demands.Kept.{only-touched-change}
-use Rattle.boards.proofs.demands.Second.{by-number-equals-first}
-use Rattle.examples.proofs.PremisesMet.{all-admitted}
-use Rattle.examples.proofs.ExportedMet.{handedOn, handed-on}
+use Rattle.boards.proofs.{laws.Counts.counts-length, demands.Kept.only-touched-change, demands.Second.by-number-equals-first}
+use Rattle.examples.proofs.{PremisesMet.all-admitted, ExportedMet.handedOn, ExportedMet.handed-on}
+use Rattle.calls.specs.Calls as request
 
 -- ---- the calls
 

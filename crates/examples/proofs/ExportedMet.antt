@@ -1,45 +1,25 @@
 -- The premises of the theorems over exported calls can be met, and what they count is not nothing: requests, each given the image that the one before it
 -- left, with what they hand back computed.
-use mathlib.Core.Path.{_≡_, refl, sym, ap, _∙_}
-use mathlib.Core.Bool.{Bool, true, false, not, _&&_, and-eq-true-iff}
-use mathlib.Core.List.{List, [], _∷_, _++_, map}
-use Prim.Native.Nat.{ℕ, _+_, _-_, _*_}
-use native.Mathlib.Omega.{arith}
-use lib.Dec.{lit<, lit≤}
-use lib.ListN.{length, take, drop, getD, replicate}
-use borrow.Author.Tests.{not-true}
-use Rattle.basics.specs.Numbers.{Bytes}
-use Rattle.rules.specs.Access.{dword}
-use Rattle.rules.specs.Ring.{dropped}
+use Rattle.basics.proofs.Prelude.{_≡_, refl, sym, ap, _∙_, Bool, true, false, not, _&&_, and-eq-true-iff, List, [], _∷_, _++_, map, ℕ, _+_, _-_, _*_, arith, lit<, lit≤, length, take, drop, getD, replicate, not-true, Bytes}
+use Rattle.rules.specs.{Access.dword, Ring.dropped}
 use Rattle.rules.specs.Device.{Device, WellFormed, Call, level, poll, write, drain, none, step, reset, withRing}
-use Rattle.rules.specs.Numbering.{Numbers, fromZero, WellNumbered}
-use Rattle.images.specs.Form.{Form, one, two, numbered, copy}
-use Rattle.images.specs.Image.{wordIn, encodeAs, decode, numbersIn, imageTest, accepted}
-use Rattle.calls.specs.Calls.{pass, Request, askedBy, answered, valueIn, outcome}
-use Rattle.calls.specs.Calls as request
-use Rattle.calls.specs.Convert.{converted}
-use Rattle.rules.specs.History.{history, fromReset}
-use Rattle.rules.specs.Copy.{copyActed, copyThrough}
-use Rattle.histories.specs.Premises.{Along, Admitted}
+use Rattle.rules.specs.{Numbering.Numbers, Numbering.fromZero, Numbering.WellNumbered, History.history, History.fromReset, Copy.copyActed, Copy.copyThrough}
 use Rattle.rules.specs.Account.{tally, asserts, deasserts, carrying, assertsAmong, deassertsAmong}
-use Rattle.histories.specs.Demands.{inService, someAct, ringActs}
-use Rattle.histories.specs.exported.Exported.{Exported, leftBy, isReset, isLoad, Underway, carriedOn, carriedThrough, NoLoads, HandedOn, doneCalls}
-use Rattle.histories.specs.exported.Exported.{leftAfter, inImage, Faithful, numbersThrough, afterReset, atLoad, returnedBy, drainedBy, lossesRead, Balances}
+use Rattle.images.specs.{Form.Form, Form.one, Form.two, Form.numbered, Form.copy, Image.wordIn, Image.encodeAs, Image.decode, Image.numbersIn, Image.imageTest, Image.accepted}
+use Rattle.calls.{specs.Calls.pass, specs.Calls.Request, specs.Calls.askedBy, specs.Calls.answered, specs.Calls.valueIn, specs.Calls.outcome, specs.Convert.converted, proofs.laws.Computing.computing}
+use Rattle.calls.proofs.demands.Refused.{Unchanged, refused-changes-nothing}
+use Rattle.histories.specs.{Premises.Along, Premises.Admitted, Demands.inService, Demands.someAct, Demands.ringActs}
+use Rattle.histories.specs.exported.Exported.{Exported, leftBy, isReset, isLoad, Underway, carriedOn, carriedThrough, NoLoads, HandedOn, doneCalls, leftAfter, inImage, Faithful, numbersThrough, afterReset, atLoad, returnedBy, drainedBy, lossesRead, Balances}
 use Rattle.histories.specs.exported.Alike.{Asking, madeOn, NoFifth, AllAlike, AllAlikeBut}
-use Rattle.calls.proofs.laws.Computing.{computing}
-use Rattle.histories.proofs.laws.WellFormed.{history-well}
-use Rattle.histories.proofs.exported.laws.Chains.{faithful-after-reset, faithful-at-load, through-numbered}
-use Rattle.laws.proofs.demands.RoundTrip.{saved-is-bytes, saved-is-accepted, saved-and-loaded, numbers-not-saved, reset-can-be-saved}
-use Rattle.laws.proofs.demands.Convert.{can-be-converted}
+use Rattle.histories.proofs.{laws.WellFormed.history-well, exported.laws.Chains.faithful-after-reset, exported.laws.Chains.faithful-at-load, exported.laws.Chains.through-numbered}
 use Rattle.histories.proofs.exported.demands.FromCalls.{handed-on-is-no-load}
 use Rattle.histories.proofs.exported.demands.HandedBack.{account-from-load, drops-of-calls, service-of-calls, service-once-raised, account-since-load, account-under-way}
 use Rattle.histories.proofs.exported.demands.Losses.{losses-of-calls, losses-below-the-stop, losses-up-to-the-stop, losses-from-load}
-use Rattle.histories.proofs.exported.demands.ClearedCalls.{cleared-polled-in-vain, cleared-asserts-had-waited}
-use Rattle.histories.proofs.exported.demands.Copy.{copy-of-calls}
-use Rattle.histories.proofs.exported.demands.Convert.{numbers-within-each-call, converted-answers-alike, converted-answers-alike-but-for-numbers}
-use Rattle.histories.proofs.exported.demands.ReadAlike.{converted-read-alike}
-use Rattle.calls.proofs.demands.Refused.{Unchanged, refused-changes-nothing}
+use Rattle.histories.proofs.exported.demands.{ClearedCalls.cleared-polled-in-vain, ClearedCalls.cleared-asserts-had-waited, Copy.copy-of-calls}
+use Rattle.histories.proofs.exported.demands.{Convert.numbers-within-each-call, Convert.converted-answers-alike, Convert.converted-answers-alike-but-for-numbers, ReadAlike.converted-read-alike}
+use Rattle.laws.proofs.demands.{RoundTrip.saved-is-bytes, RoundTrip.saved-is-accepted, RoundTrip.saved-and-loaded, RoundTrip.numbers-not-saved, RoundTrip.reset-can-be-saved, Convert.can-be-converted}
 use Rattle.examples.proofs.PremisesMet.{all-admitted, all-spared, all-undisturbed, all-unraised, all-carried-alone, begun, seventeen}
+use Rattle.calls.specs.Calls as request
 
 -- ---- exported calls
 

@@ -1,28 +1,16 @@
 -- The premises of what is proved of a hoist guest can be met, and what it counts is not nothing: a start-up, its end and the first sample, each call given the image and the phase that the one before it left,
 -- refused calls among them, with what they hand back computed.
-use mathlib.Core.Path.{_≡_, refl, sym, ap, _∙_}
-use mathlib.Core.Bool.{Bool, true, false, not, _&&_, and-eq-true-iff}
-use mathlib.Core.List.{List, [], _∷_, map}
-use Prim.Native.Nat.{ℕ, _+_}
-use lib.Dec.{lit<}
-use lib.ListN.{take, drop, getD, replicate}
-use borrow.Author.Tests.{not-true}
-use Rattle.rules.specs.Ring.{dropped}
-use Rattle.rules.specs.Access.{dword}
-use Rattle.rules.specs.Device.{Call, level, poll, write, drain, reset}
-use Rattle.rules.specs.Account.{carrying, assertsAmong, deassertsAmong}
-use Rattle.images.specs.Form.{two}
-use Rattle.images.specs.Image.{decode}
+use Rattle.basics.proofs.Prelude.{_≡_, refl, sym, ap, _∙_, Bool, true, false, not, _&&_, and-eq-true-iff, List, [], _∷_, map, ℕ, _+_, lit<, take, drop, getD, replicate, not-true}
+use Rattle.rules.specs.{Ring.dropped, Access.dword, Device.Call, Device.level, Device.poll, Device.write, Device.drain, Device.reset, Account.carrying, Account.assertsAmong, Account.deassertsAmong}
+use Rattle.images.specs.{Form.two, Image.decode}
 use Rattle.histories.specs.Demands.{inService, ringActs}
 use Rattle.histories.specs.exported.Exported.{Underway, carriedThrough, doneCalls, inImage, atLoad}
 use Rattle.histories.proofs.exported.laws.Chains.{faithful-at-load}
 use Rattle.hoists.specs.HoistCalls.{hoistReset, endStartup}
 use Rattle.hoists.specs.Hoisted.{Asks, resets, reads, writes, ends, levels, polls, drains, Hoisted, leftBy, isDone, plainCalls, returnedUnder, drainedUnder, isReset, HandedOn, leftAfter}
-use Rattle.hoists.proofs.laws.Computed.{hoisting}
-use Rattle.hoists.proofs.under_profile.demands.DemandThree.{account-of-a-guest, service-under-profile}
+use Rattle.hoists.proofs.{laws.Computed.hoisting, under_profile.demands.DemandThree.account-of-a-guest, under_profile.demands.DemandThree.service-under-profile}
 use Rattle.hoists.proofs.under_profile.demands.Handed.{handed-on-is-no-load}
-use Rattle.examples.proofs.PremisesMet.{all-spared, begun}
-use Rattle.examples.proofs.ExportedMet.{imageOf, left-bytes, left-accepted}
+use Rattle.examples.proofs.{PremisesMet.all-spared, PremisesMet.begun, ExportedMet.imageOf, ExportedMet.left-bytes, ExportedMet.left-accepted}
 
 -- ---- calls, one after another
 

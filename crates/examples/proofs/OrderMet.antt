@@ -1,31 +1,19 @@
 -- The premises of the theorem on the order of events can be met (02, C-19), and its numbers pass 65,535: exported calls on an image of 290 bytes with the next
 -- number 65,534, in which events are returned, kept, drained and dropped, and some still wait at last. And the same from a reset.
-use mathlib.Core.Path.{_≡_, refl, subst, _∙_}
-use mathlib.Core.Bool.{true, false, not, _&&_, _||_}
-use mathlib.Core.List.{List, [], _∷_}
-use mathlib.Core.Logic.{inl, inr}
-use Prim.Native.Nat.{ℕ, _<_, _≤_}
-use lib.Dec.{lit<, lit≤}
+use Rattle.basics.proofs.Prelude.{_≡_, refl, subst, _∙_, true, false, not, _&&_, _||_, List, [], _∷_, inl, inr, ℕ, _<_, _≤_, lit<, lit≤, length, replicate}
 use lib.IntN.{pos, negℤ}
-use lib.ListN.{length, replicate}
-use Rattle.rules.specs.Access.{dword}
-use Rattle.rules.specs.Device.{Device, WellFormed, Call, level, write, drain, withLines, upFrom, reset}
+use Rattle.rules.specs.{Access.dword, Device.Device, Device.WellFormed, Device.Call, Device.level, Device.write, Device.drain, Device.withLines, Device.upFrom, Device.reset}
 use Rattle.rules.specs.Numbering.{Numbers, WellNumbered, Numbered, fromZero}
-use Rattle.images.specs.Form.{numbered}
-use Rattle.images.specs.Image.{encodeAs, decode, numbersIn}
-use Rattle.calls.specs.Calls.{Request}
-use Rattle.calls.specs.Calls as request
+use Rattle.images.specs.{Form.numbered, Image.encodeAs, Image.decode, Image.numbersIn}
+use Rattle.calls.{specs.Calls.Request, proofs.laws.Computing.computing}
 use Rattle.histories.specs.exported.Exported.{Exported, leftBy, isDone, doneCalls, leftAfter}
 use Rattle.difference.specs.Difference.{differenceOf}
-use Rattle.order.specs.Fates.{Placed, isDropped, placed, placedFrom, eventsMade, withFate}
-use Rattle.order.specs.Numbered.{allFrom, waitingWith, someHas, InOrder}
-use Rattle.order.specs.MadeFirst.{MadeAfter, TellsFirst}
-use Rattle.order.specs.Read.{returnedRead, drainedRead}
-use Rattle.calls.proofs.laws.Computing.{computing}
+use Rattle.order.specs.{Fates.Placed, Fates.isDropped, Fates.placed, Fates.placedFrom, Fates.eventsMade, Fates.withFate, Numbered.allFrom, Numbered.waitingWith, Numbered.someHas, Numbered.InOrder}
+use Rattle.order.specs.{MadeFirst.MadeAfter, MadeFirst.TellsFirst, Read.returnedRead, Read.drainedRead}
+use Rattle.order.proofs.demands.{OfCalls.numbers-of-an-image, OfCalls.numbers-from-reset, MadeFirst.handed-back-was-made, MadeFirst.sign-tells-first, MadeFirst.few-are-near}
 use Rattle.laws.proofs.demands.RoundTrip.{saved-is-bytes, saved-is-accepted, saved-and-loaded, numbers-saved, reset-can-be-saved}
-use Rattle.order.proofs.demands.OfCalls.{numbers-of-an-image, numbers-from-reset}
-use Rattle.order.proofs.demands.MadeFirst.{handed-back-was-made, sign-tells-first, few-are-near}
 use Rattle.examples.proofs.ExportedMet.{handedOn, handed-on}
+use Rattle.calls.specs.Calls as request
 
 -- ---- an image with the next number 65,534
 

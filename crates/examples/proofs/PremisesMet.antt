@@ -1,33 +1,14 @@
 -- The premises of demand 3's theorems can be met, and what the theorems count is not nothing: histories that are tested and counted by computing.
 -- The tests decide the premises of any history of known calls.
-use mathlib.Core.Path.{_≡_, refl, sym, ap, _∙_}
-use mathlib.Core.Logic.{⊎-elim}
-use mathlib.Core.Bool.{Bool, true, false, not, _&&_, _||_, and-eq-true-iff}
-use mathlib.Core.List.{List, [], _∷_, _++_, map}
-use Prim.Native.Nat.{ℕ, zero, suc, _+_, _<_}
-use native.Mathlib.Nat.{eq-or-lt-of-le, le-of-suc-le-suc}
-use native.Mathlib.Omega.{arith}
-use lib.Dec.{eqb, lit<, lit≤}
-use lib.ListN.{getD}
-use borrow.Author.Tests.{eqb-true, not-true}
-use Rattle.basics.specs.Inputs.{on}
-use Rattle.rules.specs.Lines.{Made, event}
-use Rattle.rules.specs.Ring.{Event}
-use Rattle.rules.specs.Core.{Core, Act}
-use Rattle.rules.specs.Access.{byte, dword}
+use Rattle.basics.proofs.Prelude.{_≡_, refl, sym, ap, _∙_, ⊎-elim, Bool, true, false, not, _&&_, _||_, and-eq-true-iff, List, [], _∷_, _++_, map, ℕ, zero, suc, _+_, _<_, eq-or-lt-of-le, le-of-suc-le-suc, arith, eqb, lit<, lit≤, getD, eqb-true, not-true, on}
+use Rattle.rules.specs.{Lines.Made, Lines.event, Ring.Event, Core.Core, Core.Act, Access.byte, Access.dword}
 use Rattle.rules.specs.Device.{Device, Call, level, poll, write, drain, upFrom, actsOf, step, reset}
-use Rattle.rules.specs.History.{history, fromReset}
+use Rattle.rules.specs.{History.history, History.fromReset, History.raises, Account.tally, Account.asserts, Account.deasserts, Account.carrying, Account.carries}
 use Rattle.histories.specs.Premises.{Along, Admitted, writesIsr}
-use Rattle.rules.specs.Account.{tally, asserts, deasserts, carrying}
-use Rattle.histories.specs.Demands.{Each, done, also, inService, Eligible, disturbs, Spared, Undisturbed}
-use Rattle.rules.specs.Account.{carries}
-use Rattle.histories.specs.Demands.{CarriedAlone, someAct, isRaise, Unraised, assertsOf, foundBy}
-use Rattle.rules.specs.History.{raises}
+use Rattle.histories.specs.Demands.{Each, done, also, inService, Eligible, disturbs, Spared, Undisturbed, CarriedAlone, someAct, isRaise, Unraised, assertsOf, foundBy}
+use Rattle.histories.proofs.demands.{Account.asserts-match-service, Service.in-service-from-the-poll-on, Service.in-service-from-then-on, Service.in-service-once-raised}
+use Rattle.histories.proofs.demands.{Cleared.no-assert-until-raised, Order.drained-in-turn, Order.else-dropped}
 use Rattle.calls.proofs.laws.Computing.{computing}
-use Rattle.histories.proofs.demands.Account.{asserts-match-service}
-use Rattle.histories.proofs.demands.Service.{in-service-from-the-poll-on, in-service-from-then-on, in-service-once-raised}
-use Rattle.histories.proofs.demands.Cleared.{no-assert-until-raised}
-use Rattle.histories.proofs.demands.Order.{drained-in-turn, else-dropped}
 
 -- ---- tests that decide the premises
 

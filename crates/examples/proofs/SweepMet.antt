@@ -1,38 +1,20 @@
 -- The premises of a sweep can be met, and each of them is needed: a sweep that wakes three inputs, and beside it one that breaks a single premise for each of
 -- MASK, CLEAR, ISR, a lowering, an input not polled, a load and a reset, with a consequence that fails. Of calls of the device, and of exported calls.
-use mathlib.Core.Path.{_≡_, refl, sym, ap, subst, _∙_}
-use mathlib.Core.Bool.{Bool, true, false, true≢false}
-use mathlib.Core.List.{List, [], _∷_, _++_, map}
-use Prim.Native.Nat.{ℕ}
-use native.Mathlib.Omega.{arith}
-use lib.Dec.{lit<, lit≤}
-use lib.ListN.{replicate}
-use Rattle.rules.specs.Lines.{Made}
-use Rattle.basics.specs.Numbers.{Bytes}
-use Rattle.rules.specs.Ring.{Event}
-use Rattle.rules.specs.Access.{byte, dword}
-use Rattle.rules.specs.Device.{Device, Call, level, poll, read, write, drain, reset, upFrom}
-use Rattle.rules.specs.Numbering.{fromZero}
-use Rattle.images.specs.Form.{one, two}
-use Rattle.images.specs.Image.{decode, imageTest, accepted}
-use Rattle.calls.specs.Calls.{Request}
-use Rattle.calls.specs.Calls as request
-use Rattle.rules.specs.History.{history, fromReset}
-use Rattle.rules.specs.Account.{tally}
+use Rattle.basics.proofs.Prelude.{_≡_, refl, sym, ap, subst, _∙_, Bool, true, false, true≢false, List, [], _∷_, _++_, map, ℕ, arith, lit<, lit≤, replicate, Bytes}
+use Rattle.rules.specs.{Lines.Made, Ring.Event, Access.byte, Access.dword, Device.Device, Device.Call, Device.level, Device.poll, Device.read, Device.write, Device.drain, Device.reset, Device.upFrom}
+use Rattle.rules.specs.{Numbering.fromZero, History.history, History.fromReset, Account.tally}
+use Rattle.images.specs.{Form.one, Form.two, Image.decode, Image.imageTest, Image.accepted}
+use Rattle.calls.{specs.Calls.Request, proofs.laws.Computing.computing}
 use Rattle.histories.specs.Demands.{inService, assertsOf, returnedIn}
 use Rattle.histories.specs.exported.Exported.{Exported, leftBy, HandedOn, leftAfter, Underway, doneCall, doneCalls, atLoad, returnedBy, drainedBy}
-use Rattle.sweep.specs.Sweeps.{sweeping, isPoll, everyCall, someCall, Sweep, WakesAll}
-use Rattle.sweep.specs.Handed.{WakesAllRead, pollsFrom, pollsAll}
-use Rattle.calls.proofs.laws.Computing.{computing}
-use Rattle.laws.proofs.demands.RoundTrip.{saved-is-bytes, saved-is-accepted, reset-can-be-saved}
-use Rattle.histories.proofs.exported.laws.Chains.{faithful-at-load, calls-split}
-use Rattle.histories.proofs.exported.demands.FromCalls.{handed-on-is-no-load}
+use Rattle.histories.proofs.exported.{laws.Chains.faithful-at-load, laws.Chains.calls-split, demands.FromCalls.handed-on-is-no-load}
 use Rattle.histories.proofs.exported.demands.HandedBack.{returned-is-read, drained-is-read}
-use Rattle.sweep.proofs.laws.Polls.{polls-done}
-use Rattle.sweep.proofs.demands.WakesAll.{one-sweep-wakes-all}
-use Rattle.sweep.proofs.demands.OfCalls.{sweep-of-an-image, polls-are-a-sweep, polls-wake-all}
+use Rattle.sweep.specs.{Sweeps.sweeping, Sweeps.isPoll, Sweeps.everyCall, Sweeps.someCall, Sweeps.Sweep, Sweeps.WakesAll, Handed.WakesAllRead, Handed.pollsFrom, Handed.pollsAll}
+use Rattle.sweep.proofs.{laws.Polls.polls-done, demands.WakesAll.one-sweep-wakes-all, demands.OfCalls.sweep-of-an-image, demands.OfCalls.polls-are-a-sweep, demands.OfCalls.polls-wake-all}
+use Rattle.laws.proofs.demands.RoundTrip.{saved-is-bytes, saved-is-accepted, reset-can-be-saved}
 use Rattle.examples.proofs.PremisesMet.{allBelow, all-below, seventeen, maskAll}
 use Rattle.examples.proofs.ExportedMet.{handedOn, handed-on, imageOf, left-bytes, left-accepted}
+use Rattle.calls.specs.Calls as request
 
 -- ---- a test that decides whether calls are a sweep
 

@@ -1,20 +1,10 @@
 -- A small trace played (02, C-11): two blocks of five records, tested and played from a reset of 290 bytes.
-use mathlib.Core.Path.{_≡_, refl}
-use mathlib.Core.List.{List, [], _∷_, _++_, map}
-use Prim.Native.Nat.{ℕ, _-_, _^_}
-use lib.ListN.{replicate}
-use Rattle.basics.specs.Numbers.{bytesOf}
-use Rattle.rules.specs.Ring.{dropped}
-use Rattle.rules.specs.Device.{withLines, reset}
-use Rattle.images.specs.Form.{numbered}
-use Rattle.images.specs.Image.{encodeAs}
-use Rattle.calls.proofs.laws.Computing.{computing}
-use Rattle.traces.specs.Trace.{good, traceTest}
+use Rattle.basics.proofs.Prelude.{_≡_, refl, List, [], _∷_, _++_, map, ℕ, _-_, _^_, replicate, bytesOf}
+use Rattle.traces.{proofs.laws.Computed.bytesAs, proofs.laws.Computed.tracing, specs.Trace.good, specs.Trace.traceTest}
 use Rattle.traces.specs.Played.{recordsFrom, outcomes, outcomesOf, gathered, played}
-use Rattle.traces.proofs.laws.Computed.{tracing}
-
-abbrev bytesAs : (kind byte offset value : ℕ) → List ℕ
-bytesAs kind byte offset value = kind ∷ byte ∷ (bytesOf 2 offset ++ (replicate 4 0 ++ bytesOf 8 value))
+use Rattle.rules.specs.{Ring.dropped, Device.withLines, Device.reset}
+use Rattle.images.specs.{Form.numbered, Image.encodeAs}
+use Rattle.calls.proofs.laws.Computing.{computing}
 
 -- unmask 0 to 3, raise 3; then raise 64, which is refused, mask 0 to 3 and drain
 abbrev day : List ℕ

@@ -1,18 +1,9 @@
 -- A torn trace salvaged (02, C-23): three blocks, of which the second was not written to its end; and what came out, salvaged again.
-use mathlib.Core.Path.{_≡_, refl}
-use mathlib.Core.List.{List, [], _∷_, _++_}
-use Prim.Native.Nat.{ℕ}
-use native.Mathlib.Omega.{arith}
-use lib.ListN.{length, take, replicate}
+use Rattle.basics.proofs.Prelude.{_≡_, refl, List, [], _∷_, _++_, ℕ, arith, length, take, replicate, bytes-known}
 use Rattle.rules.specs.Device.{some}
-use Rattle.basics.proofs.laws.Bytes.{bytes-known}
 use Rattle.calls.specs.Calls.{answered, valueIn}
-use Rattle.traces.specs.Trace.{good, traceTest}
-use Rattle.traces.proofs.laws.Computed.{tracing}
-use Rattle.traces.specs.plays.Playing.{inFront}
-use Rattle.traces.specs.salvages.Salvaging.{SalvageLeft, salvageLeaves, salvaging}
-use Rattle.traces.proofs.salvages.laws.Computed.{computed}
-use Rattle.traces.proofs.salvages.demands.Left.{good-left, again-left}
+use Rattle.traces.specs.{Trace.good, Trace.traceTest, plays.Playing.inFront, salvages.Salvaging.SalvageLeft, salvages.Salvaging.salvageLeaves, salvages.Salvaging.salvaging}
+use Rattle.traces.proofs.{laws.Computed.tracing, salvages.laws.Computed.computed, salvages.demands.Left.good-left, salvages.demands.Left.again-left}
 
 abbrev raise : ℕ → List ℕ
 raise n = 1 ∷ n ∷ replicate 14 0

@@ -1,32 +1,19 @@
 -- One day of the plain engine, computed: the table of docs/PLAIN.md. Calls from reset, one of them refused; then a load in which fifteen events wait.
-use mathlib.Core.Path.{_≡_, refl, subst}
-use mathlib.Core.Bool.{Bool, true, false}
-use mathlib.Core.List.{List, [], _∷_, _++_, map}
-use Prim.Native.Nat.{ℕ, zero, suc}
-use lib.ListN.{take, replicate}
-use Rattle.rules.specs.Ring as ring
-use Rattle.rules.specs.Ring.{Event}
-use Rattle.rules.specs.Access.{byte, dword}
+use Rattle.basics.proofs.Prelude.{_≡_, refl, subst, Bool, true, false, List, [], _∷_, _++_, map, ℕ, zero, suc, take, replicate}
+use Rattle.rules.specs.{Ring.Event, Access.byte, Access.dword}
 use Rattle.rules.specs.Device.{Device, WellFormed, Call, level, poll, read, write, drain, Value, none, some, reset}
-use Rattle.rules.specs.Numbering.{fromZero}
-use Rattle.images.specs.Form.{one, two}
-use Rattle.images.specs.Image.{encodeAs}
-use Rattle.calls.specs.Calls.{answered}
-use Rattle.calls.specs.Calls as request
-use Rattle.rules.specs.History.{fromReset}
+use Rattle.rules.specs.{Numbering.fromZero, History.fromReset}
+use Rattle.images.{specs.Form.one, specs.Form.two, specs.Image.encodeAs, proofs.laws.Saved.from-zero-well}
+use Rattle.calls.{specs.Calls.answered, proofs.laws.Computing.computing}
 use Rattle.histories.specs.exported.Exported.{Exported, leftBy, isDone, isLoad, carriedOn, afterReset}
-use Rattle.calls.proofs.laws.Computing.{computing}
-use Rattle.images.proofs.laws.Saved.{from-zero-well}
-use Rattle.laws.proofs.demands.RoundTrip.{saved-is-bytes, reset-can-be-saved}
 use Rattle.histories.proofs.laws.WellFormed.{history-well}
-use Rattle.plain.specs.Events.{input, asLoaded, Fate, returned, kept, dropped, Note, waiting, dropCount}
-use Rattle.plain.specs.Machine.{Machine}
-use Rattle.plain.specs.Plain.{Engine}
+use Rattle.laws.proofs.demands.RoundTrip.{saved-is-bytes, reset-can-be-saved}
+use Rattle.plain.specs.{Events.input, Events.asLoaded, Events.Fate, Events.returned, Events.kept, Events.dropped, Events.Note, Events.waiting, Events.dropCount, Machine.Machine, Plain.Engine}
 use Rattle.plain.specs.Beside.{AllAgree}
 use Rattle.plain.specs.Sequence.{loadOf, Item, call, load, refused, takes, portedSees, plainSees, WellLoaded, plainAfter}
-use Rattle.plain.proofs.laws.Plainly.{plainly}
-use Rattle.plain.proofs.demands.SameEngine.{plain-is-ported}
-use Rattle.plain.proofs.demands.SameCalls.{calls-as-plain-from-reset}
+use Rattle.plain.proofs.{laws.Plainly.plainly, demands.SameEngine.plain-is-ported, demands.SameCalls.calls-as-plain-from-reset}
+use Rattle.rules.specs.Ring as ring
+use Rattle.calls.specs.Calls as request
 
 -- ---- the day
 

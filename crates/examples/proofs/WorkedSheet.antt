@@ -1,33 +1,17 @@
 -- The sheet of a small trace, computed (02, C-21): input 5 waits one record for its unmask, is cleared by a Byte, raised again, drained and lowered.
-use mathlib.Core.Path.{_≡_, refl}
-use mathlib.Core.Bool.{cond}
-use mathlib.Core.List.{List, [], _∷_, _++_}
-use Prim.Native.Nat.{ℕ, _+_}
-use native.Mathlib.Omega.{arith}
-use lib.ListN.{replicate}
-use Rattle.basics.specs.Numbers.{bytesOf}
-use Rattle.basics.specs.Inputs.{on}
-use Rattle.traces.specs.Trace.{good, traceTest}
-use Rattle.traces.specs.Played.{recordsFrom}
-use Rattle.traces.proofs.laws.Computed.{tracing}
+use Rattle.basics.proofs.Prelude.{_≡_, refl, cond, List, [], _∷_, _++_, ℕ, _+_, arith, on}
+use Rattle.traces.{proofs.laws.Computed.bytesAs, proofs.laws.Computed.tracing, specs.Trace.good, specs.Trace.traceTest, specs.Played.recordsFrom}
 use Rattle.plain.specs.Sequence.{shown}
-use Rattle.sheets.specs.Day.{items, dayOf}
-use Rattle.sheets.specs.Waits.{waits, answered}
-use Rattle.sheets.specs.Sheet.{rowOf}
-use Rattle.sheets.proofs.laws.Computed.{sheeted}
-use Rattle.passes.specs.days.Accounts.{NoIsrWrite, drainedIn, atLast}
-use Rattle.passes.proofs.days.demands.Service.{asserts-less-deasserts}
-
-abbrev asBytes : (kind byte offset value : ℕ) → List ℕ
-asBytes kind byte offset value = kind ∷ byte ∷ (bytesOf 2 offset ++ (replicate 4 0 ++ bytesOf 8 value))
+use Rattle.sheets.{specs.Day.items, specs.Day.dayOf, specs.Waits.waits, specs.Waits.answered, specs.Sheet.rowOf, proofs.laws.Computed.sheeted}
+use Rattle.passes.{specs.days.Accounts.NoIsrWrite, specs.days.Accounts.drainedIn, specs.days.Accounts.atLast, proofs.days.demands.Service.asserts-less-deasserts}
 
 -- raise 5; unmask 5; raise 69, which is refused; a Byte with bit 5 to CLEAR; raise 5; drain; lower 5
 abbrev day : List ℕ
 day =
     (1 ∷ 0 ∷ 6 ∷ 0 ∷ 7 ∷ 0 ∷ [])
-    ++ (asBytes 1 5 0 0
-    ++ (asBytes 5 4 0x020 0xffffffdf
-    ++ (asBytes 1 69 0 0 ++ (asBytes 5 1 0x080 0x20 ++ (asBytes 1 5 0 0 ++ (asBytes 6 0 0 0 ++ asBytes 2 5 0 0))))))
+    ++ (bytesAs 1 5 0 0
+    ++ (bytesAs 5 4 0x020 0xffffffdf
+    ++ (bytesAs 1 69 0 0 ++ (bytesAs 5 1 0x080 0x20 ++ (bytesAs 1 5 0 0 ++ (bytesAs 6 0 0 0 ++ bytesAs 2 5 0 0))))))
 
 pub worked-trace : traceTest day ≡ good 6 7
 unfolding tracing

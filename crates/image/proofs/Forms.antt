@@ -1,23 +1,12 @@
 -- A form in code and in the rules.
-use mathlib.Core.Path.{_≡_, refl, sym, ap, _∙_}
-use mathlib.Core.Bool.{true, false}
-use mathlib.Core.List.{List, [], _∷_}
-use mathlib.Core.Logic.{⊎-elim}
-use Prim.Native.Nat.{ℕ, _+_, _≤_}
-use native.Mathlib.Omega.{arith}
-use lib.ListN.{length}
-use types.Run.{OneOf}
-use denote.Enum.Declared.{tagOf}
+use Rattle.basics.proofs.Prelude.{_≡_, refl, sym, ap, _∙_, true, false, List, [], _∷_, ⊎-elim, ℕ, _+_, _≤_, arith, length, OneOf, tagOf, test}
 use Rattle.images.specs.Form.{Word, Field, word, copy, irr, next, numbers, one, two, numbered, has, size, place, formLength}
-use Rattle.images.specs.Form as rules-form
 use Rattle.images.specs.Image.{registerAt, wordIn, numberBodyLength}
-use Rattle.basics.proofs.laws.Bits.{test}
 use Rattle.images.proofs.laws.Layout.{never, always, has-all, field-fits}
 use Rattle.image.specs.Shown.{formView, placeIn, PlacesOf}
-use Rattle.image.specs.declared.form.Form.{Form}
-use Rattle.image.specs.declared.form.Form.the-variants.{One, Two, Numbered}
-use Rattle.image.specs.declared.form.Places.{Places}
+use Rattle.image.specs.declared.form.{Form.Form, Form.the-variants.One, Form.the-variants.Two, Form.the-variants.Numbered, Places.Places}
 use Rattle.image.proofs.form.Form.{the-type}
+use Rattle.images.specs.Form as rules-form
 
 -- where a field stands that every form has
 pub placed : {f : rules-form.Form} {p : Places} → PlacesOf f p → (q : Field) → always q ≡ true → placeIn p q ≡ place f q

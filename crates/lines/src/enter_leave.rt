@@ -1,4 +1,4 @@
-// An input goes into service or leaves it, in place on an image, as the rules say it. Of a set the lowest that waits enters. Crate decide says which they are.
+// An input goes into service or leaves it, in place on an image, as the rules say it. Of a set the lowest that waits enters. Module `decide` of crate `device` says which they are.
 use device::decide;
 use device::state::Answer;
 use fields::entries::vector;

@@ -1,18 +1,10 @@
 -- The end of a call with a board: what `finish` asks holds of a call that has ended, and what it promises is the call's outcome.
-use mathlib.Core.Path.{_≡_}
-use mathlib.Core.List.{List}
-use Prim.Native.Nat.{ℕ, _-_, _≤_}
-use lib.ListN.{length}
-use borrow.Rule.Slice.PartMut.{putMid}
-use Rattle.basics.specs.Numbers.{Bytes, part}
+use Rattle.basics.proofs.Prelude.{_≡_, List, ℕ, _-_, _≤_, length, putMid, Bytes, part}
 use Rattle.calls.specs.Calls.{Request, bufferOf, placeOf, ending}
-use Rattle.calls.specs.Calls as asked
-use Rattle.boards.specs.Boarding.{boardLeaves, boarding}
-use Rattle.answer.specs.Given.{ends}
-use Rattle.answer.specs.declared.Told.{Told}
+use Rattle.boards.{specs.Boarding.boardLeaves, specs.Boarding.boarding, proofs.laws.Fronts.done-leaves-accepted, proofs.laws.Fronts.board-with-room}
+use Rattle.answer.{specs.Given.ends, specs.declared.Told.Told, proofs.fronts.Told.told, proofs.fronts.Told.told-behind}
 use Rattle.pch_pic_board.specs.Finished.{Finishing, Finished}
-use Rattle.boards.proofs.laws.Fronts.{done-leaves-accepted, board-with-room}
-use Rattle.answer.proofs.fronts.Told.{told, told-behind}
+use Rattle.calls.specs.Calls as asked
 
 module _ (i b a : List ℕ) (bytes : Bytes i) (roomy : 16 ≤ length a) (wide : 256 ≤ length b) (t : Told) where
   module _ (q : Request) (within : placeOf q ≤ length (bufferOf q)) {j e : List ℕ} (d : ends t j e ≡ ending q i) where

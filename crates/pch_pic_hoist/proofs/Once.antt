@@ -1,7 +1,5 @@
 -- 01, How tight the promises are: no second outcome satisfies the promise of a call of the profile. And 02, C-22: a call that is accepted leaves what the full device's exported call leaves.
-use mathlib.Core.Path.{_≡_, sym, ap, _∙_}
-use mathlib.Core.List.{List, []}
-use Prim.Native.Nat.{ℕ}
+use Rattle.basics.proofs.Prelude.{_≡_, sym, ap, _∙_, List, [], ℕ}
 use Rattle.calls.specs.Calls.{read, write, Outcome, leaves, outcome}
 use Rattle.hoists.specs.HoistCalls.{hoistRead, hoistWrite, PhaseLeft, phaseLeaves}
 use Rattle.hoists.proofs.under_profile.demands.Answers.{done-read-is-full, done-write-is-full}

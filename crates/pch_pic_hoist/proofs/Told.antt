@@ -1,17 +1,10 @@
 -- From how a call under the profile ends to what it leaves: what it tells stands in the answer area, and a done call that stores the phase has stored it.
-use mathlib.Core.Path.{_≡_, ap, _∙_}
-use mathlib.Core.Bool.{Bool, false, cond, and-false}
-use mathlib.Core.List.{List, []}
-use Prim.Native.Nat.{ℕ, _<_, _≤_}
-use lib.Dec.{eqb, leb}
-use lib.ListN.{length}
-use borrow.Author.Tests.{le-leb, lt-leb}
+use Rattle.basics.proofs.Prelude.{_≡_, ap, _∙_, Bool, false, cond, and-false, List, [], ℕ, _<_, _≤_, eqb, leb, length, le-leb, lt-leb}
 use Rattle.calls.specs.Calls.{read, write, answerLength, answered, leaves, Ending, ending, settled}
-use Rattle.calls.specs.Calls as request
-use Rattle.answer.specs.Given.{valueView, ends}
-use Rattle.answer.specs.declared.Told.{Told}
+use Rattle.answer.specs.{Given.valueView, Given.ends, declared.Told.Told}
 use Rattle.hoists.specs.Profile.{running, inStartUp, afterStartUp}
 use Rattle.hoists.specs.HoistCalls.{hoistEnding, hoistRoom, hoistRead, hoistWrite, phaseLeaves, phaseSettled, hoistReset, endEnding, endStartup}
+use Rattle.calls.specs.Calls as request
 
 -- ---- 7
 

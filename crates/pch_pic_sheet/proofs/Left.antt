@@ -1,17 +1,9 @@
 -- From what is made of a trace to what the call leaves: 7 writes no byte, and all else is told in the answer area.
-use mathlib.Core.Path.{_≡_, refl, sym, ap, _∙_}
-use mathlib.Core.Bool.{Bool, cond, _&&_, and-false}
-use mathlib.Core.List.{List}
-use Prim.Native.Nat.{ℕ, _<_, _≤_}
-use lib.Dec.{leb}
-use lib.ListN.{length}
-use borrow.Author.Tests.{le-leb, lt-leb}
+use Rattle.basics.proofs.Prelude.{_≡_, refl, sym, ap, _∙_, Bool, cond, _&&_, and-false, List, ℕ, _<_, _≤_, leb, length, le-leb, lt-leb}
 use Rattle.calls.specs.Calls.{answerLength, answered}
 use Rattle.traces.specs.Trace.{TraceTest, good, wrongContents, badRecord, traceTest}
-use Rattle.sheets.specs.Sheet.{sheetLength}
-use Rattle.sheets.specs.Sheeting.{SheetLeft, sheetLeaves, sheetSettled, sheeting}
-use Rattle.answer.specs.Given.{valueView}
-use Rattle.answer.specs.declared.Told.{Told}
+use Rattle.sheets.specs.{Sheet.sheetLength, Sheeting.SheetLeft, Sheeting.sheetLeaves, Sheeting.sheetSettled, Sheeting.sheeting}
+use Rattle.answer.specs.{Given.valueView, declared.Told.Told}
 use Rattle.pch_pic_sheet.specs.sheet.Made.{Made, told, madeBy, madeOf}
 
 -- what is made, put into the answer area

@@ -1,10 +1,7 @@
 -- 02, C-18: 'with the answers and states of the present path'. What a call by the table leaves and what the present one leaves of the same image and answer
 -- area is the same number and the same bytes: both contracts are the one equation, which has one outcome.
-use mathlib.Core.Path.{_≡_}
-use mathlib.Core.List.{List, []}
-use Prim.Native.Nat.{ℕ}
-use Rattle.calls.specs.Calls.{read, write, leaves, outcome}
-use Rattle.calls.proofs.demands.OneOutcome.{one-result}
+use Rattle.basics.proofs.Prelude.{_≡_, List, [], ℕ}
+use Rattle.calls.{specs.Calls.read, specs.Calls.write, specs.Calls.leaves, specs.Calls.outcome, proofs.demands.OneOutcome.one-result}
 
 module _ (image answer : List ℕ) (base size address width : ℕ) where
   -- r and a: what pch_pic_table_read hands back and leaves in the answer area; s and b: what pch_pic_read does

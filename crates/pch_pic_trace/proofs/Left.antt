@@ -1,14 +1,9 @@
 -- From how a play ends to what the call leaves: 7 writes no byte, and all else is told in the answer area.
-use mathlib.Core.Path.{_≡_, ap, _∙_}
-use mathlib.Core.List.{List}
-use Prim.Native.Nat.{ℕ, _<_, _≤_}
-use lib.ListN.{length}
-use borrow.Author.Tests.{le-leb, lt-leb}
+use Rattle.basics.proofs.Prelude.{_≡_, ap, _∙_, List, ℕ, _<_, _≤_, length, le-leb, lt-leb}
 use Rattle.calls.specs.Calls.{answerLength, answered}
 use Rattle.traces.specs.plays.Playing.{playEnding, playLeaves, playSettled, playing}
 use Rattle.traces.proofs.plays.laws.Late.{late-seven, told-late}
-use Rattle.answer.specs.Given.{valueView}
-use Rattle.answer.specs.declared.Told.{Told}
+use Rattle.answer.specs.{Given.valueView, declared.Told.Told}
 use Rattle.pch_pic_trace.specs.play_trace.Plays.{ends}
 
 module _ (l i bs es a : List ℕ) where

@@ -1,21 +1,9 @@
 -- A byte of the input, and then another: the line so far grows, or is played; and the end.
-use mathlib.Core.Path.{_≡_, refl, sym, ap, subst, _∙_}
-use mathlib.Core.List.{List, [], _∷_, _++_, append-assoc}
-use Prim.Native.Nat.{ℕ, _+_, _-_, _*_, _<_, _≤_}
-use native.Mathlib.Numerals.{add-one}
-use native.Mathlib.Omega.{arith}
-use lib.ListN.{length, take, drop, getD, set, length-set}
-use lib.Seq.{length-take-le, take-suc, take-suc-set}
-use borrow.Author.Tests.{ne-eqb}
-use borrow.Rule.Slice.PartMut.{putMid}
+use Rattle.basics.proofs.Prelude.{_≡_, refl, sym, ap, subst, _∙_, List, [], _∷_, _++_, append-assoc, ℕ, _+_, _-_, _*_, _<_, _≤_, add-one, arith, length, take, drop, getD, set, length-set, length-take-le, take-suc, take-suc-set, ne-eqb, putMid}
 use Rattle.rules.specs.Device.{Device}
-use Rattle.sessions.specs.Session as session
 use Rattle.sessions.specs.Session.{newline, played, linesOf, answers}
 use Rattle.device.specs.state.View.{view}
-use Rattle.session.specs.play_line.Plays.{Plays}
-use Rattle.session.specs.line_end.Ended.{ended}
-use Rattle.session.specs.Feeds.{Unended, Starts, Ready, toSay, Feeds}
-use Rattle.session.specs.declared.play_line.Played.{Played}
+use Rattle.session.specs.{play_line.Plays.Plays, line_end.Ended.ended, Feeds.Unended, Feeds.Starts, Feeds.Ready, Feeds.toSay, Feeds.Feeds, declared.play_line.Played.Played}
 use Rattle.session.specs.declared.Session.{Session}
 use Rattle.session.proofs.reply.Writing.{filled, put-part, size, says}
 use Rattle.session.proofs.Splitting.{unended-more, lines-ended, lines-last, byte-lost}

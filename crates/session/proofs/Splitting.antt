@@ -1,15 +1,8 @@
 -- An input split into lines: what an ending does, what any other byte does, and why the front of a long line is enough.
-use mathlib.Core.Path.{_≡_, refl, sym, ap, _∙_}
-use mathlib.Core.Bool.{Bool, true, false, cond}
-use mathlib.Core.List.{List, [], _∷_, _++_, append-nil}
-use Prim.Native.Nat.{ℕ, _+_, _<_, _≤_}
-use native.Mathlib.Omega.{arith}
-use lib.Dec.{eqb}
-use lib.ListN.{length, drop, length-append, length-drop}
+use Rattle.basics.proofs.Prelude.{_≡_, refl, sym, ap, _∙_, Bool, true, false, cond, List, [], _∷_, _++_, append-nil, ℕ, _+_, _<_, _≤_, arith, eqb, length, drop, length-append, length-drop}
 use Rattle.rules.specs.Device.{Device, Value, none, some}
 use Rattle.sessions.specs.Session.{newline, letter-l, letter-p, letter-r, letter-w, letter-d, wrong, joined, fields, Line, unknown, ifRight, levelLine, pollLine, readLine, writeLine, drainLine, lineOf, playedLine, played, inFront, linesOf, answers}
-use Rattle.session.specs.hex.Reads.{fieldOf}
-use Rattle.session.specs.Feeds.{Unended}
+use Rattle.session.specs.{hex.Reads.fieldOf, Feeds.Unended}
 use Rattle.session.proofs.request.Fields.{first-field, goes-on}
 
 -- ---- a line that goes on

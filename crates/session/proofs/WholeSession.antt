@@ -1,15 +1,9 @@
 -- The session program as one equation: what start, any feeds and close write, one after another, is `session input` (01, The session program). It follows
 -- from their contracts alone, whatever the chunks, the buffers and the line buffer are.
-use mathlib.Core.Path.{_≡_, refl, sym, ap, _∙_}
-use mathlib.Core.List.{List, [], _∷_, _++_, append-assoc, append-nil}
-use Prim.Native.Nat.{ℕ, _≤_}
-use lib.ListN.{length, take}
-use lib.Seq.{take-at}
+use Rattle.basics.proofs.Prelude.{_≡_, refl, sym, ap, _∙_, List, [], _∷_, _++_, append-assoc, append-nil, ℕ, _≤_, length, take, take-at}
 use Rattle.sessions.specs.Session.{linesOf, answers, session}
 use Rattle.device.specs.state.View.{view}
-use Rattle.session.specs.reply.Says.{Says}
-use Rattle.session.specs.Feeds.{Starts, Ready, toSay, Feeds}
-use Rattle.session.specs.declared.Session.{Session}
+use Rattle.session.specs.{reply.Says.Says, Feeds.Starts, Feeds.Ready, Feeds.toSay, Feeds.Feeds, declared.Session.Session}
 use Rattle.session.proofs.Feeding.{start-ready}
 
 -- a call of `feed`: the bytes that it took of its chunk, its buffer at entry, and what it left, with how many bytes it wrote

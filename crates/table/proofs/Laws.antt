@@ -1,9 +1,5 @@
 -- What a number tells by its row, and what an offset means by its range.
-use mathlib.Core.Path.{_≡_, refl, sym, ap, _∙_}
-use mathlib.Core.List.{List, [], _∷_}
-use Prim.Native.Nat.{ℕ, _-_, _/_, _%_, _<_, _≤_}
-use native.Mathlib.Omega.{arith}
-use borrow.Author.Tests.{le-leb, lt-leb, ne-eqb}
+use Rattle.basics.proofs.Prelude.{_≡_, refl, sym, ap, _∙_, List, [], _∷_, ℕ, _/_, _%_, _<_, _≤_, arith, le-leb, lt-leb, ne-eqb}
 use Rattle.rules.specs.Map.{Register}
 use Rattle.table.specs.Meaning.{Meaning, route, vector, nothing, partOf, Numbers, registers, named, reading}
 

@@ -1,21 +1,11 @@
 -- What 01's map says of a byte, in the rules' terms: what stands at the offset for a Dword, and what a Byte reads and writes there.
-use mathlib.Core.Path.{_≡_, refl, sym, ap, subst, _∙_}
-use mathlib.Core.Bool.{Bool, true, false, cond, not, _&&_, _||_, false≢true, and-eq-true-iff}
-use mathlib.Core.List.{List, [], _∷_}
-use Prim.Native.Nat.{ℕ, zero, suc, _+_, _-_, _%_, _<_, _≤_}
-use native.Mathlib.Omega.{arith}
-use lib.Dec.{eqb, ltb}
-use lib.ListN.{getD}
-use borrow.Author.Tests.{ne-eqb, eqb-true, ltb-true}
-use Rattle.basics.specs.Numbers.{byteOf, withByte}
-use Rattle.basics.specs.Inputs.{half}
+use Rattle.basics.proofs.Prelude.{_≡_, refl, sym, ap, subst, _∙_, Bool, true, false, cond, not, _&&_, _||_, false≢true, and-eq-true-iff, List, [], _∷_, ℕ, zero, suc, _+_, _-_, _%_, _<_, _≤_, arith, eqb, ltb, getD, ne-eqb, eqb-true, ltb-true, byteOf, withByte, half, test}
 use Rattle.rules.specs.Core.{Core, Act, store, setRoute, setVector}
 use Rattle.rules.specs.Map.{Row, Cell, halfOf, bytes, table, lookup, inRoutes, inVectors, inByteArea, cellAt}
-use Rattle.rules.specs.Map as map
 use Rattle.rules.specs.Access.{valueOf, entry, readCell, readDword, readByte, registerActs, entryActs, cellActs, dwordActs, byteActs}
-use Rattle.basics.proofs.laws.Bits.{test}
 use Rattle.laws.proofs.laws.Maps.{inside, inside-from, outside, lookup-bytes, not-aligned}
 use Rattle.table.specs.Meaning.{Meaning, part, route, vector, nothing, within, meant}
+use Rattle.rules.specs.Map as map
 
 -- ---- where no register's half stands
 

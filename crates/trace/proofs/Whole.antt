@@ -1,19 +1,9 @@
 -- The first bad record, and the test of a trace by what was found.
-use mathlib.Core.Path.{_≡_, refl, sym, ap, _∙_}
-use mathlib.Core.Bool.{Bool, true, false, cond, not, false≢true}
-use mathlib.Core.List.{List}
-use Prim.Native.Nat.{ℕ, suc, _+_, _-_, _*_, _<_, _≤_}
-use native.Mathlib.Omega.{arith}
-use lib.ListN.{length}
-use borrow.Author.Tests.{lt-ltb, le-ltb}
-use Rattle.traces.specs.Trace.{mostRecords, recordLength, firstPlace, recordCount, contentsGood}
-use Rattle.traces.specs.Trace.{Record, recordAt, isGood, firstBad, good, wrongContents, badRecord, foundBad, traceTest}
-use Rattle.traces.proofs.laws.Contents.{contents-have}
-use Rattle.traces.proofs.laws.Firsts.{first-end, first-here, first-on}
-use Rattle.trace.specs.declared.contents.Contents.{Contents}
-use Rattle.trace.specs.declared.contents.Contents.the-variants.{Good, Wrong}
-use Rattle.trace.specs.contents.Found.{contentsIf, contentsAs}
-use Rattle.trace.specs.Found.{badFrom}
+use Rattle.basics.proofs.Prelude.{_≡_, refl, sym, ap, _∙_, Bool, true, false, cond, not, false≢true, List, ℕ, suc, _+_, _-_, _*_, _<_, _≤_, arith, length, lt-ltb, le-ltb}
+use Rattle.trace.specs.declared.contents.Contents.{the-variants.Good, the-variants.Wrong, Contents}
+use Rattle.trace.specs.{contents.Found.contentsIf, contents.Found.contentsAs, Found.badFrom}
+use Rattle.traces.specs.Trace.{mostRecords, recordLength, firstPlace, recordCount, contentsGood, Record, recordAt, isGood, firstBad, good, wrongContents, badRecord, foundBad, traceTest}
+use Rattle.traces.proofs.laws.{Contents.contents-have, Firsts.first-end, Firsts.first-here, Firsts.first-on}
 
 -- ---- the first bad record
 

@@ -127,7 +127,8 @@ impl Bench {
         Ok(())
     }
 
-    /// As Linux's driver does it, four bytes at a time: vectors and routes, then everything masked and cleared, and then the hoist's own lines unmasked.
+    /// As a driver for the hoist profile does it, by aligned Dwords: vectors and routes four at a time, then everything masked and cleared, and then the hoist's own lines
+    /// unmasked. Linux's driver writes Bytes, and does not fit the profile.
     fn starts_up(&mut self) -> Result<(), Error> {
         let _ = (self.reads(reg::ID)?, self.reads(reg::ID + reg::HIGH)?);
         for first in (0..64).step_by(4) {

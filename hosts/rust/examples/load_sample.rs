@@ -1,6 +1,6 @@
 //! A guest's day with a PCH-PIC, told in plain words: start-up as Linux's driver does it, a load sample's line up and down, the device saved
-//! to a file and loaded into a fresh host, what comes after sixteen events, a guest that is unkind, a recorder that puts events in order, and its
-//! own board.
+//! to a file and loaded into a fresh host, what comes after sixteen events, a guest that is unkind, a button that is an edge, a recorder that puts
+//! events in order, and its own board.
 //!
 //! `load_sample FILE` plays it, and the device goes to FILE, with the numbers of its events; `load_sample --show FILE` tells what a saved device holds;
 //! `load_sample --form F FROM TO` saves what FROM holds to TO, in form 1, 2 or numbered: a host of before version 0.8.0 does not load numbered, and one of
@@ -17,6 +17,8 @@ use std::process::ExitCode;
 const WINDOW: Window = Window::at(0x1000_0000);
 const SAMPLE: u64 = 21;
 const SAMPLE_BIT: u64 = 1 << SAMPLE;
+const BUTTON: u64 = 7;
+const BUTTON_BIT: u64 = 1 << BUTTON;
 const FIRST_VECTOR: u64 = 0x40;
 const OTHER_VECTOR: u64 = 0x77;
 
@@ -151,6 +153,24 @@ fn unkind(host: &mut Host) -> Result<(), Error> {
     host.line(1, false)
 }
 
+/// The button is an edge: pressed and let go before the guest looks, it has come all the same, and held down it comes once.
+fn button(host: &mut Host) -> Result<(), Error> {
+    println!("The guest makes input {BUTTON} an edge, for a button, and unmasks it alone.");
+    host.guest_writes(reg::MASK, Width::Qword, !BUTTON_BIT)?;
+    host.guest_writes(reg::EDGE, Width::Dword, BUTTON_BIT)?;
+    println!("The button is pressed and let go: the line goes up and down.");
+    host.line(BUTTON, true)?;
+    host.line(BUTTON, false)?;
+    println!("The guest clears the edge and takes the press.");
+    host.guest_writes(reg::CLEAR, Width::Dword, BUTTON_BIT)?;
+    println!("The button is held down: the line goes up and stays.");
+    host.line(BUTTON, true)?;
+    println!("The guest clears the edge; the line is still up, and no second edge.");
+    host.guest_writes(reg::CLEAR, Width::Dword, BUTTON_BIT)?;
+    host.line(BUTTON, false)?;
+    host.guest_writes(reg::EDGE, Width::Dword, 0)
+}
+
 fn print_events(events: &[Event]) {
     for event in events {
         say!("  number {}: {event}", event.number);
@@ -211,6 +231,7 @@ fn play(path: &Path) -> Result<ExitCode, Failure> {
     save_and_load(&mut host, path)?;
     after_sixteen(&mut host)?;
     unkind(&mut host)?;
+    button(&mut host)?;
     recorded(&mut host)?;
     second_board()?;
     let left = host.wires.vectors_on().count();

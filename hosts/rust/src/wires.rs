@@ -1,6 +1,6 @@
 //! The wires of a device, and what a host does with them.
 
-use crate::{event, Board, Error, Event, PchPic, Returned, EVENTS, INPUTS, VECTORS};
+use crate::{event, reg, Board, Error, Event, PchPic, Returned, Width, Window, EVENTS, INPUTS, VECTORS};
 use core::fmt;
 
 /// What [`Wires`] asks of a device: the calls of a [`PchPic`], made on it alone or recorded too.
@@ -77,6 +77,29 @@ impl fmt::Display for Change {
 /// Each call takes a `route`, which is called for each vector that is to be asserted or deasserted above. An assert may come for a vector
 /// that is on: another input that carries it wants service. A deassert comes only when no input carries it any more.
 ///
+/// # Edges
+///
+/// The device keeps EDGE and knows levels alone; what an edge is, is made of them here. Of an input that the guest has in EDGE only the rise of its line is told, from
+/// low to high, and once: neither its fall, nor a line that is high already. So it is latched from its rise until the guest clears it, and a second rise
+/// before that adds nothing. A pulse is two calls of [`line`](Wires::line), high and low, and one interrupt. An edge that the guest makes a level follows its line
+/// from then on. Which way a line turns (POL) is the host's to know: here high is active.
+///
+/// ```
+/// use pch_pic::{reg, PchPic, Width, Window, Wires};
+///
+/// let (mut pic, mut wires, window) = (PchPic::new(), Wires::new(), Window::at(0));
+/// pic.write(window, reg::EDGE, Width::Dword, 1 << 7)?;
+/// pic.write(window, reg::MASK, Width::Dword, 0)?;
+/// wires.settle(&mut pic, |_| unreachable!());
+/// wires.line(&mut pic, 7, true, |change| println!("{change}"))?;
+/// wires.line(&mut pic, 7, false, |_| unreachable!())?; // it stays until the guest clears it
+/// assert!(wires.is_on(7));
+/// pic.write(window, reg::CLEAR, Width::Dword, 1 << 7)?;
+/// wires.settle(&mut pic, |change| println!("{change}"));
+/// assert!(!wires.is_on(7));
+/// # Ok::<(), pch_pic::Error>(())
+/// ```
+///
 /// ```
 /// use pch_pic::{reg, PchPic, Width, Window, Wires};
 ///
@@ -90,6 +113,8 @@ impl fmt::Display for Change {
 pub struct Wires {
     /// Bit n is set while a device of the host holds line n up.
     high: u64,
+    /// The inputs that EDGE had when [`settle`](Wires::settle) last looked.
+    edges: u64,
     /// What the controller above was told last.
     on: [bool; VECTORS],
 }
@@ -116,7 +141,7 @@ impl fmt::Debug for Wires {
 impl Wires {
     /// Every line low, every vector off.
     pub const fn new() -> Self {
-        Wires { high: 0, on: [false; VECTORS] }
+        Wires { high: 0, edges: 0, on: [false; VECTORS] }
     }
 
     /// The lines that are high: bit n for input n.
@@ -141,8 +166,8 @@ impl Wires {
     }
 
     /// Brings the wires in line with the device, whatever the guest did: drains and passes on, counts afresh which vectors are on and passes
-    /// on what no event told, polls all 64 inputs, and raises each line again that is still high. Then every latched and unmasked input is in
-    /// service. To be called after each write and each reset.
+    /// on what no event told, polls all 64 inputs, and raises each line again that is still high and no edge. Then every latched and unmasked
+    /// input is in service. To be called after each write and each reset.
     ///
     /// ```
     /// use pch_pic::{reg, PchPic, Width, Window, Wires};
@@ -155,15 +180,22 @@ impl Wires {
     /// # Ok::<(), pch_pic::Error>(())
     /// ```
     pub fn settle(&mut self, pic: &mut impl Device, mut route: impl FnMut(Change)) {
+        let edges = edge_inputs(pic.pic());
+        let levels_again = self.edges & !edges;
+        self.edges = edges;
         // Waiting events are older than those of the inputs. And a line that a CLEAR took goes off above before it goes on again.
         self.catch_up(pic, &mut route);
+        // An edge whose line has fallen, and that is a level now, goes before the sweep would wake it.
+        for input in inputs(levels_again & pic.pic().latched() & !self.high) {
+            self.shift(pic, input, false, &mut route);
+        }
         self.sweep(pic, &mut route);
-        for input in inputs(self.high) {
+        for input in inputs(self.high & !edges) {
             self.shift(pic, input, true, &mut route);
         }
     }
 
-    /// A device of the host moves a line, and what comes of it is passed on.
+    /// A device of the host moves a line, and what comes of it is passed on. Of an edge only the rise is told to the device.
     ///
     /// # Errors
     ///
@@ -173,17 +205,23 @@ impl Wires {
             return Err(Error::Input);
         }
         let bit = 1 << input;
+        let told = edge_inputs(pic.pic()) & bit == 0 || (high && self.high & bit == 0);
         self.high = if high { self.high | bit } else { self.high & !bit };
         self.catch_up(pic, &mut route);
-        self.shift(pic, input, high, &mut route);
+        if told {
+            self.shift(pic, input, high, &mut route);
+        }
         Ok(())
     }
 
     /// After a load: the lines are as `high` says, bit n for input n, and the rest follows. Wires that are new say that the controller above
     /// has nothing on; see [`assume`](Wires::assume).
+    ///
+    /// An edge that was latched stays so, whatever its line, and one that is high makes no new edge. So `high` is best the lines as they were at the save: those
+    /// that moved since are then moved by [`line`](Wires::line), and a rise among them is told.
     pub fn resume(&mut self, pic: &mut impl Device, high: u64, route: impl FnMut(Change)) {
-        // A line that was high when the device was saved may have gone low since: then its input is still latched.
-        for input in inputs(pic.pic().latched() & !high) {
+        // A line that was high when the device was saved may have gone low since: then its input is still latched. Not so an edge: it stays until it is cleared.
+        for input in inputs(pic.pic().latched() & !high & !edge_inputs(pic.pic())) {
             // What it returns is left to the count.
             let _ = pic.set_level(input, false);
         }
@@ -236,6 +274,11 @@ impl Wires {
         self.on[usize::from(change.vector)] = change.asserted;
         route(change);
     }
+}
+
+/// The inputs that the guest has made edge-triggered. A host's own look at its device: no record of a day has it.
+fn edge_inputs(pic: &PchPic) -> u64 {
+    pic.read(Window::at(0), reg::EDGE, Width::Qword).unwrap_or(0)
 }
 
 /// The inputs of a set, lowest first.

@@ -61,6 +61,18 @@ impl Host {
         self.in_line();
     }
 
+    fn pulse(&mut self, input: u64) {
+        self.line(input, true);
+        self.line(input, false);
+    }
+
+    /// The same device below a new controller, by way of a form.
+    fn loaded(self, form: Form) -> Self {
+        let mut host = Host::new(PchPic::load(form, &self.pic.save(form)).unwrap());
+        host.resume(self.wires.high());
+        host
+    }
+
     fn resume(&mut self, high: u64) {
         self.wires.resume(&mut self.pic, high, |change| self.above.route(change));
         self.in_line();
@@ -76,8 +88,9 @@ impl Host {
         assert_eq!(self.above.on, want);
         assert_eq!(self.wires.vectors_on().collect::<Vec<_>>(), want);
         let masked = self.pic.read(WINDOW, reg::MASK, Width::Qword).unwrap();
-        let waits = (self.wires.high() | self.pic.latched()) & !masked & !self.pic.in_service();
-        assert_eq!(waits, 0, "what is high or latched, and unmasked, is in service");
+        let edges = self.pic.read(WINDOW, reg::EDGE, Width::Qword).unwrap();
+        let waits = (self.wires.high() & !edges | self.pic.latched()) & !masked & !self.pic.in_service();
+        assert_eq!(waits, 0, "what is high and no edge, or latched, and unmasked, is in service");
     }
 
     #[track_caller]
@@ -221,32 +234,166 @@ fn there_is_no_input_64() {
     assert_eq!(host.wires, Wires::default());
 }
 
-#[test]
-fn any_guest() {
-    let mut state = 0x9e37_79b9_7f4a_7c15_u64;
-    let mut chance = move || {
+/// A small generator, so that each run tries the same guests.
+fn dice(mut state: u64) -> impl FnMut() -> u64 {
+    move || {
         state ^= state << 13;
         state ^= state >> 7;
         state ^= state << 17;
         state
-    };
+    }
+}
+
+#[test]
+fn any_guest() {
+    let mut chance = dice(0x9e37_79b9_7f4a_7c15);
     let mut host = Host::new(PchPic::new());
     for _ in 0..2000 {
         host.above.told = 0;
         match chance() % 16 {
             0..=7 => host.line(chance() % 64, chance() % 2 == 0),
             8..=14 => {
-                let place = [reg::MASK, reg::CLEAR, reg::ISR, reg::VECTORS][(chance() % 4) as usize];
+                let place = [reg::MASK, reg::CLEAR, reg::ISR, reg::VECTORS, reg::EDGE][(chance() % 5) as usize];
                 let offset = place + chance() % if place == reg::VECTORS { 64 } else { 8 };
                 host.writes(offset, WIDTHS[(chance() % 4) as usize], chance() & chance() & chance());
             }
             _ => {
-                let high = host.wires.high();
-                let form = [Form::One, Form::Two, Form::Numbered][(chance() % 3) as usize];
-                host = Host::new(PchPic::load(form, &host.pic.save(form)).unwrap());
-                host.resume(high);
+                host = host.loaded([Form::One, Form::Two, Form::Numbered][(chance() % 3) as usize]);
             }
         }
         assert!(host.above.told <= EVENTS + VECTORS + INPUTS);
+    }
+}
+
+/// An unmasked input 7, edge-triggered.
+fn with_an_edge() -> Host {
+    let mut host = Host::unmasked();
+    host.writes(reg::EDGE, Width::Qword, 1 << 7);
+    host
+}
+
+#[test]
+fn edges_are_told_once() {
+    let mut host = with_an_edge();
+    for count in 0..100 {
+        host.pulse(7);
+        host.expect(&[7], 2 * count + 1, 0);
+        host.writes(reg::CLEAR, Width::Dword, 1 << 7);
+        host.expect(&[], 2 * count + 2, 0);
+    }
+    // A held edge is one edge, whatever the guest writes.
+    host.line(7, true);
+    host.line(7, true);
+    host.expect(&[7], 201, 0);
+    for _ in 0..100 {
+        host.writes(reg::CLEAR, Width::Dword, 1 << 7);
+        host.writes(reg::MASK, Width::Dword, 1 << 7);
+        host.writes(reg::MASK, Width::Dword, 0);
+    }
+    host.line(7, false);
+    host.expect(&[], 202, 0);
+    // A second edge before the guest clears the first adds nothing.
+    host.pulse(7);
+    host.pulse(7);
+    host.expect(&[7], 203, 0);
+    host.writes(reg::CLEAR, Width::Dword, 1 << 7);
+    host.writes(reg::MASK, Width::Dword, 1 << 7);
+    host.pulse(7);
+    host.expect(&[], 204, 0);
+    host.writes(reg::MASK, Width::Dword, 0);
+    host.expect(&[7], 205, 0);
+    host.pic.reset();
+    host.settle();
+    host.expect(&[], 206, 0);
+}
+
+#[test]
+fn level_to_edge_and_back() {
+    let mut host = Host::unmasked();
+    host.line(7, true);
+    host.writes(reg::EDGE, Width::Qword, 1 << 7);
+    host.line(7, false);
+    host.expect(&[7], 1, 0); // an edge now: it stays
+    host.writes(reg::EDGE, Width::Qword, 0);
+    host.expect(&[], 2, 0); // a level again: it follows its line
+    host.writes(reg::EDGE, Width::Qword, 1 << 7);
+    host.line(7, true);
+    host.writes(reg::CLEAR, Width::Qword, 1 << 7);
+    host.expect(&[], 4, 0);
+    host.writes(reg::EDGE, Width::Qword, 0);
+    host.expect(&[7], 5, 0);
+    host.writes(reg::CLEAR, Width::Qword, 1 << 7);
+    host.expect(&[7], 7, 0); // a level that is cleared comes again
+    host.line(7, false);
+    host.writes(reg::MASK, Width::Qword, u64::MAX);
+    host.writes(reg::EDGE, Width::Qword, 1 << 7);
+    host.pulse(7);
+    host.writes(reg::EDGE, Width::Qword, 0);
+    host.writes(reg::MASK, Width::Qword, 0);
+    host.expect(&[], 8, 0);
+}
+
+/// Saved: 3 latched and masked, its line fell; 4 in service, its line fell; 5 served, its line held; 6 not yet risen.
+#[test]
+fn edges_across_a_load() {
+    for form in [Form::One, Form::Two, Form::Numbered] {
+        let mut old = Host::new(PchPic::new());
+        old.writes(reg::EDGE, Width::Qword, 0x78);
+        old.writes(reg::MASK, Width::Qword, !0x70);
+        old.pulse(3);
+        old.pulse(4);
+        old.line(5, true);
+        old.writes(reg::CLEAR, Width::Qword, 1 << 5);
+        let mut host = Host::new(PchPic::load(form, &old.pic.save(form)).unwrap());
+        host.resume(old.wires.high());
+        host.expect(&[4], 1, 0);
+        assert_eq!(host.pic.latched(), 0x18);
+        host.line(6, true);
+        host.expect(&[4, 6], 2, 0);
+        host.writes(reg::MASK, Width::Qword, !0x78);
+        host.expect(&[3, 4, 6], 3, 0);
+        host.writes(reg::CLEAR, Width::Qword, 0x78);
+        host.expect(&[], 6, 0);
+        host.writes(reg::EDGE, Width::Qword, 0);
+        host.expect(&[5, 6], 8, 0);
+    }
+}
+
+/// Guests that flip EDGE at any time. What is latched is worked out beside the device: a level's latch is its line; an edge's comes with a rise, and goes with a
+/// CLEAR or as it becomes a level while its line is low.
+#[test]
+fn any_flip_of_edge() {
+    let mut chance = dice(0x2545_f491_4f6c_dd1d);
+    let mut host = Host::new(PchPic::new());
+    let (mut edges, mut latched) = (0_u64, 0_u64);
+    for _ in 0..4000 {
+        let half = chance() % 2 * 32;
+        let bits = (chance() & chance() & chance() & 0xffff_ffff) << half;
+        let mut write = |register| host.writes(register + half / 8, Width::Dword, bits >> half);
+        match chance() % 16 {
+            0 | 1 => {
+                edges = edges & !(0xffff_ffff << half) | bits;
+                write(reg::EDGE);
+            }
+            2 | 3 => {
+                latched &= !bits;
+                write(reg::CLEAR);
+            }
+            4 | 5 => write(reg::MASK),
+            6 => host = host.loaded([Form::One, Form::Two, Form::Numbered][(chance() % 3) as usize]),
+            7 if chance() % 8 == 0 => {
+                (edges, latched) = (0, 0);
+                host.pic.reset();
+                host.settle();
+            }
+            _ => {
+                let (input, high) = (chance() % 64, chance() % 2 == 0);
+                latched |= u64::from(high && host.wires.high() >> input & 1 == 0) << input;
+                host.line(input, high);
+            }
+        }
+        latched = latched & edges | host.wires.high() & !edges;
+        let masked = host.pic.read(WINDOW, reg::MASK, Width::Qword).unwrap();
+        assert_eq!((host.pic.latched(), host.pic.in_service()), (latched, latched & !masked));
     }
 }

@@ -1,26 +1,12 @@
 -- Route and vector bytes by their offsets: a single one, a run of them, and the accesses that are a run.
-use mathlib.Core.Path.{_≡_, refl, sym, ap, _∙_}
-use mathlib.Core.Logic.{_⊎_, inl, inr, ⊎-elim}
-use mathlib.Core.Bool.{Bool, true, false, not, cond, _&&_, _||_, false≢true, and-eq-true-iff}
-use mathlib.Core.List.{List, [], _∷_, _++_, append-nil, append-assoc}
-use Prim.Native.Nat.{ℕ, zero, suc, _+_, _-_, _*_, _/_, _%_, _^_, _<_, _≤_}
-use native.Mathlib.Omega.{arith}
-use lib.Dec.{eqb}
-use lib.ListN.{length, take, drop, getD, set}
-use lib.Seq.{sets, sets-eq, drop-cons}
-use borrow.Author.Tests.{eqb-true}
-use Rattle.basics.specs.Numbers.{numberOf, bytesOf, byteOf, part}
-use Rattle.rules.specs.Core.{Core, CoreTurn, setRoute, withRoutes, turns, lineTurn}
-use Rattle.rules.specs.Map.{Row, Cell, bytes, nothing, table, lookup, within, routesAt, routesEnd, vectorsAt, vectorsEnd, inRoutes, inVectors, cellAt}
-use Rattle.rules.specs.Access.{qword, entry, readCell, readAt, entryActs, cellActs, writeActs}
-use Rattle.rules.specs.Numbering.{Numbers}
-use Rattle.rules.specs.Device.{Device, acted}
-use Rattle.rules.proofs.laws.Acts.{turns-append, acted-none, acted-append}
-use Rattle.basics.proofs.laws.Bits.{test}
-use Rattle.basics.proofs.laws.Bytes.{length-bytesOf}
-use Rattle.laws.proofs.laws.Maps.{Elsewhere, outside, inside, inside-from, not-route, lookup-bytes}
+use Rattle.basics.proofs.Prelude.{four-bytes, _≡_, refl, sym, ap, _∙_, _⊎_, inl, inr, ⊎-elim, Bool, true, false, not, cond, _&&_, _||_, false≢true, and-eq-true-iff, List, [], _∷_, _++_, append-nil, append-assoc, ℕ, zero, suc, _+_, _-_, _*_, _/_, _%_, _^_, _<_, _≤_, arith, eqb, length, take, drop, getD, set, sets, sets-eq, drop-cons, eqb-true, numberOf, bytesOf, byteOf, part, test, length-bytesOf}
+use Rattle.laws.proofs.laws.{Losses.entry-quiet, Maps.Elsewhere, Maps.outside, Maps.inside, Maps.inside-from, Maps.not-route, Maps.lookup-bytes}
 use Rattle.laws.proofs.laws.Widths.{entry-route, entry-vector, entry-none, dword-of}
 use Rattle.laws.proofs.laws.Writes.{acted-store, acted-vector, entry-acts-route, entry-acts-vector, entry-acts-none, dword-acts-of}
+use Rattle.rules.specs.Core.{Core, CoreTurn, setRoute, withRoutes, turns}
+use Rattle.rules.specs.Map.{Row, Cell, bytes, nothing, table, lookup, within, routesAt, routesEnd, vectorsAt, vectorsEnd, inRoutes, inVectors, cellAt}
+use Rattle.rules.specs.{Access.qword, Access.entry, Access.readCell, Access.readAt, Access.entryActs, Access.cellActs, Access.writeActs, Numbering.Numbers, Device.Device, Device.acted}
+use Rattle.rules.proofs.laws.Acts.{turns-append, acted-none, acted-append}
 use Rattle.bits.specs.bytes.Put.{withBytes}
 use Rattle.fields.specs.inplace.Held.{Holds, Reads, Becomes, Writes, withVectors, withStored}
 use Rattle.fields.proofs.inplace.Doing.{stores-write, writes-none, writes-same, writes-then}
@@ -135,10 +121,6 @@ eight-read i o run r d ns h =
 
 -- ---- written
 
--- the four low bytes of a number, as they come off it one after another
-four-bytes : (v : ℕ) → (byteOf v 0 ≡ v % 256) × (byteOf v 1 ≡ v / 256 % 256) × (byteOf v 2 ≡ v / 256 / 256 % 256) × (byteOf v 3 ≡ v / 256 / 256 / 256 % 256)
-four-bytes v = (omega arith, omega arith, omega arith, omega arith)
-
 -- four bytes of a run are a Dword's, and eight a Qword's
 four-acts : (o v : ℕ) → entriesActs o 4 v ≡ cellActs o v bytes
 unfolding cellActs
@@ -174,10 +156,6 @@ eight-acts c o v run =
     both ∙ (λ t. entriesActs o 4 v ++ entriesActs (p t) 4 (q t)) ∙ (λ t. low t ++ high t)
 
 -- no event is made
-entry-quiet : (c : Core) (o v : ℕ) → turns c (entryActs o v) .made ≡ []
-unfolding entryActs turns lineTurn
-entry-quiet c o v = test (inRoutes o) (λ t. rw t) (λ t. rw t (test (inVectors o) (λ u. rw u) (λ u. rw u)))
-
 run-quiet : (n : ℕ) (c : Core) (o v : ℕ) → turns c (entriesActs o n v) .made ≡ []
 unfolding turns
 run-quiet zero c o v = refl

@@ -1,16 +1,8 @@
 -- A Byte by the Dword that it lies in, and a Word by two Bytes.
-use mathlib.Core.Path.{_≡_, sym, ap, _∙_}
-use mathlib.Core.Bool.{false}
-use mathlib.Core.List.{List, _++_}
-use Prim.Native.Nat.{ℕ, _+_, _^_, _<_}
-use lib.Bits.{bitAnd}
-use Rattle.basics.specs.Numbers.{byteOf, withByte}
-use Rattle.rules.specs.Core.{turns}
-use Rattle.rules.specs.Map.{inByteArea}
-use Rattle.rules.specs.Access.{word, readDword, byteActs, dwordActs, writeActs}
+use Rattle.basics.proofs.Prelude.{_≡_, sym, ap, _∙_, false, List, _++_, ℕ, _+_, _^_, _<_, bitAnd, byteOf, withByte}
+use Rattle.rules.specs.{Core.turns, Map.inByteArea, Access.word, Access.readDword, Access.byteActs, Access.dwordActs, Access.writeActs}
 use Rattle.laws.proofs.laws.Writes.{byte-acts-outside}
-use Rattle.fields.specs.inplace.Held.{Reads, Writes}
-use Rattle.fields.proofs.inplace.Doing.{writes-same, writes-then}
+use Rattle.fields.{specs.inplace.Held.Reads, specs.inplace.Held.Writes, proofs.inplace.Doing.writes-same, proofs.inplace.Doing.writes-then}
 
 -- a Byte outside 0x100..0x39f: the Dword as read, with the byte replaced, is written
 pub outside-written : (o v : ℕ) {i j : List ℕ} {n old : ℕ} {new : ℕ} → o < 2 ^ 64 → inByteArea o ≡ false → Reads i old (λ d. readDword (d .core) (bitAnd o 0xffff_ffff_ffff_fffc)) → new ≡ withByte old (bitAnd o 0x3) v

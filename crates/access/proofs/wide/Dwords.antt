@@ -1,12 +1,7 @@
 -- A Qword by its Dwords.
-use mathlib.Core.Path.{_≡_}
-use mathlib.Core.Bool.{true, false}
-use mathlib.Core.List.{List, _++_}
-use Prim.Native.Nat.{ℕ, _+_}
-use Rattle.basics.specs.Inputs.{half}
+use Rattle.basics.proofs.Prelude.{_≡_, true, false, List, _++_, ℕ, _+_, half}
 use Rattle.rules.specs.Access.{qword, dwordActs, writeActs}
-use Rattle.fields.specs.inplace.Held.{Writes}
-use Rattle.fields.proofs.inplace.Doing.{writes-same, writes-then}
+use Rattle.fields.{specs.inplace.Held.Writes, proofs.inplace.Doing.writes-same, proofs.inplace.Doing.writes-then}
 
 module _ (o v : ℕ) {i j : List ℕ} {n : ℕ} where
   pub qword-both : {k : List ℕ} {m w x : ℕ} → w ≡ half false v → x ≡ half true v → Writes i j n (λ c. dwordActs o w) → Writes j k m (λ c. dwordActs (o + 4) x) → Writes i k (n + m) (λ c. writeActs c qword o v)

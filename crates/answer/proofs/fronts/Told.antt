@@ -1,19 +1,9 @@
 -- From how a call ends to what it leaves: what it tells stands in the answer area, and a drain was lent the event buffer from its place on.
-use mathlib.Core.Path.{_≡_, sym, ap, _∙_}
-use mathlib.Core.List.{List, [], _++_, append-nil}
-use Prim.Native.Nat.{ℕ, _-_, _≤_}
-use native.Mathlib.Omega.{arith}
-use lib.ListN.{length, take, drop, length-drop, drop-of-length-le}
-use lib.Seq.{take-all}
-use borrow.Rule.Slice.PartMut.{putMid}
-use Rattle.basics.specs.Numbers.{part}
-use Rattle.calls.specs.Calls.{Request, answered, bufferOf, placeOf, leaves, ending, outcome}
+use Rattle.basics.proofs.Prelude.{_≡_, sym, ap, _∙_, List, [], _++_, append-nil, ℕ, _-_, _≤_, arith, length, take, drop, length-drop, drop-of-length-le, take-all, putMid, part}
+use Rattle.calls.specs.{Calls.Request, Calls.answered, Calls.bufferOf, Calls.placeOf, Calls.leaves, Calls.ending, Calls.outcome, Convert.convertEnding, Convert.conversion}
+use Rattle.calls.proofs.laws.{Conversions.conversion-room, Outcomes.room, Outcomes.behind, Outcomes.drain-behind}
+use Rattle.answer.specs.{Given.valueView, Given.ends, declared.Told.Told}
 use Rattle.calls.specs.Calls as asked
-use Rattle.calls.specs.Convert.{convertEnding, conversion}
-use Rattle.calls.proofs.laws.Conversions.{conversion-room}
-use Rattle.calls.proofs.laws.Outcomes.{room, behind, drain-behind}
-use Rattle.answer.specs.Given.{valueView, ends}
-use Rattle.answer.specs.declared.Told.{Told}
 
 -- the part of an event buffer from a place on, and that part put back
 module _ (ev : List ℕ) (place : ℕ) where

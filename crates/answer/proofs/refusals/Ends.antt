@@ -1,31 +1,17 @@
 -- The image's test, as a call goes on or leaves by it.
-use mathlib.Core.Path.{_≡_, refl, sym, ap, subst, _∙_}
-use mathlib.Core.List.{List, [], _∷_}
-use Prim.Native.Nat.{ℕ}
-use types.Run.{OneOf}
-use denote.Enum.Declared.{tagOf}
-use lib.ListN.{length}
-use Rattle.basics.specs.Numbers.{Bytes}
+use Rattle.basics.proofs.Prelude.{_≡_, refl, sym, ap, subst, _∙_, List, [], _∷_, ℕ, OneOf, tagOf, length, Bytes}
+use Rattle.image.specs.{declared.head.Head.the-variants.WrongLength, declared.head.Head.the-variants.WrongContents, declared.head.Head.the-variants.Of, declared.head.Head.Head, Shown.formView}
+use Rattle.image.specs.{head.Good.headTest, head.Good.Headed, bodies.Good.holds, bodies.Good.bodiesGood, bodies.Good.bodiesTest}
+use Rattle.image.{specs.declared.bodies.Bodies.Bodies, specs.declared.bodies.Bodies.the-variants.Broken, specs.declared.bodies.Bodies.the-variants.Good, proofs.head.Head.the-type}
+use Rattle.image.proofs.{head.Orders.left-head, head.Orders.head-refuses, head.Orders.sized, bodies.Orders.accepts, bodies.Orders.refuses}
 use Rattle.rules.specs.Device.{Call, Value, none}
-use Rattle.images.specs.Form.{formLength}
-use Rattle.images.specs.Image.{accepted, imageTest}
+use Rattle.images.specs.{Form.formLength, Image.accepted, Image.imageTest}
 use Rattle.calls.specs.Calls.{imageNumber, imageValue, Tested, Request, calls, askedBy, bufferOf, Ending, ending}
 use Rattle.calls.proofs.laws.Outcomes.{image-refused}
 use Rattle.fields.specs.inplace.Passed.{Passed}
-use Rattle.image.specs.Shown.{formView}
+use Rattle.answer.specs.{Given.Tells, Given.ends, declared.Told.Told}
 use Rattle.image.specs.declared.form.Form as code
-use Rattle.image.specs.head.Good.{headTest, Headed}
-use Rattle.image.specs.bodies.Good.{holds, bodiesGood, bodiesTest}
-use Rattle.image.specs.declared.head.Head.{Head}
-use Rattle.image.specs.declared.head.Head.the-variants.{WrongLength, WrongContents, Of}
-use Rattle.image.specs.declared.bodies.Bodies.{Bodies}
-use Rattle.image.specs.declared.bodies.Bodies.the-variants.{Broken, Good}
-use Rattle.image.proofs.head.Head.{the-type}
-use Rattle.image.proofs.head.Orders.{left-head, head-refuses, sized}
-use Rattle.image.proofs.bodies.Orders.{accepts, refuses}
 use Rattle.image.proofs.bodies.Orders as orders
-use Rattle.answer.specs.Given.{Tells, ends}
-use Rattle.answer.specs.declared.Told.{Told}
 
 -- an ending with the number and the value that are told
 pub tells : (t : Told) {n : ℕ} {v : Value} → Tells t n v → {j e : List ℕ} {x : Ending} → record { number = n; value = v; image = j; events = e } ≡ x → ends t j e ≡ x

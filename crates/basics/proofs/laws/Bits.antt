@@ -1,15 +1,10 @@
 -- Bit i of a number: of a mask operation, of a shift, of a power of two, of a number made from a set. A number is given by its bits (on-ext),
 -- so a mask expression of the code is shown to be a definition of Inputs by comparing bits (put-is, without-is).
-use mathlib.Core.Path.{_≡_, refl, sym, ap, _∙_}
-use mathlib.Core.Logic.{⊎-elim}
-use mathlib.Core.Bool.{Bool, true, false, cond, not, _&&_, _||_}
+use mathlib.Core.{Path._≡_, Path.refl, Path.sym, Path.ap, Path._∙_, Logic.⊎-elim, Bool.Bool, Bool.true, Bool.false, Bool.cond, Bool.not, Bool._&&_, Bool._||_}
 use Prim.Native.Nat.{ℕ, zero, suc, _+_, _-_, _*_, _/_, _%_, _^_, _≤_, _<_, zero-le}
-use native.Mathlib.Nat.{mod-lt, add-zero, one-mul, div-eq-of-lt, mul-add-mod-self-right}
-use native.Mathlib.Nat.{lt-of-lt-of-le, lt-of-le-of-lt, eq-or-lt-of-le, le-of-suc-le-suc}
-use native.Mathlib.Numerals.{one-add}
-use native.Mathlib.Omega.{arith}
-use lib.Dec.{eqb, eqb·suc-suc}
-use lib.Bits.{bitAnd, bitOr, and-shr, or-shr, and-mod, or-mod, and-le-l, or-lt}
+use native.Mathlib.Nat.{mod-lt, add-zero, one-mul, div-eq-of-lt, mul-add-mod-self-right, lt-of-lt-of-le, lt-of-le-of-lt, eq-or-lt-of-le, le-of-suc-le-suc}
+use native.Mathlib.{Numerals.one-add, Omega.arith}
+use lib.{Dec.eqb, Dec.eqb·suc-suc, Bits.bitAnd, Bits.bitOr, Bits.and-shr, Bits.or-shr, Bits.and-mod, Bits.or-mod, Bits.and-le-l, Bits.or-lt}
 use lib.Pow.{pow-pos, pow-mono, shr-shr, high, field, mod-mod-pow, shl-exact}
 use borrow.Author.Tests.{ne-eqb}
 use Rattle.basics.specs.Inputs.{on, numberWith, register, only, put, without}

@@ -1,18 +1,11 @@
 -- A number and its bytes, little end first: each direction gives back what the other took, for any width.
 -- Then the number taken byte by byte from the front, the bytes of a part, and one byte of a number read and replaced.
-use mathlib.Core.Path.{_≡_, refl, sym, ap, _∙_}
-use mathlib.Core.Bool.{true, and-eq-true-iff}
-use mathlib.Core.List.{List, [], _∷_, _++_}
+use mathlib.Core.{Path._≡_, Path.refl, Path.sym, Path.ap, Path._∙_, Bool.true, Bool.false, Bool.and-eq-true-iff, List.List, List.[], List._∷_, List._++_}
 use Prim.Native.Nat.{ℕ, zero, suc, _+_, _*_, _/_, _%_, _^_, _<_, _≤_}
-use native.Mathlib.Nat.{pow-succ', mul-left-comm}
-use native.Mathlib.Numerals.{add-one}
-use native.Mathlib.Omega.{arith}
-use lib.Dec.{ltb, lit<}
-use lib.ListN.{length, take, drop, getD, replicate}
-use lib.Pow.{areBytes}
-use lib.Seq.{length-take-le, take-suc, getD-drop}
+use native.Mathlib.{Nat.pow-succ', Nat.mul-left-comm, Numerals.add-one, Omega.arith}
+use lib.{Dec.ltb, Dec.lit<, ListN.length, ListN.take, ListN.drop, ListN.getD, ListN.replicate, Pow.areBytes, Seq.length-take-le, Seq.take-suc, Seq.getD-drop}
 use borrow.Author.Tests.{ltb-true}
-use Rattle.basics.specs.Numbers.{numberOf, bytesOf, part, Bytes}
+use Rattle.basics.specs.{Numbers.numberOf, Numbers.bytesOf, Numbers.byteOf, Numbers.part, Numbers.Bytes, Inputs.half}
 use Rattle.basics.proofs.laws.Lists.{length-part}
 
 -- ---- both directions
@@ -96,3 +89,13 @@ module _ (l : List ℕ) (a n : ℕ) (b : Bytes l) (h : a + n ≤ length l) where
 
   pub part-below : numberOf (part a n l) < 256 ^ n
   part-below = rw (length-part l a n h) at (numberOf-below (part a n l) (bytes-part l a n b))
+
+-- ---- the bytes of a number one by one
+
+-- the four low bytes of a number, as they come off it one after another
+pub four-bytes : (v : ℕ) → (byteOf v 0 ≡ v % 256) × (byteOf v 1 ≡ v / 256 % 256) × (byteOf v 2 ≡ v / 256 / 256 % 256) × (byteOf v 3 ≡ v / 256 / 256 / 256 % 256)
+four-bytes v = (omega arith, omega arith, omega arith, omega arith)
+
+-- the low half keeps the low bytes
+pub low-bytes : (v w : ℕ) → w ≡ half false v → (byteOf w 0 ≡ byteOf v 0) × (byteOf w 1 ≡ byteOf v 1)
+low-bytes v w e = (omega arith, omega arith)

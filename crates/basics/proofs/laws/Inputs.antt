@@ -1,16 +1,12 @@
 -- The list of the inputs that have a property: what it depends on, its first one, when it is empty. trailing_zeros gives the first one.
-use mathlib.Core.Path.{_≡_, refl, sym, ap, ap₂, _∙_}
-use mathlib.Core.Logic.{⊎-elim}
-use mathlib.Core.Bool.{Bool, true, false, cond, not, _&&_, and-true}
+use lib.{ListN.length, Bits.bitAnd, Bits.and-le-l, Count.trailingZeros, Count.under}
+use Rattle.basics.proofs.laws.{Truth.twice, Bits.digit, Bits.test, Bits.is-number, Bits.on-zero, Bits.on-suc, Bits.on-none, Bits.on-and, Bits.on-without}
+use mathlib.Core.{Path._≡_, Path.refl, Path.sym, Path.ap, Path.ap₂, Path._∙_, Logic.⊎-elim, Bool.Bool, Bool.true, Bool.false, Bool.cond, Bool.not, Bool._&&_, Bool.and-true}
 use mathlib.Core.List.{List, [], _∷_}
 use Prim.Native.Nat.{ℕ, zero, suc, _+_, _-_, _/_, _%_, _^_, _≤_, _<_, suc-le-suc, zero-le}
-use native.Mathlib.Nat.{eq-or-lt-of-le, le-of-suc-le-suc, lt-of-le-of-lt}
-use native.Mathlib.Omega.{arith}
-use lib.Bits.{bitAnd, and-le-l}
-use lib.Count.{trailingZeros, under}
+use native.Mathlib.{Nat.eq-or-lt-of-le, Nat.le-of-suc-le-suc, Nat.lt-of-le-of-lt, Omega.arith}
 use borrow.Author.Tests.{eq-eqb, ne-eqb, eqb-true, eqb-false}
 use Rattle.basics.specs.Inputs.{on, from, inputs, only, without}
-use Rattle.basics.proofs.laws.Bits.{digit, test, is-number, on-zero, on-suc, on-none, on-and, on-without}
 
 -- ---- lists
 pub from-ext : (n k : ℕ) (f g : ℕ → Bool) → ((i : ℕ) → n ≤ i → i < n + k → f i ≡ g i) → from n k f ≡ from n k g
@@ -126,10 +122,6 @@ dropped-bits (suc k) x h n =
         let half : (x - 1) / 2 ≡ x / 2 - 1 = omega arith in
         rw (on-suc x i, on-suc (x - 1) i, half, only-suc t i) (r i)
 
-    twice : (a : Bool) → (a && a) ≡ (a && true)
-    twice true = refl
-    twice false = refl
-
     odd : x % 2 ≡ 1 → (i : ℕ) → (on x i && on (x - 1) i) ≡ (on x i && not (only 0 i))
     odd e zero =
         let low : (x - 1) % 2 ≡ 0 = omega arith in
@@ -142,3 +134,7 @@ dropped-bits (suc k) x h n =
 pub lowest-dropped : (x : ℕ) → x < 2 ^ 64 → (x ≡ 0 → ⊥) → bitAnd x (x - 1) ≡ without x (only (trailingZeros 64 x))
 unfolding without
 lowest-dropped x h n = is-number 64 _ _ (lt-of-le-of-lt (and-le-l x (x - 1)) h) (λ i l. on-and x (x - 1) i ∙ dropped-bits 64 x h n i)
+
+-- with its lowest bit dropped a set has one input less
+pub one-less : (x : ℕ) → x < 2 ^ 64 → (x ≡ 0 → ⊥) → suc (length (inputs (on (bitAnd x (x - 1))))) ≡ length (inputs (on x))
+one-less x h s = ap (λ y. suc (length (inputs (on y)))) (lowest-dropped x h s) ∙ sym (ap length (first-input x h s))

@@ -1,13 +1,10 @@
 -- Lists that a loop fills from the front, parts of a list, and two lists tested for sameness.
 -- A filling loop keeps `take i out ++ rest ≡ goal`: what is written and then what is still to come is the whole. `turn` is one round, `done` the end.
-use mathlib.Core.Path.{_≡_, refl, sym, ap, _∙_}
-use mathlib.Core.Bool.{Bool, true, false, false≢true, and-eq-true-iff}
+use mathlib.Core.{Path._≡_, Path.refl, Path.sym, Path.ap, Path._∙_, Bool.Bool, Bool.true, Bool.false, Bool.false≢true, Bool.and-eq-true-iff}
 use mathlib.Core.List.{List, [], _∷_, _++_, append-assoc, append-nil}
 use Prim.Native.Nat.{ℕ, zero, suc, _+_, _-_, _/_, _%_, _<_, _≤_}
-use native.Mathlib.Numerals.{add-one}
-use native.Mathlib.Omega.{arith}
-use lib.Dec.{eqb}
-use lib.ListN.{length, take, drop, getD, set, length-drop, drop-of-length-le, take-append-drop}
+use native.Mathlib.{Numerals.add-one, Omega.arith}
+use lib.{Dec.eqb, ListN.length, ListN.take, ListN.drop, ListN.getD, ListN.set, ListN.length-drop, ListN.drop-of-length-le, ListN.take-append-drop}
 use lib.Seq.{length-take-le, take-suc-set, take-all, take-take, take-add, drop-cons, drop-drop}
 use borrow.Author.Tests.{eq-eqb, eqb-true}
 use Rattle.basics.specs.Numbers.{bytesOf, part, same}

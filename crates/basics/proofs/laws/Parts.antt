@@ -1,16 +1,13 @@
 -- Parts of a list that are lent and written one after the other, from the front. A proof starts at `start`, goes on by one `put` for each part in order,
 -- and ends at `filled`: the list is what the parts were filled with.
-use mathlib.Core.Path.{_≡_, refl, sym, ap, _∙_, subst}
-use mathlib.Core.List.{List, [], _++_, append-assoc, append-nil}
+use mathlib.Core.{Path._≡_, Path.refl, Path.sym, Path.ap, Path._∙_, Path.subst, List.List, List.[], List._++_, List.append-assoc, List.append-nil}
 use Prim.Native.Nat.{ℕ, _+_, _-_, _≤_}
-use native.Mathlib.Nat.{zero-add}
-use native.Mathlib.Omega.{arith}
+use native.Mathlib.{Nat.zero-add, Omega.arith}
 use lib.ListN.{length, take, drop, length-append, length-drop, drop-of-length-le}
 use lib.Seq.{take-at, drop-at, drop-drop, length-take-le, take-append-le, drop-append-le}
 use borrow.Rule.Slice.PartMut.{putMid}
 use Rattle.basics.specs.Numbers.{bytesOf, part}
-use Rattle.basics.proofs.laws.Lists.{length-part, part-part}
-use Rattle.basics.proofs.laws.Bytes.{length-bytesOf}
+use Rattle.basics.proofs.laws.{Lists.length-part, Lists.part-part, Bytes.length-bytesOf}
 
 -- l was l₀ and has been written up to place a: there stands `front`, and from there on what stood there
 pub record Filled (l l₀ front : List ℕ) (a : ℕ) : Type 0 where

@@ -1,15 +1,6 @@
 -- Bytes written over a part that is lent, and words one after another.
-use mathlib.Core.Path.{_≡_, sym, ap, _∙_, subst}
-use mathlib.Core.List.{List, _++_}
-use Prim.Native.Nat.{ℕ, _+_, _-_, _≤_}
-use native.Mathlib.Omega.{arith}
-use lib.ListN.{length, take}
-use lib.Seq.{drop-drop}
-use borrow.Rule.Slice.PartMut.{putMid}
-use Rattle.basics.specs.Numbers.{bytesOf, part}
-use Rattle.basics.proofs.laws.Lists.{length-part}
-use Rattle.basics.proofs.laws.Bytes.{length-bytesOf}
-use Rattle.basics.proofs.laws.Parts.{Filled, put}
+use Rattle.basics.proofs.Prelude.{_≡_, sym, ap, _∙_, subst, List, _++_, ℕ, _+_, _-_, _≤_, arith, length, take, drop-drop, putMid, bytesOf, part, length-part, length-bytesOf, Filled}
+use Rattle.basics.proofs.laws.Parts.{put}
 use Rattle.bits.specs.bytes.Put.{withBytes, withWord}
 
 -- bytes are written over a part that is lent with the n places from `at` on

@@ -4,6 +4,5 @@ use Rattle.bits.proofs.in_half.Statement.{statement}
 use Rattle.bits.proofs.in_half.Tie as tie
 
 pub in-half-spec : {M : Type 1} → statement M
-in-half-spec =
-    tie.close
-    (tie.spec (λ c. rw (c .if1 .taken) (high-placed _ (c .before .fits .v .fits))) (λ c. rw (c .if1 .left) (low-placed _ (c .before .fits .v .fits))))
+in-half-spec = tie.close (tie.spec (λ c. rw (c .if1 .taken) (high-placed _ (c .before .fits .v .fits)))
+    (λ c. rw (c .if1 .left) (low-placed _ (c .before .fits .v .fits))))

@@ -1,15 +1,7 @@
 -- What the exported calls with a board leave: refused, not a byte of image, board and event buffer changes, and 7 writes none at all; and no second outcome keeps a promise.
-use mathlib.Core.Path.{_≡_, sym, ap, _∙_}
-use mathlib.Core.Bool.{Bool, cond}
-use mathlib.Core.List.{List}
-use Prim.Native.Nat.{ℕ}
-use lib.Dec.{leb}
-use lib.ListN.{length}
-use borrow.Author.Tests.{ne-eqb}
-use Rattle.calls.specs.Calls.{Request, bufferOf, outcome}
+use Rattle.basics.proofs.Prelude.{_≡_, sym, ap, _∙_, Bool, cond, List, ℕ, leb, length, ne-eqb, test}
+use Rattle.calls.{specs.Calls.Request, specs.Calls.bufferOf, specs.Calls.outcome, proofs.demands.Refused.refused-changes-nothing}
 use Rattle.boards.specs.Boarding.{Boarded, boardLeaves, boardAfter, boarding, Heard, hears, hearing}
-use Rattle.basics.proofs.laws.Bits.{test}
-use Rattle.calls.proofs.demands.Refused.{refused-changes-nothing}
 
 -- ---- refused
 

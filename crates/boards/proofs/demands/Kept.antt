@@ -1,25 +1,12 @@
 -- 02, C-20, of exported calls: 'After any sequence each count equals a fresh recount, and a call other than a load changes only counts of vectors that some input with a
 -- changed ISR bit or vector byte carried before or carries after.'
-use mathlib.Core.Path.{_≡_, refl, sym, ap, subst, _∙_}
-use mathlib.Core.Logic.{⊎-elim}
-use mathlib.Core.Bool.{true, false}
-use mathlib.Core.List.{List, [], _∷_}
-use Prim.Native.Nat.{ℕ, _<_, _≤_}
-use lib.ListN.{length, take, drop, getD}
-use lib.Seq.{getD-take}
-use Rattle.rules.specs.Core.{Core}
-use Rattle.rules.specs.Device.{Device}
-use Rattle.rules.specs.Account.{carrying}
-use Rattle.rules.specs.History.{history}
+use Rattle.basics.proofs.Prelude.{_≡_, refl, sym, ap, subst, _∙_, ⊎-elim, true, false, List, [], _∷_, ℕ, _<_, _≤_, length, take, drop, getD, getD-take, test}
+use Rattle.rules.specs.{Core.Core, Device.Device, Account.carrying, History.history}
 use Rattle.images.specs.Image.{decode}
 use Rattle.calls.specs.Calls.{afresh, askedBy}
 use Rattle.histories.specs.exported.Exported.{Exported, leftBy, isDone, isLoad, Underway, carriedOn, carriedThrough, GivenBytes, inImage, Faithful, afterReset}
-use Rattle.boards.specs.Board.{recount, keptOn, keptThrough, Touching}
-use Rattle.boards.specs.Boarding.{boarding, boardBy, boardThrough}
-use Rattle.boards.specs.Hearing.{blank}
-use Rattle.basics.proofs.laws.Bits.{test}
-use Rattle.histories.proofs.exported.laws.Chains.{handed, faithful-on, faithful-after-reset, left-holds}
-use Rattle.histories.proofs.exported.demands.FromCalls.{a-reset-begins}
+use Rattle.histories.proofs.exported.{laws.Chains.handed, laws.Chains.faithful-on, laws.Chains.faithful-after-reset, laws.Chains.left-holds, demands.FromCalls.a-reset-begins}
+use Rattle.boards.specs.{Board.recount, Board.keptOn, Board.keptThrough, Board.Touching, Boarding.boarding, Boarding.boardBy, Boarding.boardThrough, Hearing.blank}
 use Rattle.boards.proofs.laws.Counts.{counts-get, touching-or-same}
 use Rattle.boards.proofs.laws.Boards.{call-is, board-done, board-refused, board-past, board-length, front-recounted, done-left, board-right, kept-right}
 use Rattle.boards.proofs.laws.Heard.{blank-right}

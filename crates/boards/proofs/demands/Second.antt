@@ -1,36 +1,20 @@
 -- 02, C-20, of exported calls: 'From reset, with demand 3's premises met, everything drained and nothing dropped, a second board driven by returned and drained events alone,
 -- in the order of making, ends equal to the first. C-19's numbers, kept in the fifth body, give that order while the history has at most 65,536 events; show both.'
-use mathlib.Core.Path.{_≡_, refl, sym, ap, ap₂, subst, _∙_}
-use mathlib.Core.Bool.{true}
-use mathlib.Core.List.{List, [], _∷_, _++_, map, append-nil}
-use Prim.Native.Nat.{ℕ, zero, suc, _+_, _≤_}
-use native.Mathlib.Omega.{arith}
-use lib.Dec.{lit≤}
-use lib.ListN.{length, take}
-use Rattle.rules.specs.Device.{Device, Call, reset, upFrom}
-use Rattle.rules.specs.Numbering.{Numbers, Numbered, fromZero, eventsIn}
-use Rattle.rules.specs.History.{history, fromReset}
-use Rattle.images.specs.Form.{Form, one, two, numbered, numbers, has, formLength}
-use Rattle.images.specs.Image.{numbersIn}
+use Rattle.basics.proofs.Prelude.{_≡_, refl, sym, ap, ap₂, subst, _∙_, true, List, [], _∷_, _++_, map, append-nil, ℕ, zero, suc, _+_, _≤_, arith, lit≤, length, take}
+use Rattle.order.proofs.demands.OfCalls.{fifth-body, numbers-of-calls}
+use Rattle.order.specs.{Fates.isReturned, Fates.isKept, Fates.isDropped, Fates.Placed, Fates.eventsMade, Fates.withFate, Numbered.numberAt, Numbered.allFrom, Numbered.numberedFrom, Numbered.InOrder}
+use Rattle.order.specs.Read.{returnedRead, drainedRead}
+use Rattle.order.proofs.demands.{Made.placed-as-made, Made.positions-in-order, Made.returned-by-fate, Made.kept-by-fate, Made.dropped-by-fate, OfHistories.none-with}
+use Rattle.rules.specs.{Device.Device, Device.Call, Device.reset, Device.upFrom, Numbering.Numbers, Numbering.Numbered, Numbering.fromZero, Numbering.eventsIn, History.history, History.fromReset}
+use Rattle.images.specs.{Form.Form, Form.formLength, Image.numbersIn}
 use Rattle.calls.specs.Calls.{afresh, askedBy}
 use Rattle.histories.specs.Demands.{asEvent}
 use Rattle.histories.specs.exported.Exported.{Exported, isDone, Underway, carriedOn, carriedThrough, doneCalls, inImage, afterReset, returnedBy, drainedBy}
-use Rattle.order.specs.Fates.{isReturned, isKept, isDropped, Placed, eventsMade, withFate}
-use Rattle.order.specs.Numbered.{numberAt, allFrom, numberedFrom, InOrder}
-use Rattle.order.specs.Read.{returnedRead, drainedRead}
-use Rattle.boards.specs.Board.{recount}
-use Rattle.boards.specs.Boarding.{boardThrough}
-use Rattle.boards.specs.Hearing.{blank, heardThrough, inOrderOfMaking, Complete, Interleaves, byNumber}
 use Rattle.histories.proofs.demands.Order.{first-in-first-out, drops-counted}
 use Rattle.histories.proofs.exported.laws.Chains.{left-length, left-holds, faithful-after-reset}
-use Rattle.histories.proofs.exported.demands.FromCalls.{a-reset-begins, image-holds-history, image-holds-numbers}
-use Rattle.histories.proofs.exported.demands.HandedBack.{returned-is-read, drained-is-read}
-use Rattle.order.proofs.demands.Made.{placed-as-made, positions-in-order, returned-by-fate, kept-by-fate, dropped-by-fate}
-use Rattle.order.proofs.demands.OfHistories.{none-with}
-use Rattle.order.proofs.demands.OfCalls.{numbers-of-calls}
-use Rattle.boards.proofs.laws.Heard.{heard-from-reset}
-use Rattle.boards.proofs.laws.Arranged.{interleaves-map, by-fate, order-restored}
-use Rattle.boards.proofs.demands.Kept.{board-from-a-done-call}
+use Rattle.histories.proofs.exported.demands.{FromCalls.a-reset-begins, FromCalls.image-holds-history, FromCalls.image-holds-numbers, HandedBack.returned-is-read, HandedBack.drained-is-read}
+use Rattle.boards.specs.{Board.recount, Boarding.boardThrough, Hearing.blank, Hearing.heardThrough, Hearing.inOrderOfMaking, Hearing.Complete, Hearing.Interleaves, Hearing.byNumber}
+use Rattle.boards.proofs.{laws.Heard.heard-from-reset, laws.Arranged.interleaves-map, laws.Arranged.by-fate, laws.Arranged.order-restored, demands.Kept.board-from-a-done-call}
 
 none-of : {A B : Type 0} (f : A → B) (xs : List A) → length (map f xs) ≡ 0 → xs ≡ []
 none-of f [] e = refl
@@ -85,11 +69,6 @@ module _ (f : Form) (xs : List Exported) (w : Complete (afterReset f) xs) where
   heard a area = heard-from-reset a area cs (w .admitted) ∙ ap (λ (d : Device). recount (d .core)) (sym comes)
 
 -- ---- by the numbers of the fifth body
-
-fifth-body : (f : Form) → formLength f ≡ 290 → has f numbers ≡ true
-fifth-body one e = absurd (omega arith)
-fifth-body two e = absurd (omega arith)
-fifth-body numbered e = refl
 
 -- of at most 65,536 events from reset the number is the position
 numbers-of : (p k : ℕ) (xs : List Placed) → map (λ x. x .position) xs ≡ upFrom p k → p + k ≤ 65536 → map (λ x. x .number) (allFrom 0 xs) ≡ upFrom p k

@@ -1,11 +1,6 @@
 -- Two lists in one, and numbered events put in order: whatever the order in which they were collected, by rising number they stand as they were made.
-use mathlib.Core.Path.{_≡_, refl, sym, ap, subst, _∙_}
-use mathlib.Core.List.{List, [], _∷_, _++_, map}
-use Prim.Native.Nat.{ℕ, zero, suc, _+_, _<_}
-use native.Mathlib.Omega.{arith}
-use borrow.Author.Tests.{le-leb, lt-leb}
-use Rattle.rules.specs.Numbering.{Numbered}
-use Rattle.rules.specs.Device.{upFrom}
+use Rattle.basics.proofs.Prelude.{_≡_, refl, sym, ap, subst, _∙_, List, [], _∷_, _++_, map, ℕ, zero, suc, _<_, arith, le-leb, lt-leb}
+use Rattle.rules.specs.{Numbering.Numbered, Device.upFrom}
 use Rattle.order.specs.Fates.{Fate, isReturned, isKept, isDropped, Placed, withFate}
 use Rattle.boards.specs.Hearing.{Interleaves, neither, first, second, inserted, byNumber}
 

@@ -1,21 +1,11 @@
 -- What one exported call leaves of a board: done, the fresh counts of the image left; refused, the board; and every byte past the first 256.
-use mathlib.Core.Path.{_≡_, sym, ap, _∙_}
-use mathlib.Core.Bool.{Bool, true, false, cond}
-use mathlib.Core.List.{List}
-use Prim.Native.Nat.{ℕ, _≤_}
-use native.Mathlib.Omega.{arith}
-use lib.ListN.{length, take, drop, length-append, length-drop}
-use lib.Seq.{take-at, drop-at}
-use borrow.Author.Tests.{le-leb}
-use Rattle.rules.specs.Core.{Core}
-use Rattle.rules.specs.Account.{carrying}
+use Rattle.basics.proofs.Prelude.{_≡_, sym, ap, _∙_, Bool, true, false, cond, List, ℕ, _≤_, arith, length, take, drop, length-append, length-drop, take-at, drop-at, le-leb, test}
+use Rattle.rules.specs.{Core.Core, Account.carrying}
 use Rattle.images.specs.Image.{decode}
 use Rattle.histories.specs.exported.Exported.{Exported, leftBy, isDone, isLoad, Underway, carriedOn, inImage, Faithful}
-use Rattle.boards.specs.Board.{recount, broughtBy, keptOn}
+use Rattle.histories.proofs.exported.laws.Chains.{handed, carried-refused}
+use Rattle.boards.specs.{Board.recount, Board.broughtBy, Board.keptOn, Boarding.boardLeaves, Boarding.recounted, Boarding.boarding, Boarding.boardBy}
 use Rattle.calls.specs.Calls.{refusalNumber, noRoom, bufferOf}
-use Rattle.boards.specs.Boarding.{boardLeaves, recounted, boarding, boardBy}
-use Rattle.basics.proofs.laws.Bits.{test}
-use Rattle.histories.proofs.exported.laws.Chains.{handed}
 use Rattle.boards.proofs.laws.Counts.{counts-length, brought-right}
 
 -- ---- fresh counts in front of a board
@@ -67,16 +57,12 @@ module _ (h : Underway) (x : Exported) where
   unfolding carriedOn
   done-left t = rw t
 
-  pub refused-on : isDone x ≡ false → carriedOn h x ≡ h
-  unfolding carriedOn
-  refused-on t = rw t
-
   -- the board that an exported call leaves is right for the image left last, where the board was right before or the call is done
   pub board-right : (b : List ℕ) → 256 ≤ length b → take 256 b ≡ recount (inImage h .core) → take 256 (boardBy x b) ≡ recount (inImage (carriedOn h x) .core)
   board-right b room e =
       test (isDone x)
       (λ t. ap (take 256) (board-done x b room t) ∙ front-recounted (decode (leftBy x .image) .core) b ∙ ap (λ i. recount (decode i .core)) (sym (done-left t)))
-      (λ t. ap (take 256) (board-refused x b room t) ∙ e ∙ ap (λ (u : Underway). recount (inImage u .core)) (sym (refused-on t)))
+      (λ t. ap (take 256) (board-refused x b room t) ∙ e ∙ ap (λ (u : Underway). recount (inImage u .core)) (sym (carried-refused h x t)))
 
   -- the board kept, by whether the call is done and whether it is a load
   abbrev keptAs : (done load : Bool) → List ℕ → List ℕ
@@ -108,4 +94,4 @@ module _ (h : Underway) (x : Exported) where
       call-brings b t n ∙ ap (λ i. broughtBy (decode i .core) after b) (handed h x f t n .given) ∙ ap (broughtBy (inImage h .core) after) e
       ∙ brought-right (inImage h .core) after)
       ∙ ap (λ i. recount (decode i .core)) (sym (done-left t)))
-      (λ t. refused-keeps b t ∙ e ∙ ap (λ (u : Underway). recount (inImage u .core)) (sym (refused-on t)))
+      (λ t. refused-keeps b t ∙ e ∙ ap (λ (u : Underway). recount (inImage u .core)) (sym (carried-refused h x t)))

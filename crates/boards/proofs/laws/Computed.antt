@@ -1,15 +1,7 @@
 -- The definitions on closed numbers, so that it is seen what they say: counts that a call moves, a second board, and numbered events put in order.
-use mathlib.Core.Path.{_≡_, refl}
-use mathlib.Core.Bool.{Bool, true, false}
-use mathlib.Core.List.{List, [], _∷_}
-use Prim.Native.Nat.{ℕ}
-use lib.ListN.{set, getD, replicate}
-use Rattle.rules.specs.Core.{Core}
-use Rattle.rules.specs.Device.{reset, upFrom}
-use Rattle.rules.specs.Numbering.{Numbered, eventsIn}
-use Rattle.boards.specs.Board.{broughtCount, countsBy, recount}
-use Rattle.boards.specs.Boarding.{hearing}
-use Rattle.boards.specs.Hearing.{blank, heardThrough, inserted, byNumber}
+use Rattle.basics.proofs.Prelude.{_≡_, refl, Bool, true, false, List, [], _∷_, ℕ, set, getD, replicate}
+use Rattle.rules.specs.{Core.Core, Device.reset, Device.upFrom, Numbering.Numbered, Numbering.eventsIn}
+use Rattle.boards.specs.{Board.broughtCount, Board.countsBy, Board.recount, Boarding.hearing, Hearing.blank, Hearing.heardThrough, Hearing.inserted, Hearing.byNumber}
 use Rattle.calls.proofs.laws.Computing.{computing}
 
 -- ---- counts

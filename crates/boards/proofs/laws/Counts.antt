@@ -1,23 +1,7 @@
 -- Counts: a board by its counts, and what the touched inputs take away and add.
-use mathlib.Core.Path.{_≡_, refl, sym, ap, _∙_}
-use mathlib.Core.Logic.{_⊎_, inl, inr}
-use mathlib.Core.Bool.{Bool, true, false, cond, not, _&&_, _||_, and-false, false≢true}
-use mathlib.Core.List.{List, [], _∷_, map}
-use Prim.Native.Nat.{ℕ, zero, suc, _+_, _-_, _<_}
-use native.Mathlib.Omega.{arith}
-use lib.Dec.{eqb}
-use lib.ListN.{length, getD, length-map}
-use lib.Seq.{ext-getD}
-use borrow.Author.Tests.{eqb-true}
-use Rattle.basics.specs.Inputs.{on, inputs}
-use Rattle.rules.specs.Lines.{servedIn}
-use Rattle.rules.specs.Core.{Core}
-use Rattle.rules.specs.Device.{upFrom}
-use Rattle.rules.specs.Account.{carries, carrying}
+use Rattle.basics.proofs.Prelude.{agree, agreed, table₃, _≡_, refl, sym, ap, _∙_, _⊎_, inl, inr, Bool, true, false, cond, not, _&&_, _||_, and-false, false≢true, List, [], _∷_, map, ℕ, zero, suc, _+_, _<_, arith, eqb, length, getD, length-map, ext-getD, eqb-true, on, inputs, test, first-has}
+use Rattle.rules.{specs.Lines.servedIn, specs.Core.Core, specs.Device.upFrom, specs.Account.carries, specs.Account.carrying, proofs.laws.Counts.split, proofs.laws.Counts.size-ext}
 use Rattle.boards.specs.Board.{countsBy, recount, touched, carryingWith, broughtCount, broughtBy, Touching}
-use Rattle.basics.proofs.laws.Bits.{test}
-use Rattle.basics.proofs.laws.Inputs.{first-has}
-use Rattle.rules.proofs.laws.Counts.{split, size-ext}
 use Rattle.images.proofs.laws.Saved.{length-upFrom}
 use Rattle.boards.proofs.laws.Computed as computed
 
@@ -52,11 +36,7 @@ counts-ext f g e = counts-are (countsBy f) g (counts-length f) (λ v h. counts-g
 -- ---- what the touched inputs take away and add
 
 swap : (a p t : Bool) → ((a && p) && t) ≡ (a && (t && p))
-swap true true true = refl
-swap true true false = refl
-swap true false true = refl
-swap true false false = refl
-swap false p t = refl
+swap = table₃ agree agreed _ _ refl
 
 -- an input that is not touched counts as it counted
 as-before : (a b : Bool) (x y v : ℕ) → let t = cond a (not b) b || not (eqb x y) in ((a && eqb x v) && not t) ≡ ((b && eqb y v) && not t)

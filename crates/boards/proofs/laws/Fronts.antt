@@ -1,24 +1,13 @@
 -- From the call without board to the call with one: what the proofs of the exported calls cite.
-use mathlib.Core.Path.{_≡_, refl, sym, ap, _∙_}
-use mathlib.Core.Bool.{true, false, cond, and-false}
-use mathlib.Core.List.{List}
-use Prim.Native.Nat.{ℕ, _<_, _≤_}
-use native.Mathlib.Omega.{arith}
-use lib.Dec.{leb}
-use lib.ListN.{length, set, getD, replicate, length-replicate}
-use borrow.Author.Tests.{le-leb, lt-leb, eq-eqb}
-use Rattle.basics.specs.Numbers.{Bytes}
-use Rattle.rules.specs.Device.{reset, some}
-use Rattle.rules.specs.Numbering.{fromZero}
+use Rattle.basics.proofs.Prelude.{_≡_, refl, sym, ap, _∙_, true, false, cond, and-false, List, ℕ, _<_, _≤_, arith, leb, length, set, getD, replicate, length-replicate, le-leb, lt-leb, eq-eqb, Bytes, test}
+use Rattle.rules.specs.{Device.reset, Device.some, Numbering.fromZero}
 use Rattle.images.specs.Image.{imageTest, accepted}
 use Rattle.calls.specs.Calls.{Request, Asked, afresh, calls, askedBy, answered, bufferOf, placeOf, Outcome, leaves, Ending, ending, outcome}
-use Rattle.histories.specs.exported.Exported.{Exported, leftBy, isDone, isReset, atLoad}
-use Rattle.boards.specs.Boarding.{boardLeaves, boardAfter, boarding, heardCount, hears, hearing}
-use Rattle.basics.proofs.laws.Bits.{test}
 use Rattle.calls.proofs.laws.Outcomes.{room}
+use Rattle.histories.specs.exported.Exported.{Exported, leftBy, isDone, isReset, atLoad}
+use Rattle.histories.proofs.exported.{laws.Chains.reset-leaves, laws.Chains.done-accepted, demands.LeavesAccepted.leaves-accepted}
+use Rattle.boards.specs.Boarding.{boardLeaves, boardAfter, boarding, heardCount, hears, hearing}
 use Rattle.laws.proofs.laws.Images.{accepted-encode, reset-well-formed, reset-numbered}
-use Rattle.histories.proofs.exported.laws.Chains.{reset-leaves, done-accepted}
-use Rattle.histories.proofs.exported.demands.LeavesAccepted.{leaves-accepted}
 
 -- ---- the image that a done call leaves is accepted
 

@@ -1,33 +1,16 @@
 -- A second board by its counts: what the events made say of a vector brings its count from that of the core before to that of the core after.
-use mathlib.Core.Path.{_≡_, refl, sym, ap, subst, _∙_}
-use mathlib.Core.Logic.{⊎-elim}
-use mathlib.Core.Bool.{Bool, true, false, cond, not, _&&_}
-use mathlib.Core.List.{List, [], _∷_, _++_, map, map-append, append-nil}
-use Prim.Native.Nat.{ℕ, _+_, _-_, _<_, _≤_}
-use native.Mathlib.Omega.{arith}
-use lib.Dec.{eqb}
-use lib.ListN.{length, set, getD, length-set, length-replicate, getD-replicate}
-use lib.Seq.{getD-set-same, getD-set-other}
-use borrow.Author.Tests.{le-leb, eqb-true, eqb-false}
-use Rattle.basics.specs.Inputs.{on, inputs, only, put, without, withHalf}
-use Rattle.rules.specs.Lines.{Lines, Made, event, withIrr, withMask, pendingIn, servedIn, serve, enter, newlyUnmasked, newlyMasked}
-use Rattle.rules.specs.Lines.{polled, raised, lowered, cleared, masked}
+use Rattle.basics.proofs.Prelude.{_≡_, refl, sym, ap, subst, _∙_, ⊎-elim, Bool, true, false, cond, not, _&&_, List, [], _∷_, _++_, map, map-append, append-nil, ℕ, _+_, _-_, _<_, _≤_, arith, eqb, length, set, getD, length-set, length-replicate, getD-replicate, getD-set-same, getD-set-other, le-leb, eqb-true, eqb-false, on, inputs, only, put, without, withHalf, test}
+use Rattle.rules.specs.Lines.{Lines, Made, event, withIrr, withMask, pendingIn, servedIn, serve, enter, newlyUnmasked, newlyMasked, polled, raised, lowered, cleared, masked}
 use Rattle.rules.specs.Ring.{Event, flag}
 use Rattle.rules.specs.Core.{Core, Move, poll, raise, lower, clear, setMask, Act, move, setIsr, store, setVector, moved, lineTurn, turn}
-use Rattle.rules.specs.Device.{Device, Call, acted, step, reset}
-use Rattle.rules.specs.History.{history, fromReset}
+use Rattle.rules.specs.{Device.Device, Device.Call, Device.acted, Device.step, Device.reset, History.history, History.fromReset}
 use Rattle.rules.specs.Account.{tally, servedWith, hasVector, carries, asserts, deasserts, carrying}
-use Rattle.histories.specs.Premises.{Along, Admitted}
-use Rattle.histories.specs.Demands.{asEvent}
-use Rattle.boards.specs.Board.{recount}
-use Rattle.boards.specs.Boarding.{heardCount, hearing}
-use Rattle.boards.specs.Hearing.{blank, heardThrough, inOrderOfMaking}
-use Rattle.basics.proofs.laws.Bits.{test}
 use Rattle.rules.proofs.laws.Counts.{tally-append, tally-nil, tally-none, vector-balanced}
-use Rattle.laws.proofs.laws.Losses.{from-few}
-use Rattle.histories.proofs.laws.Reach.{each-both, NotIsr, no-isr-act, LeavesVectors, lines-or-vectors}
-use Rattle.histories.proofs.laws.Folds.{fold-acts, fold-calls, still, vectors-stay}
+use Rattle.histories.specs.{Premises.Along, Premises.Admitted, Demands.asEvent}
+use Rattle.histories.proofs.laws.{Reach.each-both, Reach.NotIsr, Reach.no-isr-act, Reach.LeavesVectors, Reach.lines-or-vectors, Folds.fold-acts, Folds.fold-calls, Folds.still, Folds.vectors-stay}
 use Rattle.histories.proofs.demands.Account.{asserts-match-service-from, none-served}
+use Rattle.boards.specs.{Board.recount, Boarding.heardCount, Boarding.hearing, Hearing.blank, Hearing.heardThrough, Hearing.inOrderOfMaking}
+use Rattle.laws.proofs.laws.Losses.{from-few}
 use Rattle.boards.proofs.laws.Counts.{counts-are}
 
 -- ---- the count of one vector
@@ -123,10 +106,6 @@ module _ (v : ℕ) where
 
   none-up : (vs : List ℕ) (o : Bool) (ns : List ℕ) → asserts v (map (event vs o false) ns) ≡ 0
   none-up vs o ns = tally-none (λ m. m .asserted && hasVector v m) (event vs o false) (λ n. refl) ns
-
-  none-told : (k : ℕ) → toldAll v k (map asEvent []) ≡ k + asserts v []
-  unfolding toldAll tally
-  none-told k = omega arith
 
   up-told : (vs : List ℕ) (o : Bool) (l : Lines) (ns : List ℕ) (k : ℕ) → k ≤ 64 → toldAll v k (map asEvent (serve vs o l ns .made)) ≡ k + asserts v (serve vs o l ns .made)
   unfolding toldAll tally

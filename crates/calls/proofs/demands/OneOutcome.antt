@@ -1,8 +1,6 @@
 -- 01, How tight the promises are: 'Each public call's promise settles its number, its value and every byte of image, answer area and event buffer
 -- afterwards, on any input, refused or done. Show that no second outcome satisfies it.' The value stands in the answer area.
-use mathlib.Core.Path.{_≡_, refl, sym, ap, _∙_}
-use mathlib.Core.List.{List}
-use Prim.Native.Nat.{ℕ}
+use Rattle.basics.proofs.Prelude.{_≡_, refl, sym, ap, _∙_, List, ℕ}
 use Rattle.calls.specs.Calls.{Request, reset, read, write, level, poll, drain, Outcome, leaves, outcome, Promised}
 
 -- The contract of an exported call is one equation: x, the number and the bytes that it leaves, is `outcome` of what it is asked, the image and the answer

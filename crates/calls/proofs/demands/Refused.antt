@@ -1,12 +1,7 @@
 -- Demand 1, what a refusal changes: 'A refused call changes no state and no lent byte but the answer area, and refusal 7 not even that.' The state is the
 -- image. Over every request, with its numbers and a drain's event buffer, every image and every answer area.
-use mathlib.Core.Path.{_≡_, refl, sym, ap, _∙_}
-use mathlib.Core.Bool.{true}
-use mathlib.Core.List.{List}
-use Prim.Native.Nat.{ℕ}
-use lib.ListN.{drop}
+use Rattle.basics.proofs.Prelude.{_≡_, refl, sym, ap, _∙_, true, List, ℕ, drop, test}
 use Rattle.calls.specs.Calls.{Tested, pass, refuse, Request, askedBy, Done, performed, answerLength, answered, bufferOf, hasRoom, Outcome, ended, settled, outcome}
-use Rattle.basics.proofs.laws.Bits.{test}
 use Rattle.calls.proofs.laws.Refusals.{refused-not-seven}
 
 -- what a refused call leaves: the image and the event buffer as they were, and of the answer area the bytes past its 16; with refusal 7 every byte

@@ -1,14 +1,7 @@
 -- Request C-14: an access is inside just where each of its bytes is; and 02's cases, computed.
-use mathlib.Core.Path.{_≡_, refl}
-use mathlib.Core.Bool.{true, and-eq-true-iff}
-use Prim.Native.Nat.{ℕ, _+_, _-_, _^_, _<_, _≤_, min}
-use native.Mathlib.Omega.{arith}
-use lib.Dec.{leb}
-use borrow.Author.Tests.{le-leb, leb-true}
-use Rattle.calls.specs.Window.{inside}
-use Rattle.calls.specs.Calls.{pass, refuse, outside, addressTest, accessCall}
-use Rattle.rules.specs.Access.{dword}
-use Rattle.rules.specs.Device.{read}
+use Rattle.basics.proofs.Prelude.{_≡_, refl, true, and-eq-true-iff, ℕ, _+_, _-_, _^_, _<_, _≤_, min, arith, leb, le-leb, leb-true}
+use Rattle.calls.specs.{Window.inside, Calls.pass, Calls.refuse, Calls.outside, Calls.addressTest, Calls.accessCall}
+use Rattle.rules.specs.{Access.dword, Device.read}
 
 -- the byte at an address is one of the window's
 abbrev pub ByteInside : ℕ → ℕ → ℕ → Type 0

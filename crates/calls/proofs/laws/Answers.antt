@@ -1,17 +1,7 @@
 -- What a host reads where a call has written: of an answer area whether there is a value, and the value; of an event buffer the events drained.
-use mathlib.Core.Path.{_≡_, refl, ap, _∙_}
-use mathlib.Core.Bool.{true, false}
-use mathlib.Core.List.{List, [], _∷_, _++_}
-use Prim.Native.Nat.{ℕ, suc, _+_, _*_, _^_, _<_, _≤_}
-use native.Mathlib.Omega.{arith}
-use lib.ListN.{length, take, drop}
-use lib.Seq.{length-take-le, drop-at}
-use Rattle.rules.specs.Ring.{Event}
-use Rattle.rules.specs.Device.{none, some}
-use Rattle.rules.specs.Numbering.{Numbered, withNumbers, drainedLength, quadsOf, quadsIn, eventsIn}
+use Rattle.basics.proofs.Prelude.{_≡_, refl, ap, _∙_, true, false, List, [], _∷_, _++_, ℕ, suc, _+_, _*_, _^_, _<_, _≤_, arith, length, take, drop, length-take-le, drop-at, numberOf-bytesOf, Each}
+use Rattle.rules.specs.{Ring.Event, Device.none, Device.some, Numbering.Numbered, Numbering.withNumbers, Numbering.drainedLength, Numbering.quadsOf, Numbering.quadsIn, Numbering.eventsIn}
 use Rattle.calls.specs.Calls.{answered, presentIn, valueIn, written}
-use Rattle.basics.proofs.laws.Bytes.{numberOf-bytesOf}
-use Rattle.basics.proofs.laws.Lists.{Each}
 use Rattle.images.proofs.laws.Twos.{flag-of}
 
 module _ (number : ℕ) (a : List ℕ) where

@@ -1,15 +1,10 @@
 -- How a conversion ends, by the test that decides it: one law for each way; and its outcome once it has ended.
-use mathlib.Core.Path.{_≡_, refl, sym, ap, _∙_}
-use mathlib.Core.List.{List, []}
-use Prim.Native.Nat.{ℕ, _<_, _≤_}
-use lib.ListN.{length}
-use borrow.Author.Tests.{le-leb, lt-leb}
+use Rattle.basics.proofs.Prelude.{_≡_, refl, sym, ap, _∙_, List, [], ℕ, _<_, _≤_, length, le-leb, lt-leb}
 use Rattle.rules.specs.Device.{none}
-use Rattle.images.specs.Form.{Form, Known, unknown, known, formOf}
-use Rattle.images.specs.Image.{ImageTest, imageTest, encodeAs, decode, numbersIn}
-use Rattle.images.specs.Image as image
+use Rattle.images.specs.{Form.Form, Form.Known, Form.unknown, Form.known, Form.formOf, Image.ImageTest, Image.imageTest, Image.encodeAs, Image.decode, Image.numbersIn}
 use Rattle.calls.specs.Calls.{wrongLength, noRoom, refusalNumber, pass, refuse, onPass, imageAnswer, imageNumber, imageValue, answerLength, answered, leaves, Ending}
 use Rattle.calls.specs.Convert.{lengthTest, converted, convertEnded, convertEnding, conversion}
+use Rattle.images.specs.Image as image
 
 module _ (i t : List ℕ) where
   -- by what the three tests say

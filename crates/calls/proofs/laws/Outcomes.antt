@@ -1,21 +1,11 @@
 -- How an exported call ends, by the test that decides it: one law for each way that a call can end; and the outcome of a call that has ended.
-use mathlib.Core.Path.{_≡_, refl, sym, ap, _∙_}
-use mathlib.Core.Bool.{and-false}
-use mathlib.Core.List.{List, [], _++_}
-use Prim.Native.Nat.{ℕ, _+_, _-_, _*_, _/_, _<_, _≤_}
-use native.Mathlib.Omega.{arith}
-use lib.ListN.{length, take, drop, length-drop, take-append-drop}
-use lib.Seq.{drop-drop}
-use borrow.Author.Tests.{lt-ltb, le-ltb, le-leb, lt-leb}
-use Rattle.rules.specs.Ring.{RingAct, ringRun}
-use Rattle.rules.specs.Access.{Width}
-use Rattle.rules.specs.Device.{Device, Call, Value, none, actsOf, draws, acted, step, reset}
-use Rattle.rules.specs.Device as device
+use Rattle.basics.proofs.Prelude.{_≡_, refl, sym, ap, _∙_, and-false, List, [], _++_, ℕ, _+_, _-_, _*_, _/_, _<_, _≤_, arith, length, take, drop, length-drop, take-append-drop, drop-drop, lt-ltb, le-ltb, le-leb, lt-leb}
+use Rattle.rules.specs.{Ring.RingAct, Ring.ringRun, Access.Width, Device.Device, Device.Call, Device.Value, Device.none, Device.actsOf, Device.draws, Device.acted, Device.step, Device.reset}
 use Rattle.rules.specs.Numbering.{Numbers, fromZero, Numbered, withNumbers, drainedLength, quadsOf, roomOf, numbersAfter, drainedWith, valueWith}
-use Rattle.images.specs.Form.{Form, unknown, known, formOf}
-use Rattle.images.specs.Image.{ImageTest, imageTest, encodeLike, decode, numbersIn}
-use Rattle.images.specs.Image as image
+use Rattle.images.specs.{Form.Form, Form.unknown, Form.known, Form.formOf, Image.ImageTest, Image.imageTest, Image.encodeLike, Image.decode, Image.numbersIn}
 use Rattle.calls.specs.Calls.{Refusal, refusalNumber, refusalValue, wrongLength, wrongContents, noInput, noRoom, Tested, pass, refuse, onPass, imageAnswer, imageNumber, imageValue, inputCall, widthTest, addressTest, accessCall, Request, drain, Asked, calls, askedBy, Done, doneOn, resetAs, performed, answerLength, answered, bufferOf, placeOf, written, Outcome, leaves, Ending, ended, ending, outcome}
+use Rattle.rules.specs.Device as device
+use Rattle.images.specs.Image as image
 use Rattle.calls.specs.Calls as asked
 
 -- ---- 7, or how it ends

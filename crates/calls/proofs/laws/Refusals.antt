@@ -1,22 +1,13 @@
 -- Refusal 7 comes first and alone: of the tests behind it none refuses with that number.
-use mathlib.Core.Path.{_≡_, refl}
-use mathlib.Core.Bool.{false, not}
-use mathlib.Core.List.{List}
-use Prim.Native.Nat.{ℕ}
-use lib.Dec.{eqb, ltb}
-use lib.ListN.{length}
-use borrow.Author.Tests.{eqb-false}
-use Rattle.rules.specs.Access.{Width}
-use Rattle.rules.specs.Device.{Device, Call}
-use Rattle.rules.specs.Device as device
+use Rattle.basics.proofs.Prelude.{_≡_, refl, false, not, List, ℕ, eqb, ltb, length, eqb-false, test}
+use Rattle.rules.specs.{Access.Width, Device.Device, Device.Call}
 use Rattle.calls.specs.Window.{inside}
+use Rattle.calls.specs.Calls.{Refusal, faultNumber, refusalNumber, Tested, pass, refuse, onPass, imageAnswer, inputCall, widthTest, addressTest, accessCall, Request, Asked, afresh, calls, askedBy, resetAs, performed}
 use Rattle.images.specs.Form.{Known, unknown, known, formOf}
 use Rattle.images.specs.Image.{Fault, copyDiffers, manyWait, badFlag, unusedSet, ImageTest, imageTest, decode}
+use Rattle.rules.specs.Device as device
 use Rattle.images.specs.Image as image
-use Rattle.calls.specs.Calls.{Refusal, faultNumber, refusalNumber, Tested, pass, refuse, onPass, imageAnswer, inputCall, widthTest, addressTest, accessCall}
-use Rattle.calls.specs.Calls.{Request, Asked, afresh, calls, askedBy, resetAs, performed}
 use Rattle.calls.specs.Calls as request
-use Rattle.basics.proofs.laws.Bits.{test}
 
 abbrev NotSeven : {A : Type 0} → Tested A → Type 0
 NotSeven (pass x) = Unit {0}

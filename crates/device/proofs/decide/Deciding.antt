@@ -1,11 +1,5 @@
 -- The leaves of `decide`, and what their numbers tell: the inputs of a set's register are the set's.
-use mathlib.Core.Path.{_≡_, refl, sym, ap, _∙_}
-use mathlib.Core.Bool.{Bool, true, false, not, _&&_}
-use Prim.Native.Nat.{ℕ, _-_, _^_, _<_}
-use lib.Bits.{bitAnd}
-use Rattle.basics.specs.Inputs.{on, inputs, register, without}
-use Rattle.basics.proofs.laws.Bits.{is-number, on-number, on-and, on-and-not, on-none, and-below, on-without, on-ext, without-lt}
-use Rattle.basics.proofs.laws.Inputs.{inputs-ext}
+use Rattle.basics.proofs.Prelude.{apart, _≡_, refl, sym, ap, _∙_, Bool, true, false, not, _&&_, ℕ, _-_, _^_, _<_, bitAnd, on, inputs, register, without, is-number, on-number, on-and, on-and-not, on-none, and-below, on-without, on-ext, without-lt, inputs-ext}
 use Rattle.device.specs.decide.Sets.{waitingOf, servedOf}
 
 pub pending-is : (set irr mask isr : ℕ) → set < 2 ^ 64 → mask < 2 ^ 64 → isr < 2 ^ 64
@@ -31,7 +25,3 @@ pub none-served : (set isr : ℕ) {x : ℕ} → isr < 2 ^ 64 → x ≡ register 
 none-served set isr h e z =
     on-ext 64 isr (without isr (on set)) h (without-lt isr (on set))
     (λ i q. apart (on isr i) (on set i) (sym (on-number 64 (servedOf set isr) i q) ∙ ap (λ y. on y i) (sym e ∙ z) ∙ on-none i) ∙ sym (on-without isr (on set) i q))
-  where
-    apart : (a b : Bool) → (a && b) ≡ false → a ≡ (a && not b)
-    apart true b t = ap not (sym t)
-    apart false b t = refl

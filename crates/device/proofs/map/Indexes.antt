@@ -1,12 +1,7 @@
 -- What an index that came, or did not come, tells of the offset.
-use mathlib.Core.Path.{_≡_, refl}
-use mathlib.Core.Bool.{Bool, true, false}
-use Prim.Native.Nat.{ℕ}
-use native.Mathlib.Omega.{arith}
+use Rattle.basics.proofs.Prelude.{_≡_, refl, Bool, true, false, ℕ, arith}
 use Rattle.rules.specs.Map.{inByteArea}
-use Rattle.device.specs.declared.map.Index.{Index}
-use Rattle.device.specs.declared.map.Index.the-variants.{None, At}
-use Rattle.device.specs.map.Views.{indexIf, byteIndex}
+use Rattle.device.specs.{declared.map.Index.Index, declared.map.Index.the-variants.None, declared.map.Index.the-variants.At, map.Views.indexIf, map.Views.byteIndex}
 
 came : (b : Bool) (i : ℕ) {j : ℕ} {x : Index} → x ≡ indexIf b i → x ≡ At j → (b ≡ true) × (i ≡ j)
 came true i e f = (refl, cc)

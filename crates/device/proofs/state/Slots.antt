@@ -1,13 +1,8 @@
 -- The slots of the ring as a list of events, and how many they are.
-use mathlib.Core.Path.{_≡_, refl, ap}
-use mathlib.Core.Bool.{Bool}
-use mathlib.Core.List.{List}
-use Prim.Native.Nat.{ℕ, zero, suc}
-use lib.ListN.{length}
+use Rattle.basics.proofs.Prelude.{_≡_, refl, ap, Bool, List, ℕ, zero, suc, length}
 use Rattle.rules.specs.Ring.{Event}
+use Rattle.device.specs.{state.View.slots, state.View.ringView, declared.state.Ring.Ring}
 use Rattle.rules.specs.Ring as rules-ring
-use Rattle.device.specs.state.View.{slots, ringView}
-use Rattle.device.specs.declared.state.Ring.{Ring}
 
 abbrev pub ev : ℕ → Bool → Event
 ev v a = record { vector = v; asserted = a }

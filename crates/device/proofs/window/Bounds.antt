@@ -1,18 +1,8 @@
 -- A width that is known is the number that was asked; and an access is inside just where its offset and its width fit into the window's bytes; an address below the base wraps to an offset that does not.
-use mathlib.Core.Path.{_≡_, refl, sym, ap, subst, _∙_}
-use mathlib.Core.Bool.{Bool, true, false, cond, and-eq-true-iff}
-use Prim.Native.Nat.{ℕ, _+_, _-_, _%_, _^_, _<_, _≤_, min}
-use native.Mathlib.Omega.{arith}
-use lib.Dec.{eqb, leb}
-use borrow.Author.Tests.{le-leb, leb-true, eqb-true}
+use Rattle.basics.proofs.Prelude.{_≡_, refl, sym, ap, subst, _∙_, Bool, true, false, cond, and-eq-true-iff, ℕ, _+_, _-_, _%_, _^_, _<_, _≤_, min, arith, eqb, leb, le-leb, leb-true, eqb-true, test}
 use Rattle.rules.specs.Access.{Width, byte, word, dword, qword}
-use Rattle.calls.specs.Window.{inside}
-use Rattle.calls.specs.Calls.{pass, refuse, noWidth, outside, widthTest, addressTest}
-use Rattle.basics.proofs.laws.Bits.{test}
-use Rattle.device.specs.map.Views.{bytesIn}
-use Rattle.device.specs.window.Tests.{Ends}
-use Rattle.device.specs.declared.window.Located.{Located}
-use Rattle.device.specs.declared.window.Located.the-variants.{At}
+use Rattle.calls.specs.{Window.inside, Calls.pass, Calls.refuse, Calls.noWidth, Calls.outside, Calls.widthTest, Calls.addressTest}
+use Rattle.device.specs.{map.Views.bytesIn, window.Tests.Ends, declared.window.Located.Located, declared.window.Located.the-variants.At}
 
 pub width-known : (n : ℕ) (w : Width) → widthTest n ≡ pass w → bytesIn w ≡ n
 width-known n w e = go (eqb n 1) (eqb n 2) (eqb n 4) (eqb n 8) refl refl refl refl e

@@ -1,25 +1,9 @@
 -- A drain: as many events as wait or as there is room for come out, and the others are left.
-use mathlib.Core.Path.{_≡_, refl, sym, ap, subst, _∙_}
-use mathlib.Core.List.{List, [], _∷_, _++_}
-use Prim.Native.Nat.{ℕ, zero, suc, _-_, _*_, _/_, _≤_, min}
-use native.Mathlib.Omega.{arith}
-use lib.ListN.{length, take, drop, getD, length-take, drop-of-length-le}
-use lib.Seq.{take-all}
-use lib.Dec.{leb}
-use borrow.Author.Tests.{leb-true, leb-false}
-use borrow.Rule.Slice.PartMut.{putMid}
-use Rattle.rules.specs.Ring.{Event, drawn}
-use Rattle.rules.specs.Device.{Device, withRing}
-use Rattle.rules.specs.Numbering.{Numbers, withNumbers, quadsOf, fewer}
-use Rattle.images.specs.Form.{Form, count, place, formLength}
-use Rattle.images.specs.Image.{countIn, numbersIn}
-use Rattle.basics.proofs.laws.Bits.{test}
-use Rattle.images.proofs.laws.Saved.{count-stands}
-use Rattle.fields.specs.inplace.Held.{Holds}
-use Rattle.fields.proofs.inplace.Doing.{holds-as}
-use Rattle.drain.specs.shifts.Shifted.{Shifts}
-use Rattle.drain.specs.events_out.Out.{CopiesOut}
-use Rattle.drain.specs.drains.Drained.{Drains}
+use Rattle.basics.proofs.Prelude.{_≡_, refl, sym, ap, subst, _∙_, List, [], _∷_, _++_, ℕ, zero, suc, _-_, _*_, _/_, _≤_, min, arith, length, take, drop, getD, length-take, drop-of-length-le, take-all, leb, leb-true, leb-false, putMid, test}
+use Rattle.rules.specs.{Ring.Event, Ring.drawn, Device.Device, Device.withRing, Numbering.Numbers, Numbering.withNumbers, Numbering.quadsOf, Numbering.fewer}
+use Rattle.images.{specs.Form.Form, specs.Form.count, specs.Form.place, specs.Form.formLength, specs.Image.countIn, specs.Image.numbersIn, proofs.laws.Saved.count-stands}
+use Rattle.fields.{specs.inplace.Held.Holds, proofs.inplace.Doing.holds-as}
+use Rattle.drain.specs.{shifts.Shifted.Shifts, events_out.Out.CopiesOut, drains.Drained.Drains}
 
 -- ---- as many as wait or as are asked for
 

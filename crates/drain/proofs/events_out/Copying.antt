@@ -1,25 +1,11 @@
 -- Events as they come out: which pairs and numbers an image has for them.
-use mathlib.Core.Path.{_≡_, refl, sym, ap, _∙_}
-use mathlib.Core.Bool.{true, false}
-use mathlib.Core.List.{List, [], _∷_}
-use Prim.Native.Nat.{ℕ, zero, suc, _+_, _-_, _*_, _≤_}
-use native.Mathlib.Omega.{arith}
-use lib.ListN.{length, take, drop, replicate}
-use lib.Seq.{take-take, take-append-le}
-use Rattle.basics.specs.Numbers.{part, Twos, written}
-use Rattle.rules.specs.Ring.{Event, capacity, eventTwos}
-use Rattle.rules.specs.Device.{Device, upFrom}
-use Rattle.rules.specs.Numbering.{Numbers, withNumbers, quadsOf, numberTwos}
-use Rattle.images.specs.Form.{Form, Field, pairs, numbers, has, size, place, formLength}
-use Rattle.images.specs.Image.{sixteen, fieldOf, encodeAs, numbersIn}
-use Rattle.images.proofs.laws.Twos.{length-written}
-use Rattle.images.proofs.laws.Layout.{has-all, read-image}
-use Rattle.images.proofs.laws.Saved.{fields-sized}
+use Rattle.basics.proofs.Prelude.{_≡_, refl, sym, ap, _∙_, true, false, List, [], _∷_, ℕ, zero, suc, _+_, _-_, _*_, _≤_, arith, length, take, drop, replicate, take-take, take-append-le, part, Twos, written}
+use Rattle.rules.specs.{Ring.Event, Ring.capacity, Ring.eventTwos, Device.Device, Device.upFrom, Numbering.Numbers, Numbering.withNumbers, Numbering.quadsOf, Numbering.numberTwos}
+use Rattle.images.specs.{Form.Form, Form.Field, Form.pairs, Form.numbers, Form.has, Form.size, Form.place, Form.formLength, Image.sixteen, Image.fieldOf, Image.encodeAs, Image.numbersIn}
+use Rattle.images.proofs.laws.{Twos.length-written, Layout.has-all, Layout.read-image, Saved.fields-sized}
 use Rattle.laws.proofs.laws.Images.{numbers-encode, numbers-lost}
-use Rattle.fields.specs.inplace.Held.{Holds}
-use Rattle.fields.proofs.inplace.Doing.{holds-as}
-use Rattle.drain.specs.weave.Weave.{woven}
-use Rattle.drain.specs.events_out.Out.{CopiesOut}
+use Rattle.fields.{specs.inplace.Held.Holds, proofs.inplace.Doing.holds-as}
+use Rattle.drain.specs.{weave.Weave.woven, events_out.Out.CopiesOut}
 
 -- ---- things of two bytes, of which the first n are taken
 

@@ -1,17 +1,7 @@
 -- Bytes that move to the front of a list, and things of two bytes that are left.
-use mathlib.Core.Path.{_≡_, refl, sym, ap, _∙_}
-use mathlib.Core.List.{List, [], _∷_, _++_, append-assoc}
-use Prim.Native.Nat.{ℕ, zero, suc, _+_, _-_, _*_, _<_, _≤_}
-use native.Mathlib.Numerals.{add-one}
-use native.Mathlib.Nat.{add-comm}
-use native.Mathlib.Omega.{arith}
-use lib.ListN.{length, take, drop, getD, set, replicate, length-append, length-drop, length-set, length-replicate, take-append-drop, replicate-append-replicate}
-use lib.Seq.{take-suc, take-suc-set, drop-set-lt, drop-drop, drop-append-le, getD-drop, length-take-le, take-all}
-use borrow.Rule.Slice.PartMut.{putMid}
-use Rattle.basics.specs.Numbers.{part, Twos, written}
+use Rattle.basics.proofs.Prelude.{_≡_, refl, sym, ap, _∙_, List, [], _∷_, _++_, append-assoc, ℕ, zero, suc, _+_, _-_, _*_, _<_, _≤_, add-one, add-comm, arith, length, take, drop, getD, set, replicate, length-append, length-drop, length-set, length-replicate, take-append-drop, replicate-append-replicate, take-suc, take-suc-set, drop-set-lt, drop-drop, drop-append-le, getD-drop, length-take-le, take-all, putMid, part, Twos, written}
 use Rattle.rules.specs.Ring.{capacity}
-use Rattle.images.specs.Image.{sixteen}
-use Rattle.images.proofs.laws.Twos.{length-written, sixteen-unused}
+use Rattle.images.{specs.Image.sixteen, proofs.laws.Twos.length-written, proofs.laws.Twos.sixteen-unused}
 use Rattle.drain.specs.move_up.Left.{Unused, shifted, Leaves}
 
 -- ---- moved to the front

@@ -1,31 +1,15 @@
 -- Fields of an image replaced one after another: between them the bytes are no device's image, and after the last they are.
-use mathlib.Core.Path.{_≡_, refl, sym, ap, subst, _∙_}
-use mathlib.Core.Bool.{true, false, cond, false≢true}
-use mathlib.Core.List.{List, [], _∷_, _++_}
-use Prim.Native.Nat.{ℕ, suc, _+_, _-_, _≤_}
-use native.Mathlib.Numerals.{add-one}
-use native.Mathlib.Omega.{arith}
-use lib.ListN.{length, take, drop, set, length-drop}
-use lib.Seq.{set-split, drop-drop}
-use borrow.Rule.Slice.PartMut.{putMid}
-use Rattle.basics.specs.Numbers.{part}
-use Rattle.rules.specs.Ring.{Event, capacity, eventTwos, drawn}
-use Rattle.rules.specs.Device.{Device, withRing}
-use Rattle.rules.specs.Numbering.{Numbers, numberTwos, fewer}
-use Rattle.images.specs.Form.{Form, Field, count, pairs, numbers, is, has, size, place, formLength, read, image}
-use Rattle.images.specs.Image.{sixteen, fieldOf}
-use Rattle.basics.proofs.laws.Bits.{test}
+use Rattle.basics.proofs.Prelude.{_≡_, refl, sym, ap, subst, _∙_, true, false, cond, false≢true, List, [], _∷_, _++_, ℕ, suc, _+_, _-_, _≤_, add-one, arith, length, take, drop, set, length-drop, set-split, drop-drop, putMid, part, test}
+use Rattle.rules.specs.{Ring.Event, Ring.capacity, Ring.eventTwos, Ring.drawn, Device.Device, Device.withRing, Numbering.Numbers, Numbering.numberTwos, Numbering.fewer}
+use Rattle.rules.proofs.laws.{Numbered.fits, Numbered.fitting, Numbered.drawn-fit, Steps.drain-well}
+use Rattle.images.specs.{Form.Form, Form.Field, Form.count, Form.pairs, Form.numbers, Form.is, Form.has, Form.size, Form.place, Form.formLength, Form.read, Form.image, Image.sixteen, Image.fieldOf}
 use Rattle.images.proofs.laws.Twos.{length-sixteen}
 use Rattle.images.proofs.laws.Layout.{Sized, is-sound, is-self, by-field, has-all, field-fits, headed-image, image-known, length-image, read-image}
 use Rattle.images.proofs.laws.Saved.{fields-sized}
 use Rattle.laws.proofs.laws.InPlace.{field-written}
-use Rattle.rules.proofs.laws.Numbered.{fits, fitting, drawn-fit}
-use Rattle.rules.proofs.laws.Steps.{drain-well}
-use Rattle.fields.specs.inplace.Held.{Holds}
-use Rattle.fields.proofs.inplace.Doing.{holds-as, as-holds}
-use Rattle.drain.specs.move_up.Left.{Unused, shifted, Leaves}
+use Rattle.fields.{specs.inplace.Held.Holds, proofs.inplace.Doing.holds-as, proofs.inplace.Doing.as-holds}
+use Rattle.drain.specs.{move_up.Left.Unused, move_up.Left.shifted, move_up.Left.Leaves, shifts.Shifted.NumbersLeave, shifts.Shifted.Shifts}
 use Rattle.drain.proofs.move_up.Moving.{sixteen-spare, sixteen-shifted}
-use Rattle.drain.specs.shifts.Shifted.{NumbersLeave, Shifts}
 
 -- ---- one field replaced
 

@@ -1,10 +1,5 @@
 -- Pairs and numbers woven by a loop: one round more.
-use mathlib.Core.Path.{_≡_, sym, ap, _∙_}
-use mathlib.Core.List.{List, [], _∷_, _++_, append-nil, append-assoc}
-use Prim.Native.Nat.{ℕ, suc, _+_, _*_, _<_, _≤_}
-use native.Mathlib.Omega.{arith}
-use lib.ListN.{length, take, drop, getD, set, length-append, drop-of-length-le}
-use lib.Seq.{drop-cons, sets, sets-eq, length-sets, length-take-le, take-all, take-at}
+use Rattle.basics.proofs.Prelude.{_≡_, sym, ap, _∙_, List, [], _∷_, _++_, append-nil, append-assoc, ℕ, suc, _+_, _*_, _<_, _≤_, arith, length, take, drop, getD, set, length-append, drop-of-length-le, drop-cons, sets, sets-eq, length-sets, length-take-le, take-all, take-at}
 use Rattle.drain.specs.weave.Weave.{woven}
 
 -- the first 4 * k bytes have been written

@@ -1,23 +1,9 @@
 -- Route and vector bytes of an image, read and stored where they stand.
-use mathlib.Core.Path.{_≡_, refl, sym, ap, _∙_}
-use mathlib.Core.Bool.{true}
-use mathlib.Core.List.{List, _++_}
-use Prim.Native.Nat.{ℕ, _+_, _-_, _<_, _≤_}
-use native.Mathlib.Omega.{arith}
-use lib.ListN.{length, take, drop, getD, length-append, length-drop}
-use lib.Seq.{getD-take, getD-drop, length-take-le, take-at, drop-at, drop-drop}
-use borrow.Rule.Slice.PartMut.{putMid}
-use Rattle.basics.specs.Numbers.{numberOf, bytesOf, part, Bytes}
-use Rattle.rules.specs.Core.{withRoutes, htmsiEn, edge, pol, auto0, auto1}
-use Rattle.rules.specs.Device.{Device, WellFormed}
-use Rattle.rules.specs.Numbering.{Numbers, WellNumbered, fromZero}
-use Rattle.images.specs.Form.{Field, routes, vectors, Form, size, has, place, formLength}
-use Rattle.images.specs.Image.{bytesLength, fieldOf, encodeAs}
-use Rattle.basics.proofs.laws.Bytes.{bytes-append, bytes-take, bytes-drop, bytes-bytesOf, length-bytesOf}
-use Rattle.basics.proofs.laws.Lists.{part-part}
-use Rattle.images.proofs.laws.Layout.{always, has-all}
-use Rattle.images.proofs.laws.Saved.{fields-sized, field-stands, field-same}
+use Rattle.basics.proofs.Prelude.{_≡_, refl, sym, ap, _∙_, true, List, _++_, ℕ, _+_, _-_, _<_, _≤_, arith, length, take, drop, getD, length-append, length-drop, getD-take, getD-drop, length-take-le, take-at, drop-at, drop-drop, putMid, numberOf, bytesOf, part, Bytes, bytes-append, bytes-take, bytes-drop, bytes-bytesOf, length-bytesOf, part-part}
+use Rattle.rules.specs.{Core.withRoutes, Core.htmsiEn, Core.edge, Core.pol, Core.auto0, Core.auto1, Device.Device, Device.WellFormed, Numbering.Numbers, Numbering.WellNumbered, Numbering.fromZero}
 use Rattle.rules.proofs.laws.Numbered.{same-ring}
+use Rattle.images.specs.{Form.Field, Form.routes, Form.vectors, Form.Form, Form.size, Form.has, Form.place, Form.formLength, Image.bytesLength, Image.fieldOf, Image.encodeAs}
+use Rattle.images.proofs.laws.{Layout.always, Layout.has-all, Saved.fields-sized, Saved.field-stands, Saved.field-same}
 use Rattle.laws.proofs.laws.InPlace.{within, Apart, part-written, routes-apart, vectors-apart}
 use Rattle.bits.specs.bytes.Put.{withBytes}
 use Rattle.fields.specs.inplace.Held.{Holds, Reads, Becomes, withVectors, withStored}

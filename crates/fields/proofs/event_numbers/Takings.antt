@@ -1,27 +1,14 @@
 -- Numbers taken where they stand: the next one moves on, and a kept event's waits behind the others. An image without numbers stays as it is.
-use mathlib.Core.Path.{_≡_, refl, sym, ap, _∙_}
-use mathlib.Core.Bool.{true, false}
-use mathlib.Core.List.{List, [], _∷_, _++_}
-use Prim.Native.Nat.{ℕ, _+_, _*_, _<_, _≤_}
-use native.Mathlib.Omega.{arith}
-use lib.ListN.{length, take, getD}
-use lib.Seq.{drop-drop}
-use borrow.Author.Tests.{lt-ltb, le-ltb}
-use Rattle.basics.specs.Numbers.{numberOf, bytesOf, part}
-use Rattle.rules.specs.Ring.{capacity}
-use Rattle.rules.specs.Device.{Device}
-use Rattle.rules.specs.Numbering.{Numbers, following, takes, numberTwos}
-use Rattle.images.specs.Form.{Form, count, next, numbers, has, place, formLength}
-use Rattle.images.specs.Image.{fieldOf, encodeAs, encodeLike, numbersIn, countIn}
-use Rattle.images.proofs.laws.Twos.{sixteen-snoc}
-use Rattle.images.proofs.laws.Saved.{has-next, numbers-there, numbers-not-there, encode-without, fields-sized, count-stands}
+use Rattle.basics.proofs.Prelude.{_≡_, refl, sym, ap, _∙_, true, false, List, [], _∷_, _++_, ℕ, _+_, _*_, _<_, _≤_, arith, length, take, getD, drop-drop, lt-ltb, le-ltb, numberOf, bytesOf, part}
+use Rattle.rules.specs.{Ring.capacity, Device.Device, Numbering.Numbers, Numbering.following, Numbering.takes, Numbering.numberTwos}
+use Rattle.rules.proofs.laws.Numbered.{Fits, fits, fitting, takes-returned}
+use Rattle.images.specs.{Form.Form, Form.count, Form.next, Form.numbers, Form.has, Form.place, Form.formLength, Image.fieldOf, Image.encodeAs, Image.encodeLike, Image.numbersIn, Image.countIn}
+use Rattle.images.proofs.laws.{Twos.sixteen-snoc, Saved.has-next, Saved.numbers-there, Saved.numbers-not-there, Saved.encode-without, Saved.fields-sized, Saved.count-stands}
 use Rattle.laws.proofs.laws.Images.{numbers-as, encode-as, numbers-encode}
 use Rattle.laws.proofs.laws.InPlace.{withNext, withWaiting, next-apart, numbers-apart, field-written, bytes-written}
-use Rattle.rules.proofs.laws.Numbered.{Fits, fits, fitting, takes-returned}
 use Rattle.bits.specs.bytes.Put.{withBytes}
-use Rattle.fields.specs.inplace.Held.{Holds, Taken, NumberOffered}
+use Rattle.fields.specs.{inplace.Held.Holds, inplace.Held.Taken, inplace.Held.NumberOffered, number_bytes.Next.NextTaken}
 use Rattle.fields.proofs.inplace.Doing.{holds-as, as-holds}
-use Rattle.fields.specs.number_bytes.Next.{NextTaken}
 
 module _ (f : Form) (i : List ℕ) (long : length i ≡ formLength f) where
   -- ---- an image without numbers

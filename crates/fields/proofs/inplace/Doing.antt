@@ -1,26 +1,11 @@
 -- What is done in place, one after another; and what an image that holds a device has.
-use mathlib.Core.Path.{_≡_, refl, sym, ap, ap₂, subst, _∙_}
-use mathlib.Core.Bool.{true}
-use mathlib.Core.List.{List, [], _∷_, _++_}
-use Prim.Native.Nat.{ℕ, _+_}
-use lib.ListN.{length}
-use Rattle.basics.specs.Numbers.{Bytes}
-use Rattle.rules.specs.Lines.{Made}
-use Rattle.rules.specs.Ring.{Ring, RingAct, ringRun, dropped, lostOf}
-use Rattle.rules.specs.Core.{Core, CoreTurn, Act, turns, Move, move, moved, lineTurn}
-use Rattle.rules.specs.Device.{Device, WellFormed, offers, acted, lost}
-use Rattle.images.specs.Form.{Form, numbers, has, formLength}
-use Rattle.rules.specs.Numbering.{Numbers, WellNumbered, fromZero, takes, takesAll}
-use Rattle.images.specs.Image.{imageTest, accepted, decode, numbersIn, encodeAs}
-use Rattle.basics.proofs.laws.Bits.{test}
-use Rattle.rules.proofs.laws.Acts.{turns-append, offers-append, acted-none, acted-append}
-use Rattle.rules.proofs.laws.Rings.{run-append, lostOf-append}
-use Rattle.rules.proofs.laws.Steps.{turns-one}
-use Rattle.laws.proofs.laws.Writes.{acted-move}
-use Rattle.laws.proofs.laws.Images.{encode-decode, decode-well-formed, numbers-well, encode-as, numbers-encode, numbers-lost}
-use Rattle.basics.proofs.laws.Lists.{Each}
-use Rattle.rules.proofs.laws.Numbered.{takes-append}
+use Rattle.basics.proofs.Prelude.{_≡_, refl, sym, ap, ap₂, subst, _∙_, true, List, [], _∷_, _++_, ℕ, _+_, length, Bytes, test, Each}
+use Rattle.rules.specs.{Lines.Made, Ring.Ring, Ring.RingAct, Ring.ringRun, Ring.dropped, Ring.lostOf, Core.Core, Core.CoreTurn, Core.Act, Core.turns, Core.Move, Core.move, Core.moved, Core.lineTurn}
+use Rattle.rules.specs.{Device.Device, Device.WellFormed, Device.offers, Device.acted, Device.lost, Numbering.Numbers, Numbering.WellNumbered, Numbering.fromZero, Numbering.takes, Numbering.takesAll}
+use Rattle.rules.proofs.laws.{Acts.turns-append, Acts.offers-append, Acts.acted-none, Acts.acted-append, Rings.run-append, Rings.lostOf-append, Steps.turns-one, Numbered.takes-append}
+use Rattle.images.specs.{Form.Form, Form.numbers, Form.has, Form.formLength, Image.imageTest, Image.accepted, Image.decode, Image.numbersIn, Image.encodeAs}
 use Rattle.images.proofs.laws.Saved.{length-encode}
+use Rattle.laws.proofs.laws.{Writes.acted-move, Images.encode-decode, Images.decode-well-formed, Images.numbers-well, Images.encode-as, Images.numbers-encode, Images.numbers-lost}
 use Rattle.fields.specs.inplace.Held.{Holds, Becomes, Does, takesEach, Offers, MovesIn, Acts, Writes, withRing}
 
 -- an accepted image holds its device and its numbers

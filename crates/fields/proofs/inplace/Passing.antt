@@ -1,13 +1,8 @@
 -- What an image that passed its tests has: the length of its form, room in its ring, and the device that it loads.
-use mathlib.Core.Path.{_≡_, sym, _∙_}
-use mathlib.Core.List.{List}
-use Prim.Native.Nat.{ℕ, _≤_}
-use lib.ListN.{length}
-use Rattle.images.specs.Form.{Form, forms, formLength}
-use Rattle.images.specs.Image.{decode, numbersIn, countIn}
+use Rattle.basics.proofs.Prelude.{_≡_, sym, _∙_, List, ℕ, _≤_, length}
+use Rattle.images.specs.{Form.Form, Form.forms, Form.formLength, Image.decode, Image.numbersIn, Image.countIn}
 use Rattle.images.proofs.laws.Tests.{form-known, test-known, accepted-has}
-use Rattle.fields.specs.inplace.Held.{Holds}
-use Rattle.fields.specs.inplace.Passed.{Passed}
+use Rattle.fields.specs.inplace.{Held.Holds, Passed.Passed}
 use Rattle.fields.proofs.inplace.Doing.{held}
 
 module _ {f : Form} {i : List ℕ} (p : Passed f i) where

@@ -1,14 +1,7 @@
 -- Turns of the lines done in place: by another name, and one after another.
-use mathlib.Core.Path.{_≡_, sym, ap, _∙_}
-use mathlib.Core.List.{List}
-use Prim.Native.Nat.{ℕ, _+_}
-use Rattle.rules.specs.Lines.{Lines, Made, Turn, andThen}
-use Rattle.rules.specs.Ring.{Ring, Drawn, ringRun, lostOf}
-use Rattle.rules.specs.Device.{Device, offers, lost}
-use Rattle.rules.specs.Numbering.{Numbers, takesAll}
-use Rattle.rules.proofs.laws.Acts.{offers-append}
-use Rattle.rules.proofs.laws.Numbered.{takes-append}
-use Rattle.rules.proofs.laws.Rings.{run-append, lostOf-append}
+use Rattle.basics.proofs.Prelude.{_≡_, sym, ap, _∙_, List, ℕ, _+_}
+use Rattle.rules.specs.{Lines.Lines, Lines.Made, Lines.Turn, Lines.andThen, Ring.Ring, Ring.Drawn, Ring.ringRun, Ring.lostOf, Device.Device, Device.offers, Device.lost}
+use Rattle.rules.{specs.Numbering.Numbers, specs.Numbering.takesAll, proofs.laws.Acts.offers-append, proofs.laws.Numbered.takes-append, proofs.laws.Rings.run-append, proofs.laws.Rings.lostOf-append}
 use Rattle.fields.specs.inplace.Held.{Holds, Does, MovesIn, withLines, withRing, turned}
 use Rattle.fields.proofs.inplace.Doing.{does-same, does-then}
 

@@ -1,29 +1,13 @@
 -- Body 4 as bytes: an event stored behind those that wait, or counted as lost.
-use mathlib.Core.Path.{_≡_, refl, sym, ap, _∙_}
-use mathlib.Core.Bool.{Bool, true}
-use mathlib.Core.List.{List, [], _∷_, _++_, map, append-nil}
-use Prim.Native.Nat.{ℕ, zero, suc, _+_, _-_, _*_, _<_, _≤_, min}
-use native.Mathlib.Omega.{arith}
-use lib.Dec.{ltb, lit<}
-use lib.ListN.{length, getD, set, replicate, length-append}
-use borrow.Author.Tests.{lt-ltb, le-ltb, ltb-true}
-use borrow.Rule.Slice.PartMut.{putMid}
-use Rattle.basics.specs.Numbers.{numberOf, bytesOf, part, Bytes}
+use Rattle.basics.proofs.Prelude.{_≡_, refl, sym, ap, _∙_, Bool, true, List, [], _∷_, _++_, map, append-nil, ℕ, zero, suc, _+_, _-_, _*_, _<_, _≤_, min, arith, ltb, lit<, length, getD, set, replicate, length-append, lt-ltb, le-ltb, ltb-true, putMid, numberOf, bytesOf, part, Bytes, numberOf-bytesOf, test}
 use Rattle.rules.specs.Ring.{capacity, stop, flag, pairsOf, Event, Ring, offer, offered, ringStep, ringRun, droppedBy, dropped}
-use Rattle.rules.specs.Device.{Device, WellFormed, reset}
-use Rattle.rules.specs.Numbering.{Numbers, takes}
-use Rattle.images.specs.Form.{Form, count, place, formLength}
-use Rattle.images.specs.Image.{ringLength, ringBody, encodeAs}
-use Rattle.basics.proofs.laws.Bytes.{numberOf-bytesOf}
-use Rattle.basics.proofs.laws.Bits.{test}
-use Rattle.rules.proofs.laws.Rings.{offered-room, offered-full}
-use Rattle.laws.proofs.laws.Images.{encode-as}
+use Rattle.rules.{specs.Device.Device, specs.Device.WellFormed, specs.Device.reset, specs.Numbering.Numbers, specs.Numbering.takes, proofs.laws.Rings.offered-room, proofs.laws.Rings.offered-full}
 use Rattle.rules.proofs.laws.Numbered.{fits, fitting, takes-offered}
+use Rattle.images.specs.{Form.Form, Form.count, Form.place, Form.formLength, Image.ringLength, Image.ringBody, Image.encodeAs}
+use Rattle.laws.proofs.laws.Images.{encode-as}
 use Rattle.bits.specs.bytes.Put.{withBytes}
-use Rattle.fields.specs.inplace.Held.{Holds, Offers, NumberOffered, withRing}
-use Rattle.fields.proofs.inplace.Doing.{as-holds}
-use Rattle.fields.proofs.inplace.Bodies.{ring-part, ring-put}
-use Rattle.fields.specs.ring.Fields.{RingOffered, event, offering}
+use Rattle.fields.specs.{inplace.Held.Holds, inplace.Held.Offers, inplace.Held.NumberOffered, inplace.Held.withRing, ring.Fields.RingOffered, ring.Fields.event, ring.Fields.offering}
+use Rattle.fields.proofs.inplace.{Doing.as-holds, Bodies.ring-part, Bodies.ring-put}
 
 -- a pair is stored over two bytes behind the pairs that wait
 pair-stored : (es : List Event) (x y v : ℕ) (a : Bool) (l : List ℕ)

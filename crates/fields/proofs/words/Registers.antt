@@ -1,27 +1,13 @@
 -- The words of an image, read and stored where they stand: one law over the form and the word.
-use mathlib.Core.Path.{_≡_, refl, sym, ap, subst, _∙_}
-use mathlib.Core.Bool.{Bool, true, false, cond, false≢true}
-use mathlib.Core.List.{List, _++_}
-use Prim.Native.Nat.{ℕ, _+_, _^_, _<_, _≤_}
-use native.Mathlib.Omega.{arith}
-use lib.ListN.{length, take}
-use lib.Seq.{drop-drop}
-use borrow.Rule.Slice.PartMut.{putMid}
-use Rattle.basics.specs.Numbers.{bytesOf, Bytes}
-use Rattle.rules.specs.Lines.{Lines}
-use Rattle.rules.specs.Core.{Core, Stored, Plain, htmsiEn, edge, pol, auto0, auto1, plain, withPlain}
-use Rattle.rules.specs.Device.{Device, WellFormed}
-use Rattle.rules.specs.Numbering.{Numbers, WellNumbered}
+use Rattle.basics.proofs.Prelude.{_≡_, refl, sym, ap, subst, _∙_, Bool, true, false, cond, false≢true, List, _++_, ℕ, _+_, _^_, _<_, _≤_, arith, length, take, drop-drop, putMid, bytesOf, Bytes, test}
+use Rattle.rules.specs.{Lines.Lines, Core.Core, Core.Stored, Core.Plain, Core.htmsiEn, Core.edge, Core.pol, Core.auto0, Core.auto1, Core.plain, Core.withPlain, Device.Device, Device.WellFormed}
+use Rattle.rules.{specs.Numbering.Numbers, specs.Numbering.WellNumbered, proofs.laws.Numbered.same-ring}
 use Rattle.images.specs.Form.{Word, mask, irr, isr, copy, stored, Field, word, pairs, numbers, Form, is, has, place, formLength, image}
 use Rattle.images.specs.Image.{wordOf, fieldOf, registerAt, encodeAs}
-use Rattle.basics.proofs.laws.Bits.{test}
-use Rattle.images.proofs.laws.Layout.{Sized, never, by-word, by-field, always, has-all, field-fits}
-use Rattle.images.proofs.laws.Saved.{fields-sized, word-stands}
-use Rattle.rules.proofs.laws.Numbered.{same-ring}
+use Rattle.images.proofs.laws.{Layout.Sized, Layout.never, Layout.by-word, Layout.by-field, Layout.always, Layout.has-all, Layout.field-fits, Saved.fields-sized, Saved.word-stands}
 use Rattle.laws.proofs.laws.InPlace.{withCore, coreWord, field-written, word-apart}
 use Rattle.bits.specs.bytes.Put.{withWord}
-use Rattle.image.specs.Shown.{PlacesOf}
-use Rattle.image.specs.declared.form.Places.{Places}
+use Rattle.image.specs.{Shown.PlacesOf, declared.form.Places.Places}
 use Rattle.fields.proofs.inplace.Doing.{holds-as, as-holds}
 use Rattle.fields.specs.inplace.Held.{Holds, Reads, Becomes, withLines}
 

@@ -1,25 +1,12 @@
 -- Demand 3, the account: for each vector, asserts made less deasserts made follow the in-service inputs that carry it.
 -- A call moves the lines or changes vector bytes, never both (Reach). Where it moves the lines each act is in balance (Counts); where it changes vectors
 -- it makes no event, and the premise keeps the vectors of the inputs in service.
-use mathlib.Core.Path.{_≡_, refl, sym, ap, _∙_}
-use mathlib.Core.Logic.{⊎-elim}
-use mathlib.Core.Bool.{Bool, true, false, not, _&&_}
-use mathlib.Core.List.{List, [], _++_}
-use Prim.Native.Nat.{ℕ, _+_}
-use native.Mathlib.Omega.{arith}
-use lib.Dec.{eqb}
-use lib.ListN.{length}
-use Rattle.basics.specs.Inputs.{on}
-use Rattle.rules.specs.Lines.{Lines, Made, servedIn}
-use Rattle.rules.specs.Core.{Core, Act, move, setIsr, store, setVector, lineTurn, turn, turns}
-use Rattle.rules.specs.Device.{Device, Call, actsOf, acted, step, reset}
-use Rattle.rules.specs.History.{history, fromReset}
-use Rattle.histories.specs.Premises.{Along, Admitted, writesIsr, ServedVectorsStay}
+use Rattle.basics.proofs.Prelude.{_≡_, refl, sym, ap, _∙_, ⊎-elim, Bool, true, false, not, _&&_, List, [], _++_, ℕ, _+_, arith, eqb, length, on, on-none, no-inputs}
+use Rattle.rules.specs.{Lines.Lines, Lines.Made, Lines.servedIn, Core.Core, Core.Act, Core.move, Core.setIsr, Core.store, Core.setVector, Core.lineTurn, Core.turn, Core.turns}
+use Rattle.rules.specs.{Device.Device, Device.Call, Device.actsOf, Device.acted, Device.step, Device.reset, History.history, History.fromReset}
 use Rattle.rules.specs.Account.{tally, servedWith, hasVector, carries, asserts, deasserts, carrying}
-use Rattle.histories.specs.Demands.{someAct, setsIsr}
-use Rattle.basics.proofs.laws.Bits.{on-none}
-use Rattle.basics.proofs.laws.Inputs.{no-inputs}
 use Rattle.rules.proofs.laws.Counts.{size-ext, tally-append, vector-balanced}
+use Rattle.histories.specs.{Premises.Along, Premises.Admitted, Premises.writesIsr, Premises.ServedVectorsStay, Demands.someAct, Demands.setsIsr}
 use Rattle.histories.proofs.laws.Reach.{each-both, NotIsr, no-isr-act, isr-acts, LeavesVectors, lines-or-vectors}
 use Rattle.histories.proofs.laws.Folds.{fold-acts, fold-calls, still, vectors-stay}
 

@@ -1,15 +1,7 @@
 -- 01, 'Easy to get wrong': a cleared input needs a new raise. Over any calls.
-use mathlib.Core.Path.{_≡_}
-use mathlib.Core.Bool.{_&&_}
-use mathlib.Core.List.{List, _∷_}
-use Prim.Native.Nat.{ℕ, _<_}
-use native.Mathlib.Omega.{arith}
-use Rattle.basics.specs.Inputs.{only}
-use Rattle.rules.specs.Device.{Device, Call, step}
-use Rattle.rules.specs.History.{history}
-use Rattle.rules.proofs.laws.Counts.{tally-append}
-use Rattle.histories.specs.Premises.{Along}
-use Rattle.histories.specs.Demands.{Clears, Unraised, assertsOf}
+use Rattle.basics.proofs.Prelude.{_≡_, _&&_, List, _∷_, ℕ, _<_, arith, only}
+use Rattle.rules.{specs.Device.Device, specs.Device.Call, specs.Device.step, specs.History.history, proofs.laws.Counts.tally-append}
+use Rattle.histories.specs.{Premises.Along, Demands.Clears, Demands.Unraised, Demands.assertsOf}
 use Rattle.histories.proofs.laws.Latches.{quiet-until-raised, clear-silent, call-unlatches}
 
 -- c clears n (CLEAR is written with its bit), and none of the calls after it raises n. Then from c on no assert of n is made, whatever

@@ -1,18 +1,11 @@
 -- Demand 3, order: an offered event that finds fewer than 16 waiting is drained after those and before any later one; else it is dropped and counted.
 -- What waited and what was kept since is what was drained since and what waits (Draining), so the place that an event finds is its place among the
 -- drained.
-use mathlib.Core.Path.{_≡_, sym, ap, _∙_}
-use mathlib.Core.Bool.{true, cond}
-use mathlib.Core.List.{List, [], _∷_, _++_, append-assoc}
-use Prim.Native.Nat.{ℕ, _+_, _<_, _≤_, min}
-use lib.ListN.{length, getD}
-use Rattle.rules.specs.Lines.{Made}
-use Rattle.rules.specs.Ring.{Event, RingAct, Drawn, offer, offered, ringStep, ringRun, kept, dropped}
-use Rattle.rules.specs.Device.{Device, Call, offers, draws, step}
-use Rattle.rules.specs.History.{history}
+use Rattle.basics.proofs.Prelude.{_≡_, sym, ap, _∙_, true, cond, List, [], _∷_, _++_, append-assoc, ℕ, _+_, _<_, _≤_, min, length, getD}
+use Rattle.rules.specs.{Lines.Made, Ring.Event, Ring.RingAct, Ring.Drawn, Ring.offer, Ring.offered, Ring.ringStep, Ring.ringRun, Ring.kept, Ring.dropped}
+use Rattle.rules.specs.{Device.Device, Device.Call, Device.offers, Device.draws, Device.step, History.history}
+use Rattle.rules.proofs.laws.{Rings.offered-full, Rings.run-append, Rings.fifo, Rings.drops-run, Acts.offers-append}
 use Rattle.histories.specs.Demands.{asEvent, foundBy, ringActs}
-use Rattle.rules.proofs.laws.Rings.{offered-full, run-append, fifo, drops-run}
-use Rattle.rules.proofs.laws.Acts.{offers-append}
 use Rattle.histories.proofs.laws.Draining.{offers-drain, kept-place, history-ring}
 
 -- ---- one event

@@ -1,25 +1,14 @@
 -- Demand 3, service: an input that is latched and unmasked, and stays undisturbed, is in service from the first poll or raise of it on.
 -- Entering takes no input out of service, and leaving only those of its set; so an undisturbed input stays latched and unmasked, and in service once
 -- it is.
-use mathlib.Core.Path.{_≡_, refl, sym, _∙_}
-use mathlib.Core.Bool.{Bool, true, false, not, true≢false, and-false}
-use mathlib.Core.List.{List, [], _∷_, _++_}
-use Prim.Native.Nat.{ℕ, _<_}
-use borrow.Author.Tests.{eqb-true}
-use Rattle.basics.specs.Inputs.{on, inputs, only, put, without, withHalf, asHalf}
-use Rattle.rules.specs.Lines.{Lines, Made, withIrr, withMask, pendingIn, serve, leave, newlyUnmasked, newlyMasked}
-use Rattle.rules.specs.Lines.{polled, raised, lowered, cleared, masked}
+use Rattle.basics.proofs.Prelude.{_≡_, refl, sym, _∙_, Bool, true, false, not, true≢false, and-false, List, [], _∷_, _++_, ℕ, _<_, eqb-true, on, inputs, only, put, without, withHalf, asHalf, on-put, on-without}
+use Rattle.rules.specs.Lines.{Lines, Made, withIrr, withMask, pendingIn, serve, leave, newlyUnmasked, newlyMasked, polled, raised, lowered, cleared, masked}
 use Rattle.rules.specs.Core.{Core, Move, poll, raise, lower, clear, setMask, Act, move, setIsr, store, setVector, moved, lineTurn, turn, turns}
-use Rattle.rules.specs.Device.{Device, Call, actsOf, acted, step}
+use Rattle.rules.specs.{Device.Device, Device.Call, Device.actsOf, Device.acted, Device.step, History.history}
+use Rattle.histories.specs.{Premises.Along, Demands.done, Demands.also, Demands.inService, Demands.Eligible, Demands.disturbs, Demands.Spared, Demands.Undisturbed, Demands.pollsOrRaises}
+use Rattle.laws.proofs.laws.{Serving.poll-serves, Serving.raise-latches, Serving.raise-serves, Halves.by-halves, Halves.on-new-half, Halves.on-kept-half}
+use Rattle.histories.proofs.laws.{Reach.each-both, Reach.NotIsr, Reach.no-isr-act, Folds.fold-acts, Folds.fold-calls, Folds.history-append, Folds.along-append, Folds.along-each}
 use Rattle.rules.specs.Device as call
-use Rattle.rules.specs.History.{history}
-use Rattle.histories.specs.Premises.{Along}
-use Rattle.histories.specs.Demands.{done, also, inService, Eligible, disturbs, Spared, Undisturbed, pollsOrRaises}
-use Rattle.basics.proofs.laws.Bits.{on-put, on-without}
-use Rattle.laws.proofs.laws.Serving.{poll-serves, raise-latches, raise-serves}
-use Rattle.laws.proofs.laws.Halves.{by-halves, on-new-half, on-kept-half}
-use Rattle.histories.proofs.laws.Reach.{each-both, NotIsr, no-isr-act}
-use Rattle.histories.proofs.laws.Folds.{fold-acts, fold-calls, history-append, along-append, along-each}
 
 -- a write to a half of MASK that brings no 1 to n's place leaves n unmasked
 stays-unmasked : (h : Bool) (x v n : ℕ) → n < 64 → on (asHalf h v) n ≡ false → on x n ≡ false → on (withHalf h x v) n ≡ false

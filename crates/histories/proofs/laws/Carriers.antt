@@ -1,28 +1,12 @@
 -- Where one input alone carries a vector, an assert of the vector is an assert of that input: a call moves the lines or changes vector bytes, never both
 -- (Reach), so that the events of a call have the vectors that it met.
-use mathlib.Core.Path.{_≡_, refl, sym, ap, _∙_}
-use mathlib.Core.Logic.{⊎-elim}
-use mathlib.Core.Bool.{Bool, true, false, _&&_}
-use mathlib.Core.List.{List, [], _∷_, _++_}
-use Prim.Native.Nat.{ℕ, _<_, _≤_}
-use native.Mathlib.Omega.{arith}
-use lib.Dec.{eqb}
-use lib.ListN.{getD}
-use borrow.Author.Tests.{eq-eqb}
-use Rattle.basics.specs.Inputs.{on, inputs, only, put, without, withHalf}
-use Rattle.rules.specs.Lines.{Lines, Made, event, withIrr, withMask, pendingIn, servedIn, serve, enter, leave, newlyUnmasked, newlyMasked}
-use Rattle.rules.specs.Lines.{polled, raised, lowered, cleared, masked}
+use Rattle.basics.proofs.Prelude.{_≡_, refl, sym, ap, _∙_, ⊎-elim, Bool, true, false, _&&_, List, [], _∷_, _++_, ℕ, _<_, _≤_, arith, eqb, getD, eq-eqb, on, inputs, only, put, without, withHalf, test, first-has}
+use Rattle.rules.specs.Lines.{Lines, Made, event, withIrr, withMask, pendingIn, servedIn, serve, enter, leave, newlyUnmasked, newlyMasked, polled, raised, lowered, cleared, masked}
 use Rattle.rules.specs.Core.{Core, Move, poll, raise, lower, clear, setMask, Act, move, setIsr, store, setVector, moved, lineTurn, turn}
-use Rattle.rules.specs.Device.{Device, Call, step}
-use Rattle.rules.specs.History.{history}
-use Rattle.histories.specs.Premises.{Along}
-use Rattle.rules.specs.Account.{tally, hasVector, carries, asserts}
-use Rattle.histories.specs.Demands.{assertsOf, CarriedAlone}
-use Rattle.basics.proofs.laws.Bits.{test}
-use Rattle.basics.proofs.laws.Inputs.{first-has}
+use Rattle.rules.specs.{Device.Device, Device.Call, Device.step, History.history, Account.tally, Account.hasVector, Account.carries, Account.asserts}
 use Rattle.rules.proofs.laws.Counts.{tally-append, tally-nil, tally-none}
-use Rattle.histories.proofs.laws.Reach.{LeavesVectors, lines-or-vectors}
-use Rattle.histories.proofs.laws.Folds.{fold-acts, fold-calls, still, vectors-stay}
+use Rattle.histories.specs.{Premises.Along, Demands.assertsOf, Demands.CarriedAlone}
+use Rattle.histories.proofs.laws.{Reach.LeavesVectors, Reach.lines-or-vectors, Folds.fold-acts, Folds.fold-calls, Folds.still, Folds.vectors-stay}
 
 module _ (n v : ℕ) where
   -- no more asserts of v than of n

@@ -1,23 +1,11 @@
 -- The ring over histories: a history does to its ring what its calls offer and draw (history-ring); each event that is made was returned, drained, waits
 -- or was dropped (all-accounted).
-use mathlib.Core.Path.{_≡_, refl, sym, ap, _∙_}
-use mathlib.Core.Bool.{Bool}
-use mathlib.Core.List.{List, [], _∷_, _++_, append-assoc}
-use Prim.Native.Nat.{_+_, _<_}
-use native.Mathlib.Omega.{arith}
-use lib.Dec.{ltb}
-use lib.ListN.{length, getD, List·getD-append}
-use lib.Seq.{getD-append-seam}
-use Rattle.rules.specs.Lines.{Made}
-use Rattle.rules.specs.Ring.{Event, Ring, RingAct, Drawn, offer, draw, offered, ringStep, ringRun, kept, dropped}
-use Rattle.rules.specs.Device.{Device, Call, offers, draws, acted, step}
-use Rattle.rules.specs.Device as call
-use Rattle.rules.specs.History.{history}
-use Rattle.rules.specs.Account.{tally}
+use Rattle.basics.proofs.Prelude.{_≡_, refl, sym, ap, _∙_, Bool, List, [], _∷_, _++_, append-assoc, _+_, _<_, arith, ltb, length, getD, List·getD-append, getD-append-seam, test}
+use Rattle.rules.specs.{Lines.Made, Ring.Event, Ring.Ring, Ring.RingAct, Ring.Drawn, Ring.offer, Ring.draw, Ring.offered, Ring.ringStep, Ring.ringRun, Ring.kept, Ring.dropped}
+use Rattle.rules.specs.{Device.Device, Device.Call, Device.offers, Device.draws, Device.acted, Device.step, History.history, Account.tally}
+use Rattle.rules.proofs.laws.{Rings.offered-room, Rings.run-append, Rings.fifo, Counts.tally-append}
 use Rattle.histories.specs.Demands.{asEvent, foundBy, ringActs, returnedIn}
-use Rattle.basics.proofs.laws.Bits.{test}
-use Rattle.rules.proofs.laws.Rings.{offered-room, run-append, fifo}
-use Rattle.rules.proofs.laws.Counts.{tally-append}
+use Rattle.rules.specs.Device as call
 
 -- ---- a run of offers and drains
 

@@ -1,14 +1,9 @@
 -- What holds of each act holds of acts, and what holds of each call holds of a history: once for every relation between what was, the events made and
 -- what is. Then histories in two parts, and what stays where acts leave the lines or the vector bytes.
-use mathlib.Core.Path.{_≡_, refl, sym, ap, ap₂, _∙_}
-use mathlib.Core.List.{List, [], _∷_, _++_, append-assoc}
-use Prim.Native.Nat.{ℕ}
-use Rattle.rules.specs.Lines.{Made}
-use Rattle.rules.specs.Core.{Core, Act, move, setIsr, store, setVector, lineTurn, vectorsAfter, turn, turns}
-use Rattle.rules.specs.Device.{Device, Call, Step, step}
-use Rattle.rules.specs.History.{history}
-use Rattle.histories.specs.Premises.{Along}
-use Rattle.histories.specs.Demands.{Each, done, also}
+use Rattle.basics.proofs.Prelude.{_≡_, refl, sym, ap, ap₂, _∙_, List, [], _∷_, _++_, append-assoc, ℕ}
+use Rattle.rules.specs.{Lines.Made, Core.Core, Core.Act, Core.move, Core.setIsr, Core.store, Core.setVector, Core.lineTurn, Core.vectorsAfter, Core.turn, Core.turns}
+use Rattle.rules.specs.{Device.Device, Device.Call, Device.Step, Device.step, History.history}
+use Rattle.histories.specs.{Premises.Along, Demands.Each, Demands.done, Demands.also}
 use Rattle.histories.proofs.laws.Reach.{LeavesLines, LeavesVectors}
 
 -- ---- acts

@@ -1,30 +1,17 @@
 -- An input that is not latched: no act but a raise of it makes an assert of it or latches it. CLEAR with its bit unlatches it.
-use mathlib.Core.Path.{_≡_, refl, sym, ap, _∙_}
-use mathlib.Core.Logic.{⊎-elim}
-use mathlib.Core.Bool.{Bool, true, false, _&&_, true≢false, and-false}
-use mathlib.Core.List.{List, [], _∷_, _++_, append-nil}
-use Prim.Native.Nat.{ℕ, _<_}
-use native.Mathlib.Omega.{arith}
-use borrow.Author.Tests.{eqb-true}
-use Rattle.basics.specs.Inputs.{on, inputs, only, put, without, withHalf}
-use Rattle.rules.specs.Lines.{Lines, Made, event, withIrr, withMask, pendingIn, servedIn, serve, enter, leave, newlyUnmasked, newlyMasked}
-use Rattle.rules.specs.Lines.{polled, raised, lowered, cleared, masked}
+use Rattle.basics.proofs.Prelude.{_≡_, refl, sym, ap, _∙_, ⊎-elim, Bool, true, false, _&&_, true≢false, and-false, List, [], _∷_, _++_, append-nil, ℕ, _<_, arith, eqb-true, on, inputs, only, put, without, withHalf, test, on-put, on-without, first-has}
+use Rattle.rules.proofs.demands.Copy.{serve-irr}
+use Rattle.rules.specs.Lines.{Lines, Made, event, withIrr, withMask, pendingIn, servedIn, serve, enter, leave, newlyUnmasked, newlyMasked, polled, raised, lowered, cleared, masked}
 use Rattle.rules.specs.Core.{Core, Move, poll, raise, lower, clear, setMask, Act, move, setIsr, store, setVector, moved, lineTurn, turn, turns}
-use Rattle.rules.specs.Device.{Device, Call, none, actsOf, acted, step}
-use Rattle.rules.specs.Numbering.{Numbers, valueWith}
-use Rattle.rules.specs.Device as call
-use Rattle.rules.specs.History.{history}
-use Rattle.histories.specs.Premises.{Along}
-use Rattle.rules.specs.Account.{tally}
-use Rattle.histories.specs.Demands.{Each, done, also, clears, someAct, Clears, Unraised, assertsOf}
-use Rattle.basics.proofs.laws.Bits.{test, on-put, on-without}
-use Rattle.basics.proofs.laws.Inputs.{first-has}
-use Rattle.laws.proofs.laws.Sets.{only-waiting}
+use Rattle.rules.specs.{Device.Device, Device.Call, Device.none, Device.actsOf, Device.acted, Device.step, Numbering.Numbers, Numbering.valueWith, History.history, Account.tally}
 use Rattle.rules.proofs.laws.Counts.{tally-append, tally-nil, tally-none}
+use Rattle.histories.specs.{Premises.Along, Demands.Each, Demands.done, Demands.also, Demands.clears, Demands.someAct, Demands.Clears, Demands.Unraised, Demands.assertsOf}
+use Rattle.laws.proofs.laws.Sets.{only-waiting}
 use Rattle.histories.proofs.laws.Reach.{each-both, each-so, NotMask, NotClear, mask-or-clear, ReturnsNone, write-returns-none}
 use Rattle.histories.proofs.laws.Folds.{fold-acts, fold-calls}
+use Rattle.rules.specs.Device as call
 
-latched-of : (a b c d : Bool) → (a && ((b && c) && d)) ≡ true → b ≡ true
+pub latched-of : (a b c d : Bool) → (a && ((b && c) && d)) ≡ true → b ≡ true
 latched-of true true c d u = refl
 latched-of true false c d u = u
 latched-of false b c d u = absurd (true≢false (sym u))
@@ -49,13 +36,9 @@ module _ (n : ℕ) (b : n < 64) where
       go [] e = refl
       go (m ∷ ns) e = rw (other m (first-has 0 64 (pendingIn f l) m ns e .0))
 
-  serve-latches : (vs : List ℕ) (o : Bool) (l : Lines) (ns : List ℕ) → serve vs o l ns .after .irr ≡ l .irr
-  serve-latches vs o l [] = refl
-  serve-latches vs o l (m ∷ ns) = refl
-
   enter-quiet : (vs : List ℕ) (o : Bool) (f : ℕ → Bool) (l : Lines) → on (l .irr) n ≡ false → Quiet (enter vs o f l .made) (enter vs o f l .after)
   enter-quiet vs o f l h =
-      record { silent = enter-silent vs o f l h; unlatched = ap (λ x. on x n) (serve-latches vs o l (inputs (pendingIn f l))) ∙ h }
+      record { silent = enter-silent vs o f l h; unlatched = ap (λ x. on x n) (serve-irr vs o l (inputs (pendingIn f l))) ∙ h }
 
   leave-silent : (vs : List ℕ) (o : Bool) (f : ℕ → Bool) (l : Lines) → assertsOf n (leave vs o f l .made) ≡ 0
   leave-silent vs o f l = tally-none (λ m. m .asserted && only n (m .input)) (event vs o false) (λ m. refl) (inputs (servedIn f l))

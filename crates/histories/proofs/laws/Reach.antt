@@ -1,27 +1,14 @@
 -- Which acts a write can do. What holds of the register halves and of the route and vector bytes that it meets holds of each of its acts (write-has).
 -- Hence: an act on ISR where a write reaches it, and only there; a write moves the lines or changes vector bytes, never both, and writes MASK or CLEAR,
 -- never both; a byte is stored where one belongs; and what a write makes is offered.
-use mathlib.Core.Path.{_≡_, refl, sym, ap, _∙_}
-use mathlib.Core.Logic.{_⊎_, inl, inr}
-use mathlib.Core.Bool.{Bool, true, false, not, _&&_, _||_, true≢false, and-eq-true-iff, and-false, or-true, or-assoc}
-use mathlib.Core.List.{List, [], _∷_, _++_}
-use Prim.Native.Nat.{ℕ, _+_, _-_, _%_, _<_, _≤_}
-use native.Mathlib.Omega.{arith}
-use native.Mathlib.Nat.{le-refl}
-use lib.Dec.{eqb, leb, ltb}
-use borrow.Author.Tests.{eqb-true, not-true, lt-ltb, le-ltb, lt-leb, le-leb, ltb-true, ltb-false}
-use Rattle.basics.specs.Numbers.{byteOf}
-use Rattle.basics.specs.Inputs.{half}
+use Rattle.basics.proofs.Prelude.{neither, _≡_, refl, sym, ap, _∙_, _⊎_, inl, inr, Bool, true, false, not, _&&_, _||_, true≢false, and-eq-true-iff, and-false, or-true, or-assoc, List, [], _∷_, _++_, ℕ, _+_, _-_, _%_, _<_, _≤_, arith, le-refl, eqb, leb, ltb, eqb-true, not-true, lt-ltb, le-ltb, lt-leb, le-leb, ltb-true, ltb-false, byteOf, half, test}
 use Rattle.rules.specs.Core.{Core, Plain, Move, poll, raise, lower, clear, setMask, Act, move, setIsr, store, setPlain, setRoute, setVector, turns}
-use Rattle.rules.specs.Map.{Register, Cell, halfOf, bytes, nothing, Row, table, lookup}
-use Rattle.rules.specs.Map.{routesAt, vectorsAt, inRoutes, inVectors, inByteArea, cellAt}
-use Rattle.rules.specs.Map as map
+use Rattle.rules.specs.Map.{Register, Cell, halfOf, bytes, nothing, Row, table, lookup, routesAt, vectorsAt, inRoutes, inVectors, inByteArea, cellAt}
 use Rattle.rules.specs.Access.{Width, byte, word, dword, qword, registerActs, entryActs, cellActs, dwordActs, byteActs, writeActs}
 use Rattle.rules.specs.Device.{Call, actsOf}
+use Rattle.histories.specs.{Premises.byteReaches, Premises.reaches, Premises.isIsr, Premises.writesIsr, Demands.Each, Demands.done, Demands.also, Demands.someAct, Demands.setsIsr}
+use Rattle.rules.specs.Map as map
 use Rattle.rules.specs.Device as call
-use Rattle.histories.specs.Premises.{byteReaches, reaches, isIsr, writesIsr}
-use Rattle.histories.specs.Demands.{Each, done, also, someAct, setsIsr}
-use Rattle.basics.proofs.laws.Bits.{test}
 
 -- ---- lists of acts
 
@@ -200,18 +187,14 @@ isr-write c w o v e =
     entry : (i : ℕ) → Passes NotIsr i
     entry i = entry-has NotIsr i (λ b h. tt) (λ e b h. tt)
 
-    both-false : (a b : Bool) → (a || b) ≡ false → (a ≡ false) × (b ≡ false)
-    both-false true b u = absurd (true≢false u)
-    both-false false b u = (refl, u)
-
     fine-byte : (i : ℕ) → byteReaches isIsr i ≡ false → FineByte (λ k. isIsr k ≡ false) (λ k. Unit {0}) i
     fine-byte i u = record { single = λ s. tt; inDword = λ s. rw s at u }
 
     fine : (w : Width) → reaches isIsr w o ≡ false → Fine (λ i. isIsr i ≡ false) (λ i. Unit {0}) w o
     fine byte u = fine-byte o u
-    fine word u = let r = both-false (byteReaches isIsr o) (byteReaches isIsr (o + 1)) u in (fine-byte o (r .0), fine-byte (o + 1) (r .1))
+    fine word u = let r = neither (byteReaches isIsr o) (byteReaches isIsr (o + 1)) u in (fine-byte o (r .0), fine-byte (o + 1) (r .1))
     fine dword u = u
-    fine qword u = both-false (isIsr o) (isIsr (o + 4)) u
+    fine qword u = neither (isIsr o) (isIsr (o + 4)) u
 
 pub no-isr-act : (c : Core) (x : Call) → writesIsr x ≡ false → Each NotIsr (actsOf c x)
 no-isr-act c x e = call-has NotIsr (λ m. tt) c x (λ w o v f. isr-write c w o v (sym (ap writesIsr f) ∙ e))

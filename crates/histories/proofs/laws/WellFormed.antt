@@ -1,29 +1,14 @@
 -- Acts, calls and histories keep a device well formed: registers of 64 bits, 64 route and 64 vector bytes, at most 16 waiting, the count up to its
 -- stop. What a write is given needs no bound: a half takes 32 bits of it, and its bytes are below 256. Of acts by themselves a byte's must be a byte.
-use mathlib.Core.Path.{_≡_, refl, _∙_}
-use mathlib.Core.Bool.{Bool, true, false}
-use mathlib.Core.List.{List, [], _∷_, _++_, map}
-use Prim.Native.Nat.{ℕ, zero, suc, _^_, _<_, _≤_}
-use native.Mathlib.Omega.{arith}
-use lib.Dec.{ltb, lit<}
-use lib.ListN.{length, set, length-append, length-set}
-use borrow.Author.Tests.{ltb-true}
-use Rattle.basics.specs.Numbers.{Bytes}
-use Rattle.basics.specs.Inputs.{on, inputs, only, put, without, withHalf}
-use Rattle.rules.specs.Lines.{Lines, Made, Turn, event, withIrr, withMask, pendingIn, servedIn, serve, enter, leave, newlyUnmasked, newlyMasked}
-use Rattle.rules.specs.Lines.{polled, raised, lowered, cleared, masked}
+use Rattle.basics.proofs.Prelude.{_≡_, refl, _∙_, Bool, true, false, List, [], _∷_, _++_, map, ℕ, zero, suc, _^_, _<_, _≤_, arith, ltb, lit<, length, set, length-append, length-set, ltb-true, Bytes, on, inputs, only, put, without, withHalf, test, put-lt, without-lt}
+use Rattle.rules.specs.Lines.{Lines, Made, Turn, event, withIrr, withMask, pendingIn, servedIn, serve, enter, leave, newlyUnmasked, newlyMasked, polled, raised, lowered, cleared, masked}
 use Rattle.rules.specs.Ring.{capacity, stop, Event, Ring, offered, ringStep, ringRun}
-use Rattle.rules.specs.Core.{Plain, htmsiEn, edge, pol, auto0, auto1, Stored, Core, plain, withPlain, vectorsAfter, storedAfter, turn, turns}
-use Rattle.rules.specs.Core.{Move, poll, raise, lower, clear, setMask, setPlain, setRoute, Act, move, setIsr, store, setVector, moved, lineTurn}
-use Rattle.rules.specs.Device.{Device, WellFormed, Call, offers, actsOf, acted, step}
-use Rattle.rules.specs.Device as call
-use Rattle.rules.specs.History.{history}
+use Rattle.rules.specs.Core.{Plain, htmsiEn, edge, pol, auto0, auto1, Stored, Core, plain, withPlain, vectorsAfter, storedAfter, turn, turns, Move, poll, raise, lower, clear, setMask, setPlain, setRoute, Act, move, setIsr, store, setVector, moved, lineTurn}
+use Rattle.rules.specs.{Device.Device, Device.WellFormed, Device.Call, Device.offers, Device.actsOf, Device.acted, Device.step, History.history}
+use Rattle.rules.proofs.laws.{Rings.count-stops, Steps.drain-well}
 use Rattle.histories.specs.Demands.{Each, asEvent}
-use Rattle.basics.proofs.laws.Bits.{test, put-lt, without-lt}
-use Rattle.rules.proofs.laws.Rings.{count-stops}
-use Rattle.rules.proofs.laws.Steps.{drain-well}
-use Rattle.histories.proofs.laws.Reach.{StoresBytes, byte-acts}
-use Rattle.histories.proofs.laws.Folds.{fold-acts}
+use Rattle.histories.proofs.laws.{Reach.StoresBytes, Reach.byte-acts, Folds.fold-acts}
+use Rattle.rules.specs.Device as call
 
 -- ---- bytes
 
@@ -64,7 +49,7 @@ record WellTurn (t : Turn) : Type 0 where
   after : WellLines (t .after)
   made : ByteEvents (t .made)
 
-withHalf-lt : (h : Bool) (x v : ℕ) → x < 2 ^ 64 → withHalf h x v < 2 ^ 64
+pub withHalf-lt : (h : Bool) (x v : ℕ) → x < 2 ^ 64 → withHalf h x v < 2 ^ 64
 withHalf-lt true x v l = omega arith
 withHalf-lt false x v l = omega arith
 

@@ -2,7 +2,7 @@
 use mathlib.Core.Bool.{Bool, true, false, cond, not, _&&_, _||_}
 use mathlib.Core.List.{List, [], _∷_, _++_, map}
 use mathlib.Core.Path.{_≡_}
-use Prim.Native.Nat.{ℕ, zero, suc, _+_, _%_}
+use Prim.Native.Nat.{ℕ, zero, suc, _+_, _/_, _%_, _^_}
 use lib.Dec.{eqb}
 use lib.ListN.{take, drop, set}
 use Rattle.basics.specs.Numbers.{Bytes}
@@ -194,27 +194,34 @@ atLoad i = record { began = decode i; calls = []; left = i }
 
 -- ---- what a host reads
 
--- the event whose vector an answer area holds, if it holds one: an assert (true) or a deassert; the vector is the low byte of the value (02, C-19)
-abbrev pub eventIn : Bool → List ℕ → List Event
-eventIn b a = cond (presentIn a) (record { vector = valueIn a % 256; asserted = b } ∷ []) []
+-- the event in an answer area, if it has one: an assert (true) or a deassert, the vector in the low byte of the value and the number in its bits 16 to 31 (02, C-19)
+abbrev pub inAnswer : Bool → List ℕ → List Numbered
+inAnswer b a = cond (presentIn a) (record { event = record { vector = valueIn a % 256; asserted = b }; number = valueIn a / 2 ^ 16 } ∷ []) []
 
 -- the event that a request returned: level 0 a deassert, any other level and a poll an assert (01, Inputs; 01, The boundary)
-abbrev pub returnedTo : Request → List ℕ → List Event
-returnedTo request.reset a = []
-returnedTo (request.read base size address width) a = []
-returnedTo (request.write base size address width v) a = []
-returnedTo (request.level n v) a = eventIn (not (eqb v 0)) a
-returnedTo (request.poll n) a = eventIn true a
-returnedTo (request.drain buffer place) a = []
+abbrev pub numberedTo : Request → List ℕ → List Numbered
+numberedTo request.reset a = []
+numberedTo (request.read base size address width) a = []
+numberedTo (request.write base size address width v) a = []
+numberedTo (request.level n v) a = inAnswer (not (eqb v 0)) a
+numberedTo (request.poll n) a = inAnswer true a
+numberedTo (request.drain buffer place) a = []
 
--- the events that a request drained: as many from its place on as its answer says, four bytes each, of which a number tells no event (01, The ring; 02, C-19)
+-- the events that a request drained: from its place on, four bytes each, as many as its answer says (01, The ring; 02, C-19)
+abbrev pub quadsTo : Request → (answer events : List ℕ) → List Numbered
+quadsTo request.reset a e = []
+quadsTo (request.read base size address width) a e = []
+quadsTo (request.write base size address width v) a e = []
+quadsTo (request.level n v) a e = []
+quadsTo (request.poll n) a e = []
+quadsTo (request.drain buffer place) a e = quadsIn (valueIn a) (drop place e)
+
+-- the same events without their numbers: a number tells no event (02, C-19)
+abbrev pub returnedTo : Request → List ℕ → List Event
+returnedTo q a = eventsIn (numberedTo q a)
+
 abbrev pub drainedTo : Request → (answer events : List ℕ) → List Event
-drainedTo request.reset a e = []
-drainedTo (request.read base size address width) a e = []
-drainedTo (request.write base size address width v) a e = []
-drainedTo (request.level n v) a e = []
-drainedTo (request.poll n) a e = []
-drainedTo (request.drain buffer place) a e = eventsIn (quadsIn (valueIn a) (drop place e))
+drainedTo q a e = eventsIn (quadsTo q a e)
 
 -- all that exported calls handed back, in order: in answer areas, and in event buffers; a refused call nothing
 unfoldable pub returnedBy : List Exported → List Event

@@ -1,17 +1,9 @@
 -- The profile on closed numbers, so that it is seen what it says: of accesses in each phase, and of the end of start-up.
-use mathlib.Core.Path.{_≡_, refl}
-use mathlib.Core.Bool.{Bool, true, false}
-use mathlib.Core.List.{List, [], _∷_, map}
-use Prim.Native.Nat.{ℕ}
-use lib.ListN.{replicate}
-use Rattle.rules.specs.Access.{byte, word, dword, qword}
-use Rattle.rules.specs.Device.{Device, Call, level, read, write, none, some, reset}
-use Rattle.rules.specs.History.{fromReset}
-use Rattle.rules.specs.Numbering.{fromZero}
-use Rattle.images.specs.Form.{two}
-use Rattle.images.specs.Image.{encodeAs}
-use Rattle.calls.specs.Calls.{answered}
-use Rattle.calls.proofs.laws.Computing.{computing}
+use Rattle.basics.proofs.Prelude.{_≡_, refl, Bool, true, false, List, [], _∷_, map, ℕ, replicate}
+use Rattle.rules.specs.{Access.byte, Access.word, Access.dword, Access.qword, Device.Device, Device.Call, Device.level, Device.read, Device.write, Device.none, Device.some, Device.reset}
+use Rattle.rules.specs.{History.fromReset, Numbering.fromZero}
+use Rattle.images.specs.{Form.two, Image.encodeAs}
+use Rattle.calls.{specs.Calls.answered, proofs.laws.Computing.computing}
 use Rattle.hoists.specs.Profile.{changesServed, forbidden, Verdict, passes, unaligned, unfit, verdict}
 use Rattle.hoists.specs.HoistCalls.{judged, hoistRead, hoistWrite, phaseLeaves, hoistReset, endStartup}
 

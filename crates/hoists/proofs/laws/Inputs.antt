@@ -1,16 +1,8 @@
 -- Some input has f exactly where it is not so that none has it; and some input is in service exactly where ISR is not 0.
-use mathlib.Core.Path.{_≡_, sym, ap, _∙_}
-use mathlib.Core.Bool.{Bool, true, false, not, true≢false}
-use Prim.Native.Nat.{ℕ, zero, suc, _+_, _^_, _<_, _≤_, zero-le}
-use native.Mathlib.Omega.{arith}
-use lib.Dec.{eqb}
-use borrow.Author.Tests.{eqb-true, eq-eqb}
-use Rattle.basics.specs.Inputs.{from}
-use Rattle.basics.proofs.laws.Bits.{test}
-use Rattle.basics.proofs.laws.Inputs.{no-inputs, no-input, first-input}
+use Rattle.basics.proofs.Prelude.{_≡_, sym, ap, _∙_, Bool, true, false, not, true≢false, ℕ, zero, suc, _+_, _^_, _<_, _≤_, zero-le, arith, eqb, eqb-true, eq-eqb, from, test, no-inputs, no-input, first-input}
 use Rattle.rules.specs.Device.{Device}
-use Rattle.hoists.proofs.laws.Computed as computed
 use Rattle.hoists.specs.Profile.{isSome, someInput, anyServed}
+use Rattle.hoists.proofs.laws.Computed as computed
 
 from-some : (n k : ℕ) (f : ℕ → Bool) (i : ℕ) → n ≤ i → i < n + k → f i ≡ true → isSome (from n k f) ≡ true
 unfolding from

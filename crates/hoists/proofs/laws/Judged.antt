@@ -1,19 +1,13 @@
 -- What the profile says of a call, by the tests that come before it: nothing where the full device refuses, and else the verdict on the device that the image holds.
-use mathlib.Core.Path.{_≡_, refl, sym, ap, _∙_}
-use mathlib.Core.Bool.{Bool, true, false, cond}
-use mathlib.Core.List.{List}
-use Prim.Native.Nat.{ℕ, _<_}
-use lib.Dec.{lit<}
-use Rattle.rules.specs.Access.{Width}
-use Rattle.rules.specs.Device.{Device, Call}
-use Rattle.rules.specs.Device as device
+use Rattle.basics.proofs.Prelude.{_≡_, refl, sym, ap, _∙_, Bool, true, false, cond, List, ℕ, _<_, lit<}
+use Rattle.rules.specs.{Access.Width, Device.Call}
 use Rattle.images.specs.Image.{copyDiffers, manyWait, badFlag, unusedSet, ImageTest, imageTest, decode}
-use Rattle.images.specs.Image as image
-use Rattle.calls.specs.Calls.{Refusal, outside, noWidth, noInput, wrongLength, wrongContents, noRoom, broken, refusalNumber, Tested, pass, refuse, onPass, imageAnswer, widthTest, addressTest}
-use Rattle.calls.specs.Calls.{Request, read, Asked, afresh, calls, askedBy, Done, performed, ended, ending}
-use Rattle.hoists.proofs.laws.Computed as computed
+use Rattle.calls.specs.Calls.{Refusal, outside, noWidth, noInput, wrongLength, wrongContents, noRoom, broken, refusalNumber, Tested, pass, refuse, onPass, imageAnswer, widthTest, addressTest, Request, read, Asked, afresh, calls, askedBy, Done, performed, ended, ending}
 use Rattle.hoists.specs.Profile.{alignedDword, Verdict, passes, unaligned, unfit, verdict}
 use Rattle.hoists.specs.HoistCalls.{saidOf, judged, endsBy, hoistEnding}
+use Rattle.rules.specs.Device as device
+use Rattle.images.specs.Image as image
+use Rattle.hoists.proofs.laws.Computed as computed
 
 -- a read is refused with 14 or not at all
 abbrev pub isUnfit : Verdict → Bool

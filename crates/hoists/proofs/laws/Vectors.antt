@@ -1,30 +1,13 @@
 -- What an aligned Dword write does to the vector bytes: outside them nothing; among them the four bytes from its offset on become the value's. So four tests tell
 -- whether it would change a byte whose input is in service.
-use mathlib.Core.Path.{_≡_, refl, sym, ap, _∙_}
-use mathlib.Core.Bool.{Bool, true, false, not, _&&_, _||_, true≢false, and-false}
-use mathlib.Core.List.{List, [], _∷_, _++_}
-use Prim.Native.Nat.{ℕ, zero, suc, _+_, _-_, _/_, _%_, _<_, _≤_}
-use native.Mathlib.Omega.{arith}
-use lib.Dec.{eqb, lit<}
-use lib.ListN.{length, getD, set, length-set}
-use lib.Seq.{sets, getD-set-same, getD-set-other}
-use borrow.Author.Tests.{eq-eqb}
-use Rattle.basics.specs.Numbers.{numberOf, bytesOf, byteOf, Bytes}
-use Rattle.basics.specs.Inputs.{on, half}
-use Rattle.rules.specs.Core.{Core, Act, setVector, vectorsAfter, turns}
-use Rattle.rules.specs.Map.{Register, bytes, within, inVectors, cellAt}
+use Rattle.basics.proofs.Prelude.{four-bytes, _≡_, refl, sym, ap, _∙_, Bool, true, false, not, _&&_, _||_, true≢false, and-false, List, [], _∷_, _++_, ℕ, zero, suc, _+_, _-_, _%_, _<_, _≤_, arith, eqb, lit<, length, getD, set, length-set, sets, getD-set-same, getD-set-other, eq-eqb, numberOf, bytesOf, byteOf, Bytes, on, half, test, bytesOf-numberOf}
+use Rattle.rules.specs.{Core.Core, Core.Act, Core.setVector, Core.vectorsAfter, Core.turns, Map.Register, Map.bytes, Map.within, Map.inVectors, Map.cellAt}
 use Rattle.rules.specs.Access.{dword, readDword, readCell, registerActs, cellActs, writeActs}
 use Rattle.rules.specs.Device.{Device, WellFormed, write, actsOf, acted, step}
-use Rattle.histories.specs.Demands.{Each, inService}
-use Rattle.basics.proofs.laws.Bits.{test}
-use Rattle.basics.proofs.laws.Bytes.{bytesOf-numberOf}
-use Rattle.laws.proofs.laws.Maps.{inside, inside-from, unlisted-vector}
-use Rattle.laws.proofs.laws.Widths.{entry-vector, dword-of}
-use Rattle.laws.proofs.laws.Writes.{entry-acts-vector, dword-acts-of}
-use Rattle.histories.proofs.laws.Reach.{LeavesVectors, entry-has, register-has, dword-has}
+use Rattle.histories.{specs.Demands.Each, specs.Demands.inService, proofs.laws.Reach.LeavesVectors, proofs.laws.Reach.entry-has, proofs.laws.Reach.register-has, proofs.laws.Reach.dword-has}
 use Rattle.histories.proofs.laws.Folds.{fold-acts, vectors-stay}
-use Rattle.hoists.specs.Profile.{someInput, changesVector, changesServed}
-use Rattle.hoists.specs.Four.{changesByte, someOfFour, changesFour}
+use Rattle.laws.proofs.laws.{Maps.inside, Maps.inside-from, Maps.unlisted-vector, Widths.entry-vector, Widths.dword-of, Writes.entry-acts-vector, Writes.dword-acts-of}
+use Rattle.hoists.specs.{Profile.someInput, Profile.changesVector, Profile.changesServed, Four.changesByte, Four.someOfFour, Four.changesFour}
 use Rattle.hoists.proofs.laws.Inputs.{some-there, none-there}
 
 -- ---- outside the vector bytes
@@ -103,10 +86,7 @@ fourBytes v = byteOf v 0 ∷ byteOf v 1 ∷ byteOf v 2 ∷ byteOf v 3 ∷ []
 
 -- a number that four bytes spell has them as its bytes
 in-turn : (x : ℕ) → fourBytes x ≡ bytesOf 4 x
-in-turn x = let b = places x in (λ t. b .0 t ∷ b .1 t ∷ b .2 t ∷ b .3 t ∷ [])
-  where
-    places : (x : ℕ) → (byteOf x 0 ≡ x % 256) × (byteOf x 1 ≡ x / 256 % 256) × (byteOf x 2 ≡ x / 256 / 256 % 256) × (byteOf x 3 ≡ x / 256 / 256 / 256 % 256)
-    places x = (omega arith, omega arith, omega arith, omega arith)
+in-turn x = let b = four-bytes x in (λ t. b .0 t ∷ b .1 t ∷ b .2 t ∷ b .3 t ∷ [])
 
 four-below : (p q r s : ℕ) → p < 256 → q < 256 → r < 256 → s < 256 → Bytes (p ∷ q ∷ r ∷ s ∷ [])
 four-below p q r s e f g h zero = e

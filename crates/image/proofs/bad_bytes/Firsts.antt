@@ -1,15 +1,6 @@
 -- The first bad byte, found by looking at one after another.
-use mathlib.Core.Path.{_≡_}
-use mathlib.Core.Bool.{Bool, false, and-false}
-use mathlib.Core.List.{List}
-use Prim.Native.Nat.{ℕ, _+_, _*_, _%_, _<_, _≤_}
-use native.Mathlib.Omega.{arith}
-use lib.Dec.{eqb, ltb}
-use lib.ListN.{length, getD}
-use borrow.Author.Tests.{eq-eqb, eqb-true, eqb-false, lt-ltb, le-ltb, ltb-true, ltb-false, le-leb, lt-leb}
-use Rattle.images.specs.Form.{pairs}
-use Rattle.images.specs.Image.{flagRule, unusedRule}
-use Rattle.basics.proofs.laws.Bits.{test}
+use Rattle.basics.proofs.Prelude.{_≡_, Bool, false, and-false, List, ℕ, _+_, _*_, _%_, _<_, _≤_, arith, eqb, ltb, length, getD, eq-eqb, eqb-true, eqb-false, lt-ltb, le-ltb, ltb-true, ltb-false, le-leb, lt-leb, test}
+use Rattle.images.specs.{Form.pairs, Image.flagRule, Image.unusedRule}
 use Rattle.image.specs.bad_bytes.First.{First}
 
 -- none of the first j bytes is bad

@@ -1,18 +1,10 @@
 -- The test of an image in the order of the definition: behind the length and the contents, the bodies.
-use mathlib.Core.Path.{_≡_, refl, sym, ap, _∙_}
-use mathlib.Core.Bool.{true, false, false≢true}
-use mathlib.Core.List.{List}
-use Prim.Native.Nat.{ℕ}
-use lib.ListN.{length}
-use Rattle.basics.specs.Numbers.{part}
+use Rattle.basics.proofs.Prelude.{_≡_, refl, sym, ap, _∙_, true, false, false≢true, List, ℕ, length, part, same-equal}
 use Rattle.images.specs.Form.{Form, known, contentsLength, contentsOf, formOf}
 use Rattle.images.specs.Image.{Finding, clear, found, rules, firstFault, accepted, bodyTest, imageTest}
-use Rattle.basics.proofs.laws.Lists.{same-equal}
 use Rattle.images.proofs.laws.Tests.{test-known, test-body}
-use Rattle.image.specs.head.Good.{isAccepted, headGood}
-use Rattle.image.proofs.head.Orders.{sized}
-use Rattle.image.specs.bodies.Good.{isClear, bodiesGood, bodiesTest}
-use Rattle.image.proofs.bodies.Tested.{is-clear}
+use Rattle.image.specs.{head.Good.isAccepted, head.Good.headGood, bodies.Good.isClear, bodies.Good.bodiesGood, bodies.Good.bodiesTest}
+use Rattle.image.proofs.{head.Orders.sized, bodies.Tested.is-clear}
 
 accepted-clear : (x : Finding) → isAccepted (bodyTest x) ≡ isClear x
 accepted-clear clear = refl

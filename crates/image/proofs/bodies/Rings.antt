@@ -1,31 +1,11 @@
 -- The rules of the bodies, given what is looked at first; and a ring all of whose pairs and numbers are zero.
-use mathlib.Core.Path.{_≡_, refl, sym, ap, _∙_}
-use mathlib.Core.Bool.{Bool, true, false, _&&_, and-eq-true-iff}
-use mathlib.Core.List.{List}
-use Prim.Native.Nat.{ℕ, _+_, _-_, _*_, _≤_}
-use native.Mathlib.Omega.{arith}
-use lib.Bits.{bitAnd, bitOr, or-add-and, and-le-l, and-le-r}
-use lib.Dec.{eqb, leb, lit≤}
-use lib.ListN.{length, drop, getD}
-use Rattle.basics.specs.Numbers.{part, Bytes}
+use Rattle.basics.proofs.Prelude.{twice, _≡_, refl, sym, ap, _∙_, Bool, true, false, _&&_, and-eq-true-iff, List, ℕ, _+_, _-_, _*_, _≤_, arith, bitAnd, bitOr, or-add-and, and-le-l, and-le-r, eqb, leb, lit≤, length, drop, getD, part, Bytes, length-part, bytes-part, test}
 use Rattle.rules.specs.Ring.{capacity}
 use Rattle.images.specs.Form.{Form, one, two, numbered, word, irr, copy, count, pairs, numbers, has, place, formLength, read}
-use Rattle.images.specs.Image.{registerAt, countIn}
-use Rattle.basics.proofs.laws.Lists.{length-part}
-use Rattle.basics.proofs.laws.Bytes.{bytes-part}
-use Rattle.basics.proofs.laws.Bits.{test}
-use Rattle.images.proofs.laws.Layout.{field-fits}
-use Rattle.image.specs.Shown.{PlacesOf}
-use Rattle.image.specs.declared.form.Places.{Places}
-use Rattle.image.proofs.Forms.{always-at, always-fits}
-use Rattle.image.specs.bodies.Good.{ringGood, spareAt, bodiesGood}
+use Rattle.images.{specs.Image.registerAt, specs.Image.countIn, proofs.laws.Layout.field-fits}
+use Rattle.image.specs.{Shown.PlacesOf, declared.form.Places.Places, bodies.Good.ringGood, bodies.Good.spareAt, bodies.Good.bodiesGood}
 use Rattle.image.specs.unused.Events.{allZero, flagsGood, pairsGood, numbersGood, bitsOf}
-use Rattle.image.proofs.bodies.Tested.{rules-tested}
-use Rattle.image.proofs.unused.Pairs.{flagBits, pairs-empty, pairs-flagged, pairs-unused}
-
-same-and : (a : Bool) → (a && a) ≡ (a && true)
-same-and true = refl
-same-and false = refl
+use Rattle.image.proofs.{Forms.always-at, Forms.always-fits, bodies.Tested.rules-tested, unused.Pairs.flagBits, unused.Pairs.pairs-empty, unused.Pairs.pairs-flagged, unused.Pairs.pairs-unused}
 
 -- no image is long; the numbers or, without them, the pairs end within it
 pub short : (f : Form) → formLength f ≤ 290
@@ -88,7 +68,7 @@ module _ (f : Form) (l : List ℕ) (s : length l ≡ formLength f) (p : Places) 
       flagged z = ap (λ t. t && numbersGood f n l) (sym (pairs-flagged (read f l pairs) (bytes-part l (place f pairs) 32 b) n its few bits z))
 
       spare-decides : (allZero (drop (2 * n) (read f l pairs)) && allZero (drop (2 * n) (part (spareAt f) 32 l))) ≡ (allZero (drop (2 * n) (read f l pairs)) && numbersGood f n l)
-      spare-decides = test (has f numbers) (λ h. rw h) (λ h. rw h (same-and (allZero (drop (2 * n) (read f l pairs)))))
+      spare-decides = test (has f numbers) (λ h. rw h) (λ h. rw h (twice (allZero (drop (2 * n) (read f l pairs)))))
 
       pub by-unused : bitAnd x flagBits ≡ 0 → {a : ℕ} → a ≡ spareAt f → {r : Bool}
           → r ≡ (allZero (drop (2 * n) (part (p .pairs) (p .pairs + 32 - p .pairs) l)) && allZero (drop (2 * n) (part a (a + 32 - a) l))) → ringGood f n l ≡ r

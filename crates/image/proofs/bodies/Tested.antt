@@ -1,18 +1,10 @@
 -- The rules of the bodies as one test.
-use mathlib.Core.Path.{_≡_, refl, sym, ap, _∙_}
-use mathlib.Core.Bool.{Bool, true, false, _&&_, false≢true, and-eq-true-iff}
-use mathlib.Core.List.{List}
-use Prim.Native.Nat.{ℕ}
-use lib.Dec.{eqb, leb}
-use lib.ListN.{length}
-use borrow.Author.Tests.{eq-eqb, eqb-true, le-leb, leb-true}
+use Rattle.basics.proofs.Prelude.{_≡_, refl, sym, ap, _∙_, Bool, true, false, _&&_, false≢true, and-eq-true-iff, List, ℕ, eqb, leb, length, eq-eqb, eqb-true, le-leb, leb-true, test}
 use Rattle.rules.specs.Ring.{capacity}
 use Rattle.images.specs.Form.{Form, word, copy, irr, pairs, has, formLength, read}
 use Rattle.images.specs.Image.{wordIn, countIn, rules, Finding, clear, found, firstFault}
-use Rattle.basics.proofs.laws.Bits.{test}
 use Rattle.images.proofs.laws.Tests.{clear-ruled, ruled-clear}
-use Rattle.image.specs.bodies.Good.{isClear, bodiesGood}
-use Rattle.image.specs.unused.Events.{pairsGood, numbersGood}
+use Rattle.image.specs.{bodies.Good.isClear, bodies.Good.bodiesGood, unused.Events.pairsGood, unused.Events.numbersGood}
 use Rattle.image.proofs.unused.Pairs.{pairsGood-flags, pairsGood-unused, good-pairs, numbersGood-unused, good-numbers}
 
 both : (s t : Bool) → (s ≡ true → t ≡ true) → (t ≡ true → s ≡ true) → s ≡ t

@@ -1,18 +1,10 @@
 -- What the rules find, by what the first bad bytes are.
-use mathlib.Core.Path.{_≡_, sym, ap, _∙_, subst}
-use mathlib.Core.Bool.{Bool, true, false}
-use mathlib.Core.List.{List}
-use Prim.Native.Nat.{ℕ, _+_, _*_, _<_, _≤_}
-use native.Mathlib.Omega.{arith}
-use lib.ListN.{length}
+use Rattle.basics.proofs.Prelude.{_≡_, sym, ap, _∙_, subst, Bool, true, false, List, ℕ, _+_, _*_, _<_, _≤_, arith, length, part, length-part}
 use Rattle.rules.specs.Ring.{capacity}
 use Rattle.images.specs.Form.{pairs, Form, size, has, place, formLength, read}
-use Rattle.basics.specs.Numbers.{part}
 use Rattle.images.specs.Image.{Fault, badFlag, unusedSet, clear, found, Rule, flagRule, unusedRule, search, finding, accepted, broken, bodyTest}
-use Rattle.basics.proofs.laws.Lists.{length-part}
 use Rattle.images.proofs.laws.Tests.{clean-search, search-first, length-read}
-use Rattle.image.specs.bad_bytes.First.{First}
-use Rattle.image.specs.faults.Found.{pairFault}
+use Rattle.image.specs.{bad_bytes.First.First, faults.Found.pairFault}
 
 module _ (k : Fault) (bad : ℕ → ℕ → Bool) (a : ℕ) (l : List ℕ) (j : ℕ) (f : First bad l j) where
   pub first-found : j < length l → search k bad a l ≡ found k (a + j)

@@ -1,24 +1,11 @@
 -- The rules of the bodies in their order, by what code reads: the first that finds something is told, with its place.
-use mathlib.Core.Path.{_≡_, refl, sym, ap, _∙_}
-use mathlib.Core.Bool.{true}
-use mathlib.Core.List.{List}
-use Prim.Native.Nat.{ℕ, _+_, _*_, _<_, _≤_}
-use native.Mathlib.Nat.{add-zero}
-use native.Mathlib.Omega.{arith}
-use lib.ListN.{length, getD}
-use borrow.Author.Tests.{ne-eqb, lt-ltb}
-use Rattle.basics.specs.Numbers.{part}
+use Rattle.basics.proofs.Prelude.{_≡_, refl, sym, ap, _∙_, true, List, ℕ, _+_, _*_, _<_, _≤_, add-zero, arith, length, getD, ne-eqb, lt-ltb, part, test}
 use Rattle.rules.specs.Ring.{capacity}
 use Rattle.images.specs.Form.{Form, word, copy, irr, count, pairs, numbers, has, place, formLength, read}
-use Rattle.images.specs.Image.{registerAt, wordIn, countIn, copyDiffers, manyWait, badFlag, unusedSet, Finding, clear, found, copyRule, countRule, flagRule, unusedRule, rules}
-use Rattle.images.specs.Image.{search, finding, orElse, firstFault, ImageTest, accepted, broken, bodyTest}
-use Rattle.basics.proofs.laws.Bits.{test}
-use Rattle.images.proofs.laws.Layout.{has-all}
-use Rattle.images.proofs.laws.Tests.{search-first, finds-nothing, length-read, count-read, hold-copy, hold-count}
-use Rattle.image.specs.Shown.{PlacesOf}
-use Rattle.image.specs.declared.form.Places.{Places}
+use Rattle.images.specs.Image.{registerAt, wordIn, countIn, copyDiffers, manyWait, badFlag, unusedSet, Finding, clear, found, copyRule, countRule, flagRule, unusedRule, rules, search, finding, orElse, firstFault, ImageTest, accepted, broken, bodyTest}
+use Rattle.images.proofs.laws.{Layout.has-all, Tests.search-first, Tests.finds-nothing, Tests.length-read, Tests.count-read, Tests.hold-copy, Tests.hold-count}
+use Rattle.image.specs.{Shown.PlacesOf, declared.form.Places.Places, faults.Found.pairFault}
 use Rattle.image.proofs.Forms.{always-at}
-use Rattle.image.specs.faults.Found.{pairFault}
 
 -- three rules that are looked at one after another, the first two together
 two-and-one : (x y z : Finding) → orElse x (orElse y (orElse z clear)) ≡ orElse (orElse x y) z

@@ -1,25 +1,8 @@
 -- Contents known by four numbers: the contents spell these, and bytes that spell them are the contents.
-use mathlib.Core.Path.{_≡_, refl, sym, ap, _∙_, subst}
-use mathlib.Core.Bool.{false}
-use mathlib.Core.List.{List, _++_}
-use Prim.Native.Nat.{ℕ, _+_, _-_, _≤_}
-use native.Mathlib.Nat.{zero-add}
-use native.Mathlib.Omega.{arith}
-use borrow.Author.Tests.{eqb-true, eqb-false}
-use lib.Dec.{eqb}
-use lib.ListN.{length}
-use lib.Seq.{take-all}
-use Rattle.basics.specs.Numbers.{numberOf, part, Bytes}
-use Rattle.images.specs.Form.{Form, formLength, contentsLength, contentsOf}
-use Rattle.images.specs.Image.{registerAt}
-use Rattle.basics.proofs.laws.Lists.{part-add, part-part, equal-same, differ-same}
-use Rattle.basics.proofs.laws.Bytes.{part-known}
-use Rattle.basics.proofs.laws.Bits.{test}
-use Rattle.images.proofs.laws.Layout.{length-contents}
+use Rattle.basics.proofs.Prelude.{_≡_, refl, sym, ap, _∙_, subst, false, List, _++_, ℕ, _+_, _-_, _≤_, zero-add, arith, eqb-true, eqb-false, eqb, length, take-all, numberOf, part, Bytes, part-add, part-part, equal-same, differ-same, part-known, test}
+use Rattle.images.{specs.Form.Form, specs.Form.formLength, specs.Form.contentsLength, specs.Form.contentsOf, specs.Image.registerAt, proofs.laws.Layout.length-contents}
 use Rattle.images.proofs.laws.Saved.{bytes-contents}
-use Rattle.image.specs.Shown.{ContentsOf}
-use Rattle.image.specs.declared.form.Contents.{Contents}
-use Rattle.image.specs.head.Good.{headGood}
+use Rattle.image.specs.{Shown.ContentsOf, declared.form.Contents.Contents, head.Good.headGood}
 
 -- lists of bytes whose eight bytes from 0, from 8, from 14 and the last ones spell the same numbers are the same; the last begin at a
 module _ (l m : List ℕ) (b : Bytes l) (c : Bytes m) (n a : ℕ) (e : a + 8 ≡ n) (low : 14 ≤ a) (high : a ≤ 22) (h : n ≤ length l) (k : n ≤ length m) where

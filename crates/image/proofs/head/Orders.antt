@@ -1,23 +1,10 @@
 -- The test of an image in the order of the definition: the length, which tells the form, and the contents.
-use mathlib.Core.Path.{_≡_, sym, ap, _∙_}
-use mathlib.Core.Bool.{false, false≢true}
-use mathlib.Core.List.{List, [], _∷_}
-use mathlib.Core.Logic.{⊎-elim}
-use native.Mathlib.Omega.{arith}
-use Prim.Native.Nat.{ℕ}
-use types.Run.{OneOf}
-use denote.Enum.Declared.{tagOf}
-use lib.ListN.{length}
-use Rattle.basics.specs.Numbers.{part}
+use Rattle.basics.proofs.Prelude.{_≡_, sym, ap, _∙_, false, false≢true, List, [], _∷_, ⊎-elim, arith, ℕ, OneOf, tagOf, length, part, equal-same}
 use Rattle.images.specs.Form.{Form, forms, unknown, known, formLength, contentsLength, contentsOf, formOf}
 use Rattle.images.specs.Image.{accepted, wrongLength, wrongContents, imageTest}
-use Rattle.basics.proofs.laws.Lists.{equal-same}
 use Rattle.images.proofs.laws.Tests.{form-known, test-known, test-contents}
-use Rattle.image.specs.Shown.{formKnown}
-use Rattle.image.specs.declared.form.KnownForm.{KnownForm}
-use Rattle.image.specs.declared.form.KnownForm.the-variants.{Unknown}
-use Rattle.image.specs.head.Good.{headTest, Headed, isAccepted, headGood}
-use Rattle.image.specs.declared.head.Head.{Head}
+use Rattle.image.specs.{Shown.formKnown, declared.form.KnownForm.KnownForm, declared.form.KnownForm.the-variants.Unknown}
+use Rattle.image.specs.{head.Good.headTest, head.Good.Headed, head.Good.isAccepted, head.Good.headGood, declared.head.Head.Head}
 use Rattle.image.specs.declared.head.Head.the-variants.{WrongLength, WrongContents, Of}
 use Rattle.image.proofs.head.Head.{the-type}
 

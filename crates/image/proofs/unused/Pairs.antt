@@ -1,26 +1,7 @@
 -- The rules on pairs, tested eight bytes at a time: a word is zero where its bytes are, and has a bit above the lowest of a flag where one is over 1.
-use mathlib.Core.Path.{_≡_, refl, sym, ap, ap₂, _∙_}
-use mathlib.Core.Bool.{Bool, true, false, false≢true, _&&_, and-true, and-false, and-assoc, and-or-distrib-right, and-eq-true-iff}
-use mathlib.Core.List.{List, [], _∷_, _++_}
-use Prim.Native.Nat.{ℕ, zero, suc, _+_, _-_, _*_, _/_, _%_, _^_, _<_, _≤_}
-use native.Mathlib.Nat.{zero-add, mod-eq-of-lt, zero-div}
-use native.Mathlib.Numerals.{add-one}
-use native.Mathlib.Omega.{arith}
-use lib.Bits.{bitAnd, bitOr, and-block, and-high, and-zero-r, and-le-l, and-le-r, or-add-and, or-lt}
-use lib.Dec.{eqb, leb, lit<, lit≤}
-use lib.ListN.{length, take, drop, getD, length-drop, drop-of-length-le}
-use lib.Pow.{shr-shr}
-use lib.Seq.{drop-drop, drop-append-le, getD-drop}
-use borrow.Author.Tests.{eq-eqb, ne-eqb, eqb-true, le-leb, leb-true}
-use Rattle.basics.specs.Numbers.{numberOf, part, Bytes}
+use Rattle.basics.proofs.Prelude.{_≡_, refl, sym, ap, ap₂, _∙_, Bool, true, false, false≢true, _&&_, and-true, and-false, and-assoc, and-or-distrib-right, and-eq-true-iff, List, [], _∷_, _++_, ℕ, zero, suc, _+_, _-_, _*_, _/_, _%_, _^_, _<_, _≤_, zero-add, mod-eq-of-lt, zero-div, add-one, arith, bitAnd, bitOr, and-block, and-high, and-zero-r, and-le-l, and-le-r, or-add-and, or-lt, eqb, leb, lit<, lit≤, length, take, drop, getD, length-drop, drop-of-length-le, shr-shr, drop-drop, drop-append-le, getD-drop, eq-eqb, ne-eqb, eqb-true, le-leb, leb-true, numberOf, part, Bytes, on, length-part, part-then, bytes-drop, bytes-part, test, on-and, on-or, on-ext}
 use Rattle.rules.specs.Ring.{capacity}
-use Rattle.images.specs.Form.{Form, numbers, has, read}
-use Rattle.images.specs.Image.{registerAt}
-use Rattle.basics.specs.Inputs.{on}
-use Rattle.basics.proofs.laws.Lists.{length-part, part-then}
-use Rattle.basics.proofs.laws.Bytes.{bytes-drop, bytes-part}
-use Rattle.basics.proofs.laws.Bits.{test, on-and, on-or, on-ext}
-use Rattle.images.proofs.laws.Tests.{Flags, Unused}
+use Rattle.images.{specs.Form.Form, specs.Form.numbers, specs.Form.has, specs.Form.read, specs.Image.registerAt, proofs.laws.Tests.Flags, proofs.laws.Tests.Unused}
 use Rattle.image.specs.unused.Events.{flagsGood, allZero, pairsGood, numbersGood, bitsOf}
 
 -- ---- what the tests say

@@ -1,23 +1,7 @@
 -- Fields that stand one after another, and the image that they make: read, known by what is read, and written in part. Stated once over the form and the field.
-use mathlib.Core.Path.{_≡_, refl, sym, ap, _∙_, subst}
-use mathlib.Core.Bool.{Bool, true, false, not, _&&_, _||_, false≢true, and-eq-true-iff, or-true, or-assoc}
-use mathlib.Core.Logic.{_⊎_, inl, inr, ⊎-elim}
-use mathlib.Core.List.{List, [], _∷_, _++_, append-assoc, append-nil}
-use Prim.Native.Nat.{ℕ, _+_, _≤_}
-use native.Mathlib.Nat.{add-zero}
-use native.Mathlib.Omega.{arith}
-use lib.ListN.{length, take, drop, length-append, length-drop, take-append-drop, drop-of-length-le}
-use lib.Seq.{take-at, drop-at, drop-drop, take-append-add, drop-append-add, take-append-le, drop-append-le}
-use borrow.Author.Tests.{not-true}
-use borrow.Rule.Slice.PartMut.{putMid}
-use Rattle.basics.specs.Numbers.{part}
+use Rattle.basics.proofs.Prelude.{_≡_, refl, sym, ap, _∙_, subst, Bool, true, false, not, _&&_, _||_, false≢true, and-eq-true-iff, or-true, or-assoc, _⊎_, inl, inr, ⊎-elim, List, [], _∷_, _++_, append-assoc, append-nil, ℕ, _+_, _≤_, add-zero, arith, length, take, drop, length-append, length-drop, take-append-drop, drop-of-length-le, take-at, drop-at, drop-drop, take-append-add, drop-append-add, take-append-le, drop-append-le, not-true, putMid, part, test, part-then, put-there, put-before, put-behind, length-put}
 use Rattle.rules.specs.Core.{Plain, Plain-discrete, htmsiEn, edge, pol, auto0, auto1}
-use Rattle.images.specs.Form.{Word, mask, irr, isr, copy, stored, Word-discrete, Field, word, routes, vectors, count, drops, pairs, next, numbers, Field-discrete}
-use Rattle.images.specs.Form.{size, decided, is, listed, total, before, from, laid}
-use Rattle.images.specs.Form.{Form, one, two, numbered, fields, has, contentsLength, formLength, place, contentsOf, read, image}
-use Rattle.basics.proofs.laws.Bits.{test}
-use Rattle.basics.proofs.laws.Lists.{part-then}
-use Rattle.basics.proofs.laws.Parts.{put-there, put-before, put-behind, length-put}
+use Rattle.images.specs.Form.{Word, mask, irr, isr, copy, stored, Word-discrete, Field, word, routes, vectors, count, drops, pairs, next, numbers, Field-discrete, size, decided, is, listed, total, before, from, laid, Form, one, two, numbered, fields, has, contentsLength, formLength, place, contentsOf, read, image}
 
 -- ---- fields
 

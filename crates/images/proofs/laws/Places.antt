@@ -1,7 +1,5 @@
 -- The places, lengths and contents of an image as the numbers of 01 and of 02, C-17 and C-19, and the bytes of a fifth body, each by computing.
-use mathlib.Core.Path.{_≡_, refl}
-use mathlib.Core.List.{[], _∷_, map}
-use lib.ListN.{replicate}
+use Rattle.basics.proofs.Prelude.{_≡_, refl, [], _∷_, map, replicate}
 use Rattle.rules.specs.Core.{htmsiEn, edge, pol, auto0, auto1}
 use Rattle.images.specs.Form.{one, two, numbered, word, mask, irr, isr, copy, stored, routes, vectors, count, drops, pairs, next, numbers, place, contentsLength, contentsOf, formLength}
 use Rattle.images.specs.Image.{numberBody}

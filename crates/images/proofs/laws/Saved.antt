@@ -1,25 +1,11 @@
 -- What an image holds against its bytes, in both directions and in any form; and the sizes that come with it.
-use mathlib.Core.Path.{_≡_, refl, sym, ap, subst, _∙_}
-use mathlib.Core.Bool.{true, false, false≢true}
-use mathlib.Core.List.{List, [], _∷_}
-use Prim.Native.Nat.{ℕ, zero, suc, _+_, _-_, _*_, _^_, _<_, _≤_}
-use native.Mathlib.Omega.{arith}
-use lib.Dec.{lit<}
-use lib.ListN.{length, getD, replicate}
-use Rattle.basics.specs.Numbers.{numberOf, bytesOf, Bytes}
-use Rattle.rules.specs.Ring.{capacity, eventTwos}
-use Rattle.rules.specs.Core.{plain, htmsiEn, edge, pol, auto0, auto1}
-use Rattle.rules.specs.Device.{Device, WellFormed, upFrom}
+use Rattle.basics.proofs.Prelude.{_≡_, refl, sym, ap, subst, _∙_, true, false, false≢true, List, [], _∷_, ℕ, zero, suc, _+_, _-_, _*_, _^_, _<_, _≤_, arith, lit<, length, getD, replicate, numberOf, bytesOf, Bytes, spelled, test, numberOf-bytesOf, bytes-known, bytes-append, bytes-part, bytes-bytesOf, part-number, part-below}
+use Rattle.rules.specs.{Ring.capacity, Ring.eventTwos, Core.plain, Core.htmsiEn, Core.edge, Core.pol, Core.auto0, Core.auto1, Device.Device, Device.WellFormed, Device.upFrom}
 use Rattle.rules.specs.Numbering.{Numbers, WellNumbered, fromZero, numberTwos}
-use Rattle.images.specs.Form.{Word, mask, irr, isr, copy, stored, Field, word, routes, vectors, count, drops, pairs, next, numbers}
-use Rattle.images.specs.Form.{Form, one, two, numbered, fields, has, size, place, formLength, contentsOf, read, laid, image}
-use Rattle.basics.specs.Numbers.{spelled}
+use Rattle.images.specs.Form.{Word, mask, irr, isr, copy, stored, Field, word, routes, vectors, count, drops, pairs, next, numbers, Form, one, two, numbered, fields, has, size, place, formLength, contentsOf, read, laid, image}
 use Rattle.images.specs.Image.{wordOf, sixteen, fieldOf, encodeAs, wordIn, countIn, eventsOf, decodeAs, numbersAs, accepted, testAs}
-use Rattle.basics.proofs.laws.Bits.{test}
-use Rattle.basics.proofs.laws.Bytes.{numberOf-bytesOf, bytes-known, bytes-append, bytes-part, bytes-bytesOf, part-number, part-below}
 use Rattle.images.proofs.laws.Layout.{Sized, by-plain, by-field, always, has-all, field-fits, laid-cons, headed-image, image-known, length-image, read-image}
-use Rattle.images.proofs.laws.Twos.{length-spelled, spelled-written, event-comes, events-back, events-fit, written-flags, bytes-vectors}
-use Rattle.images.proofs.laws.Twos.{number-comes, numbers-fit, numbers-back, numbers-small, length-sixteen, bytes-sixteen, sixteen-unused, sixteen-back}
+use Rattle.images.proofs.laws.Twos.{length-spelled, spelled-written, event-comes, events-back, events-fit, written-flags, bytes-vectors, number-comes, numbers-fit, numbers-back, numbers-small, length-sixteen, bytes-sixteen, sixteen-unused, sixteen-back}
 use Rattle.images.proofs.laws.Tests.{Accepted, length-read, count-read, accepted-if-has}
 
 -- ---- numbers

@@ -1,22 +1,8 @@
 -- The tests on an image: in their order, what each says where it finds nothing, and the place where it finds something.
-use mathlib.Core.Path.{_≡_, refl, ap, _∙_}
-use mathlib.Core.Bool.{Bool, true, false, cond, not, _&&_}
-use mathlib.Core.List.{List, [], _∷_}
-use mathlib.Core.Logic.{_⊎_, inl, inr}
-use Prim.Native.Nat.{ℕ, zero, suc, _+_, _*_, _%_, _<_, _≤_}
-use native.Mathlib.Nat.{add-zero}
-use native.Mathlib.Omega.{arith}
-use lib.Dec.{eqb, leb, ltb, lit≤}
-use lib.ListN.{length, drop, getD, List·getD-eq-default}
-use lib.Seq.{getD-drop, getD-take}
-use borrow.Author.Tests.{eq-eqb, ne-eqb, eqb-true, ltb-false, lt-ltb, le-ltb, le-leb, leb-true, ltb-true, not-false}
-use Rattle.basics.specs.Numbers.{part, same}
+use Rattle.basics.proofs.Prelude.{_≡_, refl, ap, _∙_, Bool, true, false, cond, not, _&&_, List, [], _∷_, _⊎_, inl, inr, ℕ, zero, suc, _+_, _*_, _%_, _<_, _≤_, add-zero, arith, eqb, leb, ltb, lit≤, length, drop, getD, List·getD-eq-default, getD-drop, getD-take, eq-eqb, eqb-true, ltb-false, lt-ltb, le-ltb, le-leb, leb-true, ltb-true, not-false, part, same, test, Each, length-part, equal-same, differ-same, same-equal}
 use Rattle.rules.specs.Ring.{capacity}
 use Rattle.images.specs.Form.{Form, one, two, numbered, Field, word, copy, irr, count, pairs, numbers, has, size, place, formLength, contentsLength, contentsOf, read, Known, known, formAmong, formOf}
-use Rattle.images.specs.Image.{wordIn, countIn, Fault, Finding, clear, found, Rule, copyRule, countRule, flagRule, unusedRule, rules}
-use Rattle.images.specs.Image.{search, finding, orElse, firstFault, accepted, wrongLength, wrongContents, bodyTest, testAs, testKnown, imageTest}
-use Rattle.basics.proofs.laws.Bits.{test}
-use Rattle.basics.proofs.laws.Lists.{Each, length-part, equal-same, differ-same, same-equal}
+use Rattle.images.specs.Image.{wordIn, countIn, Fault, Finding, clear, found, Rule, copyRule, countRule, flagRule, unusedRule, rules, search, finding, orElse, firstFault, accepted, wrongLength, wrongContents, bodyTest, testAs, testKnown, imageTest}
 use Rattle.images.proofs.laws.Layout.{has-all, field-fits}
 
 -- ---- the first bad byte
@@ -213,9 +199,6 @@ module _ (f : Form) (l : List ℕ) (e : length l ≡ formLength f) where
   test-body h = rw (eq-eqb (length l) (formLength f) e, equal-same (part 0 (contentsLength f) l) (contentsOf f) h)
 
 module _ (f : Form) (l : List ℕ) where
-  pub test-length : (length l ≡ formLength f → ⊥) → testAs f l ≡ wrongLength
-  test-length h = rw (ne-eqb (length l) (formLength f) h)
-
   pub accepted-has : testAs f l ≡ accepted → Accepted f l
   accepted-has e =
       let all = all-well (eqb (length l) (formLength f)) (same (part 0 (contentsLength f) l) (contentsOf f)) (firstFault f l (rules f l)) e in

@@ -1,18 +1,7 @@
 -- Things of two bytes each, as a ring's events are: written and spelled, once for every such thing; and the sixteen places that an image has for them.
-use mathlib.Core.Path.{_≡_, refl, sym, ap, _∙_}
-use mathlib.Core.Bool.{Bool, true, false}
-use mathlib.Core.List.{List, [], _∷_, _++_, map}
-use Prim.Native.Nat.{ℕ, zero, suc, _+_, _-_, _*_, _%_, _^_, _<_, _≤_}
-use native.Mathlib.Omega.{arith}
-use lib.Dec.{eqb, lit<, lit≤}
-use lib.ListN.{length, take, drop, getD, replicate, length-append, length-replicate, length-drop, take-append-drop}
-use lib.Seq.{getD-drop, getD-append-add, take-at, drop-at, drop-drop}
-use Rattle.basics.specs.Numbers.{Bytes, Twos, written, spelled}
-use Rattle.rules.specs.Ring.{Event, capacity, flag, eventTwos}
-use Rattle.rules.specs.Numbering.{numberTwos}
+use Rattle.basics.proofs.Prelude.{_≡_, refl, sym, ap, _∙_, Bool, true, false, List, [], _∷_, _++_, map, ℕ, zero, suc, _+_, _-_, _*_, _%_, _^_, _<_, _≤_, arith, eqb, lit<, lit≤, length, take, drop, getD, replicate, length-append, length-replicate, length-drop, take-append-drop, getD-drop, getD-append-add, take-at, drop-at, drop-drop, Bytes, Twos, written, spelled, Each, bytes-append, bytes-replicate}
+use Rattle.rules.specs.{Ring.Event, Ring.capacity, Ring.flag, Ring.eventTwos, Numbering.numberTwos}
 use Rattle.images.specs.Image.{sixteen}
-use Rattle.basics.proofs.laws.Lists.{Each}
-use Rattle.basics.proofs.laws.Bytes.{bytes-append, bytes-replicate}
 
 -- two bytes come back; a thing comes back, and its bytes are bytes
 abbrev pub Comes : {A : Type 0} → Twos A → ℕ → ℕ → Type 0

@@ -1,24 +1,11 @@
 -- Request C-16, 'Say what is wrong with the image': the set of accepted images stays; and what is told of an image is so, at the place that is told, and nothing
 -- is wrong before it.
-use mathlib.Core.Path.{_≡_, refl, sym, ap, _∙_}
-use mathlib.Core.Bool.{Bool, true, false, cond, not, _&&_, false≢true, and-eq-true-iff}
-use mathlib.Core.List.{List, [], _∷_}
-use mathlib.Core.Logic.{_⊎_, inl, inr, ⊎-elim}
-use Prim.Native.Nat.{ℕ, zero, suc, _+_, _-_, _*_, _/_, _%_, _<_, _≤_}
-use native.Mathlib.Omega.{arith}
-use lib.Dec.{eqb, leb, ltb, lit≤}
-use lib.ListN.{length, getD}
-use borrow.Author.Tests.{eq-eqb, eqb-true, eqb-false, le-leb, leb-true, lt-ltb, le-ltb, ltb-true, ltb-false}
-use Rattle.basics.specs.Numbers.{part, same}
+use Rattle.basics.proofs.Prelude.{_≡_, refl, sym, ap, _∙_, Bool, true, false, cond, not, _&&_, false≢true, and-eq-true-iff, List, [], _∷_, _⊎_, inl, inr, ⊎-elim, ℕ, zero, suc, _+_, _-_, _*_, _/_, _%_, _<_, _≤_, arith, eqb, leb, ltb, lit≤, length, getD, eq-eqb, eqb-true, eqb-false, le-leb, leb-true, lt-ltb, le-ltb, ltb-true, ltb-false, part, same, test, equal-same, same-equal}
 use Rattle.rules.specs.Ring.{capacity}
 use Rattle.images.specs.Form.{Form, one, Field, word, copy, irr, count, pairs, numbers, has, size, place, formLength, contentsLength, contentsOf, read, Known, unknown, known, formOf}
-use Rattle.images.specs.Image.{wordIn, countIn, Fault, copyDiffers, manyWait, badFlag, unusedSet, Finding, clear, found, Rule, copyRule, countRule, rules, search, finding, firstFault}
-use Rattle.images.specs.Image.{accepted, wrongLength, wrongContents, broken, bodyTest, testAs, imageTest, everyByte, pairByte, acceptedBefore}
-use Rattle.basics.proofs.laws.Bits.{test}
+use Rattle.images.specs.Image.{wordIn, countIn, Fault, copyDiffers, manyWait, badFlag, unusedSet, Finding, clear, found, Rule, copyRule, countRule, rules, search, finding, firstFault, accepted, wrongLength, wrongContents, broken, bodyTest, testAs, imageTest, everyByte, pairByte, acceptedBefore}
 use Rattle.images.proofs.laws.Layout.{has-all}
-use Rattle.basics.proofs.laws.Lists.{equal-same, same-equal}
-use Rattle.images.proofs.laws.Tests.{each-byte, Flags, accepted-has, accepted-if-has, known-length, test-known, byte-read, length-read, Told, search-told, decided}
-use Rattle.images.proofs.laws.Tests.{Holds, Unused, flags-hold, unused-hold, copy-holds, count-holds, count-read}
+use Rattle.images.proofs.laws.Tests.{each-byte, Flags, accepted-has, accepted-if-has, known-length, test-known, byte-read, length-read, Told, search-told, decided, Holds, Unused, flags-hold, unused-hold, copy-holds, count-holds, count-read}
 
 -- ---- the set of accepted images
 

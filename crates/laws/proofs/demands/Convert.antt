@@ -1,24 +1,14 @@
 -- Request C-17, 'Moving form 1 to form 2 and back returns the same bytes, and the reverse too': of any two forms, the same one twice included. What is moved
 -- holds the same device. Request C-19: only the numbers are lost, and only where the image has them and the target has not.
-use mathlib.Core.Path.{_≡_, refl, sym, ap, subst, _∙_}
-use mathlib.Core.Bool.{true, false, false≢true}
-use mathlib.Core.List.{List}
-use Prim.Native.Nat.{ℕ}
-use native.Mathlib.Omega.{arith}
-use lib.ListN.{length}
-use Rattle.basics.specs.Numbers.{Bytes}
-use Rattle.rules.specs.Device.{WellFormed}
-use Rattle.rules.specs.Numbering.{WellNumbered, fromZero}
+use Rattle.basics.proofs.Prelude.{_≡_, refl, sym, ap, subst, _∙_, true, false, false≢true, List, ℕ, length, Bytes, test}
+use Rattle.rules.specs.{Device.WellFormed, Numbering.WellNumbered, Numbering.fromZero}
 use Rattle.images.specs.Form.{Form, one, two, numbered, numbers, forms, has, Known, unknown, known, formOf, formLength}
 use Rattle.images.specs.Image.{ImageTest, accepted, wrongLength, wrongContents, broken, imageTest, encodeAs, encodeLike, decode, numbersIn}
-use Rattle.calls.specs.Calls.{Refusal, pass, refuse, Outcome}
-use Rattle.calls.specs.Calls as calls
-use Rattle.calls.specs.Convert.{converted, conversion}
-use Rattle.basics.proofs.laws.Bits.{test}
-use Rattle.images.proofs.laws.Tests.{form-known, form-found}
-use Rattle.images.proofs.laws.Saved.{bytes-encode, length-encode, encode-without}
+use Rattle.images.proofs.laws.{Tests.form-known, Tests.form-found, Saved.bytes-encode, Saved.length-encode, Saved.encode-without}
+use Rattle.calls.{specs.Calls.pass, specs.Calls.Outcome, specs.Convert.converted, specs.Convert.conversion, proofs.laws.Conversions.is-converted}
+use Rattle.calls.proofs.laws.Requests.{never, passed}
 use Rattle.laws.proofs.laws.Images.{form-of, encode-as, accepted-has, encode-decode, decode-well-formed, numbers-well, accepted-encode, decode-encode, numbers-encode, numbers-lost}
-use Rattle.calls.proofs.laws.Conversions.{is-converted}
+use Rattle.calls.specs.Calls as calls
 
 -- what a conversion that is done has seen: an accepted image, and a target with the length of a form
 pub record Converted (i t j : List ℕ) : Type 0 where
@@ -26,12 +16,6 @@ pub record Converted (i t j : List ℕ) : Type 0 where
   pub target : length t ≡ formLength form
   pub accepted : imageTest i ≡ accepted
   pub is : j ≡ encodeAs form (decode i) (numbersIn i)
-
-never : {A B : Type 0} (r : Refusal) (y : A) → refuse r ≡ pass y → B
-never r y e = absurd (let z : _≡_ {A = ℕ} 0 1 = cc in omega arith)
-
-passed : {A : Type 0} {x y : A} → pass x ≡ pass y → x ≡ y
-passed e = cc
 
 pub was-converted : (i t j : List ℕ) → converted i t ≡ pass j → Converted i t j
 unfolding converted

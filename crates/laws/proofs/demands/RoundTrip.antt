@@ -1,15 +1,9 @@
 -- Demand 2, 'An accepted image, loaded and saved, gives the same bytes', and the same turned round: a device, saved and loaded, is the same device; in each form.
 -- To load is `decode`, and `numbersIn` for the numbers beside the device (02, C-19); to save is `encodeLike`, in the form of the image that was given. The second holds
 -- of every well-formed device with numbers that fit it: reset is one, and so is each device that is loaded.
-use mathlib.Core.Path.{_≡_, refl}
-use mathlib.Core.List.{List}
-use Prim.Native.Nat.{ℕ}
-use lib.ListN.{length}
-use Rattle.basics.specs.Numbers.{Bytes}
-use Rattle.rules.specs.Device.{Device, WellFormed, reset}
-use Rattle.rules.specs.Numbering.{Numbers, WellNumbered, fromZero}
-use Rattle.images.specs.Form.{Form, one, two, numbered}
-use Rattle.images.specs.Image.{encodeAs, encodeLike, decode, numbersIn, imageTest, accepted}
+use Rattle.basics.proofs.Prelude.{_≡_, refl, List, ℕ, length, Bytes}
+use Rattle.rules.specs.{Device.Device, Device.WellFormed, Device.reset, Numbering.Numbers, Numbering.WellNumbered, Numbering.fromZero}
+use Rattle.images.specs.{Form.Form, Form.one, Form.two, Form.numbered, Image.encodeAs, Image.encodeLike, Image.decode, Image.numbersIn, Image.imageTest, Image.accepted}
 use Rattle.images.proofs.laws.Saved.{bytes-encode}
 use Rattle.laws.proofs.laws.Images.{encode-decode, decode-well-formed, numbers-well, accepted-encode, decode-encode, numbers-encode, numbers-lost, reset-well-formed, reset-numbered}
 

@@ -1,18 +1,7 @@
 -- The halves of a register and the bytes of a number: their bits, and the masks by which the code replaces a byte.
 -- A half is compared bit by bit, and so is the register, since the other half stays (changed).
-use mathlib.Core.Path.{_≡_, refl, sym, ap₂, _∙_}
-use mathlib.Core.Bool.{Bool, true, false, not, _&&_, and-not-self, not-and-self}
-use Prim.Native.Nat.{ℕ, zero, suc, _+_, _-_, _*_, _/_, _%_, _^_, _≤_, _<_}
-use native.Mathlib.Nat.{mod-lt, mod-mod, add-zero, pow-suc}
-use native.Mathlib.Omega.{arith}
-use lib.Dec.{ltb}
-use lib.Bits.{bitAnd, bitOr, and-block, or-block, or-shifted, or-zero-r, and-mask, and-high}
-use lib.Pow.{pow-pos, pow-add, suc-ones, ones-lt, split, shl-exact, high-ones, shr-mod, shr-shr}
-use borrow.Author.Tests.{ltb-true, ltb-false}
-use Rattle.basics.specs.Numbers.{byteOf, withByte}
-use Rattle.basics.specs.Inputs.{on, half, withHalf, asHalf}
+use Rattle.basics.proofs.Prelude.{_≡_, refl, sym, ap₂, _∙_, Bool, true, false, not, _&&_, and-not-self, not-and-self, ℕ, zero, suc, _+_, _-_, _*_, _/_, _%_, _^_, _≤_, _<_, mod-lt, mod-mod, add-zero, pow-suc, arith, ltb, bitAnd, bitOr, and-block, or-block, or-shifted, or-zero-r, and-mask, and-high, pow-pos, pow-add, suc-ones, ones-lt, split, shl-exact, high-ones, shr-mod, shr-shr, ltb-true, ltb-false, byteOf, withByte, on, half, withHalf, asHalf, test, on-down, on-none, on-mod, on-below, on-above, on-and, on-not}
 use Rattle.rules.specs.Lines.{newlyUnmasked, newlyMasked}
-use Rattle.basics.proofs.laws.Bits.{test, on-down, on-none, on-mod, on-below, on-above, on-and, on-not}
 
 -- ---- the bits of a half
 -- the place in the register of bit j of a half

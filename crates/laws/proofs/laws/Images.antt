@@ -1,37 +1,11 @@
 -- The saved image as the calls have it, of the form that its length tells: each law is one of `Tests` and `Saved`, which stand over the form.
-use mathlib.Core.Path.{_≡_, refl, sym, ap, _∙_, subst}
-use mathlib.Core.Bool.{true, false}
-use mathlib.Core.List.{List, _++_}
-use Prim.Native.Nat.{ℕ, zero, suc, _+_, _-_, _*_, _≤_}
-use native.Mathlib.Omega.{arith}
-use lib.Dec.{lit<, lit≤}
-use lib.ListN.{length, replicate}
-use Rattle.basics.specs.Numbers.{Bytes}
-use Rattle.rules.specs.Ring.{Event, capacity, eventTwos, pairsOf}
-use Rattle.rules.specs.Device.{Device, WellFormed, upFrom, reset}
-use Rattle.rules.specs.Numbering.{Numbers, WellNumbered, fromZero}
+use Rattle.basics.proofs.Prelude.{_≡_, refl, sym, ap, _∙_, subst, true, false, List, ℕ, zero, suc, _+_, _≤_, arith, lit<, lit≤, length, Bytes, bytes-replicate}
+use Rattle.rules.specs.{Device.Device, Device.WellFormed, Device.upFrom, Device.reset, Numbering.Numbers, Numbering.WellNumbered, Numbering.fromZero}
 use Rattle.images.specs.Form.{Form, numbers, has, Known, unknown, known, formOf, formLength}
-use Rattle.images.specs.Image.{eventsOf, accepted, wrongLength, imageTest, encodeAs, decodeAs, numbersAs, decodeKnown, decode, numbersKnown, numbersIn, encodeKnown, encodeLike}
-use Rattle.images.specs.Image.{ringBody, ringLength, pairsLength}
-use Rattle.basics.proofs.laws.Bytes.{bytes-replicate}
-use Rattle.images.proofs.laws.Layout.{by-plain}
-use Rattle.images.proofs.laws.Twos.{length-written, length-sixteen, spelled-written, events-back}
-use Rattle.images.proofs.laws.Tests.{Accepted, test-known, form-found, known-length}
+use Rattle.images.specs.Image.{accepted, wrongLength, imageTest, encodeAs, decodeAs, numbersAs, decodeKnown, decode, numbersKnown, numbersIn, encodeKnown, encodeLike}
+use Rattle.images.proofs.laws.{Layout.by-plain, Tests.Accepted, Tests.test-known, Tests.form-found, Tests.known-length}
 use Rattle.images.proofs.laws.Tests as tests
 use Rattle.images.proofs.laws.Saved as saved
-
--- ---- events and their pairs
-
-pub length-pairsOf : (es : List Event) → length (pairsOf es) ≡ 2 * length es
-length-pairsOf es = length-written eventTwos es
-
--- events, written as pairs and read again
-pub eventsOf-pairsOf : (es : List Event) (rest : List ℕ) → eventsOf (length es) (pairsOf es ++ rest) ≡ es
-eventsOf-pairsOf es rest = spelled-written eventTwos es rest (events-back es)
-
--- the pairs that are left unused after n
-abbrev pub unusedAfter : ℕ → List ℕ
-unusedAfter n = replicate (pairsLength - 2 * n) 0
 
 -- ---- the form that the length tells
 
@@ -96,10 +70,6 @@ module _ (l : List ℕ) (b : Bytes l) (e : imageTest l ≡ accepted) where
       subst (λ d. WellNumbered d (numbersIn l)) (sym (decode-as f l (a .sized))) (subst (WellNumbered (decodeAs f l)) (sym (numbers-as f l (a .sized))) (saved.numbers-well f l b a))
 
 -- ---- a device, encoded and decoded
-
-pub length-ringBody : (d : Device) → length (d .ring .waiting) ≤ capacity → length (ringBody d) ≡ ringLength
-unfolding ringBody
-length-ringBody d h = omega (arith, length-sixteen eventTwos (d .ring .waiting) h)
 
 module _ (d : Device) (w : WellFormed d) (s : Numbers) (v : WellNumbered d s) (f : Form) where
   sized : length (encodeAs f d s) ≡ formLength f

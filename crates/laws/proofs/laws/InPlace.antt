@@ -1,22 +1,10 @@
 -- A part of an image is written in place: it is then the image of the device that differs in that part alone. One law over the form and the part,
 -- and then the parts that calls write.
-use mathlib.Core.Path.{_≡_, refl, sym, ap, _∙_}
-use mathlib.Core.Bool.{true, false, or-false}
-use mathlib.Core.List.{List, [], _∷_, _++_, append-nil}
-use Prim.Native.Nat.{ℕ, _+_, _≤_}
-use native.Mathlib.Nat.{add-zero}
-use native.Mathlib.Omega.{arith}
-use lib.ListN.{length, take, drop, drop-of-length-le}
-use lib.Seq.{length-take-le, take-at, drop-at, drop-drop}
-use borrow.Rule.Slice.PartMut.{putMid}
-use Rattle.basics.specs.Numbers.{bytesOf, part}
-use Rattle.rules.specs.Lines.{Lines, withMask, withIrr, withIsr}
-use Rattle.rules.specs.Ring.{Ring}
-use Rattle.rules.specs.Core.{Plain, htmsiEn, edge, pol, auto0, auto1, Stored, Core, plain, withPlain, withRoutes}
-use Rattle.rules.specs.Device.{Device, withRing}
+use Rattle.basics.proofs.Prelude.{_≡_, refl, sym, ap, _∙_, true, false, or-false, List, [], _∷_, _++_, append-nil, ℕ, _+_, _≤_, add-zero, arith, length, take, drop, drop-of-length-le, length-take-le, take-at, drop-at, drop-drop, putMid, bytesOf, part}
+use Rattle.rules.specs.{Lines.Lines, Lines.withMask, Lines.withIrr, Lines.withIsr, Ring.Ring}
+use Rattle.rules.specs.{Core.Plain, Core.htmsiEn, Core.edge, Core.pol, Core.auto0, Core.auto1, Core.Stored, Core.Core, Core.plain, Core.withPlain, Core.withRoutes, Device.Device, Device.withRing}
 use Rattle.rules.specs.Numbering.{Numbers}
-use Rattle.images.specs.Form.{Word, mask, irr, isr, copy, stored, Field, word, routes, vectors, count, next, numbers, ringFields}
-use Rattle.images.specs.Form.{Form, one, two, numbered, size, is, listed, total, from, fields, has, place, laid, image}
+use Rattle.images.specs.Form.{Word, mask, irr, isr, copy, stored, Field, word, routes, vectors, count, next, numbers, ringFields, Form, one, two, numbered, size, is, listed, total, from, fields, has, place, laid, image}
 use Rattle.images.specs.Image.{wordOf, fieldOf}
 use Rattle.images.proofs.laws.Layout.{Sized, never, by-word, by-plain, by-field, length-laid, from-starts, image-written}
 

@@ -1,24 +1,12 @@
 -- How many of the events made a ring drops: acts after acts drop the sum, and no write drops more than it makes, at most 65 for each of its acts.
-use mathlib.Core.Path.{_≡_, refl, ap, _∙_}
-use mathlib.Core.Bool.{Bool, true, false}
-use mathlib.Core.List.{List, [], _∷_, _++_, map}
-use Prim.Native.Nat.{ℕ, zero, suc, _+_, _-_, _*_, _%_, _≤_}
-use native.Mathlib.Omega.{arith}
-use lib.Dec.{ltb}
-use lib.ListN.{length, length-append}
-use Rattle.basics.specs.Numbers.{byteOf, withByte}
-use Rattle.basics.specs.Inputs.{on, from, inputs, only, put, without, withHalf}
-use Rattle.rules.specs.Lines.{Lines, Made, withMask, withIrr, event, pendingIn, servedIn, serve, enter, leave, newlyUnmasked, newlyMasked}
-use Rattle.rules.specs.Lines.{polled, raised, lowered, cleared, masked}
+use Rattle.basics.proofs.Prelude.{_≡_, refl, ap, _∙_, Bool, true, false, List, [], _∷_, _++_, map, ℕ, zero, suc, _+_, _-_, _*_, _%_, _≤_, arith, ltb, length, length-append, byteOf, withByte, on, from, inputs, only, put, without, withHalf, test}
+use Rattle.rules.specs.Lines.{Lines, Made, withMask, withIrr, event, pendingIn, servedIn, serve, enter, leave, newlyUnmasked, newlyMasked, polled, raised, lowered, cleared, masked}
 use Rattle.rules.specs.Ring.{capacity, Ring, RingAct, offer, draw, droppedBy, dropped, ringStep, ringRun}
 use Rattle.rules.specs.Core.{Core, CoreTurn, Move, Store, Act, poll, raise, lower, clear, setMask, move, setIsr, store, setVector, moved, lineTurn, turn, turns}
-use Rattle.rules.specs.Map as registers
 use Rattle.rules.specs.Map.{Register, Cell, inByteArea, inRoutes, inVectors, cellAt}
-use Rattle.rules.specs.Access.{readDword, registerActs, entryActs, cellActs, dwordActs, byteActs}
-use Rattle.rules.specs.Device.{Device, offers, acted, lost}
-use Rattle.basics.proofs.laws.Bits.{test}
-use Rattle.rules.proofs.laws.Rings.{dropped-append}
-use Rattle.rules.proofs.laws.Acts.{turns-append, offers-append}
+use Rattle.rules.specs.{Access.readDword, Access.registerActs, Access.entryActs, Access.cellActs, Access.dwordActs, Access.byteActs, Device.Device, Device.offers, Device.acted, Device.lost}
+use Rattle.rules.proofs.laws.{Rings.dropped-append, Acts.turns-append, Acts.offers-append}
+use Rattle.rules.specs.Map as registers
 
 -- ---- in two parts
 

@@ -1,11 +1,5 @@
 -- The register map: an offset by its range, what stands at an offset that the table does not list, and where the bytes stand.
-use mathlib.Core.Path.{_≡_, refl, sym, ap, _∙_}
-use mathlib.Core.Bool.{Bool, true, false, cond, _||_, false≢true, and-eq-true-iff}
-use mathlib.Core.List.{List, [], _∷_}
-use Prim.Native.Nat.{ℕ, zero, suc, _+_, _-_, _*_, _/_, _%_, _≤_, _<_}
-use native.Mathlib.Omega.{arith}
-use lib.Dec.{eqb, leb, ltb}
-use borrow.Author.Tests.{le-leb, lt-ltb, leb-true, ltb-true, ne-eqb}
+use Rattle.basics.proofs.Prelude.{_≡_, refl, sym, ap, _∙_, Bool, true, false, cond, _||_, false≢true, and-eq-true-iff, List, [], _∷_, ℕ, zero, suc, _+_, _-_, _*_, _/_, _%_, _≤_, _<_, arith, eqb, leb, ltb, le-leb, lt-ltb, leb-true, ltb-true, ne-eqb}
 use Rattle.rules.specs.Map.{Register, Row, Cell, halfOf, bytes, nothing, table, lookup, within, inRoutes, inVectors, inByteArea, cellAt}
 
 -- ---- ranges

@@ -1,12 +1,6 @@
 -- A poll of an input that is latched and unmasked brings it into service, or finds it there; so does a raise of one that is unmasked.
-use mathlib.Core.Path.{_≡_, refl, _∙_}
-use mathlib.Core.Bool.{true, false, or-true}
-use mathlib.Core.List.{List}
-use Prim.Native.Nat.{ℕ, _<_}
-use borrow.Author.Tests.{eq-eqb}
-use Rattle.basics.specs.Inputs.{on, put}
+use Rattle.basics.proofs.Prelude.{_≡_, refl, _∙_, true, false, or-true, List, ℕ, _<_, eq-eqb, on, put, test, on-put}
 use Rattle.rules.specs.Lines.{Lines, withIrr, polled, raised}
-use Rattle.basics.proofs.laws.Bits.{test, on-put}
 use Rattle.laws.proofs.laws.Sets.{only-waiting}
 
 module _ (n : ℕ) (b : n < 64) where

@@ -1,13 +1,6 @@
 -- The sets that the engine masks out of the registers, as the sets that Lines speaks of; the two moves depend on their set below 64 only.
-use mathlib.Core.Path.{_≡_, ap, _∙_}
-use mathlib.Core.Bool.{Bool, true, false, cond, not, _&&_, and-true, and-assoc, and-comm}
-use mathlib.Core.List.{List, [], _∷_, map}
-use Prim.Native.Nat.{ℕ, _-_, _^_, _<_}
-use lib.Bits.{bitAnd}
-use Rattle.basics.specs.Inputs.{on, inputs, only}
+use Rattle.basics.proofs.Prelude.{_≡_, ap, _∙_, Bool, true, false, cond, not, _&&_, and-true, and-assoc, and-comm, List, [], _∷_, map, ℕ, _-_, _^_, _<_, bitAnd, on, inputs, only, on-and, on-and-not, without-ext, inputs-ext, only-input}
 use Rattle.rules.specs.Lines.{Lines, isPending, pendingIn, servedIn, unlatchedIn, withIsr, withMask, serve, event, andThen, enter, leave, newlyUnmasked, newlyMasked, masked}
-use Rattle.basics.proofs.laws.Bits.{on-and, on-and-not, without-ext}
-use Rattle.basics.proofs.laws.Inputs.{inputs-ext, only-input}
 
 -- m & irr & !mask & !isr; isr & m; m & isr & !irr
 module _ (m : ℕ) (l : Lines) where

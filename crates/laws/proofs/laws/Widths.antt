@@ -1,16 +1,6 @@
 -- The widths: an entry by its range, a Byte by where it lies, a Dword by what stands at its offset, and the masks that align an offset.
-use mathlib.Core.Path.{_≡_, sym, ap, _∙_}
-use mathlib.Core.Bool.{true, false}
-use mathlib.Core.List.{[], _∷_}
-use Prim.Native.Nat.{ℕ, _+_, _-_, _*_, _%_, _^_, _≤_, _<_}
-use native.Mathlib.Nat.{add-zero}
-use native.Mathlib.Omega.{arith}
-use lib.Bits.{bitAnd, bitOr, and-mask, and-high, or-shifted-r}
-use lib.Pow.{shl-exact}
-use lib.ListN.{getD}
-use Rattle.basics.specs.Numbers.{numberOf, byteOf}
-use Rattle.rules.specs.Core.{Core}
-use Rattle.rules.specs.Map.{Cell, bytes, routesAt, vectorsAt, inByteArea, cellAt}
+use Rattle.basics.proofs.Prelude.{_≡_, sym, ap, _∙_, true, false, [], _∷_, ℕ, _+_, _-_, _*_, _%_, _^_, _≤_, _<_, add-zero, arith, bitAnd, bitOr, and-mask, and-high, or-shifted-r, shl-exact, getD, numberOf, byteOf}
+use Rattle.rules.specs.{Core.Core, Map.Cell, Map.bytes, Map.routesAt, Map.vectorsAt, Map.inByteArea, Map.cellAt}
 use Rattle.rules.specs.Access.{qword, entry, readCell, readDword, readByte, readAt}
 use Rattle.laws.proofs.laws.Maps.{inside, Elsewhere, not-route, not-aligned, four-inside}
 

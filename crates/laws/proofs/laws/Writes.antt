@@ -1,22 +1,10 @@
 -- What one act leaves of a device, and the acts of a write by where it lies.
-use mathlib.Core.Path.{_≡_, refl, sym, ap, _∙_}
-use mathlib.Core.Bool.{Bool, true, false}
-use mathlib.Core.List.{List, [], _∷_, _++_, append-nil}
-use Prim.Native.Nat.{ℕ, _+_, _-_, _^_, _≤_, _<_}
-use native.Mathlib.Nat.{add-zero}
-use native.Mathlib.Omega.{arith}
-use lib.Bits.{bitAnd}
-use lib.ListN.{set}
-use Rattle.basics.specs.Numbers.{byteOf, withByte}
-use Rattle.basics.specs.Inputs.{withHalf}
-use Rattle.rules.specs.Lines.{Lines, Made, withIsr}
-use Rattle.rules.specs.Ring.{Ring, ringRun}
+use Rattle.basics.proofs.Prelude.{_≡_, refl, sym, ap, _∙_, Bool, true, false, List, [], _∷_, _++_, append-nil, ℕ, _+_, _-_, _^_, _≤_, _<_, add-zero, arith, bitAnd, set, byteOf, withByte, withHalf}
+use Rattle.rules.specs.{Lines.Lines, Lines.Made, Lines.withIsr, Ring.Ring, Ring.ringRun}
 use Rattle.rules.specs.Core.{Core, Stored, Move, Store, move, setIsr, store, setRoute, setVector, moved, lineTurn, vectorsAfter, storedBy, storedAfter, turns}
-use Rattle.rules.specs.Map.{Cell, bytes, routesAt, vectorsAt, inByteArea, cellAt}
-use Rattle.rules.specs.Access.{readDword, entryActs, cellActs, dwordActs, byteActs}
+use Rattle.rules.specs.{Map.Cell, Map.bytes, Map.routesAt, Map.vectorsAt, Map.inByteArea, Map.cellAt, Access.readDword, Access.entryActs, Access.cellActs, Access.dwordActs, Access.byteActs}
 use Rattle.rules.specs.Device.{Device, offers, acted}
-use Rattle.laws.proofs.laws.Maps.{inside, Elsewhere, not-route, four-inside}
-use Rattle.laws.proofs.laws.Widths.{low-place, aligned}
+use Rattle.laws.proofs.laws.{Maps.inside, Maps.Elsewhere, Maps.not-route, Maps.four-inside, Widths.low-place, Widths.aligned}
 
 abbrev pub deviceOf : Lines → List ℕ → Stored → Ring → Device
 deviceOf l vs s r = record { core = record { lines = l; vectors = vs; stored = s }; ring = r }

@@ -1,25 +1,11 @@
 -- What enters and what leaves, done in place: the stores to the registers come to the rules' steps.
-use mathlib.Core.Path.{_≡_, refl, sym, ap, _∙_}
-use mathlib.Core.Bool.{Bool, false, cond}
-use mathlib.Core.List.{List, [], _∷_, map}
-use Prim.Native.Nat.{ℕ, _-_, _*_, _%_, _^_, _<_}
-use native.Mathlib.Omega.{arith}
-use lib.Bits.{bitAnd, bitOr}
-use lib.Count.{trailingZeros}
-use lib.ListN.{getD}
-use Rattle.basics.specs.Inputs.{on, inputs, only, register, without}
-use Rattle.rules.specs.Lines.{stay, withIsr, event, servedIn, pendingIn, serve, enter, leave}
-use Rattle.rules.specs.Ring.{ringRun}
-use Rattle.rules.specs.Device.{Device, none, some, offers}
-use Rattle.rules.specs.Numbering.{Numbers}
-use Rattle.basics.proofs.laws.Bits.{test, put-is, without-these, on-bit, bit-lt}
-use Rattle.basics.proofs.laws.Inputs.{inputs-ext, first-input, no-input}
+use Rattle.basics.proofs.Prelude.{_≡_, refl, sym, ap, _∙_, Bool, false, cond, List, [], _∷_, map, ℕ, _-_, _*_, _%_, _^_, _<_, arith, bitAnd, bitOr, trailingZeros, getD, on, inputs, only, register, without, test, put-is, without-these, on-bit, bit-lt, inputs-ext, first-input, no-input}
+use Rattle.rules.specs.{Lines.stay, Lines.withIsr, Lines.event, Lines.servedIn, Lines.pendingIn, Lines.serve, Lines.enter, Lines.leave, Ring.ringRun}
+use Rattle.rules.specs.{Device.Device, Device.none, Device.some, Device.offers, Numbering.Numbers}
 use Rattle.laws.proofs.laws.Sets.{leave-ext, only-served}
-use Rattle.device.specs.decide.Sets.{waitingOf, servedOf}
-use Rattle.device.proofs.decide.Deciding.{inputs-of, none-served}
+use Rattle.device.{specs.decide.Sets.waitingOf, specs.decide.Sets.servedOf, proofs.decide.Deciding.inputs-of, proofs.decide.Deciding.none-served}
 use Rattle.fields.specs.inplace.Held.{Holds, Reads, Becomes, Does, MovesIn, withLines, given, untaken}
-use Rattle.fields.proofs.inplace.Doing.{does-same}
-use Rattle.fields.proofs.inplace.Turning.{moves-by}
+use Rattle.fields.proofs.inplace.{Doing.does-same, Turning.moves-by}
 
 -- ---- enter
 

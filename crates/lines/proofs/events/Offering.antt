@@ -1,32 +1,14 @@
 -- The loop that offers a deassert for each input of a set, lowest first.
-use mathlib.Core.Path.{_≡_, refl, sym, ap, subst, _∙_}
-use mathlib.Core.Bool.{Bool, true, false}
-use mathlib.Core.List.{List, [], _++_, map, append-nil, append-assoc}
-use Prim.Native.Nat.{ℕ, zero, suc, _+_, _-_, _^_, _<_, _≤_}
-use native.Mathlib.Nat.{lt-of-le-of-lt}
-use native.Mathlib.Omega.{arith}
-use lib.Bits.{bitAnd, and-le-l}
-use lib.Count.{trailingZeros}
-use lib.ListN.{length, getD}
-use Rattle.basics.specs.Inputs.{on, from, inputs}
-use Rattle.rules.specs.Lines as lines
-use Rattle.rules.specs.Ring.{RingAct}
-use Rattle.rules.specs.Core.{Core}
-use Rattle.rules.specs.Device.{offers}
-use Rattle.basics.proofs.laws.Bits.{test}
-use Rattle.basics.proofs.laws.Inputs.{first-input, lowest-dropped, no-input}
-use Rattle.fields.specs.inplace.Held.{Reads, Offers}
-use Rattle.fields.specs.ring.Fields.{offering}
+use Rattle.basics.proofs.Prelude.{one-less, _≡_, refl, sym, ap, subst, _∙_, true, false, List, [], _++_, map, append-nil, append-assoc, ℕ, suc, _+_, _-_, _^_, _<_, _≤_, lt-of-le-of-lt, arith, bitAnd, and-le-l, trailingZeros, length, getD, on, inputs, first-input, lowest-dropped, no-input}
+use Rattle.laws.proofs.laws.Losses.{from-few}
+use Rattle.rules.specs.{Ring.RingAct, Core.Core, Device.offers}
+use Rattle.fields.specs.{inplace.Held.Reads, inplace.Held.Offers, ring.Fields.offering}
 use Rattle.fields.proofs.inplace.Doing.{offers-none, offers-then, offers-same}
 use Rattle.lines.specs.events.Offered.{deasserts}
-
-from-short : (n k : ℕ) (f : ℕ → Bool) → length (from n k f) ≤ k
-unfolding from
-from-short n zero f = omega arith
-from-short n (suc k) f = test (f n) (λ t. rw t (omega (arith, from-short (suc n) k f))) (λ t. rw t (omega (arith, from-short (suc n) k f)))
+use Rattle.rules.specs.Lines as lines
 
 pub inputs-few : (x : ℕ) → length (inputs (on x)) ≤ 64
-inputs-few x = from-short 0 64 (on x)
+inputs-few x = from-few 0 64 (on x)
 
 -- what holds at each turn: what was offered so far, and then what is left, is all
 pub record Offering (i j : List ℕ) (n set left : ℕ) : Type 0 where
@@ -67,7 +49,7 @@ module _ {i j : List ℕ} {n set x : ℕ} (q : Offering i j n set x) where
     lowest = trailingZeros 64 x
 
     pub less : suc (length (inputs (on (bitAnd x (x - 1))))) ≡ length (inputs (on x))
-    less = ap (λ y. suc (length (inputs (on y)))) (lowest-dropped x (q .below) some) ∙ sym (ap length (first-input x (q .below) some))
+    less = one-less x (q .below) some
 
     abbrev one : Core → List RingAct
     one c = offering (getD (c .vectors) lowest 0) false

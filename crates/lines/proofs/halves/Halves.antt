@@ -1,16 +1,8 @@
 -- A half of a register written, and ISR as it reads.
-use mathlib.Core.Path.{_≡_, refl, sym, ap, _∙_}
-use mathlib.Core.Bool.{Bool}
-use mathlib.Core.List.{List, [], _∷_}
-use Prim.Native.Nat.{ℕ, _-_, _^_}
-use lib.Bits.{bitAnd}
-use Rattle.basics.specs.Inputs.{on, without, withHalf}
-use Rattle.rules.specs.Lines.{withIsr}
-use Rattle.rules.specs.Core.{Plain, plain, withPlain, setIsr, store, setPlain, turns, lineTurn}
-use Rattle.basics.proofs.laws.Bits.{without-is}
+use Rattle.basics.proofs.Prelude.{_≡_, refl, sym, ap, _∙_, Bool, List, [], _∷_, ℕ, _-_, _^_, bitAnd, on, without, withHalf, without-is}
+use Rattle.rules.specs.{Lines.withIsr, Core.Plain, Core.plain, Core.withPlain, Core.setIsr, Core.store, Core.setPlain, Core.turns, Core.lineTurn}
 use Rattle.laws.proofs.laws.Writes.{acted-isr, acted-store}
-use Rattle.fields.specs.inplace.Held.{Reads, Becomes, Writes, withLines, withStored}
-use Rattle.fields.proofs.inplace.Doing.{stores-write}
+use Rattle.fields.{specs.inplace.Held.Reads, specs.inplace.Held.Becomes, specs.inplace.Held.Writes, specs.inplace.Held.withLines, specs.inplace.Held.withStored, proofs.inplace.Doing.stores-write}
 
 module _ (i : List ℕ) (b : Bool) (v : ℕ) {old new : ℕ} (is : new ≡ withHalf b old v) {j : List ℕ} where
   pub isr-half : Reads i old (λ d. d .core .lines .isr) → Becomes i j (λ d. withLines d (withIsr (d .core .lines) new)) → Writes i j 0 (λ c. setIsr b v ∷ [])

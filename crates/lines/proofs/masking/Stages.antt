@@ -1,22 +1,12 @@
 -- MASK and CLEAR, done in place: the stores to the registers and the offers come to the rules' steps, and those one after another to the rules' two stages.
-use mathlib.Core.Path.{_≡_, refl, ap, _∙_}
-use mathlib.Core.Bool.{Bool, true, false}
-use mathlib.Core.List.{List, [], _∷_, map}
-use Prim.Native.Nat.{ℕ, _+_, _-_, _^_, _<_}
-use lib.Bits.{bitAnd}
-use Rattle.basics.specs.Inputs.{on, inputs, register, without, withHalf}
+use Rattle.basics.proofs.Prelude.{_≡_, refl, ap, _∙_, Bool, true, false, List, [], _∷_, map, ℕ, _+_, _-_, _^_, _<_, bitAnd, on, inputs, register, without, withHalf, Each, without-is}
 use Rattle.rules.specs.Lines.{Turn, stay, withMask, withIrr, withIsr, event, andThen, pendingIn, serve, enter, leave, newlyUnmasked, newlyMasked, cleared, masked}
-use Rattle.rules.specs.Core.{move, moved, clear, setMask}
-use Rattle.rules.specs.Ring.{ringStep, ringRun, dropped, lostOf}
-use Rattle.rules.specs.Device.{Device, Value, offers, returned, lost}
-use Rattle.rules.specs.Numbering.{Numbers, takesAll}
-use Rattle.basics.proofs.laws.Lists.{Each}
-use Rattle.basics.proofs.laws.Bits.{without-is}
+use Rattle.rules.specs.{Core.move, Core.moved, Core.clear, Core.setMask, Ring.ringStep, Ring.ringRun, Ring.dropped, Ring.lostOf}
+use Rattle.rules.specs.{Device.Device, Device.Value, Device.offers, Device.returned, Device.lost, Numbering.Numbers, Numbering.takesAll}
 use Rattle.laws.proofs.laws.Sets.{stages}
 use Rattle.device.specs.decide.Sets.{servedOf}
 use Rattle.fields.specs.inplace.Held.{Holds, Reads, Becomes, takesEach, Offers, MovesIn, Writes, withLines, withRing, given, untaken}
-use Rattle.fields.proofs.inplace.Doing.{does-same, becomes-then, takes-each, moves-acts}
-use Rattle.fields.proofs.inplace.Turning.{afterTurn, moves-by, moves-then}
+use Rattle.fields.proofs.inplace.{Doing.does-same, Doing.becomes-then, Doing.takes-each, Doing.moves-acts, Turning.afterTurn, Turning.moves-by, Turning.moves-then}
 use Rattle.lines.proofs.enter_leave.Moving.{serving, stays}
 use Rattle.lines.specs.events.Offered.{assertOf, deasserts}
 

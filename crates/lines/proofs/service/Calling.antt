@@ -1,19 +1,10 @@
 -- The calls on an input, done in place: a latch that is stored, and then what enters or leaves, come to the rules' moves.
-use mathlib.Core.Path.{_≡_, refl, ap, _∙_}
-use mathlib.Core.Bool.{false}
-use mathlib.Core.List.{List}
-use Prim.Native.Nat.{ℕ, _-_, _*_, _%_, _^_, _<_}
-use lib.Bits.{bitAnd, bitOr}
-use Rattle.basics.specs.Inputs.{on, only, put, without}
-use Rattle.rules.specs.Lines.{Turn, withIrr, enter, leave, polled, raised, lowered}
-use Rattle.rules.specs.Core.{moved, poll, raise, lower}
-use Rattle.rules.specs.Device.{Device, Value}
+use Rattle.basics.proofs.Prelude.{_≡_, refl, ap, _∙_, false, List, ℕ, _-_, _*_, _%_, _^_, _<_, bitAnd, bitOr, on, only, put, without, put-is, without-these, on-bit, bit-lt}
+use Rattle.rules.specs.{Lines.Turn, Lines.withIrr, Lines.enter, Lines.leave, Lines.polled, Lines.raised, Lines.lowered, Core.moved, Core.poll, Core.raise, Core.lower, Device.Device, Device.Value}
 use Rattle.rules.specs.Numbering.{Numbers}
-use Rattle.basics.proofs.laws.Bits.{put-is, without-these, on-bit, bit-lt}
 use Rattle.laws.proofs.laws.Sets.{enter-ext}
 use Rattle.fields.specs.inplace.Held.{Holds, Reads, Becomes, MovesIn, Returns, withLines, given, untaken}
-use Rattle.fields.proofs.inplace.Doing.{does-same, becomes-then, moves-acts}
-use Rattle.fields.proofs.inplace.Turning.{afterTurn, moves-by}
+use Rattle.fields.proofs.inplace.{Doing.does-same, Doing.becomes-then, Doing.moves-acts, Turning.afterTurn, Turning.moves-by}
 
 module _ (i : List ℕ) {irr : ℕ} (rirr : Reads i irr (λ d. d .core .lines .irr)) where
   module _ (n : ℕ) (lt : n < 64) where

@@ -12,17 +12,8 @@ abbrev μ-loop : tie.MeasureT-loop
 μ-loop table at₀ at = 1024 - at
 
 pub main-spec : {M : Type 1} → statement M
-main-spec =
-    tie.close
-    (tie.spec
-    Inv-loop
-    μ-loop
-    (λ c κs. search needs)
-    (λ c. search needs)
-    (λ c κs. search needs)
-    (λ c. omega arith)
+main-spec = tie.close (tie.spec Inv-loop μ-loop (λ c κs. search needs) (λ c. search needs) (λ c κs. search needs) (λ c. omega arith)
     (λ c κs. (c .before .before .before .before .before .whole .ensures, c .before .loop-test .taken))
     (λ c κs. let e = c .before .row-end .ensures in (c .before .before .before .before .before .before .before .whole .ensures, e .some, e .within))
-    (λ c. let e = c .before .before .row-end .ensures in omega (arith, e .some, e .within))
-    (λ c. c .before .before .row-end .ensures .within)
+    (λ c. let e = c .before .before .row-end .ensures in omega (arith, e .some, e .within)) (λ c. c .before .before .row-end .ensures .within)
     (λ c. search needs))

@@ -1,14 +1,9 @@
 -- What the theorems speak of: the events placed in the order of making are those of the history, each at its position and with the fate that the ring gives it.
-use mathlib.Core.Path.{_≡_}
-use mathlib.Core.List.{List, map}
-use lib.ListN.{length}
-use Rattle.rules.specs.Ring.{kept, dropped}
-use Rattle.rules.specs.Device.{Device, Call, upFrom}
-use Rattle.rules.specs.History.{history}
+use Rattle.basics.proofs.Prelude.{_≡_, List, map, length}
+use Rattle.rules.specs.{Ring.kept, Ring.dropped, Device.Device, Device.Call, Device.upFrom, History.history}
 use Rattle.histories.specs.Demands.{asEvent, ringActs, returnedIn}
 use Rattle.order.specs.Fates.{isReturned, isKept, isDropped, eventsMade, withFate}
-use Rattle.order.proofs.laws.Positions.{all-events, all-positions}
-use Rattle.order.proofs.laws.Fates.{all-returned, all-kept, all-dropped}
+use Rattle.order.proofs.laws.{Positions.all-events, Positions.all-positions, Fates.all-returned, Fates.all-kept, Fates.all-dropped}
 
 module _ (d : Device) (cs : List Call) where
   -- They are the events that the calls make, in the order of making, and their positions are 0, 1, .. : each event made has one.

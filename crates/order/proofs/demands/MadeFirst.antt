@@ -1,58 +1,40 @@
 -- 02, C-19, 'Give the recorder a difference of two numbers': of two events of a history that were made fewer than 32,768 places apart, dropped ones counted, the difference
 -- of the numbers with which they are handed back is that of their places in the order of making, and so its sign tells which of them was made first.
-use mathlib.Core.Path.{_≡_, refl, sym, ap, ap₂, subst, _∙_}
-use mathlib.Core.List.{List, [], _∷_, _++_, map, append-assoc}
-use mathlib.Core.Logic.{⊎-elim}
-use Prim.Native.Nat.{ℕ, zero, suc, _+_, _<_, _≤_}
-use native.Mathlib.Omega.{arith}
-use lib.IntN.{ℤ, pos, _-ℤ_}
-use lib.Signed.{_<ℤ_}
-use lib.ListN.{length, length-append}
-use Rattle.basics.specs.Numbers.{Bytes}
-use Rattle.rules.specs.Device.{Device, Call, upFrom}
-use Rattle.rules.specs.Numbering.{Numbers, Numbered}
-use Rattle.images.specs.Form.{decided}
-use Rattle.images.specs.Image.{decode, numbersIn, imageTest, accepted}
-use Rattle.rules.specs.History.{history}
+use Rattle.basics.proofs.Prelude.{_≡_, refl, sym, ap, ap₂, subst, _∙_, List, [], _∷_, _++_, map, append-assoc, ⊎-elim, ℕ, zero, suc, _+_, _<_, _≤_, arith, length, length-append, Bytes, test}
+use Rattle.difference.{proofs.OrderOfMaking.of-places, proofs.OrderOfMaking.as-places, specs.Difference.differenceOf}
+use Rattle.difference.proofs.Integers.{over, under, same, minus, of-<ℤ, to-<ℤ}
+use lib.{IntN.ℤ, IntN.pos, IntN._-ℤ_, Signed._<ℤ_}
+use Rattle.rules.specs.{Device.Device, Device.Call, Device.upFrom, Numbering.Numbers, Numbering.Numbered, History.history}
+use Rattle.images.specs.{Form.decided, Image.decode, Image.numbersIn, Image.imageTest, Image.accepted}
 use Rattle.histories.specs.exported.Exported.{Exported, HandedOn, doneCalls, leftAfter}
-use Rattle.difference.specs.Difference.{differenceOf}
 use Rattle.order.specs.Fates.{Fate, Fate-discrete, isReturned, isKept, Placed, eventsMade, withFate}
 use Rattle.order.specs.Numbered.{numberAt, numberedFrom, allFrom, waitingWith, InOrder}
-use Rattle.order.specs.MadeFirst.{Among, HandedBack, MadeAfter, Near, TellsFirst, InTheirOrder}
-use Rattle.order.specs.Read.{returnedRead, drainedRead}
-use Rattle.basics.proofs.laws.Bits.{test}
-use Rattle.difference.proofs.Integers.{over, under, same, minus, of-<ℤ, to-<ℤ}
-use Rattle.difference.proofs.OrderOfMaking.{as-places}
-use Rattle.order.proofs.laws.Positions.{all-positions}
-use Rattle.order.proofs.demands.OfHistories.{none-with}
-use Rattle.order.proofs.demands.OfCalls.{numbers-of-an-image}
+use Rattle.order.specs.{MadeFirst.Among, MadeFirst.HandedBack, MadeFirst.MadeAfter, MadeFirst.Near, MadeFirst.TellsFirst, MadeFirst.InTheirOrder, Read.returnedRead, Read.drainedRead}
+use Rattle.order.proofs.{laws.Positions.all-positions, demands.OfHistories.none-with, demands.OfCalls.numbers-of-an-image}
 
 -- ---- of two positions
 
 module _ (p q : ℕ) where
-  apart : over (pos p -ℤ pos q) + q ≡ under (pos p -ℤ pos q) + p
-  apart = let h = minus (pos p) (pos q) in omega arith
-
   -- The difference of the device's numbers is that of the positions, whatever number the history began with.
   pub difference-of-positions : (start : ℕ) → p < q + 32768 → q < p + 32768 → differenceOf (numberAt start p) (numberAt start q) ≡ pos p -ℤ pos q
   difference-of-positions start l m =
       let h = minus (pos (start + p)) (pos (start + q)) in
-      as-places (start + p) (start + q) (omega arith) (omega arith) ∙ same (pos (start + p) -ℤ pos (start + q)) (pos p -ℤ pos q) (omega (arith, h, apart))
+      as-places (start + p) (start + q) (omega arith) (omega arith) ∙ same (pos (start + p) -ℤ pos (start + q)) (pos p -ℤ pos q) (omega (arith, h, of-places p q))
 
   tells-first : (z : ℤ) → z ≡ pos p -ℤ pos q → TellsFirst p q z
   tells-first z e =
       record {
         positive = (
-          λ h. let g = of-<ℤ (subst (λ (d : ℤ). pos 0 <ℤ d) e h) in omega (arith, apart),
-          λ h. subst (λ (d : ℤ). pos 0 <ℤ d) (sym e) (to-<ℤ (pos 0) (pos p -ℤ pos q) (omega (arith, apart))),
+          λ h. let g = of-<ℤ (subst (λ (d : ℤ). pos 0 <ℤ d) e h) in omega (arith, of-places p q),
+          λ h. subst (λ (d : ℤ). pos 0 <ℤ d) (sym e) (to-<ℤ (pos 0) (pos p -ℤ pos q) (omega (arith, of-places p q))),
         );
         negative = (
-          λ h. let g = of-<ℤ (subst (λ (d : ℤ). d <ℤ pos 0) e h) in omega (arith, apart),
-          λ h. subst (λ (d : ℤ). d <ℤ pos 0) (sym e) (to-<ℤ (pos p -ℤ pos q) (pos 0) (omega (arith, apart))),
+          λ h. let g = of-<ℤ (subst (λ (d : ℤ). d <ℤ pos 0) e h) in omega (arith, of-places p q),
+          λ h. subst (λ (d : ℤ). d <ℤ pos 0) (sym e) (to-<ℤ (pos p -ℤ pos q) (pos 0) (omega (arith, of-places p q))),
         );
         none = (
-          λ h. let g : pos p -ℤ pos q ≡ pos 0 = sym e ∙ h in omega (arith, apart, ap over g, ap under g),
-          λ h. e ∙ same (pos p -ℤ pos q) (pos 0) (omega (arith, apart)),
+          λ h. let g : pos p -ℤ pos q ≡ pos 0 = sym e ∙ h in omega (arith, of-places p q, ap over g, ap under g),
+          λ h. e ∙ same (pos p -ℤ pos q) (pos 0) (omega (arith, of-places p q)),
         );
       }
 

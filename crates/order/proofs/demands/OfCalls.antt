@@ -1,32 +1,19 @@
 -- 02, C-19, of exported calls on images with the fifth body, each given the image that the one before it left. A refused call counts as none.
-use mathlib.Core.Path.{_≡_, refl, sym, ap₂, subst, _∙_}
-use mathlib.Core.Bool.{true}
-use mathlib.Core.List.{List, [], _∷_, _++_, map-append}
-use native.Mathlib.Omega.{arith}
-use Prim.Native.Nat.{ℕ}
-use lib.ListN.{length}
-use Rattle.basics.specs.Numbers.{Bytes}
-use Rattle.rules.specs.Device.{reset}
-use Rattle.rules.specs.Numbering.{Numbered, fromZero, eventsIn}
-use Rattle.images.specs.Form.{Form, one, two, numbered, numbers, has, formLength}
-use Rattle.images.specs.Image.{encodeAs, decode, numbersIn, imageTest, accepted}
-use Rattle.calls.specs.Calls.{Request, presentIn, afresh, askedBy}
-use Rattle.calls.specs.Calls as request
-use Rattle.rules.specs.History.{history}
-use Rattle.histories.specs.exported.Exported.{Exported, leftBy, isDone, Underway, carriedThrough, NoLoads, HandedOn, doneCalls, leftAfter}
-use Rattle.histories.specs.exported.Exported.{current, inImage, Faithful, atLoad, afterReset, returnedTo, drainedTo, returnedBy, drainedBy}
-use Rattle.order.specs.Numbered.{InOrder}
-use Rattle.order.specs.Read.{numberedTo, quadsTo, returnedRead, drainedRead}
-use Rattle.basics.proofs.laws.Bits.{test}
+use Rattle.basics.proofs.Prelude.{ap, _≡_, refl, sym, subst, _∙_, true, List, [], _∷_, _++_, map-append, arith, ℕ, length, Bytes, test}
+use Rattle.rules.specs.{Device.reset, Numbering.Numbered, Numbering.fromZero, Numbering.eventsIn, History.history}
+use Rattle.images.specs.{Form.Form, Form.one, Form.two, Form.numbered, Form.numbers, Form.has, Form.formLength, Image.encodeAs, Image.decode, Image.numbersIn, Image.imageTest, Image.accepted}
+use Rattle.calls.specs.Calls.{afresh, askedBy}
+use Rattle.histories.specs.exported.Exported.{numberedTo, quadsTo, Exported, leftBy, isDone, Underway, carriedThrough, NoLoads, HandedOn, doneCalls, leftAfter, current, inImage, Faithful, atLoad, afterReset, returnedTo, drainedTo, returnedBy, drainedBy}
 use Rattle.histories.proofs.exported.laws.Chains.{current-well, left-length, left-holds, faithful-at-load, faithful-after-reset, reset-leaves}
 use Rattle.histories.proofs.exported.demands.FromCalls.{image-holds-numbers, image-holds-history, numbers-run-through, handed-on-is-no-load, left-through}
-use Rattle.order.proofs.laws.Reading.{read-as}
-use Rattle.order.proofs.demands.OfHistories.{numbers-are-positions}
+use Rattle.order.specs.{Numbered.InOrder, Read.returnedRead, Read.drainedRead}
+use Rattle.order.proofs.{laws.Reading.read-as, demands.OfHistories.numbers-are-positions}
+use Rattle.calls.specs.Calls as request
 
 -- ---- from any history under way
 
 -- 290 bytes have the fifth body
-fifth-body : (f : Form) → formLength f ≡ 290 → has f numbers ≡ true
+pub fifth-body : (f : Form) → formLength f ≡ 290 → has f numbers ≡ true
 fifth-body one e = absurd (omega arith)
 fifth-body two e = absurd (omega arith)
 fifth-body numbered e = refl
@@ -78,28 +65,12 @@ numbers-from-reset x a t l xs o =
 -- ---- without the numbers
 
 -- The events that a host reads with their numbers are, without them, those that it reads of any form.
-events-returned : (q : Request) (a : List ℕ) → eventsIn (numberedTo q a) ≡ returnedTo q a
-events-returned request.reset a = refl
-events-returned (request.read base size address width) a = refl
-events-returned (request.write base size address width v) a = refl
-events-returned (request.level n v) a = test (presentIn a) (λ t. rw t) (λ t. rw t)
-events-returned (request.poll n) a = test (presentIn a) (λ t. rw t) (λ t. rw t)
-events-returned (request.drain buffer place) a = refl
-
-events-drained : (q : Request) (a e : List ℕ) → eventsIn (quadsTo q a e) ≡ drainedTo q a e
-events-drained request.reset a e = refl
-events-drained (request.read base size address width) a e = refl
-events-drained (request.write base size address width v) a e = refl
-events-drained (request.level n v) a e = refl
-events-drained (request.poll n) a e = refl
-events-drained (request.drain buffer place) a e = refl
-
 pub returned-without : (xs : List Exported) → eventsIn (returnedRead xs) ≡ returnedBy xs
 unfolding returnedRead returnedBy
 returned-without [] = refl
 returned-without (x ∷ xs) =
     test (isDone x)
-    (λ t. rw t (map-append (λ (y : Numbered). y .event) (numberedTo (x .asked) (leftBy x .answer)) (returnedRead xs) ∙ ap₂ _++_ (events-returned (x .asked) (leftBy x .answer)) (returned-without xs)))
+    (λ t. rw t (map-append (λ (y : Numbered). y .event) (numberedTo (x .asked) (leftBy x .answer)) (returnedRead xs) ∙ ap (λ es. returnedTo (x .asked) (leftBy x .answer) ++ es) (returned-without xs)))
     (λ t. rw t (returned-without xs))
 
 pub drained-without : (xs : List Exported) → eventsIn (drainedRead xs) ≡ drainedBy xs
@@ -107,5 +78,5 @@ unfolding drainedRead drainedBy
 drained-without [] = refl
 drained-without (x ∷ xs) =
     test (isDone x)
-    (λ t. rw t (map-append (λ (y : Numbered). y .event) (quadsTo (x .asked) (leftBy x .answer) (leftBy x .events)) (drainedRead xs) ∙ ap₂ _++_ (events-drained (x .asked) (leftBy x .answer) (leftBy x .events)) (drained-without xs)))
+    (λ t. rw t (map-append (λ (y : Numbered). y .event) (quadsTo (x .asked) (leftBy x .answer) (leftBy x .events)) (drainedRead xs) ∙ ap (λ es. drainedTo (x .asked) (leftBy x .answer) (leftBy x .events) ++ es) (drained-without xs)))
     (λ t. rw t (drained-without xs))

@@ -1,24 +1,14 @@
 -- 02, C-19, of calls of the device one after another: the numbers handed back, returned and drained, are the positions in the order of making modulo 65,536, from
 -- the number that the history began with.
-use mathlib.Core.Path.{_≡_, refl, sym, ap, ap₂, _∙_}
-use mathlib.Core.List.{List, [], _∷_, _++_, map, map-append, append-nil, append-assoc}
-use Prim.Native.Nat.{ℕ, _+_, _-_, _%_, _^_, _<_}
-use native.Mathlib.Omega.{arith}
-use lib.ListN.{length, length-append, length-map}
+use Rattle.basics.proofs.Prelude.{_≡_, refl, sym, ap, ap₂, _∙_, List, [], _∷_, _++_, map, map-append, append-nil, append-assoc, ℕ, _+_, _-_, _%_, _^_, _<_, arith, length, length-append, length-map}
 use Rattle.rules.specs.Device.{Device, WellFormed, Call, step}
-use Rattle.rules.specs.Numbering.{Numbers, WellNumbered, Numbered, withNumbers, numbersAfter, drainedWith}
-use Rattle.rules.specs.History.{history}
-use Rattle.histories.specs.exported.Exported.{numbersThrough}
+use Rattle.rules.specs.{Numbering.Numbers, Numbering.WellNumbered, Numbering.Numbered, Numbering.withNumbers, Numbering.numbersAfter, Numbering.drainedWith, History.history}
+use Rattle.rules.proofs.{laws.Numbered.fits, demands.Numbered.numbers-with}
+use Rattle.histories.{specs.exported.Exported.numbersThrough, proofs.laws.WellFormed.step-well, proofs.exported.laws.Chains.through-numbered}
 use Rattle.order.specs.Fates.{isReturned, isKept, Placed, placed, placedFrom, eventsMade, withFate}
 use Rattle.order.specs.Numbered.{numberAt, allFrom, returnedThrough, drainedThrough, waitingWith, InOrder}
-use Rattle.rules.proofs.laws.Numbered.{fits}
-use Rattle.rules.proofs.demands.Numbered.{numbers-with}
-use Rattle.histories.proofs.laws.WellFormed.{step-well}
-use Rattle.histories.proofs.exported.laws.Chains.{through-numbered}
-use Rattle.order.proofs.laws.Positions.{first-number, all-events, all-positions, from-append}
-use Rattle.order.proofs.laws.Standing.{Stands, call-stands, call-waits}
-use Rattle.order.proofs.laws.Returned.{call-returns}
-use Rattle.order.proofs.laws.Counted.{counted, missing-ones}
+use Rattle.order.proofs.laws.{Positions.first-number, Positions.all-events, Positions.all-positions, Positions.from-append, Standing.Stands, Standing.call-stands, Standing.call-waits}
+use Rattle.order.proofs.laws.{Returned.call-returns, Counted.counted, Counted.missing-ones}
 
 -- ---- from position p on
 

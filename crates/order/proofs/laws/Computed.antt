@@ -1,22 +1,12 @@
 -- The definitions on closed numbers, so that it is seen what they say: positions, fates and numbers of a few events, and what a host reads in a few bytes.
-use mathlib.Core.Path.{_≡_, refl}
-use mathlib.Core.Bool.{Bool, true, false}
-use mathlib.Core.List.{List, [], _∷_, map}
-use Prim.Native.Nat.{ℕ}
-use lib.ListN.{set, replicate}
-use Rattle.rules.specs.Lines.{Made}
-use Rattle.rules.specs.Ring.{Ring}
-use Rattle.rules.specs.Access.{dword}
-use Rattle.rules.specs.Device.{Call, level, write, drain, some, reset}
-use Rattle.rules.specs.Numbering.{fromZero}
-use Rattle.images.specs.Form.{numbered}
-use Rattle.images.specs.Image.{encodeAs}
-use Rattle.calls.specs.Calls as request
+use Rattle.basics.proofs.Prelude.{_≡_, refl, Bool, true, false, List, [], _∷_, map, ℕ, set, replicate}
+use Rattle.rules.specs.{Lines.Made, Ring.Ring, Access.dword, Device.Call, Device.level, Device.write, Device.drain, Device.some, Device.reset, Numbering.fromZero}
+use Rattle.images.specs.{Form.numbered, Image.encodeAs}
 use Rattle.histories.specs.exported.Exported.{Exported, leftBy}
 use Rattle.order.specs.Fates.{isReturned, isKept, isDropped, placed, placedFrom, eventsMade}
-use Rattle.order.specs.Numbered.{allFrom, inValue, returnedThrough, drainedThrough}
-use Rattle.order.specs.Read.{inAnswer, quadsTo, returnedRead}
+use Rattle.order.specs.{Numbered.allFrom, Numbered.inValue, Numbered.returnedThrough, Numbered.drainedThrough, Read.returnedRead}
 use Rattle.calls.proofs.laws.Computing.{computing}
+use Rattle.calls.specs.Calls as request
 
 -- ---- events
 
@@ -67,17 +57,9 @@ drained-told = refl
 
 -- ---- bytes
 
--- the vector 5 with the number 65,534: in a value, and in an answer area
+-- the vector 5 with the number 65,534, in a value
 value-told : inValue true (some 0xfffe0005) ≡ record { event = record { vector = 5; asserted = true }; number = 65534 } ∷ []
 value-told = refl
-
-answer-told : inAnswer false (0 ∷ 1 ∷ 0 ∷ 0 ∷ 0 ∷ 0 ∷ 0 ∷ 0 ∷ 5 ∷ 0 ∷ 0xfe ∷ 0xff ∷ 0 ∷ 0 ∷ 0 ∷ 0 ∷ []) ≡ record { event = record { vector = 5; asserted = false }; number = 65534 } ∷ []
-answer-told = refl
-
--- an event buffer with one event from place 1 on
-buffer-told : quadsTo (request.drain [] 1) (0 ∷ 1 ∷ 0 ∷ 0 ∷ 0 ∷ 0 ∷ 0 ∷ 0 ∷ 1 ∷ 0 ∷ 0 ∷ 0 ∷ 0 ∷ 0 ∷ 0 ∷ 0 ∷ []) (0xee ∷ 5 ∷ 1 ∷ 0xfe ∷ 0xff ∷ 0xee ∷ [])
-    ≡ record { event = record { vector = 5; asserted = true }; number = 65534 } ∷ []
-buffer-told = refl
 
 -- an image that says that 17 wait: a poll is refused, with the place of the count as its value, and returns no event
 abbrev refusedPoll : Exported

@@ -1,19 +1,8 @@
 -- Counts over events with numbers: every event made has one of the three fates, numbers of at most 65,536 positions differ, and so the missing numbers are known
 -- from what is counted.
-use mathlib.Core.Path.{_≡_, refl, sym, ap, _∙_}
-use mathlib.Core.Bool.{Bool, cond, not, _&&_, _||_, and-false}
-use mathlib.Core.List.{List, [], _∷_, _++_, map}
-use Prim.Native.Nat.{ℕ, zero, suc, _+_, _<_, _≤_}
-use native.Mathlib.Omega.{arith}
-use lib.Dec.{eqb, ltb}
-use borrow.Author.Tests.{lt-ltb, eqb-true, ne-eqb}
-use Rattle.rules.specs.Device.{upFrom}
-use Rattle.rules.specs.Numbering.{Numbered}
-use Rattle.rules.specs.Account.{tally}
-use Rattle.order.specs.Fates.{Fate, Placed, isReturned, isKept, isDropped, withFate}
-use Rattle.order.specs.Numbered.{numberAt, allFrom, someHas}
-use Rattle.basics.proofs.laws.Bits.{test}
-use Rattle.rules.proofs.laws.Counts.{tally-append, tally-nil}
+use Rattle.basics.proofs.Prelude.{_≡_, refl, sym, ap, _∙_, Bool, cond, not, _&&_, _||_, and-false, List, [], _∷_, _++_, map, ℕ, zero, suc, _+_, _<_, _≤_, arith, eqb, ltb, lt-ltb, eqb-true, ne-eqb, test}
+use Rattle.rules.{specs.Device.upFrom, specs.Numbering.Numbered, specs.Account.tally, proofs.laws.Counts.tally-append, proofs.laws.Counts.tally-nil}
+use Rattle.order.specs.{Fates.Fate, Fates.Placed, Fates.isReturned, Fates.isKept, Fates.isDropped, Fates.withFate, Numbered.numberAt, Numbered.allFrom, Numbered.someHas}
 
 -- ---- one of three fates
 

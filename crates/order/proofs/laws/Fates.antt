@@ -1,18 +1,10 @@
 -- Fates are the ring's own: the events that are kept, dropped and returned by their fates are those that the rules and the histories call so.
-use mathlib.Core.Path.{_≡_, refl, sym, ap, ap₂, _∙_}
-use mathlib.Core.List.{List, [], _∷_, _++_, map, map-append, append-assoc}
-use Prim.Native.Nat.{ℕ, suc, _+_}
-use lib.Dec.{ltb}
-use lib.ListN.{length}
-use Rattle.rules.specs.Lines.{Made}
-use Rattle.rules.specs.Ring.{capacity, Event, Ring, RingAct, ringStep, ringRun, keptBy, kept, dropped}
-use Rattle.rules.specs.Device.{Device, Call, level, poll, read, write, drain, offers, draws, acted, step}
-use Rattle.rules.specs.History.{history}
-use Rattle.histories.specs.Demands.{asEvent, ringActs, returnedIn}
-use Rattle.order.specs.Fates.{Fate, isReturned, isKept, isDropped, Placed, ringPast, placed, placedFrom, withFate}
-use Rattle.basics.proofs.laws.Bits.{test}
+use Rattle.basics.proofs.Prelude.{_≡_, refl, sym, ap, ap₂, _∙_, List, [], _∷_, _++_, map, map-append, append-assoc, ℕ, suc, _+_, ltb, length, test}
+use Rattle.rules.specs.{Lines.Made, Ring.capacity, Ring.Event, Ring.Ring, Ring.RingAct, Ring.ringStep, Ring.ringRun, Ring.keptBy, Ring.kept, Ring.dropped}
+use Rattle.rules.specs.{Device.Device, Device.Call, Device.level, Device.poll, Device.read, Device.write, Device.drain, Device.offers, Device.draws, Device.acted, Device.step, History.history}
 use Rattle.rules.proofs.laws.Rings.{dropped-append}
-use Rattle.histories.proofs.laws.Draining.{returned-append}
+use Rattle.histories.{specs.Demands.asEvent, specs.Demands.ringActs, specs.Demands.returnedIn, proofs.laws.Draining.returned-append}
+use Rattle.order.specs.Fates.{Fate, isReturned, isKept, isDropped, Placed, ringPast, placed, placedFrom, withFate}
 use Rattle.order.proofs.laws.Positions.{fate-append}
 
 -- the events of a fate

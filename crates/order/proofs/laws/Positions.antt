@@ -1,18 +1,8 @@
 -- Positions and fates: events in two parts, their positions one after another, and the numbers of positions.
-use mathlib.Core.Path.{_≡_, refl, sym, ap, ap₂, _∙_}
-use mathlib.Core.List.{List, [], _∷_, _++_, map, map-append}
-use Prim.Native.Nat.{ℕ, zero, suc, _+_, _<_, _^_}
-use native.Mathlib.Omega.{arith}
-use lib.ListN.{length, length-append}
-use Rattle.rules.specs.Lines.{Made}
-use Rattle.rules.specs.Ring.{Ring, ringRun}
-use Rattle.rules.specs.Device.{Device, Call, offers, step, upFrom}
-use Rattle.rules.specs.Numbering.{following}
+use Rattle.basics.proofs.Prelude.{_≡_, refl, sym, ap, ap₂, _∙_, List, [], _∷_, _++_, map, map-append, ℕ, zero, suc, _+_, _<_, _^_, arith, length, length-append, test}
+use Rattle.rules.specs.{Lines.Made, Ring.Ring, Ring.ringRun, Device.Device, Device.Call, Device.offers, Device.step, Device.upFrom, Numbering.following, History.history}
 use Rattle.images.specs.Form.{decided}
-use Rattle.rules.specs.History.{history}
-use Rattle.order.specs.Fates.{Fate, Fate-discrete, Placed, ringPast, placed, placedFrom, withFate}
-use Rattle.order.specs.Numbered.{numberAt, numberedFrom, allFrom}
-use Rattle.basics.proofs.laws.Bits.{test}
+use Rattle.order.specs.{Fates.Fate, Fates.Fate-discrete, Fates.Placed, Fates.ringPast, Fates.placed, Fates.placedFrom, Fates.withFate, Numbered.numberAt, Numbered.numberedFrom, Numbered.allFrom}
 use Rattle.order.proofs.laws.Computed as computed
 
 -- ---- numbers of positions

@@ -1,41 +1,26 @@
 -- What a host reads of exported calls on images with the fifth body: the events that their calls of the device return and drain, each with its number.
-use mathlib.Core.Path.{_≡_, refl, sym, ap, ap₂, _∙_}
-use mathlib.Core.Bool.{Bool, true, false, cond, not}
-use mathlib.Core.List.{List, [], _∷_, _++_, append-nil, append-assoc}
-use Prim.Native.Nat.{ℕ, zero, suc, _-_, _/_, _%_, _^_, _<_, _≤_}
-use native.Mathlib.Omega.{arith}
-use lib.Dec.{eqb}
-use lib.ListN.{length, take, drop, getD}
-use Rattle.rules.specs.Ring.{Event, ringRun}
-use Rattle.rules.specs.Device.{Device, WellFormed, Call, Value, none, some, step}
-use Rattle.rules.specs.Device as device
-use Rattle.rules.specs.Numbering.{Numbers, WellNumbered, Numbered, withNumbers, drainedLength, quadsIn, numbersAfter, drainedWith, valueWith}
-use Rattle.images.specs.Form.{numbers, has}
-use Rattle.images.specs.Image.{numbersIn}
-use Rattle.calls.specs.Calls.{pass, widthTest, addressTest, Request, calls, askedBy, answered, bufferOf, placeOf, written, Outcome}
-use Rattle.rules.specs.Device.{amount}
-use Rattle.calls.specs.Calls as request
-use Rattle.rules.specs.History.{history}
-use Rattle.histories.specs.exported.Exported.{Exported, leftBy, isDone, isLoad, Underway, carriedOn, NoLoads, doneCall, doneCalls, current, Faithful, numbersThrough}
-use Rattle.order.specs.Numbered.{inValue, returnedOf, returnedThrough, drainedThrough}
-use Rattle.order.specs.Read.{inAnswer, numberedTo, quadsTo, returnedRead, drainedRead}
-use Rattle.basics.proofs.laws.Bits.{test}
-use Rattle.basics.proofs.laws.Lists.{Each}
-use Rattle.calls.proofs.laws.Answers.{none-read, some-read, value-read, quads-read}
-use Rattle.histories.proofs.laws.WellFormed.{step-events}
-use Rattle.histories.proofs.exported.laws.Chains.{passed, current-well, handed, carried-on, faithful-kept}
-use Rattle.histories.proofs.exported.laws.Readings.{level-single, poll-single, returned-below, access-is, input-is, asked-is, drained-told}
+use Rattle.basics.proofs.Prelude.{_≡_, refl, sym, ap, ap₂, _∙_, Bool, true, false, cond, not, List, [], _∷_, _++_, append-nil, append-assoc, ℕ, zero, suc, _-_, _/_, _^_, _<_, _≤_, eqb, length, take, drop, getD, test, Each}
+use Rattle.histories.proofs.exported.laws.Readings.{none-answered, some-answered, level-single, poll-single, returned-below, drained-told}
+use Rattle.histories.specs.exported.Exported.{inAnswer, numberedTo, quadsTo, Exported, leftBy, isDone, isLoad, Underway, carriedOn, NoLoads, doneCall, doneCalls, current, Faithful, numbersThrough}
+use Rattle.histories.proofs.{laws.WellFormed.step-events, exported.laws.Chains.current-well, exported.laws.Chains.handed, exported.laws.Chains.carried-on, exported.laws.Chains.faithful-kept}
 use Rattle.histories.proofs.exported.demands.FromCalls.{image-holds-numbers}
+use Rattle.rules.specs.{Ring.Event, Ring.ringRun, Device.Device, Device.WellFormed, Device.Call, Device.Value, Device.none, Device.some, Device.step, Device.amount}
+use Rattle.rules.specs.Numbering.{Numbers, WellNumbered, Numbered, withNumbers, drainedLength, quadsIn, numbersAfter, drainedWith, valueWith}
+use Rattle.rules.specs.History.{history}
+use Rattle.images.specs.{Form.numbers, Form.has, Image.numbersIn}
+use Rattle.calls.specs.Calls.{pass, Request, calls, askedBy, answered, bufferOf, placeOf, written, Outcome}
+use Rattle.calls.proofs.laws.{Requests.by-request, Answers.quads-read}
+use Rattle.order.specs.{Numbered.inValue, Numbered.returnedOf, Numbered.returnedThrough, Numbered.drainedThrough, Read.returnedRead, Read.drainedRead}
+use Rattle.rules.specs.Device as device
+use Rattle.calls.specs.Calls as request
 use Rattle.order.proofs.laws.Computed as computed
 
 -- ---- one call
 
 -- an answer area holds the event of a value
 in-answer : (b : Bool) (x : Value) (a : List ℕ) → amount x < 2 ^ 64 → inAnswer b (answered 0 x a) ≡ inValue b x
-in-answer b none a h = rw (none-read 0 a)
-in-answer b (some v) a h =
-    rw (some-read 0 a v)
-    (λ i. record { event = record { vector = value-read 0 a v h i % 256; asserted = b }; number = value-read 0 a v h i / 2 ^ 16 } ∷ [])
+in-answer b none a h = none-answered b a
+in-answer b (some v) a h = some-answered b v a h
 
 -- the numbers of those drained have 16 bits
 each-with : (es : List Event) (ns : List ℕ) (k : ℕ) → ((i : ℕ) → getD ns i 0 < 2 ^ 16) → Each (λ (x : Numbered). x .number < 2 ^ 16) (withNumbers es (take k ns))
@@ -45,39 +30,29 @@ each-with (e ∷ es) [] (suc k) h = tt
 each-with (e ∷ es) (n ∷ ns) (suc k) h = (h 0, each-with es ns k (λ i. h (suc i)))
 
 module _ (d : Device) (w : WellFormed d) (s : Numbers) (v : WellNumbered d s) where
-  reads-returned : (q : Request) (c : Call) (a : List ℕ) → askedBy q ≡ calls (pass c) → numberedTo q (answered 0 (valueWith d s c) a) ≡ returnedOf d s c
+  reads-returned : (a : List ℕ) (q : Request) (c : Call) → askedBy q ≡ calls (pass c) → numberedTo q (answered 0 (valueWith d s c) a) ≡ returnedOf d s c
   unfolding valueWith
-  reads-returned request.reset c a e = absurd (let z : _≡_ {A = ℕ} 0 1 = cc in omega arith)
-  reads-returned (request.read base size address width) c a e =
-      rw (access-is (widthTest width) (addressTest base size address width) device.read c (asked-is e) .2)
-  reads-returned (request.write base size address width x) c a e =
-      rw (access-is (widthTest width) (addressTest base size address width) (λ y o. device.write y o x) c (asked-is e) .2)
-  reads-returned (request.level n x) c a e =
+  reads-returned a =
+      by-request (λ q c. numberedTo q (answered 0 (valueWith d s c) a) ≡ returnedOf d s c) (λ base size address width y o. refl) (λ base size address width x y o. refl)
+      (λ n x.
       let b = not (eqb x 0) in
       let made = step d (device.level n b) .made in
-      rw (input-is n (device.level n b) c (asked-is e) .1)
-      (in-answer b (valueWith d s (device.level n b)) a (returned-below s (v .next) b made (level-single d n b) (step-events d (device.level n b) w)))
-  reads-returned (request.poll n) c a e =
+      in-answer b (valueWith d s (device.level n b)) a (returned-below s (v .next) b made (level-single d n b) (step-events d (device.level n b) w)))
+      (λ n.
       let made = step d (device.poll n) .made in
-      rw (input-is n (device.poll n) c (asked-is e) .1)
-      (in-answer true (valueWith d s (device.poll n)) a (returned-below s (v .next) true made (poll-single d n) (step-events d (device.poll n) w)))
-  reads-returned (request.drain buffer place) c a e = rw (sym (passed (asked-is e)))
+      in-answer true (valueWith d s (device.poll n)) a (returned-below s (v .next) true made (poll-single d n) (step-events d (device.poll n) w)))
+      (λ buffer place. refl)
 
-  reads-drained : (q : Request) (c : Call) (a : List ℕ) → askedBy q ≡ calls (pass c) → placeOf q ≤ length (bufferOf q)
+  reads-drained : (a : List ℕ) (q : Request) (c : Call) → askedBy q ≡ calls (pass c) → placeOf q ≤ length (bufferOf q)
       → quadsTo q (answered 0 (valueWith d s c) a) (written (bufferOf q) (placeOf q) (drainedWith d s c)) ≡ drainedWith d s c
   unfolding step ringRun drainedWith
-  reads-drained request.reset c a e h = absurd (let z : _≡_ {A = ℕ} 0 1 = cc in omega arith)
-  reads-drained (request.read base size address width) c a e h =
-      rw (access-is (widthTest width) (addressTest base size address width) device.read c (asked-is e) .2)
-  reads-drained (request.write base size address width x) c a e h =
-      rw (access-is (widthTest width) (addressTest base size address width) (λ y o. device.write y o x) c (asked-is e) .2)
-  reads-drained (request.level n x) c a e h = rw (input-is n (device.level n (not (eqb x 0))) c (asked-is e) .1)
-  reads-drained (request.poll n) c a e h = rw (input-is n (device.poll n) c (asked-is e) .1)
-  reads-drained (request.drain buffer place) c a e h =
+  reads-drained a =
+      by-request (λ q c. placeOf q ≤ length (bufferOf q) → quadsTo q (answered 0 (valueWith d s c) a) (written (bufferOf q) (placeOf q) (drainedWith d s c)) ≡ drainedWith d s c)
+      (λ base size address width y o h. refl) (λ base size address width x y o h. refl) (λ n x h. refl) (λ n h. refl)
+      (λ buffer place h.
       let k = (length buffer - place) / drainedLength in
       let xs = drainedWith d s (device.drain k) in
-      rw (sym (passed (asked-is e)))
-      (ap (λ n. quadsIn n (drop place (written buffer place xs))) (drained-told d w s v k a)
+      ap (λ n. quadsIn n (drop place (written buffer place xs))) (drained-told d w s v k a)
       ∙ quads-read xs buffer place h (each-with (step d (device.drain k) .drained) (s .waiting) k (v .each)))
 
 -- ---- along exported calls
@@ -111,7 +86,7 @@ module _ (h : Underway) (f : Faithful h) (t : has (f .form) numbers ≡ true) (x
       let r = handed h x f done n in
       let numbers-are = ap numbersIn (r .given) ∙ image-holds-numbers h f t in
       let answer : leftBy x .answer ≡ answered 0 (valueWith (current h) (f .numbers) (r .call)) (x .answer) = ap (λ (o : Outcome). o .answer) (r .left) ∙ ap (λ s. answered 0 (valueWith (current h) s (r .call)) (x .answer)) numbers-are in
-      rw (done, r .passes, answer, append-nil) (reads-returned (current h) (current-well h f) (f .numbers) (f .numbered) (x .asked) (r .call) (x .answer) (r .passes)))
+      rw (done, r .passes, answer, append-nil) (reads-returned (current h) (current-well h f) (f .numbers) (f .numbered) (x .answer) (x .asked) (r .call) (r .passes)))
       (λ done. rw done)
 
   one-drained : cond (isDone x) (quadsTo (x .asked) (leftBy x .answer) (leftBy x .events)) [] ≡ drainedThrough (current h) (f .numbers) (doneCall x)
@@ -124,7 +99,7 @@ module _ (h : Underway) (f : Faithful h) (t : has (f .form) numbers ≡ true) (x
       let es : List Numbered → List ℕ = written (bufferOf (x .asked)) (placeOf (x .asked)) in
       let answer : leftBy x .answer ≡ answered 0 (valueWith (current h) (f .numbers) (r .call)) (x .answer) = ap (λ (o : Outcome). o .answer) (r .left) ∙ ap (λ s. answered 0 (valueWith (current h) s (r .call)) (x .answer)) numbers-are in
       let events : leftBy x .events ≡ es (drainedWith (current h) (f .numbers) (r .call)) = ap (λ (o : Outcome). o .events) (r .left) ∙ ap (λ s. es (drainedWith (current h) s (r .call))) numbers-are in
-      rw (done, r .passes, answer, events, append-nil) (reads-drained (current h) (current-well h f) (f .numbers) (f .numbered) (x .asked) (r .call) (x .answer) (r .passes) (r .fits)))
+      rw (done, r .passes, answer, events, append-nil) (reads-drained (current h) (current-well h f) (f .numbers) (f .numbered) (x .answer) (x .asked) (r .call) (r .passes) (r .fits)))
       (λ done. rw done)
 
 -- what a host has read, beside what calls return and drain

@@ -1,24 +1,13 @@
 -- The event that a call returns has the number of its position: a level or poll call makes at most one event, and has its number in its value; no other call
 -- returns any.
-use mathlib.Core.Path.{_≡_, refl, sym, ap, _∙_}
-use mathlib.Core.Bool.{Bool, true}
-use mathlib.Core.List.{List, [], _∷_, map}
-use Prim.Native.Nat.{ℕ, _+_, _*_, _/_, _%_, _^_}
-use native.Mathlib.Omega.{arith}
-use lib.ListN.{length}
-use Rattle.rules.specs.Lines.{Made}
-use Rattle.rules.specs.Ring.{Ring}
-use Rattle.rules.specs.Core.{turns}
-use Rattle.rules.specs.Access.{Width}
+use Rattle.basics.proofs.Prelude.{_≡_, refl, sym, ap, _∙_, Bool, true, List, [], _∷_, map, ℕ, _+_, _*_, _/_, _%_, _^_, arith, length}
+use Rattle.rules.specs.{Lines.Made, Ring.Ring, Core.turns, Access.Width}
 use Rattle.rules.specs.Device.{Device, WellFormed, Call, level, poll, read, write, drain, actsOf, step}
 use Rattle.rules.specs.Numbering.{Numbers, returnedWith, valueWith}
-use Rattle.histories.specs.Demands.{asEvent, returnedIn}
-use Rattle.order.specs.Fates.{isReturned, Placed, placed, withFate}
-use Rattle.order.specs.Numbered.{allFrom, inValue, returnedOf}
-use Rattle.histories.proofs.laws.WellFormed.{ByteEvents, step-events}
+use Rattle.histories.{specs.Demands.asEvent, specs.Demands.returnedIn, proofs.laws.WellFormed.ByteEvents, proofs.laws.WellFormed.step-events}
 use Rattle.histories.proofs.exported.laws.Readings.{Single, nothing, one, level-single, poll-single, write-returns}
-use Rattle.order.proofs.laws.Standing.{Stands}
-use Rattle.order.proofs.laws.Fates.{returned-ones}
+use Rattle.order.specs.{Fates.isReturned, Fates.Placed, Fates.placed, Fates.withFate, Numbered.allFrom, Numbered.inValue, Numbered.returnedOf}
+use Rattle.order.proofs.laws.{Standing.Stands, Fates.returned-ones}
 
 -- at most one event, whose vector is a byte, beside its number
 single-numbered : (start p : ℕ) (r : Ring) (s : Numbers) → Stands start p r s → (b : Bool) (ms : List Made) → Single b ms → ByteEvents ms

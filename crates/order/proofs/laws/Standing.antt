@@ -1,20 +1,10 @@
 -- Numbers beside a ring: the next one is that of the next position, and the waiting events have the numbers of theirs, whatever is made and drained.
-use mathlib.Core.Path.{_≡_, refl, sym, ap, subst, _∙_}
-use mathlib.Core.Bool.{false}
-use mathlib.Core.List.{List, [], _∷_, _++_, append-assoc, append-nil}
-use Prim.Native.Nat.{ℕ, zero, suc, _+_}
-use native.Mathlib.Omega.{arith}
-use lib.Dec.{ltb}
-use lib.ListN.{length, take, drop}
-use Rattle.rules.specs.Lines.{Made}
-use Rattle.rules.specs.Ring.{capacity, Event, Ring, offered, drawn, ringStep, ringRun}
+use Rattle.basics.proofs.Prelude.{_≡_, refl, sym, ap, subst, _∙_, false, List, [], _∷_, _++_, append-assoc, append-nil, ℕ, zero, suc, _+_, arith, ltb, length, take, drop, test}
+use Rattle.rules.specs.{Lines.Made, Ring.capacity, Ring.Event, Ring.Ring, Ring.offered, Ring.drawn, Ring.ringStep, Ring.ringRun}
 use Rattle.rules.specs.Device.{Device, Call, level, poll, read, write, drain, offers, draws, actsOf, acted, step}
-use Rattle.rules.specs.Core.{turns}
-use Rattle.rules.specs.Numbering.{Numbers, takes, takesAll, withNumbers, numbersAfter, drainedWith}
-use Rattle.order.specs.Fates.{isKept, ringPast, placed, withFate}
-use Rattle.order.specs.Numbered.{numberAt, allFrom, waitingWith}
-use Rattle.basics.proofs.laws.Bits.{test}
+use Rattle.rules.specs.{Core.turns, Numbering.Numbers, Numbering.takes, Numbering.takesAll, Numbering.withNumbers, Numbering.numbersAfter, Numbering.drainedWith}
 use Rattle.rules.proofs.laws.Numbered.{Fits, takes-returned, takes-offered, drawn-fit, eventOf}
+use Rattle.order.specs.{Fates.isKept, Fates.ringPast, Fates.placed, Fates.withFate, Numbered.numberAt, Numbered.allFrom, Numbered.waitingWith}
 use Rattle.order.proofs.laws.Positions.{next-number, past-then, from-append}
 
 -- ---- events with numbers

@@ -1,31 +1,17 @@
 -- What an act did to the wait of one input, by its marks: nothing, its assert, or it was taken back. And acts one after another.
-use mathlib.Core.Path.{_≡_, refl, sym, ap, subst, _∙_}
-use mathlib.Core.Bool.{Bool, true, false, cond, not, _&&_, _||_, true≢false}
-use mathlib.Core.List.{List, [], _∷_, _++_, map, map-append}
-use Prim.Native.Nat.{ℕ, zero, suc, _+_, _-_, _<_, _≤_}
-use native.Mathlib.Omega.{arith}
-use lib.Dec.{eqb, ltb}
-use borrow.Author.Tests.{eqb-true, eqb-false, eq-eqb, ne-eqb, lt-ltb, ltb-true, ltb-false}
-use Rattle.basics.specs.Inputs.{on, from, inputs, only, put, without, withHalf}
-use Rattle.basics.proofs.laws.Bits.{test, on-put, on-without}
-use Rattle.basics.proofs.laws.Inputs.{first-has}
+use Rattle.basics.proofs.Prelude.{and-true, and-false, _≡_, refl, sym, ap, subst, _∙_, Bool, true, false, cond, not, _&&_, _||_, true≢false, List, [], _∷_, _++_, map, map-append, ℕ, zero, suc, _+_, _<_, _≤_, arith, eqb, ltb, eqb-true, eqb-false, eq-eqb, ne-eqb, lt-ltb, ltb-true, ltb-false, on, from, inputs, only, put, without, withHalf, test, on-put, on-without, first-has}
+use Rattle.histories.{proofs.laws.Latches.latched-of, specs.Demands.Each, specs.Demands.done, specs.Demands.also}
 use Rattle.rules.specs.Lines.{Lines, Made, event, withMask, withIrr, pendingIn, servedIn, serve, enter, leave, newlyUnmasked, newlyMasked, polled, raised, lowered, cleared, masked}
 use Rattle.rules.specs.Ring.{Ring}
 use Rattle.rules.specs.Core.{Act, move, setIsr, store, setVector, poll, raise, lower, clear, setMask, moved, lineTurn, turn, turns}
-use Rattle.rules.specs.Account.{tally}
-use Rattle.rules.specs.Device.{Device, acted}
-use Rattle.rules.proofs.laws.Counts.{tally-append}
-use Rattle.rules.proofs.laws.Steps.{acted-one}
+use Rattle.rules.{specs.Account.tally, specs.Device.Device, specs.Device.acted, proofs.laws.Counts.tally-append, proofs.laws.Steps.acted-one}
 use Rattle.rules.proofs.laws.Acts.{acted-none, acted-append}
-use Rattle.histories.specs.Demands.{Each, done, also}
-use Rattle.plain.specs.Events.{Note}
-use Rattle.plain.specs.Sequence.{ringWith, notesOf}
-use Rattle.plain.proofs.laws.Queues.{ringAfter, notes-append}
+use Rattle.plain.{specs.Events.Note, specs.Sequence.ringWith, specs.Sequence.notesOf, proofs.laws.Queues.ringAfter, proofs.laws.Queues.notes-append}
 use Rattle.sheets.specs.Waits.{assertOf}
 use Rattle.passes.specs.tallies.Marks.{Mark, began, takenBack, happened, idleIn, besides, actMarks, marksOf}
-use Rattle.passes.specs.tallies.Marks as marks
 use Rattle.passes.specs.Slots.{Slot, settle, takeBack, startAt, slotAfter, slotAll, notesIn}
 use Rattle.passes.proofs.laws.Marking.{eqb-sym}
+use Rattle.passes.specs.tallies.Marks as marks
 
 -- ---- lists of marks
 
@@ -123,11 +109,6 @@ module _ (n : ℕ) (below : n < 64) (k : ℕ) where
       let rest = deasserts-idle vs o ns (ringWith r (event vs o false m)) in
       record { slots = rest .slots; silent = omega (arith, rest .silent) }
 
-  latched-of : (a b c d : Bool) → (a && ((b && c) && d)) ≡ true → b ≡ true
-  latched-of true true c d u = refl
-  latched-of true false c d u = u
-  latched-of false b c d u = absurd (true≢false (sym u))
-
   did-serve : (vs : List ℕ) (o : Bool) (f : ℕ → Bool) (l : Lines) (r : Ring) (ns : List ℕ) → inputs (pendingIn f l) ≡ ns → Did l (map happened (notesOf k r (serve vs o l ns .made))) (serve vs o l ns .after)
   unfolding slotAll tally notesOf
   did-serve vs o f l r [] e = nothing (λ s. refl) refl refl
@@ -189,26 +170,14 @@ module _ (n : ℕ) (below : n < 64) (k : ℕ) where
   lost-latch : (l : Lines) (f : ℕ → Bool) {b : Bool} → f n ≡ b → on (without (l .irr) f) n ≡ (on (l .irr) n && not b)
   lost-latch l f e = on-without (l .irr) f n below ∙ ap (λ b. on (l .irr) n && not b) e
 
-  and-not : (a : Bool) → (a && true) ≡ a
-  and-not true = refl
-  and-not false = refl
-
-  and-no : (a : Bool) → (a && false) ≡ false
-  and-no true = refl
-  and-no false = refl
-
   -- a set of waits is taken back, and then events that do nothing
   did-back : (f : ℕ → Bool) (l m : Lines) (bs is : List Mark) → ((s : Slot) → slotAll n s bs ≡ cond (f n) (takeBack s) s) → notesIn bs ≡ [] → Idle is → m .irr ≡ without (l .irr) f → Did l (bs ++ is) m
   unfolding tally
   did-back f l m bs is s e i x =
       let silent : tally (assertOf n) (notesIn bs) ≡ 0 = ap (tally (assertOf n)) e in
       test (f n)
-      (λ t. did-after {m = m} bs is (back (λ z. s z ∙ ap (λ b. cond b (takeBack z) z) t) silent (ap (λ y. on y n) x ∙ lost-latch l f t ∙ and-no (on (l .irr) n))) i refl)
-      (λ t. did-after {m = m} bs is (nothing (λ z. s z ∙ ap (λ b. cond b (takeBack z) z) t) silent (ap (λ y. on y n) x ∙ lost-latch l f t ∙ and-not (on (l .irr) n))) i refl)
-
-  serve-latches : (vs : List ℕ) (o : Bool) (l : Lines) (ns : List ℕ) → serve vs o l ns .after .irr ≡ l .irr
-  serve-latches vs o l [] = refl
-  serve-latches vs o l (m ∷ ns) = refl
+      (λ t. did-after {m = m} bs is (back (λ z. s z ∙ ap (λ b. cond b (takeBack z) z) t) silent (ap (λ y. on y n) x ∙ lost-latch l f t ∙ and-false (on (l .irr) n))) i refl)
+      (λ t. did-after {m = m} bs is (nothing (λ z. s z ∙ ap (λ b. cond b (takeBack z) z) t) silent (ap (λ y. on y n) x ∙ lost-latch l f t ∙ and-true (on (l .irr) n))) i refl)
 
   did-turn : (d : Device) (a : Act) → NotRaise a → Did (d .core .lines) (actMarks k d a) (turn (d .core) a .after .lines)
   unfolding lineTurn moved polled lowered cleared masked slotAll notesOf
@@ -262,10 +231,10 @@ module _ (n : ℕ) (below : n < 64) (k : ℕ) where
   over-step false true s z = sym (over-back s z)
   over-step false false s z = refl
 
-  settle-over : (s : Slot) → settle k s .since ≡ 0
+  pub settle-over : (s : Slot) → settle k s .since ≡ 0
   settle-over s = test (eqb (s .since) 0) (λ t. rw t (eqb-true (s .since) 0 t)) (λ t. rw t refl)
 
-  back-over : (s : Slot) → takeBack s .since ≡ 0
+  pub back-over : (s : Slot) → takeBack s .since ≡ 0
   back-over s = test (eqb (s .since) 0) (λ t. rw t (eqb-true (s .since) 0 t)) (λ t. rw t refl)
 
   -- nothing happened, and it is latched as before

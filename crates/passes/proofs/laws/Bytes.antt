@@ -1,11 +1,5 @@
 -- Bytes that hold a grid, row by row, are the bytes of a sheet.
-use mathlib.Core.Path.{_≡_, refl, sym, ap, _∙_}
-use mathlib.Core.List.{List, [], _++_, append-assoc}
-use Prim.Native.Nat.{ℕ, zero, suc, _+_, _*_, _<_}
-use native.Mathlib.Omega.{arith}
-use lib.ListN.{drop}
-use Rattle.basics.specs.Numbers.{bytesOf, part}
-use Rattle.basics.proofs.laws.Lists.{part-add, part-then}
+use Rattle.basics.proofs.Prelude.{_≡_, refl, sym, ap, _∙_, List, [], _++_, append-assoc, ℕ, zero, suc, _+_, _*_, _<_, arith, drop, bytesOf, part, part-add, part-then}
 use Rattle.sheets.specs.Sheet.{Row, columnOf, totalBelow, bytesOfRow, rowsBelow, sheetBytes}
 use Rattle.passes.specs.tallies.Grid.{Grid, cellPlace, Holds}
 

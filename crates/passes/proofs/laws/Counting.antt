@@ -1,28 +1,16 @@
 -- What the marks of a day add to the columns that are counted.
-use mathlib.Core.Path.{_≡_, refl, sym, ap, _∙_}
-use mathlib.Core.Bool.{Bool, true, false, cond, not, _&&_}
-use mathlib.Core.List.{List, [], _∷_, _++_, map, append-nil, append-assoc}
-use Prim.Native.Nat.{ℕ, _+_}
-use native.Mathlib.Omega.{arith}
-use lib.Dec.{eqb}
-use Rattle.basics.specs.Inputs.{on, inputs}
-use Rattle.basics.proofs.laws.Bits.{test}
-use Rattle.rules.specs.Core.{Act, move, raise, lower, poll, clear, setMask, setIsr, store, setVector, turn}
-use Rattle.rules.specs.Account.{tally}
+use Rattle.basics.proofs.Prelude.{_≡_, refl, sym, ap, _∙_, Bool, true, false, cond, not, _&&_, List, [], _∷_, _++_, map, append-nil, append-assoc, ℕ, _+_, arith, eqb, on, inputs, test}
+use Rattle.rules.specs.{Core.Act, Core.move, Core.raise, Core.lower, Core.poll, Core.clear, Core.setMask, Core.setIsr, Core.store, Core.setVector, Core.turn, Account.tally}
 use Rattle.rules.specs.Device.{Device, Call, actsOf, acted}
-use Rattle.rules.specs.Device as device
-use Rattle.histories.specs.Demands.{Each, done, also}
-use Rattle.histories.proofs.laws.Reach.{ReturnsNone, write-returns-none}
-use Rattle.plain.specs.Events.{Note, Fate, returned, kept, dropped}
-use Rattle.plain.specs.Plain.{Engine}
+use Rattle.histories.{specs.Demands.Each, specs.Demands.done, specs.Demands.also, proofs.laws.Reach.ReturnsNone, proofs.laws.Reach.write-returns-none}
+use Rattle.plain.specs.{Events.Note, Events.Fate, Events.returned, Events.kept, Events.dropped, Plain.Engine}
 use Rattle.plain.specs.Sequence.{Item, call, load, refused, takes, notesOf, Ported, portedFollows, portedAfter}
-use Rattle.sheets.specs.Day.{Moment, moments}
-use Rattle.sheets.specs.Waits.{movesLevel, isLevel, assertOf, deassertOf}
+use Rattle.sheets.specs.{Day.Moment, Day.moments, Waits.movesLevel, Waits.isLevel, Waits.assertOf, Waits.deassertOf}
 use Rattle.sheets.specs.Sheet.{isReturned, isDropped, returnedOf, offeredOf, droppedOf}
 use Rattle.passes.specs.tallies.Marks.{Mark, raised, lowered, began, takenBack, happened, kindColumn, fateColumns, idleIn, besides, actMarks, marksOf, dayMarks}
 use Rattle.passes.specs.Slots.{NoLoad, notesIn}
-use Rattle.passes.proofs.laws.Marking.{addedBy, addedIn, added-append}
-use Rattle.passes.proofs.laws.Acting.{notes-in-append, notes-of-acts}
+use Rattle.passes.proofs.laws.{Marking.addedBy, Marking.addedIn, Marking.added-append, Acting.notes-in-append, Acting.notes-of-acts}
+use Rattle.rules.specs.Device as device
 
 cond-none : (b : Bool) → _≡_ {A = ℕ} (cond b 0 0) 0
 cond-none true = refl
@@ -119,18 +107,10 @@ module _ (n : ℕ) (b : Bool) where
   event-none x = ap (λ u. cond (eqb (x .input) n) u 0) (go b (x .asserted) (x .fate)) ∙ cond-none (eqb (x .input) n)
     where
       go : (b a : Bool) (f : Fate) → tally (eqb (levelColumn b)) (kindColumn a ∷ fateColumns f) ≡ 0
-      go true true returned = refl
-      go true true kept = refl
-      go true true dropped = refl
-      go true false returned = refl
-      go true false kept = refl
-      go true false dropped = refl
-      go false true returned = refl
-      go false true kept = refl
-      go false true dropped = refl
-      go false false returned = refl
-      go false false kept = refl
-      go false false dropped = refl
+      go true true = elim [ returned ↦ refl | kept ↦ refl | dropped ↦ refl ]
+      go true false = elim [ returned ↦ refl | kept ↦ refl | dropped ↦ refl ]
+      go false true = elim [ returned ↦ refl | kept ↦ refl | dropped ↦ refl ]
+      go false false = elim [ returned ↦ refl | kept ↦ refl | dropped ↦ refl ]
 
   notes-none : (xs : List Note) → addedIn n c (map happened xs) ≡ 0
   unfolding addedIn

@@ -1,24 +1,12 @@
 -- The records of a trace as the items of a day, one more at a time.
-use mathlib.Core.Path.{_≡_, refl, sym, ap, subst, _∙_}
-use mathlib.Core.List.{List, [], _∷_, _++_, map, append-nil, append-assoc}
-use Prim.Native.Nat.{ℕ, zero, suc, _+_}
-use native.Mathlib.Nat.{zero-add}
-use native.Mathlib.Omega.{arith}
-use lib.Dec.{eqb}
-use lib.ListN.{length}
-use Rattle.basics.proofs.laws.Bits.{test}
+use Rattle.basics.proofs.Prelude.{_≡_, refl, sym, ap, subst, _∙_, List, [], _∷_, _++_, map, append-nil, append-assoc, ℕ, zero, suc, _+_, zero-add, arith, eqb, length, test}
 use Rattle.rules.specs.Device.{Device, WellFormed, Call}
-use Rattle.rules.specs.Device as device
 use Rattle.calls.specs.Calls.{Tested, pass, refuse, Asked, calls, askedBy}
-use Rattle.calls.specs.Calls as request
 use Rattle.histories.proofs.laws.WellFormed.{step-well}
 use Rattle.plain.specs.Sequence.{Item, call, load, refused}
-use Rattle.traces.specs.Trace.{Record, nth}
-use Rattle.traces.specs.Played.{requestOf, recordsFrom}
+use Rattle.traces.specs.{Trace.Record, Trace.nth, Played.requestOf, Played.recordsFrom}
 use Rattle.sheets.specs.Day.{asItem, itemOf}
-use Rattle.passes.specs.tallies.Marks.{Mark, itemMarks, itemAfter, dayMarks}
-use Rattle.passes.specs.Slots.{NoLoad}
-use Rattle.passes.specs.Finish.{afterItems}
+use Rattle.passes.specs.{tallies.Marks.Mark, tallies.Marks.itemMarks, tallies.Marks.itemAfter, tallies.Marks.dayMarks, Slots.NoLoad, Finish.afterItems}
 
 -- ---- one record more
 

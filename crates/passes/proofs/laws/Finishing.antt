@@ -1,18 +1,12 @@
 -- The grid before the first record, and after the last: which number stands where.
-use mathlib.Core.Path.{_≡_, refl, sym, ap, _∙_}
-use mathlib.Core.Bool.{Bool, true, cond, not}
-use mathlib.Core.List.{List, [], _∷_, _++_}
-use Prim.Native.Nat.{ℕ, zero, suc, _+_, _%_, _^_, _<_, _≤_}
-use native.Mathlib.Omega.{arith}
-use lib.Dec.{eqb}
-use borrow.Author.Tests.{eqb-true, eqb-false, eq-eqb, ne-eqb}
-use Rattle.basics.specs.Inputs.{on, from}
-use Rattle.basics.proofs.laws.Bits.{test, on-not, on-none}
-use Rattle.passes.specs.tallies.Grid.{Grid, put}
-use Rattle.passes.specs.Finish.{rowCleared, cleared, allInputs, isOn, shut, joined, rowJoined, finished}
+use Rattle.basics.proofs.Prelude.{max, _^_, _<_, _≡_, ℕ, arith, suc, refl, sym, ap, _∙_, Bool, true, cond, not, List, [], _∷_, _++_, zero, _+_, _%_, _≤_, eqb, eqb-true, eqb-false, eq-eqb, ne-eqb, on, from, test, on-not, on-none}
+use Rattle.passes.specs.{tallies.Grid.Grid, tallies.Grid.put, Finish.rowCleared, Finish.cleared, Finish.allInputs, Finish.isOn, Finish.shut, Finish.joined, Finish.rowJoined, Finish.finished}
 
-nearer : (n k : ℕ) → (n ≡ k → ⊥) → n < suc k → n < k
+pub nearer : (n k : ℕ) → (n ≡ k → ⊥) → n < suc k → n < k
 nearer n k d h = omega (arith, d, h)
+
+pub max-small : (a b : ℕ) → a < 2 ^ 32 → b < 2 ^ 32 → max a b < 2 ^ 32
+max-small a b p q = omega arith
 
 -- ---- one number put
 

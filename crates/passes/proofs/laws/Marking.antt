@@ -1,13 +1,5 @@
 -- A mark, as the row of one input takes it.
-use mathlib.Core.Path.{_≡_, refl, sym, ap, subst, _∙_}
-use mathlib.Core.Bool.{Bool, true, false, cond}
-use mathlib.Core.List.{List, [], _∷_, _++_}
-use Prim.Native.Nat.{ℕ, _+_, _-_, _%_, _^_, _<_, max}
-use native.Mathlib.Nat.{mod-lt}
-use native.Mathlib.Omega.{arith}
-use lib.Dec.{eqb}
-use borrow.Author.Tests.{eqb-true, eqb-false, eq-eqb, ne-eqb}
-use Rattle.basics.proofs.laws.Bits.{test}
+use Rattle.basics.proofs.Prelude.{_≡_, refl, sym, ap, subst, _∙_, Bool, true, false, cond, List, [], _∷_, _++_, ℕ, _+_, _-_, _%_, _^_, _<_, max, mod-lt, arith, eqb, eqb-true, eqb-false, eq-eqb, ne-eqb, test}
 use Rattle.rules.specs.Account.{tally}
 use Rattle.plain.specs.Events.{Fate, returned, kept, dropped}
 use Rattle.passes.specs.tallies.Grid.{Grid, put, bump}

@@ -1,40 +1,20 @@
 -- The grid that the marks of a day leave, finished, is the day's sheet.
-use mathlib.Core.Path.{_≡_, refl, sym, ap, subst, _∙_}
-use mathlib.Core.Bool.{Bool, true, false, cond}
-use mathlib.Core.List.{List, [], _∷_, _++_, map}
-use Prim.Native.Nat.{ℕ, zero, suc, _+_, _%_, _^_, _<_, _≤_, max}
-use native.Mathlib.Omega.{arith}
-use lib.Dec.{eqb}
-use lib.ListN.{length}
-use borrow.Author.Tests.{eqb-true}
-use Rattle.basics.specs.Numbers.{bytesOf}
-use Rattle.basics.specs.Inputs.{on, inputs}
-use Rattle.basics.proofs.laws.Bits.{test}
-use Rattle.rules.specs.Lines.{Lines, Made}
-use Rattle.rules.specs.Ring.{Ring}
-use Rattle.rules.specs.Core.{Act, move, raise, lower, poll, clear, setMask, setIsr, store, setVector, turn}
-use Rattle.rules.specs.Account.{tally}
-use Rattle.rules.specs.Device.{Device, reset, actsOf, acted}
-use Rattle.rules.specs.Device as device
-use Rattle.laws.proofs.laws.Images.{reset-well-formed}
-use Rattle.plain.specs.Events.{Note}
-use Rattle.plain.specs.Sequence.{Item, call, load, refused, loadOf, WellLoaded, plainAfter, ringWith, notesOf}
-use Rattle.plain.proofs.laws.Same.{Same}
-use Rattle.plain.proofs.laws.Following.{loadedRun, same-load}
-use Rattle.plain.proofs.demands.History.{same-history}
-use Rattle.sheets.specs.Day.{begun, moments, Day, dayFrom}
-use Rattle.sheets.specs.Waits.{assertOf, deassertOf, waits, greatest, isOpen}
-use Rattle.sheets.specs.Sheet.{columnOf, Row, returnedOf, offeredOf, droppedOf, rowOf, emptyRow, together, totalBelow, sheetBytes}
-use Rattle.passes.specs.tallies.Grid.{Grid, Holds}
-use Rattle.passes.specs.tallies.Marks.{Mark, happened, takenBack, idleIn, allMarked, besides, actMarks, marksOf, dayMarks}
-use Rattle.passes.proofs.tallies.laws.Grids.{low-four}
-use Rattle.passes.specs.Slots.{NoLoad, Slot, slotAll, notesIn, Rows}
-use Rattle.passes.specs.Finish.{rowCleared, cleared, allInputs, isOn, joined, finished}
-use Rattle.passes.proofs.laws.Marking.{addedIn, all-marked-at, AllSoon, rows-marked}
+use Rattle.basics.proofs.Prelude.{_≡_, refl, sym, ap, subst, _∙_, Bool, true, false, cond, List, [], _∷_, _++_, map, ℕ, zero, suc, _+_, _%_, _^_, _<_, _≤_, max, arith, eqb, length, eqb-true, bytesOf, on, inputs, test}
+use Rattle.passes.proofs.laws.Finishing.{max-small, all-cleared, row-zero, row-kept, shutRow, totalOf, finishes}
+use Rattle.passes.proofs.{tallies.laws.Grids.low-four, laws.Marking.addedIn, laws.Marking.all-marked-at, laws.Marking.AllSoon, laws.Marking.rows-marked}
 use Rattle.passes.proofs.laws.Recording.{Closed, day-closes}
 use Rattle.passes.proofs.laws.Counting.{history-is, levels-added, moments-level, asserts-added, deasserts-added, returned-added, offered-added, dropped-added}
-use Rattle.passes.proofs.laws.Finishing.{all-cleared, row-zero, row-kept, shutRow, totalOf, finishes}
 use Rattle.passes.proofs.laws.Bytes.{sheet-is}
+use Rattle.rules.specs.{Lines.Lines, Lines.Made, Ring.Ring, Core.Act, Core.move, Core.raise, Core.lower, Core.poll, Core.clear, Core.setMask, Core.setIsr, Core.store, Core.setVector, Core.turn}
+use Rattle.rules.specs.{Account.tally, Device.Device, Device.reset, Device.actsOf, Device.acted}
+use Rattle.laws.proofs.laws.Images.{reset-well-formed}
+use Rattle.plain.specs.{Events.Note, Sequence.Item, Sequence.call, Sequence.load, Sequence.refused, Sequence.loadOf, Sequence.WellLoaded, Sequence.plainAfter, Sequence.ringWith, Sequence.notesOf}
+use Rattle.plain.proofs.{laws.Same.Same, laws.Following.loadedRun, laws.Following.same-load, demands.History.same-history}
+use Rattle.sheets.specs.{Day.begun, Day.moments, Day.Day, Day.dayFrom, Waits.assertOf, Waits.deassertOf, Waits.waits, Waits.greatest, Waits.isOpen}
+use Rattle.sheets.specs.Sheet.{columnOf, Row, returnedOf, offeredOf, droppedOf, rowOf, emptyRow, together, totalBelow, sheetBytes}
+use Rattle.passes.specs.tallies.{Grid.Grid, Grid.Holds, Marks.Mark, Marks.happened, Marks.takenBack, Marks.idleIn, Marks.allMarked, Marks.besides, Marks.actMarks, Marks.marksOf, Marks.dayMarks}
+use Rattle.passes.specs.{Slots.NoLoad, Slots.Slot, Slots.slotAll, Slots.notesIn, Slots.Rows, Finish.rowCleared, Finish.cleared, Finish.allInputs, Finish.isOn, Finish.joined, Finish.finished}
+use Rattle.rules.specs.Device as device
 
 -- ---- the numbers of records are small
 
@@ -194,9 +174,6 @@ module _ (xs : List Item) (l : NoLoad xs) where
     unfolding totalBelow
     great-total zero h = omega arith
     great-total (suc k) h = max-small _ _ (great-total k (omega arith)) (great-small k (omega arith))
-      where
-        max-small : (a b : ℕ) → a < 2 ^ 32 → b < 2 ^ 32 → max a b < 2 ^ 32
-        max-small a b p q = omega arith
 
     -- joined as four bytes hold it
     joined-held : (c a b : ℕ) → (c ≡ 7 → (a < 2 ^ 32) × (b < 2 ^ 32)) → joined c (a % 2 ^ 32) (b % 2 ^ 32) % 2 ^ 32 ≡ joined c a b % 2 ^ 32

@@ -1,34 +1,16 @@
 -- A call as the wait of one input takes it, and a day's waits by its marks.
-use mathlib.Core.Path.{_≡_, refl, sym, ap, subst, _∙_}
-use mathlib.Core.Bool.{Bool, true, false, cond, not, _&&_, true≢false}
-use mathlib.Core.List.{List, [], _∷_, _++_, append-nil}
-use Prim.Native.Nat.{ℕ, _+_, _-_, _<_, _≤_, max}
-use native.Mathlib.Omega.{arith}
-use lib.Dec.{eqb, ltb}
-use lib.ListN.{length, drop, drop-of-length-le}
-use lib.Seq.{drop-at}
-use borrow.Author.Tests.{eqb-true, eqb-false, eq-eqb, ne-eqb}
-use Rattle.basics.specs.Inputs.{on}
-use Rattle.basics.proofs.laws.Bits.{test}
-use Rattle.rules.specs.Lines.{Lines}
-use Rattle.rules.specs.Core.{Act, move, raise, lower, poll, clear, setMask, setIsr, store, setVector}
-use Rattle.rules.specs.Account.{tally}
-use Rattle.rules.specs.Device.{Device, WellFormed, Call, actsOf, acted}
-use Rattle.rules.specs.Device as device
-use Rattle.rules.proofs.laws.Steps.{acted-one}
-use Rattle.histories.specs.Demands.{done, also}
-use Rattle.histories.proofs.laws.Reach.{each-so, ReturnsNone, write-returns-none}
-use Rattle.histories.proofs.laws.WellFormed.{step-well}
-use Rattle.plain.specs.Machine.{Machine}
-use Rattle.plain.specs.Plain.{Engine}
-use Rattle.plain.specs.Sequence.{Item, call, load, refused, notesOf, takes}
-use Rattle.plain.proofs.laws.Same.{Run, Same}
-use Rattle.plain.proofs.laws.Following.{stepped, countedRun, like-call, sized, same-counted}
+use Rattle.basics.proofs.Prelude.{and-false, not-false, _≡_, refl, sym, ap, subst, _∙_, Bool, true, false, cond, not, _&&_, true≢false, List, [], _∷_, _++_, append-nil, ℕ, _+_, _-_, _<_, _≤_, max, arith, eqb, ltb, length, drop, drop-of-length-le, drop-at, eqb-true, eqb-false, eq-eqb, ne-eqb, on, test}
+use Rattle.passes.proofs.laws.Acting.{settle-over, back-over, slot-append, notes-of-acts, NotRaise, step, Latched, Some, Gone, kept-step, over-step, acts-step, raise-step}
+use Rattle.rules.specs.{Lines.Lines, Core.Act, Core.move, Core.raise, Core.lower, Core.poll, Core.clear, Core.setMask, Core.setIsr, Core.store, Core.setVector, Account.tally}
+use Rattle.rules.{specs.Device.Device, specs.Device.WellFormed, specs.Device.Call, specs.Device.actsOf, specs.Device.acted, proofs.laws.Steps.acted-one}
+use Rattle.histories.{specs.Demands.done, specs.Demands.also, proofs.laws.Reach.each-so, proofs.laws.Reach.ReturnsNone, proofs.laws.Reach.write-returns-none, proofs.laws.WellFormed.step-well}
+use Rattle.plain.specs.{Machine.Machine, Plain.Engine, Sequence.Item, Sequence.call, Sequence.load, Sequence.refused, Sequence.notesOf, Sequence.takes}
+use Rattle.plain.proofs.laws.{Same.Run, Same.Same, Following.stepped, Following.countedRun, Following.like-call, Following.sized, Following.same-counted}
 use Rattle.sheets.specs.Day.{Moment, after, number, made, moments}
 use Rattle.sheets.specs.Waits.{movesLevel, isIdle, begins, assertOf, asserts, takesBack, End, answered, withdrawn, endFrom, waits, isWithdrawn, isOpen, greatest}
 use Rattle.passes.specs.tallies.Marks.{Mark, idleIn, actMarks, marksOf, itemMarks, dayMarks}
-use Rattle.passes.specs.Slots.{NoLoad, Slot, settle, takeBack, startAt, slotAll, notesIn}
-use Rattle.passes.proofs.laws.Acting.{slot-append, notes-of-acts, NotRaise, step, Latched, Some, Gone, kept-step, over-step, acts-step, raise-step}
+use Rattle.passes.specs.Slots.{NoLoad, Slot, startAt, slotAll, notesIn}
+use Rattle.rules.specs.Device as device
 
 module _ (n : ℕ) (below : n < 64) where
   not-raise : (k : ℕ) (a : Act) → ReturnsNone a → NotRaise n below k a
@@ -63,14 +45,8 @@ module _ (n : ℕ) (below : n < 64) where
   -- a wait that is not over after a record has its input latched
   step-latched : (k : ℕ) (b a t : Bool) (s : Slot) → (step n below k b a t s .since ≡ 0 → ⊥) → t ≡ false
   unfolding step
-  step-latched k b true t s x = absurd (x (over-settle (cond b (startAt k s) s)))
-    where
-      over-settle : (z : Slot) → settle k z .since ≡ 0
-      over-settle z = test (eqb (z .since) 0) (λ t. rw t (eqb-true (z .since) 0 t)) (λ t. rw t refl)
-  step-latched k b false true s x = absurd (x (over-back (cond b (startAt k s) s)))
-    where
-      over-back : (z : Slot) → takeBack z .since ≡ 0
-      over-back z = test (eqb (z .since) 0) (λ t. rw t (eqb-true (z .since) 0 t)) (λ t. rw t refl)
+  step-latched k b true t s x = absurd (x (settle-over n below k (cond b (startAt k s) s)))
+  step-latched k b false true s x = absurd (x (back-over n below k (cond b (startAt k s) s)))
   step-latched k b false false s x = refl
 
   -- ---- the ends of waits
@@ -189,11 +165,7 @@ module _ (n : ℕ) (below : n < 64) where
 
     -- a wait that is not over: no other begins
     begins-none : (c : Call) (s : Slot) → Latched n below (r .call) s lines → (s .since ≡ 0 → ⊥) → begins n (record { before = e; item = call c }) ≡ false
-    begins-none c s h z = ap (λ b. movesLevel n true c && b) (idle-same ∙ ap (λ b. not b && not (on (lines .isr) n)) (h z)) ∙ and-none (movesLevel n true c)
-      where
-        and-none : (a : Bool) → (a && false) ≡ false
-        and-none true = refl
-        and-none false = refl
+    begins-none c s h z = ap (λ b. movesLevel n true c && b) (idle-same ∙ ap (λ b. not b && not (on (lines .isr) n)) (h z)) ∙ and-false (movesLevel n true c)
 
   pub day-closes : (xs : List Item) (e : Engine) (r : Run) → Same e r → WellFormed (r .device) → NoLoad xs → (s : Slot) → Latched n below (r .call) s (r .device .core .lines)
       → Closed s (slotAll n s (dayMarks (r .call) (r .device) xs)) (endsFrom s (moments e xs))
@@ -205,17 +177,13 @@ module _ (n : ℕ) (below : n < 64) where
       let is = call-moment e r x c y s h in
       let m : Moment = record { before = e; item = call c } in
       let latched : Latched n below (r .call + 1) z (stepped r c .device .core .lines) =
-      λ q. not-not (on (stepped r c .device .core .lines .irr) n) (sym (gone-same e r x _ (stepped r c) y) ∙ step-latched (number m) (begins n m) (asserts n m) (takesBack n m) s (λ o. q (ap (λ (v : Slot). v .since) is ∙ o)))
+      λ q. not-false (on (stepped r c .device .core .lines .irr) n) (sym (gone-same e r x _ (stepped r c) y) ∙ step-latched (number m) (begins n m) (asserts n m) (takesBack n m) s (λ o. q (ap (λ (v : Slot). v .since) is ∙ o)))
       in
       let rest = day-closes xs (takes e (call c) .after) (stepped r c) y (step-well (r .device) c w) l z latched in
       let whole : slotAll n z (dayMarks (r .call + 1) (device.step (r .device) c .after) xs) ≡ slotAll n s (itemMarks (r .call) (r .device) (call c) ++ dayMarks (r .call + 1) (device.step (r .device) c .after) xs) =
       sym (slot-append n s (itemMarks (r .call) (r .device) (call c)) (dayMarks (r .call + 1) (device.step (r .device) c .after) xs))
       in
       closed-next m (moments (takes e (call c) .after) xs) s _ (begins-none e r x c s h) is (subst (λ (v : Slot). Closed z v (endsFrom z (moments (takes e (call c) .after) xs))) whole rest)
-    where
-      not-not : (b : Bool) → not b ≡ false → b ≡ true
-      not-not true e = refl
-      not-not false e = absurd (true≢false e)
   day-closes (load d ∷ xs) e r x w l s h = absurd l
   day-closes (refused ∷ xs) e r x w l s h =
       let rest = day-closes xs (takes e refused .after) (countedRun r) (same-counted e r x) w l s h in

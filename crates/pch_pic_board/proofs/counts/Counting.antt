@@ -1,37 +1,12 @@
 -- The loop that counts the inputs of a set, each by the vector that it carries.
-use mathlib.Core.Path.{_≡_, refl, sym, ap, ap₂, _∙_}
-use mathlib.Core.Bool.{Bool, true, false, not, _&&_}
-use mathlib.Core.List.{List, _++_}
-use Prim.Native.Nat.{ℕ, suc, _+_, _-_, _^_, _<_, _≤_, min}
-use native.Mathlib.Nat.{lt-of-le-of-lt}
-use native.Mathlib.Omega.{arith}
-use lib.Bits.{bitAnd, and-le-l}
-use lib.Count.{trailingZeros}
-use lib.Dec.{eqb}
-use lib.ListN.{length, take, drop, set, getD, replicate, length-set, length-append, length-drop, length-replicate, take-append-drop, getD-replicate, List·getD-append}
-use lib.Seq.{length-take-le, getD-take, getD-set-same, getD-set-other, drop-set-lt, drop-at}
-use borrow.Author.Tests.{eq-eqb, ne-eqb, eqb-true, eqb-false}
-use borrow.Rule.Slice.PartMut.{putMid}
-use Rattle.basics.specs.Numbers.{Bytes, part}
-use Rattle.basics.specs.Inputs.{on, inputs, only}
-use Rattle.rules.specs.Device.{Device}
-use Rattle.rules.specs.Numbering.{Numbers}
-use Rattle.rules.specs.Account.{carries, carrying}
-use Rattle.basics.proofs.laws.Bits.{test, on-none, on-without}
-use Rattle.basics.proofs.laws.Inputs.{lowest, first-input, lowest-dropped, no-inputs}
+use Rattle.basics.proofs.Prelude.{one-less, and-true, and-false, swap, _≡_, refl, sym, ap, ap₂, _∙_, Bool, true, false, not, _&&_, List, _++_, ℕ, _+_, _-_, _^_, _<_, _≤_, min, lt-of-le-of-lt, arith, bitAnd, and-le-l, trailingZeros, eqb, length, take, drop, set, getD, replicate, length-set, length-append, length-drop, length-replicate, take-append-drop, getD-replicate, List·getD-append, length-take-le, getD-take, getD-set-same, getD-set-other, drop-set-lt, drop-at, eq-eqb, ne-eqb, eqb-true, eqb-false, putMid, Bytes, part, on, inputs, only, test, on-none, on-without, lowest, lowest-dropped, no-inputs}
+use Rattle.rules.specs.{Device.Device, Numbering.Numbers, Account.carries, Account.carrying}
 use Rattle.rules.proofs.laws.Counts.{one, split, size-ext, only-size}
-use Rattle.laws.proofs.laws.Losses.{from-few}
-use Rattle.images.specs.Form.{unknown, known, formOf}
-use Rattle.images.specs.Image.{imageTest, accepted, decode, numbersIn}
-use Rattle.images.proofs.laws.Tests.{form-found}
-use Rattle.laws.proofs.laws.Images.{accepted-has}
-use Rattle.image.specs.Shown.{formKnown}
-use Rattle.image.specs.declared.form.KnownForm.{KnownForm}
-use Rattle.image.specs.declared.form.KnownForm.the-variants.{Unknown}
-use Rattle.fields.specs.inplace.Held.{Holds, Reads}
-use Rattle.fields.proofs.inplace.Doing.{held}
-use Rattle.boards.specs.Boarding.{recounted, boardAfter, heardCount}
-use Rattle.boards.proofs.laws.Counts.{counts-are}
+use Rattle.laws.proofs.laws.{Losses.from-few, Images.accepted-has}
+use Rattle.images.{specs.Form.unknown, specs.Form.known, specs.Form.formOf, specs.Image.imageTest, specs.Image.accepted, specs.Image.decode, specs.Image.numbersIn, proofs.laws.Tests.form-found}
+use Rattle.image.specs.{Shown.formKnown, declared.form.KnownForm.KnownForm, declared.form.KnownForm.the-variants.Unknown}
+use Rattle.fields.{specs.inplace.Held.Holds, specs.inplace.Held.Reads, proofs.inplace.Doing.held}
+use Rattle.boards.{specs.Boarding.recounted, specs.Boarding.boardAfter, specs.Boarding.heardCount, proofs.laws.Counts.counts-are}
 
 -- of a set those inputs that carry v in the vector bytes vs
 abbrev counted : ℕ → List ℕ → ℕ → ℕ
@@ -46,33 +21,16 @@ module _ (x : ℕ) (below : x < 2 ^ 64) (some : x ≡ 0 → ⊥) where
   abbrev others : ℕ
   others = bitAnd x (x - 1)
 
-  pub one-less : suc (length (inputs (on others))) ≡ length (inputs (on x))
-  one-less = ap (λ y. suc (length (inputs (on y)))) (lowest-dropped x below some) ∙ sym (ap length (first-input x below some))
-
   -- it counts for the vector that it carries
   first-counts : (v : ℕ) (vs : List ℕ) → counted v vs x ≡ one (carries v vs first) + counted v vs others
   first-counts v vs =
       let l = lowest 64 x below some in
       let f : ℕ → Bool = λ n. on x n && carries v vs n in
       let here = size-ext (λ n. f n && only first n) (λ n. only first n && carries v vs n)
-      (λ i h. test (only first i) (λ t. rw (t, eqb-true i first t, l .has) (at-it (carries v vs first))) (λ t. rw t (not-it (f i)))) in
+      (λ i h. test (only first i) (λ t. rw (t, eqb-true i first t, l .has) (and-true (carries v vs first))) (λ t. rw t (and-false (f i)))) in
       let there = size-ext (λ n. f n && not (only first n)) (λ n. on others n && carries v vs n)
-      (λ i h. moved (on x i) (carries v vs i) (not (only first i)) ∙ ap (λ b. b && carries v vs i) (sym (ap (λ y. on y i) (lowest-dropped x below some) ∙ on-without x (only first) i h))) in
+      (λ i h. swap (on x i) (carries v vs i) (not (only first i)) ∙ ap (λ b. b && carries v vs i) (sym (ap (λ y. on y i) (lowest-dropped x below some) ∙ on-without x (only first) i h))) in
       omega (arith, split 0 64 f (only first), here, there, only-size first (carries v vs) (l .below))
-    where
-      at-it : (b : Bool) → (b && true) ≡ b
-      at-it true = refl
-      at-it false = refl
-
-      not-it : (b : Bool) → (b && false) ≡ false
-      not-it true = refl
-      not-it false = refl
-
-      moved : (a b c : Bool) → ((a && b) && c) ≡ ((a && c) && b)
-      moved true true c = sym (at-it c)
-      moved true false true = refl
-      moved true false false = refl
-      moved false b c = refl
 
 -- ---- what holds at each turn
 

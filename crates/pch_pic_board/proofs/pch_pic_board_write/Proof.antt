@@ -1,18 +1,13 @@
 -- `pch_pic_board_write`: 7 where the answer area or the board is short; else the call is made, and the board and what it tells stand there.
-use mathlib.Core.Path.{sym}
-use Prim.Native.Nat.{zero-le}
-use Rattle.calls.specs.Calls as asked
+use Rattle.basics.proofs.Prelude.{sym, zero-le, needs}
 use Rattle.calls.proofs.laws.Outcomes.{answer-short}
 use Rattle.boards.proofs.laws.Fronts.{board-short, seven-first}
-use Rattle.pch_pic_board.proofs.Ended.{may-finish, finished}
-use borrow.Author.Needs.{needs}
-use Rattle.pch_pic_board.proofs.pch_pic_board_write.Statement.{statement}
+use Rattle.pch_pic_board.proofs.{Ended.may-finish, Ended.finished, pch_pic_board_write.Statement.statement}
+use Rattle.calls.specs.Calls as asked
 use Rattle.pch_pic_board.proofs.pch_pic_board_write.Tie as tie
 
 pub pch-pic-board-write-spec : {M : Type 1} → statement M
-pch-pic-board-write-spec =
-    tie.close
-    (tie.spec
+pch-pic-board-write-spec = tie.close (tie.spec
     (λ c. let a = c .before .before .before .before .args in sym (seven-first (asked.write (a .base) (a .size) (a .address) (a .width) (a .value)) (a .image .now) (a .board .now) (a .answer .now) (answer-short (asked.write (a .base) (a .size) (a .address) (a .width) (a .value)) (a .image .now) (a .answer .now) (c .if1 .taken))))
     (λ c. let a = c .before .before .before .before .before .args in sym (board-short (asked.write (a .base) (a .size) (a .address) (a .width) (a .value)) (a .image .now) (a .board .now) (a .answer .now) (c .if2 .taken)))
     (λ c κs. search needs)

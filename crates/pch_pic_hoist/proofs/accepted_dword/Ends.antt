@@ -1,28 +1,17 @@
 -- How a read or a write under the profile ends on an accepted image, by the answers of its tests: as the full device's, or with 14 or 15.
-use mathlib.Core.Path.{_≡_, refl, sym, ap, _∙_}
-use mathlib.Core.Bool.{Bool, true, false, true≢false}
-use mathlib.Core.List.{List}
-use Prim.Native.Nat.{ℕ, _%_}
-use borrow.Author.Tests.{eqb-true}
-use Rattle.rules.specs.Access.{Width, byte, word, dword, qword}
-use Rattle.rules.specs.Device.{Device, Call}
-use Rattle.rules.specs.Device as device
-use Rattle.images.specs.Form.{Form}
-use Rattle.images.specs.Image.{decode}
-use Rattle.images.specs.Image as image
+use Rattle.basics.proofs.Prelude.{_≡_, refl, sym, ap, _∙_, Bool, true, false, true≢false, List, ℕ, _%_, eqb-true}
+use Rattle.rules.specs.{Access.Width, Access.byte, Access.word, Access.dword, Access.qword, Device.Device, Device.Call}
+use Rattle.images.specs.{Form.Form, Image.decode}
 use Rattle.calls.specs.Calls.{noWidth, outside, widthTest, addressTest, accessCall, Request, calls, askedBy, ending}
 use Rattle.calls.proofs.laws.Outcomes.{width-refused, address-refused, access-passed}
-use Rattle.device.specs.window.Tests.{knownView, locatedView}
-use Rattle.device.specs.declared.window.Known.{Known}
-use Rattle.device.specs.declared.window.Known.the-variants.{As, Unknown}
-use Rattle.device.specs.declared.window.Located.{Located}
-use Rattle.device.specs.declared.window.Located.the-variants.{At, Outside}
-use Rattle.device.specs.map.Views.{widthView}
-use Rattle.device.specs.declared.map.Width as code
+use Rattle.device.specs.{window.Tests.knownView, window.Tests.locatedView, declared.window.Known.Known, declared.window.Known.the-variants.As, declared.window.Known.the-variants.Unknown}
+use Rattle.device.specs.{declared.window.Located.Located, declared.window.Located.the-variants.At, declared.window.Located.the-variants.Outside, map.Views.widthView}
 use Rattle.fields.specs.inplace.Passed.{Passed}
-use Rattle.hoists.specs.Profile.{alignedDword, forbidden, Verdict, passes, unaligned, unfit, verdict}
-use Rattle.hoists.specs.HoistCalls.{endsBy, hoistEnding}
+use Rattle.hoists.specs.{Profile.alignedDword, Profile.forbidden, Profile.Verdict, Profile.passes, Profile.unaligned, Profile.unfit, Profile.verdict, HoistCalls.endsBy, HoistCalls.hoistEnding}
 use Rattle.hoists.proofs.laws.Judged.{ends-by, refusal-first, then-verdict}
+use Rattle.rules.specs.Device as device
+use Rattle.images.specs.Image as image
+use Rattle.device.specs.declared.map.Width as code
 
 -- an aligned Dword is a Dword, at an offset that 4 divides
 pub aligned-dword : (w : Width) (o : ℕ) → alignedDword w o ≡ true → (w ≡ dword) × (o % 4 ≡ 0)

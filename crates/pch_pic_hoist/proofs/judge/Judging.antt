@@ -1,21 +1,10 @@
 -- Whether a write is forbidden, and whether start-up cannot end, by what the tests by value say of the image.
-use mathlib.Core.Path.{_≡_, sym, ap, _∙_}
-use mathlib.Core.Bool.{Bool, true, false, not, and-false}
-use mathlib.Core.List.{List}
-use Prim.Native.Nat.{ℕ, _+_, _-_, _%_, _≤_}
-use native.Mathlib.Omega.{arith}
-use lib.Dec.{eqb}
-use Rattle.basics.specs.Inputs.{half}
-use Rattle.rules.specs.Map.{inVectors}
-use Rattle.rules.specs.Access.{dword, readDword}
-use Rattle.rules.specs.Device.{write}
+use Rattle.basics.proofs.Prelude.{_≡_, sym, ap, _∙_, Bool, true, false, not, and-false, List, ℕ, _+_, _-_, _%_, _≤_, arith, eqb, half}
+use Rattle.rules.specs.{Map.inVectors, Access.dword, Access.readDword, Device.write}
 use Rattle.laws.proofs.laws.Maps.{inside-from}
 use Rattle.histories.specs.Premises.{isIsr}
 use Rattle.fields.specs.inplace.Held.{Reads}
-use Rattle.hoists.specs.Profile.{changesServed, forbidden}
-use Rattle.hoists.specs.HoistCalls.{cannotEnd}
-use Rattle.hoists.specs.Four.{changesFour}
-use Rattle.hoists.proofs.laws.Inputs.{served-is}
+use Rattle.hoists.{specs.Profile.changesServed, specs.Profile.forbidden, specs.HoistCalls.cannotEnd, specs.Four.changesFour, proofs.laws.Inputs.served-is}
 use Rattle.hoists.proofs.laws.Vectors.{served-four, none-changed}
 
 -- an aligned Dword that begins among the vector bytes lies there whole

@@ -1,14 +1,10 @@
 -- `pch_pic_hoist_reset`: 7 where the answer area is short or no phase is lent; else what the call tells stands there, and where it is done the phase is stored.
-use mathlib.Core.Path.{sym}
-use borrow.Author.Needs.{needs}
-use Rattle.pch_pic_hoist.proofs.Told.{room-short, room-unlent, no-reset, reset-told}
-use Rattle.pch_pic_hoist.proofs.pch_pic_hoist_reset.Statement.{statement}
+use Rattle.basics.proofs.Prelude.{sym, needs}
+use Rattle.pch_pic_hoist.proofs.{Told.room-short, Told.room-unlent, Told.no-reset, Told.reset-told, pch_pic_hoist_reset.Statement.statement}
 use Rattle.pch_pic_hoist.proofs.pch_pic_hoist_reset.Tie as tie
 
 pub pch-pic-hoist-reset-spec : {M : Type 1} → statement M
-pch-pic-hoist-reset-spec =
-    tie.close
-    (tie.spec
+pch-pic-hoist-reset-spec = tie.close (tie.spec
     (λ c. let a = c .before .before .before .before .args in sym (no-reset (a .image .now) (a .phase .now) (a .answer .now) (room-short (a .image .now) (a .phase .now) (a .answer .now) (c .if1 .taken))))
     (λ c. let a = c .before .before .before .before .before .args in sym (no-reset (a .image .now) (a .phase .now) (a .answer .now) (room-unlent (a .image .now) (a .phase .now) (a .answer .now) (c .if2 .taken))))
     (λ c κs. search needs) (λ c κs. search needs) (λ c κs. search needs) (λ c. search needs) (λ c. search needs) (λ c. search needs)

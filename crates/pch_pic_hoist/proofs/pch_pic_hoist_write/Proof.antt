@@ -1,14 +1,10 @@
 -- `pch_pic_hoist_write`: 7 where the answer area is short or no phase is lent; else what the call tells stands there.
-use mathlib.Core.Path.{sym}
-use borrow.Author.Needs.{needs}
-use Rattle.pch_pic_hoist.proofs.Told.{room-short, room-unlent, no-write, write-told}
-use Rattle.pch_pic_hoist.proofs.pch_pic_hoist_write.Statement.{statement}
+use Rattle.basics.proofs.Prelude.{sym, needs}
+use Rattle.pch_pic_hoist.proofs.{Told.room-short, Told.room-unlent, Told.no-write, Told.write-told, pch_pic_hoist_write.Statement.statement}
 use Rattle.pch_pic_hoist.proofs.pch_pic_hoist_write.Tie as tie
 
 pub pch-pic-hoist-write-spec : {M : Type 1} → statement M
-pch-pic-hoist-write-spec =
-    tie.close
-    (tie.spec
+pch-pic-hoist-write-spec = tie.close (tie.spec
     (λ c. let a = c .before .before .before .before .args in
     sym (no-write (a .image .now) (a .phase .now) (a .answer .now) (room-short (a .image .now) (a .phase .now) (a .answer .now) (c .if1 .taken)) (a .base) (a .size) (a .address) (a .width) (a .value)))
     (λ c. let a = c .before .before .before .before .before .args in

@@ -1,14 +1,6 @@
 -- A width that is no Dword is no aligned one.
-use mathlib.Core.Path.{_≡_, refl}
-use mathlib.Core.Logic.{⊎-elim}
-use mathlib.Core.Bool.{false}
-use mathlib.Core.List.{[], _∷_}
-use Prim.Native.Nat.{ℕ}
-use native.Mathlib.Omega.{arith}
-use types.Run.{OneOf}
-use denote.Enum.Declared.{tagOf}
-use Rattle.device.specs.map.Views.{widthView}
-use Rattle.device.specs.declared.map.Width.{Width}
+use Rattle.basics.proofs.Prelude.{_≡_, refl, ⊎-elim, false, [], _∷_, ℕ, arith, OneOf, tagOf}
+use Rattle.device.specs.{map.Views.widthView, declared.map.Width.Width}
 use Rattle.device.specs.declared.map.Width.the-variants.{Byte, Word, Dword, Qword}
 use Rattle.device.proofs.map.Width.{the-type}
 use Rattle.hoists.specs.Profile.{alignedDword}

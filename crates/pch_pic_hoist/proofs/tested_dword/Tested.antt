@@ -1,34 +1,18 @@
 -- The image's test comes first: where it refuses, a call under the profile ends as the full device's, and the end of start-up with the same number and value.
-use mathlib.Core.Path.{_≡_, refl, sym, _∙_}
-use mathlib.Core.Bool.{Bool}
-use mathlib.Core.List.{List, [], _∷_}
-use Prim.Native.Nat.{ℕ}
-use types.Run.{OneOf}
-use denote.Enum.Declared.{tagOf}
+use Rattle.basics.proofs.Prelude.{_≡_, refl, sym, _∙_, Bool, List, [], _∷_, ℕ, OneOf, tagOf}
 use Rattle.rules.specs.Device.{Call, none}
-use Rattle.images.specs.Form.{Form}
-use Rattle.images.specs.Image.{ImageTest, imageTest, decode, numbersIn}
-use Rattle.images.specs.Image as image
+use Rattle.images.specs.{Form.Form, Image.ImageTest, Image.imageTest, Image.decode, Image.numbersIn}
 use Rattle.calls.specs.Calls.{imageNumber, imageValue, Tested, Request, calls, askedBy, bufferOf}
-use Rattle.image.specs.Shown.{formView}
-use Rattle.image.specs.declared.form.Form as code
-use Rattle.fields.specs.inplace.Held.{Reads}
-use Rattle.fields.specs.inplace.Passed.{Passed}
-use Rattle.fields.proofs.inplace.Passing.{here}
-use Rattle.image.specs.head.Good.{headTest, Headed}
-use Rattle.image.specs.bodies.Good.{holds, bodiesGood, bodiesTest}
-use Rattle.image.specs.declared.head.Head.{Head}
-use Rattle.image.specs.declared.head.Head.the-variants.{Of}
-use Rattle.image.specs.declared.bodies.Bodies.{Bodies}
-use Rattle.image.specs.declared.bodies.Bodies.the-variants.{Broken}
-use Rattle.image.proofs.head.Head.{the-type}
-use Rattle.image.proofs.head.Orders.{head-refuses}
-use Rattle.answer.specs.Given.{Tells, ends}
-use Rattle.answer.specs.declared.Told.{Told}
+use Rattle.image.specs.{Shown.formView, head.Good.headTest, head.Good.Headed, bodies.Good.holds, bodies.Good.bodiesGood, bodies.Good.bodiesTest}
+use Rattle.image.specs.declared.{head.Head.Head, head.Head.the-variants.Of, bodies.Bodies.Bodies, bodies.Bodies.the-variants.Broken}
+use Rattle.image.proofs.head.{Head.the-type, Orders.head-refuses}
+use Rattle.fields.{specs.inplace.Held.Reads, specs.inplace.Passed.Passed, proofs.inplace.Passing.here}
+use Rattle.answer.specs.{Given.Tells, Given.ends, declared.Told.Told}
 use Rattle.answer.proofs.refusals.Ends.{tells, head-told, broken-refused, bodies-told}
+use Rattle.hoists.{specs.HoistCalls.hoistEnding, specs.HoistCalls.cannotEnd, specs.HoistCalls.endTold, specs.HoistCalls.endEnding, proofs.laws.Judged.ends-by, proofs.laws.Judged.image-first}
+use Rattle.images.specs.Image as image
+use Rattle.image.specs.declared.form.Form as code
 use Rattle.answer.proofs.refusals.Ends as full
-use Rattle.hoists.specs.HoistCalls.{hoistEnding, cannotEnd, endTold, endEnding}
-use Rattle.hoists.proofs.laws.Judged.{ends-by, image-first}
 
 -- the end of start-up, of an image that is not accepted
 end-refused : (t : ImageTest) → (t ≡ image.accepted → ⊥) → (b : Bool) (i : List ℕ) → record { number = imageNumber t; value = imageValue t; image = i; events = [] } ≡ endTold t b i

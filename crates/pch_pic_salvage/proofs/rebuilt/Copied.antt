@@ -1,17 +1,8 @@
 -- Records copied, two words each.
-use mathlib.Core.Path.{_≡_, sym, ap, subst, _∙_}
-use mathlib.Core.List.{List, _++_, append-nil}
-use Prim.Native.Nat.{ℕ, _+_, _*_, _≤_}
-use native.Mathlib.Omega.{arith}
-use lib.ListN.{length, take, drop, length-append, length-drop, drop-of-length-le}
-use lib.Seq.{take-add, take-all}
-use Rattle.basics.specs.Numbers.{Bytes, bytesOf}
-use Rattle.basics.proofs.laws.Bytes.{part-number}
-use Rattle.basics.proofs.laws.Parts.{Filled}
+use Rattle.basics.proofs.Prelude.{_≡_, sym, ap, subst, _∙_, List, _++_, append-nil, ℕ, _+_, _*_, _≤_, arith, length, take, drop, length-append, length-drop, drop-of-length-le, take-add, take-all, Bytes, bytesOf, part-number, Filled}
 use Rattle.images.specs.Image.{registerAt}
 use Rattle.traces.specs.Trace.{recordLength}
-use Rattle.bits.specs.bytes.Put.{withWord}
-use Rattle.bits.proofs.bytes.Putting.{word-put}
+use Rattle.bits.{specs.bytes.Put.withWord, proofs.bytes.Putting.word-put}
 
 module _ (src dst : List ℕ) (c : Bytes src) where
   -- one word more

@@ -1,22 +1,13 @@
 -- A block in each round of what is written: the contents, the blocks, the list.
-use mathlib.Core.Path.{_≡_, refl, sym, ap, subst, _∙_}
-use mathlib.Core.Bool.{true, false}
-use mathlib.Core.List.{List, [], _∷_, _++_}
-use Prim.Native.Nat.{ℕ, _+_, _-_, _*_, _<_, _≤_}
-use native.Mathlib.Omega.{arith}
-use lib.ListN.{length, drop}
-use borrow.Rule.Slice.PartMut.{putMid}
-use Rattle.basics.specs.Numbers.{bytesOf}
-use Rattle.traces.specs.Trace.{recordLength, listedAt, blockAt}
-use Rattle.traces.proofs.laws.Contents.{contents-have}
-use Rattle.traces.specs.plays.Playing.{inFront}
+use Rattle.basics.proofs.Prelude.{_≡_, refl, sym, ap, subst, _∙_, true, false, List, [], _∷_, _++_, ℕ, _+_, _-_, _*_, _<_, _≤_, arith, length, drop, putMid, bytesOf}
+use Rattle.traces.specs.{Trace.recordLength, Trace.listedAt, Trace.blockAt, plays.Playing.inFront}
 use Rattle.traces.specs.salvages.Kept.{bodyOf, bodiesFrom, recordsOf, badIn, allGood, kept, Dropped, droppedFrom, twoNumbers, listing, joined, entries}
+use Rattle.traces.proofs.laws.Contents.{contents-have}
 use Rattle.traces.proofs.salvages.laws.Chosen.{kept-or-dropped, length-listing, length-entries, length-joined, joined-none, joined-front}
 use Rattle.traces.proofs.salvages.laws.Taken.{length-bodies, next-kept, next-torn, next-undropped, next-dropped, none-kept, none-dropped, all-left}
 use Rattle.bits.specs.bytes.Put.{withBytes}
-use Rattle.pch_pic_salvage.specs.torn.Found.{Lists, leftOf}
+use Rattle.pch_pic_salvage.specs.{torn.Found.Lists, torn.Found.leftOf, rebuilt.Given.newContents, rebuilt.Given.newBlocks, rebuilt.Given.newList, rebuilt.Given.withTwo}
 use Rattle.pch_pic_salvage.proofs.torn.Rounds.{size, records-are, few-left, few-records}
-use Rattle.pch_pic_salvage.specs.rebuilt.Given.{newContents, newBlocks, newList, withTwo}
 use Rattle.pch_pic_salvage.proofs.rebuilt.Written.{Written, still, start, put-next, part-next, to-come, all-written, front-again}
 
 -- ---- one entry more

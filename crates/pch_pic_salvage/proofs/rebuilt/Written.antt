@@ -1,15 +1,6 @@
 -- Bytes written from the front of a buffer, one part after another: what is written and what is still to come are the whole.
-use mathlib.Core.Path.{_≡_, refl, sym, ap, subst, _∙_}
-use mathlib.Core.List.{List, [], _∷_, _++_, append-assoc, append-nil}
-use Prim.Native.Nat.{ℕ, _+_, _-_, _*_, _/_, _%_, _<_, _≤_}
-use native.Mathlib.Omega.{arith}
-use lib.ListN.{length, take, drop, length-append, length-drop}
-use lib.Seq.{drop-drop, drop-append-add}
-use borrow.Rule.Slice.PartMut.{putMid}
-use Rattle.basics.specs.Numbers.{bytesOf}
-use Rattle.traces.specs.plays.Playing.{inFront}
-use Rattle.traces.proofs.plays.laws.InFront.{front-length, front-next}
-use Rattle.traces.specs.salvages.Kept.{twoNumbers}
+use Rattle.basics.proofs.Prelude.{_≡_, refl, sym, ap, subst, _∙_, List, [], _∷_, _++_, append-assoc, append-nil, ℕ, _+_, _-_, _*_, _/_, _%_, _<_, _≤_, arith, length, take, drop, length-append, length-drop, drop-drop, drop-append-add, putMid, bytesOf}
+use Rattle.traces.{specs.plays.Playing.inFront, specs.salvages.Kept.twoNumbers, proofs.plays.laws.InFront.front-length, proofs.plays.laws.InFront.front-next}
 use Rattle.bits.specs.bytes.Put.{withBytes}
 
 -- up to a place the goal is written, and the rest of it is to come

@@ -1,36 +1,15 @@
 -- How a salvage ends, by the test that decides it: one law for each way; and the sizes that are tested.
-use mathlib.Core.Path.{_≡_, refl, sym, ap, _∙_}
-use mathlib.Core.Bool.{Bool, true, false, _&&_, and-false}
-use mathlib.Core.List.{List, [], _∷_}
-use Prim.Native.Nat.{ℕ, _+_, _-_, _*_, _<_, _≤_}
-use native.Mathlib.Omega.{arith}
-use types.Run.{OneOf}
-use denote.Enum.Declared.{tagOf}
-use lib.Dec.{leb}
-use lib.ListN.{length}
-use borrow.Author.Tests.{eq-eqb, ne-eqb, le-leb, lt-leb}
-use borrow.Rule.Slice.PartMut.{putMid}
-use Rattle.basics.specs.Numbers.{part}
+use Rattle.basics.proofs.Prelude.{_≡_, refl, sym, ap, _∙_, Bool, true, false, _&&_, and-false, List, [], _∷_, ℕ, _+_, _-_, _*_, _<_, _≤_, arith, OneOf, tagOf, leb, length, eq-eqb, ne-eqb, le-leb, lt-leb, putMid, part}
+use Rattle.trace.specs.declared.contents.Contents.{the-variants.Good, the-variants.Wrong, Contents}
+use Rattle.trace.{specs.contents.Found.contentsIf, specs.contents.Found.contentsAs, proofs.contents.Contents.the-type}
 use Rattle.rules.specs.Device.{Value, none, some}
-use Rattle.traces.specs.Trace.{firstPlace, recordCount, contentsGood}
-use Rattle.traces.proofs.laws.Contents.{contents-have}
-use Rattle.traces.specs.plays.Playing.{inFront}
-use Rattle.traces.proofs.plays.laws.InFront.{front-rest}
+use Rattle.traces.specs.{Trace.firstPlace, Trace.recordCount, Trace.contentsGood, plays.Playing.inFront}
 use Rattle.traces.specs.salvages.Kept.{bodiesFrom, bodies, kept, droppedFrom, joined, traceOf, newTrace, dropList}
 use Rattle.traces.specs.salvages.Salvaging.{isEmpty, SalvageEnding, salvageEnds, salvageEnding}
-use Rattle.traces.proofs.salvages.laws.Chosen.{kept-or-dropped, length-entries}
-use Rattle.traces.proofs.salvages.laws.Built.{length-contents, length-trace}
-use Rattle.traces.proofs.salvages.laws.Taken.{length-bodies}
-use Rattle.traces.proofs.salvages.demands.Left.{by-tests}
-use Rattle.answer.specs.Given.{Tells}
-use Rattle.answer.specs.declared.Told.{Told}
-use Rattle.trace.specs.declared.contents.Contents.{Contents}
-use Rattle.trace.specs.declared.contents.Contents.the-variants.{Good, Wrong}
-use Rattle.trace.proofs.contents.Contents.{the-type}
-use Rattle.trace.specs.contents.Found.{contentsIf, contentsAs}
-use Rattle.pch_pic_salvage.specs.torn.Found.{Lists, leftOf}
-use Rattle.pch_pic_salvage.specs.rebuilt.Given.{newContents, newBlocks, newList}
-use Rattle.pch_pic_salvage.specs.salvage.Ends.{ends}
+use Rattle.traces.proofs.{laws.Contents.contents-have, plays.laws.InFront.front-rest, salvages.laws.Chosen.kept-or-dropped, salvages.laws.Chosen.length-entries}
+use Rattle.traces.proofs.salvages.{laws.Built.length-contents, laws.Built.length-trace, laws.Taken.length-bodies, demands.Left.by-tests}
+use Rattle.answer.specs.{Given.Tells, declared.Told.Told}
+use Rattle.pch_pic_salvage.specs.{torn.Found.Lists, torn.Found.leftOf, rebuilt.Given.newContents, rebuilt.Given.newBlocks, rebuilt.Given.newList, salvage.Ends.ends}
 
 -- an ending with the number and the value that are told
 pub tells : (t : Told) {n : ℕ} {v : Value} → Tells t n v → {ks ds : List ℕ} {x : SalvageEnding} → record { number = n; value = v; second = ks; list = ds } ≡ x → ends t ks ds ≡ x

@@ -1,18 +1,8 @@
 -- A block in each round: what is found of it, and what is counted.
-use mathlib.Core.Path.{_≡_, sym, ap, _∙_}
-use mathlib.Core.Bool.{true, false}
-use mathlib.Core.List.{List}
-use Prim.Native.Nat.{ℕ, _+_, _-_, _*_, _<_, _≤_}
-use native.Mathlib.Omega.{arith}
-use lib.Dec.{eqb}
-use lib.ListN.{length, getD, set}
-use lib.Seq.{getD-set-same, getD-set-other}
-use borrow.Author.Tests.{eqb-true, eqb-false}
-use Rattle.basics.proofs.laws.Bits.{test}
+use Rattle.basics.proofs.Prelude.{_≡_, sym, ap, _∙_, true, false, List, ℕ, _+_, _-_, _*_, _<_, _≤_, arith, eqb, length, getD, set, getD-set-same, getD-set-other, eqb-true, eqb-false, test}
 use Rattle.traces.specs.Trace.{mostBlocks, mostRecords, recordLength, blockCount, listedAt, blockAt, recordAt, isBad, firstBad}
-use Rattle.traces.proofs.laws.Contents.{contents-have}
-use Rattle.traces.proofs.laws.Firsts.{first-found}
 use Rattle.traces.specs.salvages.Kept.{bodyOf, bodiesFrom, bodies, recordsOf, badIn, allGood, kept, joined}
+use Rattle.traces.proofs.laws.{Contents.contents-have, Firsts.first-found}
 use Rattle.traces.proofs.salvages.laws.Chosen.{kept-or-dropped, kept-shorter, joined-none, length-joined}
 use Rattle.traces.proofs.salvages.laws.Taken.{Within, within, entry-within, its-length, its-records, its-bad, next-kept, next-torn, none-kept, all-left, bodies-fit}
 use Rattle.pch_pic_salvage.specs.torn.Found.{Lists, BadIn, Seen, leftOf}

@@ -1,32 +1,14 @@
 -- How it ends: refused, with the sheet as it was, or made.
-use mathlib.Core.Path.{_≡_, sym, ap, subst, _∙_}
-use mathlib.Core.List.{List, [], _∷_, _++_, map}
-use mathlib.Core.Logic.{⊎-elim}
-use Prim.Native.Nat.{ℕ, _+_, _≤_}
-use native.Mathlib.Omega.{arith}
-use types.Run.{OneOf}
-use denote.Enum.Declared.{tagOf}
-use lib.ListN.{length, drop}
-use Rattle.basics.specs.Numbers.{Bytes}
+use Rattle.basics.proofs.Prelude.{_≡_, sym, ap, subst, _∙_, List, [], _∷_, _++_, map, ⊎-elim, ℕ, _≤_, arith, OneOf, tagOf, length, drop, Bytes}
 use Rattle.rules.specs.Device.{Value, some, reset}
-use Rattle.traces.specs.Trace.{good, traceNumber, traceValue, traceTest}
-use Rattle.traces.specs.Played.{recordsFrom}
-use Rattle.traces.proofs.demands.Told.{AllGood, Means, test-told}
-use Rattle.traces.proofs.demands.Sizes.{few-records, trace-length}
-use Rattle.sheets.specs.Day.{itemOf, items, begun, dayFrom}
-use Rattle.sheets.specs.Sheet.{rowOf, sheetBytes, sheetLength}
-use Rattle.passes.specs.tallies.Grid.{Becomes}
-use Rattle.passes.specs.tallies.Marks.{dayMarks}
-use Rattle.passes.specs.tallies.Following.{Takes}
-use Rattle.passes.specs.Finish.{rowCleared, cleared, allInputs, finished}
-use Rattle.passes.proofs.laws.Passing.{pass-sheet}
-use Rattle.passes.proofs.laws.Days.{items-length, items-loadless}
-use Rattle.answer.specs.Given.{Tells}
-use Rattle.answer.specs.declared.Told.{Told}
-use Rattle.trace.specs.declared.Tested.{Tested}
-use Rattle.trace.specs.declared.Tested.the-variants.{Good, WrongContents, BadRecord}
+use Rattle.traces.specs.{Trace.good, Trace.traceNumber, Trace.traceValue, Trace.traceTest, Played.recordsFrom}
+use Rattle.traces.proofs.demands.{Told.AllGood, Told.Means, Told.test-told, Sizes.few-records, Sizes.trace-length}
+use Rattle.sheets.specs.{Day.itemOf, Day.items, Day.begun, Day.dayFrom, Sheet.rowOf, Sheet.sheetBytes, Sheet.sheetLength}
+use Rattle.passes.specs.{tallies.Grid.Becomes, tallies.Marks.dayMarks, tallies.Following.Takes, Finish.rowCleared, Finish.cleared, Finish.allInputs, Finish.finished}
+use Rattle.passes.proofs.laws.{Passing.pass-sheet, Days.items-length, Days.items-loadless}
+use Rattle.answer.specs.{Given.Tells, declared.Told.Told}
+use Rattle.trace.specs.{declared.Tested.Tested, declared.Tested.the-variants.Good, declared.Tested.the-variants.WrongContents, declared.Tested.the-variants.BadRecord, Found.testedView}
 use Rattle.trace.proofs.Tested.{the-type}
-use Rattle.trace.specs.Found.{testedView}
 use Rattle.pch_pic_sheet.specs.sheet.Made.{Reaches, Made, told, madeBy, madeOf}
 use Rattle.pch_pic_sheet.proofs.sheet.Loops.{some-grid, holds-some}
 

@@ -1,17 +1,8 @@
 -- The loops of zeros, one round more; and any bytes hold a grid.
-use mathlib.Core.Path.{refl, sym, subst, _∙_}
-use mathlib.Core.List.{List, [], _∷_, _++_}
-use Prim.Native.Nat.{ℕ, _+_, _%_, _^_, _≤_}
-use native.Mathlib.Nat.{mod-lt}
-use native.Mathlib.Omega.{arith}
-use lib.ListN.{length, drop}
-use Rattle.basics.specs.Numbers.{numberOf, part, Bytes}
-use Rattle.basics.proofs.laws.Bytes.{part-number}
+use Rattle.basics.proofs.Prelude.{refl, sym, subst, _∙_, List, [], _∷_, _++_, ℕ, _+_, _%_, _^_, _≤_, mod-lt, arith, length, drop, numberOf, part, Bytes, part-number}
 use Rattle.sheets.specs.Sheet.{sheetLength}
-use Rattle.passes.specs.tallies.Grid.{Grid, cellPlace, put, Holds, Becomes}
-use Rattle.passes.proofs.tallies.laws.Grids.{low-four}
-use Rattle.passes.proofs.laws.Finishing.{cleared-more}
-use Rattle.passes.specs.Finish.{rowCleared, cleared}
+use Rattle.passes.specs.{tallies.Grid.Grid, tallies.Grid.cellPlace, tallies.Grid.put, tallies.Grid.Holds, tallies.Grid.Becomes, Finish.rowCleared, Finish.cleared}
+use Rattle.passes.proofs.{tallies.laws.Grids.low-four, laws.Finishing.cleared-more}
 use Rattle.pch_pic_sheet.proofs.totals.Rows.{none-done, next-done}
 
 module _ {b c a : List ℕ} where

@@ -1,21 +1,12 @@
 -- The rounds of the pass: what holds when k records are followed, before the first of them and after one more.
-use mathlib.Core.Path.{_≡_, refl, sym, ap, subst, _∙_}
-use mathlib.Core.List.{List, [], _∷_, _++_, map}
-use Prim.Native.Nat.{ℕ, _+_, _-_, _*_, _<_, _≤_}
-use native.Mathlib.Nat.{zero-add}
-use native.Mathlib.Omega.{arith}
-use lib.ListN.{length}
-use Rattle.rules.specs.Lines.{Lines}
-use Rattle.rules.specs.Device.{WellFormed, reset}
+use Rattle.basics.proofs.Prelude.{_≡_, refl, sym, ap, subst, _∙_, List, [], _∷_, _++_, map, ℕ, _+_, _*_, _<_, _≤_, zero-add, arith, length}
+use Rattle.rules.specs.{Lines.Lines, Device.WellFormed, Device.reset}
 use Rattle.laws.proofs.laws.Images.{reset-well-formed}
 use Rattle.plain.specs.Sequence.{Item}
-use Rattle.traces.specs.Trace.{Record, recordLength, firstPlace, recordAt, nth}
-use Rattle.traces.specs.Played.{recordsFrom}
+use Rattle.traces.specs.{Trace.Record, Trace.recordLength, Trace.firstPlace, Trace.recordAt, Trace.nth, Played.recordsFrom}
 use Rattle.sheets.specs.Day.{itemOf}
-use Rattle.passes.specs.tallies.Marks.{itemMarks, itemAfter, dayMarks}
-use Rattle.passes.specs.tallies.Following.{Stands, Takes, FollowsItem}
+use Rattle.passes.specs.{tallies.Marks.itemMarks, tallies.Marks.itemAfter, tallies.Marks.dayMarks, tallies.Following.Stands, tallies.Following.Takes, tallies.Following.FollowsItem, Finish.afterItems}
 use Rattle.passes.proofs.tallies.laws.Taking.{takes-none, takes-then, takes-same}
-use Rattle.passes.specs.Finish.{afterItems}
 use Rattle.passes.proofs.laws.Days.{after-last, marks-last, items-last, items-length, item-loadless, item-well}
 
 abbrev itemsTo : List ℕ → ℕ → List Item

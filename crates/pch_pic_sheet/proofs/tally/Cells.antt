@@ -1,22 +1,10 @@
 -- The numbers of a sheet, as the functions of this module read and write them.
-use mathlib.Core.Path.{_≡_, refl, sym, ap, subst, _∙_}
-use mathlib.Core.Bool.{Bool, true, false}
-use mathlib.Core.List.{List, [], _∷_, _++_}
-use Prim.Native.Nat.{ℕ, _+_, _-_, _%_, _^_, _<_, max}
-use native.Mathlib.Omega.{arith}
-use lib.Dec.{eqb}
-use lib.ListN.{take}
-use lib.Seq.{drop-drop}
-use borrow.Author.Tests.{eq-eqb, ne-eqb}
-use Rattle.basics.specs.Numbers.{bytesOf, numberOf, part}
+use Rattle.basics.proofs.Prelude.{_≡_, refl, sym, ap, subst, _∙_, Bool, true, false, List, [], _∷_, _++_, ℕ, _+_, _-_, _%_, _^_, _<_, max, arith, eqb, take, drop-drop, eq-eqb, ne-eqb, bytesOf, numberOf, part}
 use Rattle.bits.specs.bytes.Put.{withBytes}
-use Rattle.passes.specs.tallies.Grid.{Grid, cellPlace, put, bump, Holds, Reads, Becomes}
-use Rattle.passes.specs.tallies.Following.{Takes}
-use Rattle.passes.proofs.tallies.laws.Taking.{takes-one}
+use Rattle.passes.specs.tallies.{Grid.Grid, Grid.cellPlace, Grid.put, Grid.bump, Grid.Holds, Grid.Reads, Grid.Becomes, Following.Takes}
 use Rattle.passes.specs.tallies.Marks.{happened, kindColumn, fateColumns, bumped, settled, withdrawn}
-use Rattle.pch_pic_sheet.specs.tally.Fates.{fateView, noteWith}
-use Rattle.pch_pic_sheet.specs.declared.tally.Fate.{Fate}
-use Rattle.passes.proofs.tallies.laws.Grids.{cell-read, cell-put, put-same}
+use Rattle.passes.proofs.tallies.laws.{Taking.takes-one, Grids.cell-read, Grids.cell-put, Grids.put-same}
+use Rattle.pch_pic_sheet.specs.{tally.Fates.fateView, tally.Fates.noteWith, declared.tally.Fate.Fate}
 
 module _ (l : List ℕ) (n c : ℕ) (p : n < 65) (q : c < 10) where
   pub reads-cell : {x : ℕ} → x ≡ numberOf (part (cellPlace n c) (cellPlace n c + 4 - cellPlace n c) l) → Reads l x (λ f. f n c)

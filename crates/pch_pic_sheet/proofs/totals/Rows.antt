@@ -1,13 +1,7 @@
 -- The loops over rows and columns of a sheet, one round more, and those of its end.
-use mathlib.Core.Path.{_≡_, sym, ap, subst, _∙_}
-use mathlib.Core.Bool.{cond}
-use mathlib.Core.List.{List}
-use Prim.Native.Nat.{ℕ, suc, _+_, _%_, _^_, max}
-use native.Mathlib.Omega.{arith}
-use borrow.Author.Tests.{eq-eqb, ne-eqb}
-use Rattle.passes.specs.tallies.Grid.{Grid, put, Holds, Reads, Becomes}
+use Rattle.basics.proofs.Prelude.{_≡_, sym, ap, subst, _∙_, cond, List, ℕ, suc, _+_, _%_, _^_, max, arith, eq-eqb, ne-eqb}
+use Rattle.passes.specs.{tallies.Grid.Grid, tallies.Grid.put, tallies.Grid.Holds, tallies.Grid.Reads, tallies.Grid.Becomes, Finish.isOn, Finish.shut, Finish.joined, Finish.rowJoined, Finish.finished}
 use Rattle.passes.proofs.tallies.laws.Grids.{put-same}
-use Rattle.passes.specs.Finish.{isOn, shut, joined, rowJoined, finished}
 
 -- before the first round
 pub none-done : (b : List ℕ) → Becomes b b (λ f. f)

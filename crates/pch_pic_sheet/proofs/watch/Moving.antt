@@ -1,28 +1,14 @@
 -- What enters and what leaves, by value: the numbers come to the rules' turns.
-use mathlib.Core.Path.{_≡_, refl, sym, ap, _∙_}
-use mathlib.Core.Bool.{Bool, true, false, cond, not, _&&_, _||_, and-comm}
-use mathlib.Core.List.{List, [], _∷_, map}
-use Prim.Native.Nat.{ℕ, _-_, _*_, _%_, _^_, _<_}
-use native.Mathlib.Omega.{arith}
-use lib.Bits.{bitAnd, bitOr}
-use lib.Count.{trailingZeros}
-use lib.Dec.{eqb}
-use borrow.Author.Tests.{eq-eqb, eqb-true}
-use Rattle.basics.specs.Inputs.{on, inputs, only, register, without, withHalf}
+use Rattle.basics.proofs.Prelude.{_≡_, refl, sym, ap, _∙_, Bool, true, false, cond, not, _&&_, _||_, and-comm, List, [], _∷_, map, ℕ, _-_, _*_, _%_, _^_, _<_, arith, bitAnd, bitOr, trailingZeros, eqb, eq-eqb, eqb-true, on, inputs, only, register, without, withHalf, test, is-number, on-number, on-none, on-or, on-bit, put-is, without-is, without-only-is, without-ext, register-ext, first-input, no-input}
 use Rattle.rules.specs.Lines.{Lines, stay, andThen, withMask, withIrr, withIsr, event, isPending, pendingIn, servedIn, serve, enter, leave, newlyUnmasked, newlyMasked, polled, raised, lowered, masked, cleared}
 use Rattle.rules.specs.Core.{move, poll, raise, lower, clear, setMask, moved}
-use Rattle.basics.proofs.laws.Bits.{test, is-number, on-number, on-none, on-or, on-bit, put-is, without-is, without-only-is, without-ext, register-ext}
-use Rattle.basics.proofs.laws.Inputs.{first-input, no-input}
 use Rattle.laws.proofs.laws.Sets.{only-waiting, only-served, stages}
-use Rattle.device.specs.decide.Sets.{waitingOf, servedOf}
-use Rattle.device.proofs.decide.Deciding.{inputs-of, none-served}
-use Rattle.passes.specs.tallies.Grid.{Becomes, bump}
-use Rattle.passes.specs.tallies.Marks.{began, takenBack, idleIn, bumped}
-use Rattle.passes.specs.tallies.Marks as marks
-use Rattle.passes.specs.tallies.Following.{Takes, Offers, Turns, Follows}
+use Rattle.device.{specs.decide.Sets.waitingOf, specs.decide.Sets.servedOf, proofs.decide.Deciding.inputs-of, proofs.decide.Deciding.none-served}
+use Rattle.passes.specs.tallies.{Grid.Becomes, Grid.bump, Marks.began, Marks.takenBack, Marks.idleIn, Marks.bumped, Following.Takes, Following.Offers, Following.Turns, Following.Follows}
 use Rattle.passes.proofs.tallies.laws.Taking.{takes-none, takes-one, takes-then, takes-same}
 use Rattle.passes.proofs.tallies.laws.Turning.{offers-none, offers-same, turns-same, turns-then, follows-move}
 use Rattle.pch_pic_sheet.proofs.watch.Visiting.{Deasserted}
+use Rattle.passes.specs.tallies.Marks as marks
 
 turns-stay : (l : Lines) (b : List ℕ) (k w : ℕ) → Turns l b b k w w (λ vs. stay l)
 turns-stay l b k w = record { lines = λ vs. refl; events = offers-none b k w }

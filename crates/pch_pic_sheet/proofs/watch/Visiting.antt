@@ -1,18 +1,7 @@
 -- The loops over the inputs of a set, lowest first: what was done so far, and then what is left, is all.
-use mathlib.Core.Path.{_≡_, refl, sym, ap, subst, _∙_}
-use mathlib.Core.Bool.{true, false}
-use mathlib.Core.List.{List, [], _∷_, _++_, map, map-append, append-nil, append-assoc}
-use Prim.Native.Nat.{ℕ, suc, _-_, _^_, _<_}
-use native.Mathlib.Nat.{lt-of-le-of-lt}
-use lib.Bits.{bitAnd, and-le-l}
-use lib.Count.{trailingZeros}
-use lib.ListN.{length}
-use Rattle.basics.specs.Inputs.{on, inputs}
+use Rattle.basics.proofs.Prelude.{one-less, _≡_, refl, sym, ap, subst, _∙_, true, false, List, [], _∷_, _++_, map, map-append, append-nil, append-assoc, ℕ, suc, _-_, _^_, _<_, lt-of-le-of-lt, bitAnd, and-le-l, trailingZeros, length, on, inputs, first-below, first-input, lowest-dropped, no-input}
 use Rattle.rules.specs.Lines.{event}
-use Rattle.basics.proofs.laws.Inputs.{first-below, first-input, lowest-dropped, no-input}
-use Rattle.passes.specs.tallies.Marks.{takenBack}
-use Rattle.passes.specs.tallies.Following.{Takes, Offers}
-use Rattle.passes.proofs.tallies.laws.Taking.{takes-then, takes-same}
+use Rattle.passes.{specs.tallies.Marks.takenBack, specs.tallies.Following.Takes, specs.tallies.Following.Offers, proofs.tallies.laws.Taking.takes-then, proofs.tallies.laws.Taking.takes-same}
 use Rattle.passes.proofs.tallies.laws.Turning.{offers-then, offers-same}
 
 pub record Visiting (P : List ℕ → Type 0) (set left : ℕ) : Type 0 where
@@ -37,7 +26,7 @@ module _ (P : List ℕ → Type 0) where
       lowest-below = first-below x (q .below) some
 
       pub fewer : suc (length (inputs (on (bitAnd x (x - 1))))) ≡ length (inputs (on x))
-      fewer = ap (λ y. suc (length (inputs (on y)))) (lowest-dropped x (q .below) some) ∙ sym (ap length (first-input x (q .below) some))
+      fewer = one-less x (q .below) some
 
       pub visiting-next : (Q : List ℕ → Type 0) → Q (q .sofar ++ (lowest ∷ [])) → Visiting Q set (bitAnd x (x - 1))
       visiting-next Q p = record {

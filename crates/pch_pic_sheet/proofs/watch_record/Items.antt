@@ -1,40 +1,20 @@
 -- A call of the device as a record's, refused or done.
-use mathlib.Core.Path.{_≡_, refl, sym, ap, subst, _∙_}
-use mathlib.Core.Bool.{Bool, true, false, cond}
-use mathlib.Core.List.{List, [], _∷_}
-use mathlib.Core.Logic.{inl, inr}
-use Prim.Native.Nat.{ℕ, _-_, _<_, _≤_}
-use native.Mathlib.Omega.{arith}
-use lib.Dec.{eqb}
-use lib.ListN.{length, drop, length-drop}
-use borrow.Author.Tests.{lt-ltb, le-ltb, ne-eqb, eqb-true}
-use Rattle.rules.specs.Lines.{Lines}
-use Rattle.rules.specs.Ring.{drawn}
-use Rattle.rules.specs.Core.{Core, Act, Move, move}
-use Rattle.rules.specs.Core as core
-use Rattle.rules.specs.Access.{Width, byte, word, dword, qword, writeActs}
+use Rattle.basics.proofs.Prelude.{_≡_, refl, sym, ap, subst, _∙_, Bool, true, false, cond, List, [], _∷_, inl, inr, ℕ, _<_, _≤_, arith, eqb, length, drop, length-drop, lt-ltb, le-ltb, ne-eqb, eqb-true}
+use Rattle.rules.specs.{Lines.Lines, Ring.drawn, Core.Core, Core.Act, Core.Move, Core.move, Access.Width, Access.byte, Access.word, Access.dword, Access.qword, Access.writeActs}
 use Rattle.rules.specs.Device.{Device, Call, level, poll, read, write, drain, actsOf, draws}
-use Rattle.rules.proofs.laws.Acts.{step-acted}
-use Rattle.rules.proofs.laws.Steps.{read-device, drain-device}
+use Rattle.rules.proofs.laws.{Acts.step-acted, Steps.read-device, Steps.drain-device}
 use Rattle.calls.specs.Calls.{Tested, pass, refuse, onPass, widthTest, addressTest, inputCall, calls, askedBy, noWidth, outside}
-use Rattle.calls.specs.Calls as asked
 use Rattle.calls.proofs.laws.Outcomes.{width-refused, address-refused, access-passed}
 use Rattle.plain.specs.Sequence.{Item, call, refused}
-use Rattle.traces.specs.Trace.{Record}
-use Rattle.traces.specs.Played.{requestOf}
-use Rattle.device.specs.map.Views.{widthView}
-use Rattle.device.specs.declared.map.Width as code
-use Rattle.device.specs.window.Tests.{knownView, locatedView}
-use Rattle.device.specs.declared.window.Known.{Known}
-use Rattle.device.specs.declared.window.Known.the-variants.{As, Unknown}
-use Rattle.device.specs.declared.window.Located.{Located}
-use Rattle.device.specs.declared.window.Located.the-variants.{At, Outside}
+use Rattle.traces.specs.{Trace.Record, Played.requestOf}
+use Rattle.device.specs.{map.Views.widthView, window.Tests.knownView, window.Tests.locatedView}
+use Rattle.device.specs.declared.window.{Known.Known, Known.the-variants.As, Known.the-variants.Unknown, Located.Located, Located.the-variants.At, Located.the-variants.Outside}
 use Rattle.sheets.specs.Day.{asItem, itemOf}
-use Rattle.passes.specs.tallies.Marks.{marksOf}
-use Rattle.passes.specs.tallies.Following.{Stands, Follows, FollowsItem}
-use Rattle.passes.proofs.tallies.laws.Taking.{takes-none}
+use Rattle.passes.{specs.tallies.Marks.marksOf, specs.tallies.Following.Stands, specs.tallies.Following.Follows, specs.tallies.Following.FollowsItem, proofs.tallies.laws.Taking.takes-none}
 use Rattle.passes.proofs.tallies.laws.Quiet.{follows-same}
 use Rattle.pch_pic_sheet.specs.watch_write.Pieces.{Sized, widthOf}
+use Rattle.calls.specs.Calls as asked
+use Rattle.device.specs.declared.map.Width as code
 
 module _ {l : Lines} {w : ℕ} {m : Lines} {u : ℕ} {b a : List ℕ} (k : ℕ) where
   pub item-as : (x y : Item) → x ≡ y → FollowsItem l w m u b a k x → FollowsItem l w m u b a k y

@@ -1,26 +1,13 @@
 -- The arms over a register and over a cell.
-use mathlib.Core.Path.{_≡_, refl, sym, ap, subst, _∙_}
-use mathlib.Core.Bool.{Bool, true, false, cond, _&&_, true≢false}
-use mathlib.Core.Logic.{_⊎_, inl, inr, ⊎-elim}
-use mathlib.Core.List.{List, [], _∷_}
-use Prim.Native.Nat.{ℕ, _+_, _-_, _*_, _/_, _^_, _<_, _≤_}
-use native.Mathlib.Omega.{arith}
-use lib.Bits.{bitAnd, and-le-r}
-use lib.Dec.{ltb}
-use Rattle.basics.specs.Numbers.{byteOf, withByte}
-use Rattle.basics.specs.Inputs.{on, without, half, asHalf}
-use Rattle.basics.proofs.laws.Bits.{without-is}
-use Rattle.rules.specs.Lines.{Lines}
-use Rattle.rules.specs.Core.{move, clear}
-use Rattle.rules.specs.Map as map
+use Rattle.basics.proofs.Prelude.{_≡_, refl, sym, ap, subst, _∙_, Bool, true, false, cond, _&&_, true≢false, _⊎_, inl, inr, ⊎-elim, List, [], _∷_, ℕ, _+_, _-_, _*_, _/_, _^_, _<_, _≤_, arith, bitAnd, and-le-r, ltb, byteOf, withByte, on, without, half, asHalf, without-is}
+use Rattle.rules.specs.{Lines.Lines, Core.move, Core.clear}
 use Rattle.rules.specs.Access.{Width, byte, word, dword, qword, valueOf, registerActs, cellActs, dwordActs, byteActs, writeActs}
-use Rattle.device.specs.map.Views.{registerView}
-use Rattle.device.specs.declared.map.Register.{Register}
-use Rattle.device.specs.declared.map.Register.the-variants as register
-use Rattle.passes.specs.tallies.Following.{Follows, heeded, ReadsAs}
-use Rattle.passes.proofs.tallies.laws.Taking.{follows-then}
+use Rattle.device.specs.{map.Views.registerView, declared.map.Register.Register}
+use Rattle.passes.{specs.tallies.Following.Follows, specs.tallies.Following.heeded, specs.tallies.Following.ReadsAs, proofs.tallies.laws.Taking.follows-then}
 use Rattle.passes.proofs.tallies.laws.Quiet.{follows-same, byte-of-half, byte-of-bytes, byte-of-none, dword-follows}
 use Rattle.pch_pic_sheet.specs.watch_write.Pieces.{pieceWidth, placeOf, Sized, widthOf, ByteIn, PutIn}
+use Rattle.rules.specs.Map as map
+use Rattle.device.specs.declared.map.Register.the-variants as register
 
 -- ---- by the register that it is
 

@@ -1,17 +1,13 @@
 -- `pch_pic_table_read`: 7 where the answer area is short; else what the call tells stands there.
-use mathlib.Core.Path.{sym}
-use Prim.Native.Nat.{zero-le}
-use Rattle.calls.specs.Calls as asked
+use Rattle.basics.proofs.Prelude.{sym, zero-le, needs}
 use Rattle.calls.proofs.laws.Outcomes.{answer-short}
 use Rattle.answer.proofs.fronts.Told.{told}
-use borrow.Author.Needs.{needs}
 use Rattle.pch_pic_table.proofs.pch_pic_table_read.Statement.{statement}
+use Rattle.calls.specs.Calls as asked
 use Rattle.pch_pic_table.proofs.pch_pic_table_read.Tie as tie
 
 pub pch-pic-table-read-spec : {M : Type 1} → statement M
-pch-pic-table-read-spec =
-    tie.close
-    (tie.spec
+pch-pic-table-read-spec = tie.close (tie.spec
     (λ c. let a = c .before .before .before .args in sym (answer-short (asked.read (a .base) (a .size) (a .address) (a .width)) (a .image .now) (a .answer .now) (c .if1 .taken)))
     (λ c κs. search needs) (λ c κs. search needs) (λ c. search needs)
     (λ c. let t = c .before .before in let r = t .before .before in let h = r .before in let a = h .before .before .before .args in

@@ -1,16 +1,7 @@
 -- What a Byte reads and writes in place, by what its offset means.
-use mathlib.Core.Path.{_≡_, refl, sym, ap, subst, _∙_}
-use mathlib.Core.Bool.{Bool, true, false}
-use mathlib.Core.List.{List}
-use Prim.Native.Nat.{ℕ, _%_, _<_}
-use native.Mathlib.Omega.{arith}
-use Rattle.basics.specs.Numbers.{byteOf, withByte}
-use Rattle.basics.specs.Inputs.{half}
-use Rattle.rules.specs.Core.{withRoutes}
-use Rattle.rules.specs.Map.{Register, inByteArea}
-use Rattle.rules.specs.Access.{valueOf, readByte, registerActs, entryActs, byteActs}
-use Rattle.laws.proofs.laws.Maps.{inside}
-use Rattle.laws.proofs.laws.Writes.{byte-acts-inside}
+use Rattle.basics.proofs.Prelude.{_≡_, refl, sym, ap, subst, _∙_, Bool, true, false, List, ℕ, _%_, _<_, arith, byteOf, withByte, half}
+use Rattle.rules.specs.{Core.withRoutes, Map.Register, Map.inByteArea, Access.valueOf, Access.readByte, Access.registerActs, Access.entryActs, Access.byteActs}
+use Rattle.laws.proofs.laws.{Maps.inside, Writes.byte-acts-inside}
 use Rattle.bits.specs.bytes.Put.{withBytes}
 use Rattle.fields.specs.inplace.Held.{Reads, Becomes, Writes, withVectors, withStored}
 use Rattle.fields.proofs.inplace.Doing.{writes-none, writes-same}

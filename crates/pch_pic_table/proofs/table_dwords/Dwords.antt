@@ -1,22 +1,13 @@
 -- What a Dword reads and writes in place, by what its offset means.
-use mathlib.Core.Path.{_≡_, refl, sym, ap, _∙_}
-use mathlib.Core.Bool.{Bool}
-use mathlib.Core.List.{List, [], _++_}
-use Prim.Native.Nat.{ℕ, zero, suc, _+_}
-use Rattle.basics.specs.Numbers.{byteOf}
-use Rattle.basics.specs.Inputs.{half}
-use Rattle.rules.specs.Core.{Core, CoreTurn, Act, turns}
-use Rattle.rules.specs.Map.{Register, halfOf, bytes, cellAt}
-use Rattle.rules.specs.Map as map
+use Rattle.basics.proofs.Prelude.{_≡_, refl, sym, ap, _∙_, Bool, List, [], _++_, ℕ, zero, suc, _+_, byteOf, half}
+use Rattle.rules.specs.{Core.Core, Core.CoreTurn, Core.Act, Core.turns, Map.Register, Map.halfOf, Map.bytes, Map.cellAt}
 use Rattle.rules.specs.Access.{valueOf, readCell, readDword, registerActs, entryActs, cellActs, dwordActs, byteActs}
 use Rattle.rules.proofs.laws.Acts.{turns-append}
-use Rattle.laws.proofs.laws.Losses.{entry-quiet}
-use Rattle.laws.proofs.laws.Widths.{dword-of}
-use Rattle.laws.proofs.laws.Writes.{dword-acts-of, dword-acts-four}
+use Rattle.laws.proofs.laws.{Losses.entry-quiet, Widths.dword-of, Writes.dword-acts-of, Writes.dword-acts-four}
 use Rattle.fields.specs.inplace.Held.{Reads, Writes}
 use Rattle.fields.proofs.inplace.Doing.{writes-quiet, writes-none, writes-same, writes-then}
-use Rattle.table.specs.Meaning.{part, route, vector, nothing, meant}
-use Rattle.table.proofs.Meant.{cellOf, cell-of}
+use Rattle.table.{specs.Meaning.part, specs.Meaning.route, specs.Meaning.vector, specs.Meaning.nothing, specs.Meaning.meant, proofs.Meant.cellOf, proofs.Meant.cell-of}
+use Rattle.rules.specs.Map as map
 
 -- a half is met at its lowest byte only
 past : (r : Register) (h : Bool) (k : ℕ) (s : Bool) → (k ≡ 0 → ⊥) → cellOf (part r h k s) ≡ map.nothing

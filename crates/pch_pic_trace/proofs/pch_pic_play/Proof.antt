@@ -1,36 +1,21 @@
 -- `pch_pic_play`: 7 where the answer area is short or the play finds no room; else what the play tells stands there.
-use borrow.Author.Needs.{needs}
-use Rattle.pch_pic_trace.proofs.Left.{answer-short, no-byte, told}
-use Rattle.pch_pic_trace.proofs.pch_pic_play.Statement.{statement}
+use Rattle.basics.proofs.Prelude.{needs}
+use Rattle.pch_pic_trace.proofs.{Left.answer-short, Left.no-byte, Left.told, pch_pic_play.Statement.statement}
 use Rattle.pch_pic_trace.proofs.pch_pic_play.Tie as tie
 
-returns : tie.Need-returns
-returns c =
-    let a = c .before .before .before .before .before .before .args in
-    answer-short (a .trace .now) (a .image .now) (a .answers .now) (a .events .now) (a .answer .now) (c .if1 .taken)
-
-returns-2 : tie.Need-returns-2
-returns-2 c =
-    let p = c .before .before .before .before .before .before .before in
+pub pch-pic-play-spec : {M : Type 1} → statement M
+pch-pic-play-spec = tie.close (tie.spec
+    (λ c. let a = c .before .before .before .before .before .before .args in
+    answer-short (a .trace .now) (a .image .now) (a .answers .now) (a .events .now) (a .answer .now) (c .if1 .taken))
+    (λ c κs. search needs) (λ c. search needs) (λ c. search needs) (λ c. search needs)
+    (λ c. let p = c .before .before .before .before .before .before .before in
     let h = p .before .before .before .before in
     let a = h .before .before .before .before .before .before .args in
-    no-byte (a .trace .now) (a .image .now) (a .answers .now) (a .events .now) (a .answer .now) (h .if1 .left) (p .play .result) (p .play .ensures) (c .if2 .taken)
-
-returns-3 : tie.Need-returns-3
-returns-3 c =
-    let t = c .before .before in
+    no-byte (a .trace .now) (a .image .now) (a .answers .now) (a .events .now) (a .answer .now) (h .if1 .left) (p .play .result) (p .play .ensures) (c .if2 .taken))
+    (λ c κs. search needs) (λ c. search needs) (λ c. search needs) (λ c. search needs) (λ c. search needs)
+    (λ c. let t = c .before .before in
     let g = t .before .before in
     let p = g .before .before .before .before .before .before .before in
     let h = p .before .before .before .before in
     let a = h .before .before .before .before .before .before .args in
-    told (a .trace .now) (a .image .now) (a .answers .now) (a .events .now) (a .answer .now) (h .if1 .left) (p .play .result) (p .play .ensures) (g .if2 .left) (t .tell .ensures)
-
-pub pch-pic-play-spec : {M : Type 1} → statement M
-pch-pic-play-spec =
-    tie.close
-    (tie.spec
-    returns
-    (λ c κs. search needs) (λ c. search needs) (λ c. search needs) (λ c. search needs)
-    returns-2
-    (λ c κs. search needs) (λ c. search needs) (λ c. search needs) (λ c. search needs) (λ c. search needs)
-    returns-3)
+    told (a .trace .now) (a .image .now) (a .answers .now) (a .events .now) (a .answer .now) (h .if1 .left) (p .play .result) (p .play .ensures) (g .if2 .left) (t .tell .ensures)))

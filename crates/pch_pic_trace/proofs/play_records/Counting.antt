@@ -1,15 +1,6 @@
 -- The records that drain, counted one by one.
-use mathlib.Core.Path.{_≡_, refl, sym, ap, _∙_}
-use mathlib.Core.List.{List}
-use Prim.Native.Nat.{ℕ, zero, suc, _+_, _*_, _≤_, zero-le}
-use native.Mathlib.Nat.{zero-add}
-use native.Mathlib.Omega.{arith}
-use lib.Dec.{eqb}
-use borrow.Author.Tests.{ne-eqb}
-use Rattle.basics.proofs.laws.Bits.{test}
-use Rattle.traces.specs.Trace.{Record, recordLength, firstPlace, recordAt, nth}
-use Rattle.traces.specs.Played.{recordsFrom}
-use Rattle.traces.specs.plays.Playing.{drains, drainsIn}
+use Rattle.basics.proofs.Prelude.{_≡_, refl, sym, ap, _∙_, List, ℕ, zero, suc, _+_, _*_, _≤_, zero-le, zero-add, arith, eqb, ne-eqb, test}
+use Rattle.traces.specs.{Trace.Record, Trace.recordLength, Trace.firstPlace, Trace.recordAt, Trace.nth, Played.recordsFrom, plays.Playing.drains, plays.Playing.drainsIn}
 use Rattle.traces.proofs.plays.laws.Rooms.{drains-last}
 
 pub none-counted : (l : List ℕ) → 0 ≡ drainsIn (recordsFrom l 0 0)

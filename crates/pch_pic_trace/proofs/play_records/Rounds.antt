@@ -1,30 +1,14 @@
 -- The rounds of a play: what holds when k records are played, before the first of them and after one more.
-use mathlib.Core.Path.{_≡_, refl, sym, ap, subst, _∙_}
-use mathlib.Core.Bool.{true}
-use mathlib.Core.List.{List}
-use Prim.Native.Nat.{ℕ, suc, _+_, _-_, _*_, _<_, _≤_, zero-le}
-use native.Mathlib.Nat.{zero-add}
-use native.Mathlib.Omega.{arith}
-use lib.ListN.{length, length-append}
-use borrow.Rule.Slice.PartMut.{putMid}
-use Rattle.images.specs.Form.{Form, known, formOf}
+use Rattle.basics.proofs.Prelude.{_≡_, refl, sym, ap, subst, _∙_, true, List, ℕ, suc, _+_, _-_, _*_, _<_, _≤_, zero-le, zero-add, arith, length, length-append, putMid, part, Bytes, length-part}
+use Rattle.images.specs.{Form.Form, Form.known, Form.formOf, Image.imageTest}
 use Rattle.calls.specs.Calls.{answerLength, Outcome}
-use Rattle.basics.specs.Numbers.{part, Bytes}
-use Rattle.images.specs.Image.{imageTest}
-use Rattle.fields.specs.inplace.Passed.{Passed}
-use Rattle.fields.proofs.inplace.Passing.{long}
+use Rattle.fields.{specs.inplace.Passed.Passed, proofs.inplace.Passing.long}
 use Rattle.traces.specs.Trace.{Record, recordLength, recordAt, nth, isGood}
 use Rattle.traces.specs.Played.{drainRoom, requestOf, playedOn, drainedIn, recordsFrom, Played, playedFrom}
-use Rattle.basics.proofs.laws.Lists.{length-part}
-use Rattle.traces.proofs.laws.Plays.{played-none}
-use Rattle.traces.proofs.demands.Play.{sixteen-bytes, answers-from}
-use Rattle.traces.specs.plays.Playing.{behind, drains, drainsIn, inFront}
-use Rattle.traces.proofs.plays.laws.Prefixes.{played-last}
-use Rattle.traces.proofs.plays.laws.Rooms.{drains-last, drains-more}
-use Rattle.traces.proofs.plays.laws.InFront.{front-length, front-next, front-rest}
-use Rattle.traces.proofs.plays.laws.Keeps.{keeps-accepted}
-use Rattle.pch_pic_trace.specs.record_step.Step.{Playable, Steps}
-use Rattle.pch_pic_trace.specs.play_records.Played.{Ready, PlayedTo}
+use Rattle.traces.{specs.plays.Playing.behind, specs.plays.Playing.drains, specs.plays.Playing.drainsIn, specs.plays.Playing.inFront, proofs.laws.Plays.played-none}
+use Rattle.traces.proofs.{demands.Play.sixteen-bytes, demands.Play.answers-from, plays.laws.Prefixes.played-last, plays.laws.Rooms.drains-last, plays.laws.Rooms.drains-more}
+use Rattle.traces.proofs.plays.laws.{InFront.front-length, InFront.front-next, InFront.front-rest, Keeps.keeps-accepted}
+use Rattle.pch_pic_trace.specs.{record_step.Step.Playable, record_step.Step.Steps, play_records.Played.Ready, play_records.Played.PlayedTo}
 
 -- k records are played, and `used` bytes of events are written
 pub record Round (l : List ℕ) (n : ℕ) (f : Form) (i bs es : List ℕ) (k used : ℕ) (j cs fs : List ℕ) : Type 0 where

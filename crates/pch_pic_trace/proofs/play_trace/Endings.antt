@@ -1,36 +1,20 @@
 -- How a play ends, by the test that decides it: one law for each way; and what a good trace and a reset image have.
-use mathlib.Core.Path.{_≡_, refl, sym, ap, subst, _∙_}
-use mathlib.Core.Bool.{Bool, true, false, _&&_, and-false}
-use mathlib.Core.List.{List, [], _∷_}
-use Prim.Native.Nat.{ℕ, _*_, _<_, _≤_, zero-le}
-use native.Mathlib.Omega.{arith}
-use types.Run.{OneOf}
-use denote.Enum.Declared.{tagOf}
-use lib.Dec.{leb}
-use lib.ListN.{length}
-use borrow.Author.Tests.{le-leb, lt-leb}
-use mathlib.Core.Logic.{⊎-elim}
+use Rattle.basics.proofs.Prelude.{_≡_, refl, sym, ap, subst, _∙_, Bool, true, false, _&&_, and-false, List, [], _∷_, ℕ, _*_, _<_, _≤_, zero-le, arith, OneOf, tagOf, leb, length, le-leb, lt-leb, ⊎-elim}
 use Rattle.rules.specs.Device.{Value, none, some}
 use Rattle.images.specs.Form.{Form, Known, unknown, known, formOf}
 use Rattle.calls.specs.Calls.{answerLength, Ending, ending, Outcome}
-use Rattle.calls.specs.Calls as request
 use Rattle.fields.specs.inplace.Passed.{Passed}
 use Rattle.traces.specs.Trace.{recordCount, TraceTest, good, traceNumber, traceValue, traceTest}
 use Rattle.traces.specs.Played.{drainRoom, recordsFrom, records, Played, playedFrom, afresh, played}
-use Rattle.traces.proofs.demands.Told.{AllGood, Means, test-told}
-use Rattle.traces.proofs.demands.Sizes.{few-records, trace-length}
 use Rattle.traces.specs.plays.Playing.{drainsIn, playRoom, traceLeft, lengthLeft, playTest, PlayEnding, inFront, playEnds, playEnding}
-use Rattle.traces.proofs.plays.laws.Drained.{asked-ends}
+use Rattle.traces.proofs.{demands.Told.AllGood, demands.Told.Means, demands.Told.test-told, demands.Sizes.few-records, demands.Sizes.trace-length, plays.laws.Drained.asked-ends}
 use Rattle.traces.proofs.plays.demands.Accepted.{afresh-fits}
-use Rattle.answer.specs.Given.{Tells}
-use Rattle.answer.specs.Given as given
-use Rattle.answer.specs.declared.Told.{Told}
-use Rattle.trace.specs.declared.Tested.{Tested}
-use Rattle.trace.specs.declared.Tested.the-variants.{Good, WrongContents, BadRecord}
+use Rattle.answer.specs.{Given.Tells, declared.Told.Told}
+use Rattle.trace.specs.{declared.Tested.Tested, declared.Tested.the-variants.Good, declared.Tested.the-variants.WrongContents, declared.Tested.the-variants.BadRecord, Found.testedView}
 use Rattle.trace.proofs.Tested.{the-type}
-use Rattle.trace.specs.Found.{testedView}
-use Rattle.pch_pic_trace.specs.play_records.Played.{Reaches, Ready, PlayedTo}
-use Rattle.pch_pic_trace.specs.play_trace.Plays.{ends}
+use Rattle.pch_pic_trace.specs.{play_records.Played.Reaches, play_records.Played.Ready, play_records.Played.PlayedTo, play_trace.Plays.ends}
+use Rattle.calls.specs.Calls as request
+use Rattle.answer.specs.Given as given
 
 -- an ending with the number and the value that are told
 pub tells : (t : Told) {n : ℕ} {v : Value} → Tells t n v → {j cs fs : List ℕ} {x : PlayEnding} → record { number = n; value = v; image = j; answers = cs; events = fs } ≡ x → ends t j cs fs ≡ x

@@ -1,9 +1,7 @@
 -- The call that a record is, by its kind.
-use mathlib.Core.Path.{_≡_}
-use lib.ListN.{replicate}
+use Rattle.basics.proofs.Prelude.{_≡_, replicate}
+use Rattle.traces.specs.{Trace.Record, Played.drainRoom, Played.requestOf}
 use Rattle.calls.specs.Calls as request
-use Rattle.traces.specs.Trace.{Record}
-use Rattle.traces.specs.Played.{drainRoom, requestOf}
 
 module _ (r : Record) where
   pub raises : r .kind ≡ 1 → requestOf r ≡ request.level (r .byte) 1

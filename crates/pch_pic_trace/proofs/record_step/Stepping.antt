@@ -1,30 +1,14 @@
 -- What playing one record has to show: of a drain of all, and of any other call.
-use mathlib.Core.Path.{_≡_, sym, ap, _∙_}
-use mathlib.Core.Bool.{true, and-eq-true-iff}
-use mathlib.Core.List.{List, []}
-use Prim.Native.Nat.{ℕ, _*_, _≤_, zero-le}
-use native.Mathlib.Omega.{arith}
-use lib.Dec.{eqb, leb}
-use lib.Seq.{take-nil}
-use borrow.Author.Tests.{leb-true}
-use lib.ListN.{length, replicate}
-use borrow.Rule.Slice.PartMut.{putMid}
-use Rattle.basics.specs.Numbers.{part}
-use Rattle.rules.specs.Device.{Value, some}
+use Rattle.basics.proofs.Prelude.{_≡_, sym, ap, _∙_, true, and-eq-true-iff, List, [], ℕ, _*_, _≤_, zero-le, arith, eqb, leb, take-nil, leb-true, length, replicate, putMid, part, test}
+use Rattle.rules.specs.{Device.Value, Device.some, Numbering.drainedLength}
 use Rattle.images.specs.Form.{Form}
-use Rattle.rules.specs.Numbering.{drainedLength}
 use Rattle.calls.specs.Calls.{answerLength, answered, valueIn, ending, settled, Outcome}
-use Rattle.calls.specs.Calls as request
-use Rattle.basics.proofs.laws.Bits.{test}
 use Rattle.fields.specs.inplace.Passed.{Passed}
-use Rattle.traces.specs.Trace.{Record, isKind, isGood}
-use Rattle.traces.specs.Played.{drainRoom, requestOf, asked, playedOn, drainedIn}
-use Rattle.traces.specs.plays.Playing.{inFront}
-use Rattle.traces.proofs.plays.laws.Drained.{asked-ends, answer-whole, drained-fit, Drew, drew}
-use Rattle.traces.proofs.plays.laws.Keeps.{in-front}
-use Rattle.traces.proofs.plays.laws.InFront.{front-part}
+use Rattle.traces.specs.{Trace.Record, Trace.isKind, Trace.isGood, Played.drainRoom, Played.requestOf, Played.asked, Played.playedOn, Played.drainedIn, plays.Playing.inFront}
+use Rattle.traces.proofs.plays.laws.{Drained.asked-ends, Drained.answer-whole, Drained.drained-fit, Drained.Drew, Drained.drew, Keeps.in-front, InFront.front-part}
 use Rattle.pch_pic_trace.specs.record_step.Step.{Steps}
 use Rattle.pch_pic_trace.proofs.record_call.Requests.{drains-all}
+use Rattle.calls.specs.Calls as request
 
 module _ {f : Form} {i : List ℕ} (p : Passed f i) (r : Record) (kind : r .kind ≡ 6) (entry : List ℕ) (room : length entry ≡ drainRoom) {n : ℕ} {j exit : List ℕ}
     (d : record { number = 0; value = some n; image = j; events = exit } ≡ ending (request.drain entry 0) i) where

@@ -1,17 +1,11 @@
 -- 02, C-13: the plain engine's history is every event made since the load, in order, with its input, its call, its vector and its fate; and the list is
 -- what the load brought and what the history has of events offered, so it only grows between loads.
-use mathlib.Core.Path.{_≡_, refl, sym, ap, _∙_}
-use mathlib.Core.List.{List, [], _∷_, _++_, map, map-append, append-assoc, append-nil}
-use Rattle.rules.specs.Lines.{Made}
-use Rattle.rules.specs.Device.{Device, WellFormed, Call, step}
-use Rattle.rules.specs.History.{history}
+use Rattle.basics.proofs.Prelude.{_≡_, refl, sym, ap, _∙_, List, [], _∷_, _++_, map, map-append, append-assoc, append-nil}
+use Rattle.rules.specs.{Lines.Made, Device.Device, Device.WellFormed, Device.Call, Device.step, History.history}
 use Rattle.histories.proofs.laws.WellFormed.{step-well}
-use Rattle.plain.specs.Events.{Offered, asLoaded}
-use Rattle.plain.specs.Plain.{Engine, gives}
-use Rattle.plain.specs.Sequence.{loadOf, shown, Item, call, load, refused, WellLoaded, plainAfter, broughtBy}
-use Rattle.plain.specs.Sequence.{Ported, portedFollows, portedAfter, notesOf, asMade, listed}
-use Rattle.plain.proofs.laws.Queues.{listed-append, notes-made}
-use Rattle.plain.proofs.laws.Same.{Run, Same}
+use Rattle.plain.specs.{Events.Offered, Events.asLoaded, Plain.Engine, Plain.gives}
+use Rattle.plain.specs.Sequence.{loadOf, shown, Item, call, load, refused, WellLoaded, plainAfter, broughtBy, Ported, portedFollows, portedAfter, notesOf, asMade, listed}
+use Rattle.plain.proofs.laws.{Queues.listed-append, Queues.notes-made, Same.Run, Same.Same}
 use Rattle.plain.proofs.laws.Following.{stepped, countedRun, like-call, loadedRun, sized, same-load, same-counted, shown-is}
 
 -- ---- side by side

@@ -1,36 +1,21 @@
 -- 02, C-13, of exported calls: every done call leaves the bytes that the plain engine tells, on any image, with refused calls, loads and resets anywhere. They are
 -- compared without the numbers of events (02, C-19).
-use mathlib.Core.Path.{_≡_, refl, sym, ap, ap₂, subst, _∙_}
-use mathlib.Core.Bool.{Bool, true, false, cond, true≢false}
-use mathlib.Core.List.{List, [], _∷_, _++_, map, map-append, append-nil}
-use Prim.Native.Nat.{ℕ}
-use lib.ListN.{length}
-use Rattle.basics.specs.Numbers.{Bytes}
-use Rattle.rules.specs.Lines.{Made}
-use Rattle.rules.specs.Ring.{Event}
-use Rattle.rules.specs.Device.{Device, WellFormed, Call, Step, none, step, value}
-use Rattle.rules.specs.Device as device
-use Rattle.rules.specs.Numbering.{fromZero}
-use Rattle.images.specs.Form.{Form, Known, unknown, known, formOf}
-use Rattle.images.specs.Image.{imageTest, accepted, encodeAs, encodeLike, decode, numbersIn}
+use Rattle.basics.proofs.Prelude.{_≡_, refl, sym, ap, ap₂, subst, _∙_, Bool, true, false, cond, true≢false, List, [], _∷_, _++_, map, map-append, append-nil, ℕ, length, Bytes, test}
+use Rattle.rules.specs.{Lines.Made, Ring.Event, Device.Device, Device.WellFormed, Device.Call, Device.Step, Device.none, Device.step, Device.value, Numbering.fromZero, History.history}
+use Rattle.images.specs.{Form.Form, Form.Known, Form.unknown, Form.known, Form.formOf, Image.imageTest, Image.accepted, Image.encodeAs, Image.encodeLike, Image.decode, Image.numbersIn}
+use Rattle.calls.proofs.laws.Requests.{never, passed}
 use Rattle.calls.specs.Calls.{pass, Asked, afresh, calls, askedBy, Done, performed, wrongLength, answered, bufferOf, placeOf, written, Outcome, settled, ended}
-use Rattle.rules.specs.History.{history}
-use Rattle.histories.specs.exported.Exported.{Exported, leftBy, isDone, unnumbered, isReset, isLoad, callOf, doneCall, Underway, carriedOn, carriedThrough}
-use Rattle.histories.specs.exported.Exported.{GivenBytes, current, inImage, Faithful, afterReset, atLoad}
-use Rattle.basics.proofs.laws.Bits.{test}
-use Rattle.laws.proofs.laws.Images.{decode-well-formed, reset-well-formed, reset-numbered}
-use Rattle.histories.proofs.laws.Folds.{history-append}
-use Rattle.histories.proofs.laws.WellFormed.{step-well}
-use Rattle.histories.proofs.exported.laws.Chains.{never, passed, did-pass, current-well, handed, faithful-on, carried-on, reset-leaves, reset-begins, done-call, own-image, load-begins}
-use Rattle.histories.proofs.exported.laws.Chains.{faithful-after-reset, faithful-at-load}
+use Rattle.histories.specs.exported.Exported.{Exported, leftBy, isDone, unnumbered, isReset, isLoad, callOf, doneCall, Underway, carriedOn, carriedThrough, GivenBytes, current, inImage, Faithful, afterReset, atLoad}
+use Rattle.histories.proofs.laws.{Folds.history-append, WellFormed.step-well}
+use Rattle.histories.proofs.exported.laws.Chains.{did-pass, current-well, handed, faithful-on, carried-on, reset-leaves, reset-begins, done-call, own-image, load-begins, faithful-after-reset, faithful-at-load}
 use Rattle.histories.proofs.exported.laws.Without.{own-numbers, handed-image, handed-answer, handed-events, reset-answer, reset-events}
 use Rattle.histories.proofs.exported.demands.FromCalls.{image-holds-device, history-since-load}
-use Rattle.plain.specs.Plain.{Engine, counted, Gave, idle, gives}
-use Rattle.plain.specs.Sequence.{loadOf, shown, notesOf, asMade}
+use Rattle.laws.proofs.laws.Images.{decode-well-formed, reset-well-formed, reset-numbered}
+use Rattle.plain.specs.{Plain.Engine, Plain.counted, Plain.Gave, Plain.idle, Plain.gives, Sequence.loadOf, Sequence.shown, Sequence.notesOf, Sequence.asMade}
 use Rattle.plain.specs.Beside.{givesTo, meets, Agrees, AllAgree, afterCalls}
-use Rattle.plain.proofs.laws.Queues.{notes-made}
-use Rattle.plain.proofs.laws.Same.{Run, Same}
+use Rattle.plain.proofs.laws.{Queues.notes-made, Same.Run, Same.Same}
 use Rattle.plain.proofs.laws.Following.{stepped, countedRun, like-call, loadedRun, sized, same-load, same-counted, shown-is}
+use Rattle.rules.specs.Device as device
 
 -- ---- one exported call
 

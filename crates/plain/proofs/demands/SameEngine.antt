@@ -1,6 +1,5 @@
 -- 02, C-13: on every sequence of calls, loads and refused calls the plain engine gives what the ported one gives.
-use mathlib.Core.Path.{_≡_, refl}
-use mathlib.Core.List.{List, [], _∷_}
+use Rattle.basics.proofs.Prelude.{_≡_, refl, List, [], _∷_}
 use Rattle.rules.specs.Device.{Device, WellFormed, none, value}
 use Rattle.histories.proofs.laws.WellFormed.{step-well}
 use Rattle.plain.specs.Plain.{Engine, counted, gives}

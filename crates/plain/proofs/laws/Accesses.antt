@@ -1,30 +1,20 @@
 -- Reads and writes of every width: the plain engine reads what the ported one reads, and a write keeps both side by side.
-use mathlib.Core.Path.{_≡_, refl, sym, ap, _∙_}
-use mathlib.Core.Bool.{Bool, true, false, cond, not, _&&_}
-use mathlib.Core.List.{List, [], _∷_, _++_, append-nil}
-use Prim.Native.Nat.{ℕ, zero, suc, _+_, _-_, _*_, _%_, _^_, _<_}
-use native.Mathlib.Omega.{arith}
-use lib.ListN.{getD, set}
-use Rattle.basics.specs.Numbers.{numberOf, byteOf, withByte}
-use Rattle.basics.specs.Inputs.{on, numberWith, inputs, only, put, without, half, withHalf, asHalf}
+use Rattle.basics.proofs.Prelude.{_≡_, refl, sym, ap, _∙_, Bool, true, false, cond, not, _&&_, List, [], _∷_, _++_, append-nil, ℕ, zero, suc, _+_, _-_, _*_, _%_, _^_, _<_, getD, set, numberOf, byteOf, withByte, on, numberWith, inputs, only, put, without, half, withHalf, asHalf, test, is-number, register-ext, put-lt, without-lt}
+use Rattle.histories.proofs.laws.WellFormed.{withHalf-lt}
 use Rattle.rules.specs.Lines.{Lines, withIrr, withMask, serve, enter, leave, pendingIn, polled, raised, lowered, cleared, masked, newlyUnmasked, newlyMasked}
 use Rattle.rules.specs.Ring.{ringRun, dropped}
-use Rattle.rules.specs.Core.{Core, Plain, Stored, plain, withPlain, withRoutes, moved, lineTurn, vectorsAfter, storedAfter, turn, turns}
-use Rattle.rules.specs.Core.{Act, Move, move, setIsr, store, setVector, setPlain, setRoute, poll, raise, lower, clear, setMask}
-use Rattle.rules.specs.Map as map
+use Rattle.rules.specs.Core.{Core, Plain, Stored, plain, withPlain, withRoutes, moved, lineTurn, vectorsAfter, storedAfter, turn, turns, Act, Move, move, setIsr, store, setVector, setPlain, setRoute, poll, raise, lower, clear, setMask}
 use Rattle.rules.specs.Map.{Register, Cell, cellAt, routesAt, vectorsAt, inRoutes, inVectors, inByteArea}
 use Rattle.rules.specs.Access.{Width, byte, word, dword, qword, registerActs, entryActs, cellActs, dwordActs, byteActs, writeActs}
-use Rattle.rules.specs.Access as access
 use Rattle.rules.specs.Device.{acted}
-use Rattle.rules.specs.Device as device
-use Rattle.basics.proofs.laws.Bits.{test, is-number, register-ext, put-lt, without-lt}
 use Rattle.plain.specs.Machine.{Machine}
-use Rattle.plain.specs.Plain.{Engine, withStored, withVectors, numberBelow, number, valueOf, entry, readCell, readDword, readByte, readAt}
-use Rattle.plain.specs.Plain.{writeHalf, writeEntry, writeCell, writeDword, writeByte, writeAt}
+use Rattle.plain.specs.Plain.{Engine, withStored, withVectors, numberBelow, number, valueOf, entry, readCell, readDword, readByte, readAt, writeHalf, writeEntry, writeCell, writeDword, writeByte, writeAt}
 use Rattle.plain.specs.Sequence.{notesOf}
-use Rattle.plain.proofs.laws.Machines.{oneOf, cleared-steps, served-steps}
-use Rattle.plain.proofs.laws.Queues.{tail-of, ringAfter, lostOf}
+use Rattle.plain.proofs.laws.{Machines.oneOf, Machines.cleared-steps, Machines.served-steps, Queues.tail-of, Queues.ringAfter, Queues.lostOf}
 use Rattle.plain.proofs.laws.Same.{Run, Same, by-run, acting, acting-append, acting-none, acting-one, acting-move, acting-isr, turn-offers, same-mask}
+use Rattle.rules.specs.Map as map
+use Rattle.rules.specs.Access as access
+use Rattle.rules.specs.Device as device
 
 -- ---- registers of 64 bits
 
@@ -32,10 +22,6 @@ pub record Sized (l : Lines) : Type 0 where
   pub mask : l .mask < 2 ^ 64
   pub irr : l .irr < 2 ^ 64
   pub isr : l .isr < 2 ^ 64
-
-withHalf-sized : (h : Bool) (x v : ℕ) → x < 2 ^ 64 → withHalf h x v < 2 ^ 64
-withHalf-sized true x v b = omega arith
-withHalf-sized false x v b = omega arith
 
 serve-sized : (vs : List ℕ) (o : Bool) (l : Lines) (ns : List ℕ) → Sized l → Sized (serve vs o l ns .after)
 serve-sized vs o l [] s = s
@@ -57,13 +43,13 @@ move-sized vs l (clear b) s =
     leave-sized vs true (on b) (withIrr l (without (l .irr) (on b))) (record { mask = s .mask; irr = without-lt (l .irr) (on b); isr = s .isr })
 move-sized vs l (setMask h v) s =
     let new = withHalf h (l .mask) v in
-    let one = enter-sized vs true (newlyUnmasked (l .mask) new) (withMask l new) (record { mask = withHalf-sized h (l .mask) v (s .mask); irr = s .irr; isr = s .isr }) in
+    let one = enter-sized vs true (newlyUnmasked (l .mask) new) (withMask l new) (record { mask = withHalf-lt h (l .mask) v (s .mask); irr = s .irr; isr = s .isr }) in
     leave-sized vs true (newlyMasked (l .mask) new) _ one
 
 turn-sized : (c : Core) (a : Act) → Sized (c .lines) → Sized (turn c a .after .lines)
 unfolding lineTurn
 turn-sized c (move m) s = move-sized (c .vectors) (c .lines) m s
-turn-sized c (setIsr h v) s = record { mask = s .mask; irr = s .irr; isr = withHalf-sized h (c .lines .isr) v (s .isr) }
+turn-sized c (setIsr h v) s = record { mask = s .mask; irr = s .irr; isr = withHalf-lt h (c .lines .isr) v (s .isr) }
 turn-sized c (store x) s = s
 turn-sized c (setVector n v) s = s
 

@@ -1,26 +1,17 @@
 -- One call: the plain engine gives the value and the drained events of the ported one, and both stand side by side after it.
-use mathlib.Core.Path.{_≡_, refl, sym, ap, _∙_}
-use mathlib.Core.Bool.{Bool, true, false}
-use mathlib.Core.List.{List, [], _∷_, _++_, map, append-nil}
-use Prim.Native.Nat.{ℕ, _+_, min}
-use native.Mathlib.Omega.{arith}
-use lib.ListN.{length, take, length-append}
-use Rattle.rules.specs.Ring.{Event, stop, drawn, ringRun, dropped}
-use Rattle.rules.specs.Core.{CoreTurn, Move, move, moved, turns, lineTurn}
-use Rattle.rules.specs.Core as core
-use Rattle.rules.specs.Access.{Width, writeActs}
+use Rattle.basics.proofs.Prelude.{_≡_, refl, sym, ap, _∙_, Bool, true, false, List, [], _∷_, _++_, map, append-nil, ℕ, _+_, min, arith, length, take, length-append}
+use Rattle.rules.specs.{Ring.Event, Ring.stop, Ring.drawn, Ring.ringRun, Ring.dropped, Core.CoreTurn, Core.Move, Core.move, Core.moved, Core.turns, Core.lineTurn, Access.Width, Access.writeActs}
 use Rattle.rules.specs.Device.{Device, WellFormed, Call, level, poll, read, write, drain, some, actsOf, draws, acted, step, value, returned, lost}
-use Rattle.rules.specs.Device as device
-use Rattle.rules.proofs.laws.Acts.{step-acted}
-use Rattle.rules.proofs.laws.Steps.{turns-one, drain-device, drain-drained}
-use Rattle.plain.specs.Events.{waiting, withDrained, asLoaded}
-use Rattle.plain.specs.Machine.{polls, raises, lowers}
+use Rattle.rules.proofs.laws.{Acts.step-acted, Steps.turns-one, Steps.drain-device, Steps.drain-drained}
+use Rattle.plain.specs.{Events.waiting, Events.withDrained, Events.asLoaded, Machine.polls, Machine.raises, Machine.lowers}
 use Rattle.plain.specs.Plain.{Engine, Heard, heard, Steps, at, stepping, returns, counted, vectorOf, lostBetween, gives, withQueue, writeAt}
 use Rattle.plain.specs.Sequence.{loadOf, shown, notesOf}
 use Rattle.plain.proofs.laws.Machines.{one-of, madeBy, Steps-are, polled-steps, raised-steps, lowered-steps}
 use Rattle.plain.proofs.laws.Queues.{tail-of, lostOf, loaded-kept, loaded-dropped, drained-tail}
 use Rattle.plain.proofs.laws.Same.{Run, Same, by-run, acting, acting-none, acting-move, turn-returns, heard-same}
 use Rattle.plain.proofs.laws.Accesses.{Sized, SizedRun, mask-read, irr-read, isr-read, read-same, same-write}
+use Rattle.rules.specs.Core as core
+use Rattle.rules.specs.Device as device
 
 -- the ported engine after a call
 abbrev pub stepped : Run → Call → Run

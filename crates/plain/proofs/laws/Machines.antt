@@ -1,20 +1,9 @@
 -- The machines against the lines: input by input a step of the machines is what the rules' engine does to the bits of its registers, and what is heard is what it makes.
-use mathlib.Core.Path.{_≡_, refl, sym, ap, ap₂, _∙_}
-use mathlib.Core.Bool.{Bool, true, false, cond, not, _&&_, _||_, true≢false, and-true, and-false, or-false}
-use mathlib.Core.List.{List, [], _∷_, _++_, map}
-use Prim.Native.Nat.{ℕ, zero, suc, _+_, _/_, _%_, _<_, _≤_}
-use native.Mathlib.Omega.{arith}
-use lib.Dec.{eqb, ltb}
-use borrow.Author.Tests.{ne-eqb, eqb-true, ltb-true, ltb-false}
-use Rattle.basics.specs.Inputs.{on, from, inputs, only, put, without, withHalf, asHalf}
-use Rattle.rules.specs.Lines.{Lines, Made, Turn, event, isPending, pendingIn, servedIn, withIrr, withIsr, withMask, serve, enter, leave, newlyUnmasked, newlyMasked}
-use Rattle.rules.specs.Lines.{polled, raised, lowered, cleared, masked}
-use Rattle.basics.proofs.laws.Bits.{test, on-none, on-put, on-without}
-use Rattle.basics.proofs.laws.Inputs.{inputs-ext, no-inputs, only-input, first-has}
+use Rattle.basics.proofs.Prelude.{agree, agreed, table₃, table₄, false≢true, and-eq-true-iff, _≡_, refl, sym, ap, ap₂, _∙_, Bool, true, false, cond, not, _&&_, _||_, and-true, or-false, List, [], _∷_, _++_, map, ℕ, zero, suc, _+_, _/_, _%_, _<_, _≤_, arith, eqb, ltb, ne-eqb, eqb-true, ltb-true, ltb-false, on, from, inputs, only, put, without, withHalf, asHalf, test, on-none, on-put, on-without, inputs-ext, no-inputs, only-input, first-has}
+use Rattle.rules.specs.Lines.{Lines, Made, Turn, event, isPending, pendingIn, servedIn, withIrr, withIsr, withMask, serve, enter, leave, newlyUnmasked, newlyMasked, polled, raised, lowered, cleared, masked}
 use Rattle.laws.proofs.laws.Halves.{placed, by-halves, on-new-half, on-kept-half}
 use Rattle.plain.specs.Machine.{Machine, Signal, quiet, asserts, deasserts, Stepped, rests, polls, raises, lowers}
-use Rattle.plain.specs.Plain.{Heard, inFront, heardFrom, Steps, at, Brought, nothing, bit, brings, clearedBy, unmaskedBy, maskedBy, wakable, servedBy}
-use Rattle.plain.specs.Plain.{Found, nobody, found, lowestFrom, isIt}
+use Rattle.plain.specs.Plain.{Heard, inFront, heardFrom, Steps, at, Brought, nothing, bit, brings, clearedBy, unmaskedBy, maskedBy, wakable, servedBy, Found, nobody, found, lowestFrom, isIt}
 use Rattle.plain.specs.Sequence.{machineIn}
 
 -- ---- one machine
@@ -32,6 +21,49 @@ one-of l n = refl
 
 machine= : {a p b q c r : Bool} → a ≡ p → b ≡ q → c ≡ r → machine a b c ≡ machine p q r
 machine= e f g t = machine (e t) (f t) (g t)
+
+-- ---- tables
+
+abbrev stepped : Machine → Signal → Stepped
+stepped m s = record { after = m; signal = s }
+
+abbrev sameSignal : Signal → Signal → Bool
+sameSignal quiet = elim [ quiet ↦ true | asserts ↦ false | deasserts ↦ false ]
+sameSignal asserts = elim [ quiet ↦ false | asserts ↦ true | deasserts ↦ false ]
+sameSignal deasserts = elim [ quiet ↦ false | asserts ↦ false | deasserts ↦ true ]
+
+signals-same : (s t : Signal) → sameSignal s t ≡ true → s ≡ t
+signals-same quiet = elim [ quiet ↦ λ e. refl | asserts ↦ λ e. absurd (false≢true e) | deasserts ↦ λ e. absurd (false≢true e) ]
+signals-same asserts = elim [ quiet ↦ λ e. absurd (false≢true e) | asserts ↦ λ e. refl | deasserts ↦ λ e. absurd (false≢true e) ]
+signals-same deasserts = elim [ quiet ↦ λ e. absurd (false≢true e) | asserts ↦ λ e. absurd (false≢true e) | deasserts ↦ λ e. refl ]
+
+-- a step is told by three marks and what is heard
+abbrev sameStep : Stepped → Stepped → Bool
+sameStep x y =
+    (agree (x .after .latched) (y .after .latched) && agree (x .after .masked) (y .after .masked))
+    && (agree (x .after .inService) (y .after .inService) && sameSignal (x .signal) (y .signal))
+
+steps-same : (x y : Stepped) → sameStep x y ≡ true → x ≡ y
+steps-same x y e =
+    let m = x .after in
+    let n = y .after in
+    let first = agree (m .latched) (n .latched) && agree (m .masked) (n .masked) in
+    let both = and-eq-true-iff first (agree (m .inService) (n .inService) && sameSignal (x .signal) (y .signal)) .0 e in
+    let marks = and-eq-true-iff (agree (m .latched) (n .latched)) (agree (m .masked) (n .masked)) .0 (both .0) in
+    let rest = and-eq-true-iff (agree (m .inService) (n .inService)) (sameSignal (x .signal) (y .signal)) .0 (both .1) in
+    λ t. stepped (machine= (agreed (m .latched) (n .latched) (marks .0)) (agreed (m .masked) (n .masked) (marks .1)) (agreed (m .inService) (n .inService) (rest .0)) t)
+    (signals-same (x .signal) (y .signal) (rest .1) t)
+
+-- what an input does that is met (c) or not: r latched, k masked, s in service
+polls-is : (c r k s : Bool) → cond c (polls (machine r k s)) (rests (machine r k s))
+    ≡ stepped (machine r k (s || (c && (r && not k && not s)))) (cond (c && (r && not k && not s)) asserts quiet)
+polls-is = table₄ sameStep steps-same _ _ refl
+
+raises-is : (c r k s : Bool) → cond c (raises (machine r k s)) (rests (machine r k s)) ≡ cond c (polls (machine (r || c) k s)) (rests (machine (r || c) k s))
+raises-is = table₄ sameStep steps-same _ _ refl
+
+lowers-is : (c r k s : Bool) → cond c (lowers (machine r k s)) (rests (machine r k s)) ≡ stepped (machine (r && not c) k (s && not c)) (cond (s && c) deasserts quiet)
+lowers-is = table₄ sameStep steps-same _ _ refl
 
 -- ---- what is heard
 
@@ -111,33 +143,13 @@ module _ (m : ℕ) (l : Lines) where
   poll-steps : (vs : List ℕ) → Steps-are vs false (at m polls) l (enter vs false (only m) l)
   poll-steps vs = record {
     after = λ n b.
-        after (only m n) (on (l .irr) n) (on (l .mask) n) (on (l .isr) n)
+        ap (λ (x : Stepped). x .after) (polls-is (only m n) (on (l .irr) n) (on (l .mask) n) (on (l .isr) n))
         ∙ machine= refl refl (ap (λ (c : Bool). on (l .isr) n || c) (sym (one-or-none n b))) ∙ sym (serve-one vs false l ns n b);
     made =
         ap (map (madeBy vs false)) (heard-ext 0 64 _ (λ n. cond (isIt (firstOf ns) n) asserts quiet) (λ i p b.
-        signal (only m i) (on (l .irr) i) (on (l .mask) i) (on (l .isr) i) ∙ ap (λ (c : Bool). cond c asserts quiet) (sym (one-or-none i b))))
+        ap (λ (x : Stepped). x .signal) (polls-is (only m i) (on (l .irr) i) (on (l .mask) i) (on (l .isr) i)) ∙ ap (λ (c : Bool). cond c asserts quiet) (sym (one-or-none i b))))
         ∙ heard-asserts vs false 0 64 (isIt (firstOf ns)) ∙ serve-made vs false l (pendingIn (only m) l) ns refl;
   }
-    where
-      after : (c r k s : Bool) → cond c (polls (machine r k s)) (rests (machine r k s)) .after ≡ machine r k (s || (c && (r && not k && not s)))
-      after true true true true = refl
-      after true true true false = refl
-      after true true false true = refl
-      after true true false false = refl
-      after true false true true = refl
-      after true false true false = refl
-      after true false false true = refl
-      after true false false false = refl
-      after false r k true = refl
-      after false r k false = refl
-
-      signal : (c r k s : Bool) → cond c (polls (machine r k s)) (rests (machine r k s)) .signal ≡ cond (c && (r && not k && not s)) asserts quiet
-      signal true true true true = refl
-      signal true true true false = refl
-      signal true true false true = refl
-      signal true true false false = refl
-      signal true false k s = refl
-      signal false r k s = refl
 
 -- raise m: it is latched, and then polled
 module _ (m : ℕ) (l : Lines) where
@@ -145,14 +157,9 @@ module _ (m : ℕ) (l : Lines) where
   latchedLines = withIrr l (put (l .irr) m)
 
   raise-is-poll : (n : ℕ) → n < 64 → at m raises n (oneOf l n) ≡ at m polls n (oneOf latchedLines n)
-  raise-is-poll n b = go (only m n) (on (l .irr) n) ∙ ap (λ (c : Bool). at m polls n (machine c (on (l .mask) n) (on (l .isr) n))) (sym (on-put (l .irr) m n b))
-    where
-      go : (c r : Bool) → cond c (raises (machine r (on (l .mask) n) (on (l .isr) n))) (rests (machine r (on (l .mask) n) (on (l .isr) n)))
-          ≡ cond c (polls (machine (r || c) (on (l .mask) n) (on (l .isr) n))) (rests (machine (r || c) (on (l .mask) n) (on (l .isr) n)))
-      go true true = refl
-      go true false = refl
-      go false true = refl
-      go false false = refl
+  raise-is-poll n b =
+      raises-is (only m n) (on (l .irr) n) (on (l .mask) n) (on (l .isr) n)
+      ∙ ap (λ (c : Bool). at m polls n (machine c (on (l .mask) n) (on (l .isr) n))) (sym (on-put (l .irr) m n b))
 
   raise-steps : (vs : List ℕ) → Steps-are vs false (at m raises) l (raised vs l m)
   unfolding raised polled
@@ -175,27 +182,11 @@ raised-steps = raise-steps
 module _ (f : ℕ → Bool) (l : Lines) where
   leave-steps : (vs : List ℕ) (o : Bool) → Steps-are vs o (λ n m. cond (f n) (lowers m) (rests m)) l (leave vs o f (withIrr l (without (l .irr) f)))
   leave-steps vs o = record {
-    after = λ n b. after (f n) (on (l .irr) n) (on (l .mask) n) (on (l .isr) n) ∙ machine= (sym (on-without (l .irr) f n b)) refl (sym (on-without (l .isr) f n b));
+    after = λ n b. ap (λ (x : Stepped). x .after) (lowers-is (f n) (on (l .irr) n) (on (l .mask) n) (on (l .isr) n)) ∙ machine= (sym (on-without (l .irr) f n b)) refl (sym (on-without (l .isr) f n b));
     made =
-        ap (map (madeBy vs o)) (heard-ext 0 64 _ (λ n. cond (servedIn f l n) deasserts quiet) (λ i p b. signal (f i) (on (l .irr) i) (on (l .mask) i) (on (l .isr) i)))
+        ap (map (madeBy vs o)) (heard-ext 0 64 _ (λ n. cond (servedIn f l n) deasserts quiet) (λ i p b. ap (λ (x : Stepped). x .signal) (lowers-is (f i) (on (l .irr) i) (on (l .mask) i) (on (l .isr) i))))
         ∙ heard-deasserts vs o 0 64 (servedIn f l);
   }
-    where
-      after : (c r k s : Bool) → cond c (lowers (machine r k s)) (rests (machine r k s)) .after ≡ machine (r && not c) k (s && not c)
-      after true true k true = refl
-      after true true k false = refl
-      after true false k true = refl
-      after true false k false = refl
-      after false true k true = refl
-      after false true k false = refl
-      after false false k true = refl
-      after false false k false = refl
-
-      signal : (c r k s : Bool) → cond c (lowers (machine r k s)) (rests (machine r k s)) .signal ≡ cond (s && c) deasserts quiet
-      signal true r k true = refl
-      signal true r k false = refl
-      signal false r k true = refl
-      signal false r k false = refl
 
 pub lowered-steps : (m : ℕ) (l : Lines) (vs : List ℕ) → Steps-are vs false (at m lowers) l (lowered vs l m)
 unfolding lowered
@@ -294,13 +285,9 @@ module _ (h : Bool) (v : ℕ) (l : Lines) (vs : List ℕ) where
       ∙ ap (λ (c : Bool). (on (l .mask) n && not c) && (on (l .irr) n && not c && not (on (l .isr) n))) (sym (half-bit h (l .mask) v n b))
     where
       go : (x : Brought) (r k s : Bool) → wakable x (machine r k s) ≡ ((k && not (becomes x k)) && (r && not (becomes x k) && not s))
-      go nothing r true s = refl
-      go nothing r false s = refl
-      go (bit true) r true s = refl
-      go (bit true) r false s = refl
-      go (bit false) true true s = refl
-      go (bit false) false true s = refl
-      go (bit false) r false s = refl
+      go nothing = table₃ agree agreed _ _ refl
+      go (bit true) = table₃ agree agreed _ _ refl
+      go (bit false) = table₃ agree agreed _ _ refl
 
   woken-is : (n : ℕ) → wokenIn n ≡ isIt (firstOf (inputs fresh)) n
   woken-is n = ap (λ (w : Found). isIt w n) (lowest-first 0 64 _ ∙ ap firstOf (inputs-ext _ fresh wakable-is))
@@ -317,6 +304,30 @@ module _ (h : Bool) (v : ℕ) (l : Lines) (vs : List ℕ) where
           (λ t. rw (t, wakable-is n b) (ap (λ (k : ℕ). not (fresh k)) (eqb-true n m t) ∙ ap not (first-has 0 64 fresh m ns e .0)))
           (λ t. rw t)
 
+  -- the two steps, one after another, of a machine that is woken only where it could wake
+  abbrev woken : Bool → Brought → Machine → Bool
+  woken w x m = w && not (wakable x m)
+
+  unmasks-is : (x : Brought) (w r k s : Bool) → cond (woken w x (machine r k s)) (cond w asserts quiet) (unmaskedBy w x (machine r k s) .signal) ≡ cond w asserts quiet
+  unmasks-is nothing = table₄ sameSignal signals-same _ _ refl
+  unmasks-is (bit true) = table₄ sameSignal signals-same _ _ refl
+  unmasks-is (bit false) = table₄ sameSignal signals-same _ _ refl
+
+  abbrev masking : (x : Brought) (w r k s : Bool) → Stepped
+  masking x w r k s = stepped (machine r (becomes x k) ((s || w) && not (not k && becomes x k))) (cond ((s || w) && (not k && becomes x k)) deasserts quiet)
+
+  masks-is : (x : Brought) (w r k s : Bool) → cond (woken w x (machine r k s)) (masking x w r k s) (maskedBy x (unmaskedBy w x (machine r k s) .after)) ≡ masking x w r k s
+  masks-is nothing = table₄ sameStep steps-same _ _ refl
+  masks-is (bit true) = table₄ sameStep steps-same _ _ refl
+  masks-is (bit false) = table₄ sameStep steps-same _ _ refl
+
+  both-steps : (n : ℕ) → n < 64 → maskedBy (brings h v n) (unmaskedBy (wokenIn n) (brings h v n) (oneOf l n) .after)
+      ≡ masking (brings h v n) (wokenIn n) (on (l .irr) n) (on (l .mask) n) (on (l .isr) n)
+  both-steps n b =
+      let x = brings h v n in
+      let m = masking x (wokenIn n) (on (l .irr) n) (on (l .mask) n) (on (l .isr) n) in
+      sym (λ i. cond (woken-could n b i) m (maskedBy x (unmaskedBy (wokenIn n) x (oneOf l n) .after))) ∙ masks-is x (wokenIn n) (on (l .irr) n) (on (l .mask) n) (on (l .isr) n)
+
   -- the machines between the two steps
   abbrev pub middle : ℕ → Machine
   middle n = unmaskedBy (wokenIn n) (brings h v n) (oneOf l n) .after
@@ -324,20 +335,10 @@ module _ (h : Bool) (v : ℕ) (l : Lines) (vs : List ℕ) where
   pub unmask-made : map (madeBy vs true) (heardFrom 0 64 (λ n. unmaskedBy (wokenIn n) (brings h v n) (oneOf l n) .signal)) ≡ begun .made
   unmask-made =
       ap (map (madeBy vs true)) (heard-ext 0 64 _ (λ n. cond (isIt (firstOf (inputs fresh)) n) asserts quiet)
-      (λ i p b. signal (wokenIn i) (brings h v i) (on (l .irr) i) (on (l .mask) i) (on (l .isr) i) (woken-could i b) ∙ ap (λ (c : Bool). cond c asserts quiet) (woken-is i)))
+      (λ i p b.
+      sym (λ j. cond (woken-could i b j) (cond (wokenIn i) asserts quiet) (unmaskedBy (wokenIn i) (brings h v i) (oneOf l i) .signal))
+      ∙ unmasks-is (brings h v i) (wokenIn i) (on (l .irr) i) (on (l .mask) i) (on (l .isr) i) ∙ ap (λ (c : Bool). cond c asserts quiet) (woken-is i)))
       ∙ heard-asserts vs true 0 64 (isIt (firstOf (inputs fresh))) ∙ serve-made vs true (withMask l new) fresh (inputs fresh) refl
-    where
-      signal : (w : Bool) (x : Brought) (r k s : Bool) → (w && not (wakable x (machine r k s))) ≡ false → unmaskedBy w x (machine r k s) .signal ≡ cond w asserts quiet
-      signal true nothing r k s e = absurd (true≢false e)
-      signal true (bit true) r k s e = absurd (true≢false e)
-      signal true (bit false) true true false e = refl
-      signal true (bit false) true true true e = absurd (true≢false e)
-      signal true (bit false) true false s e = absurd (true≢false e)
-      signal true (bit false) false true s e = absurd (true≢false e)
-      signal true (bit false) false false s e = absurd (true≢false e)
-      signal false nothing r k s e = refl
-      signal false (bit true) r k s e = refl
-      signal false (bit false) r k s e = ap (λ (c : Bool). cond c asserts quiet) (and-false (k && r && not s))
 
   -- the bits between the two steps
   begun-bits : (n : ℕ) → n < 64 → oneOf (begun .after) n ≡ machine (on (l .irr) n) (becomes (brings h v n) (on (l .mask) n)) (on (l .isr) n || wokenIn n)
@@ -351,70 +352,18 @@ module _ (h : Bool) (v : ℕ) (l : Lines) (vs : List ℕ) where
   pub mask-after : (n : ℕ) → n < 64 → maskedBy (brings h v n) (middle n) .after ≡ oneOf (leave vs true leaving (begun .after) .after) n
   mask-after n b =
       let bits = begun-bits n b in
-      go (wokenIn n) (brings h v n) (on (l .irr) n) (on (l .mask) n) (on (l .isr) n) (woken-could n b)
+      ap (λ (x : Stepped). x .after) (both-steps n b)
       ∙ sym (machine= (ap (λ (m : Machine). m .latched) bits) (ap (λ (m : Machine). m .masked) bits)
       (on-without (begun .after .isr) leaving n b
       ∙ ap₂ (λ (c d : Bool). c && not (not (on (l .mask) n) && d)) (ap (λ (m : Machine). m .inService) bits) (half-bit h (l .mask) v n b)))
-    where
-      go : (w : Bool) (x : Brought) (r k s : Bool) → (w && not (wakable x (machine r k s))) ≡ false
-          → maskedBy x (unmaskedBy w x (machine r k s) .after) .after ≡ machine r (becomes x k) ((s || w) && not (not k && becomes x k))
-      go true nothing r k s e = absurd (true≢false e)
-      go true (bit true) r k s e = absurd (true≢false e)
-      go true (bit false) true true false e = refl
-      go true (bit false) true true true e = absurd (true≢false e)
-      go true (bit false) true false s e = absurd (true≢false e)
-      go true (bit false) false true s e = absurd (true≢false e)
-      go true (bit false) false false s e = absurd (true≢false e)
-      go false nothing r true true e = refl
-      go false nothing r true false e = refl
-      go false nothing r false true e = refl
-      go false nothing r false false e = refl
-      go false (bit true) r true true e = refl
-      go false (bit true) r true false e = refl
-      go false (bit true) r false true e = refl
-      go false (bit true) r false false e = refl
-      go false (bit false) true true true e = refl
-      go false (bit false) true true false e = refl
-      go false (bit false) true false true e = refl
-      go false (bit false) true false false e = refl
-      go false (bit false) false true true e = refl
-      go false (bit false) false true false e = refl
-      go false (bit false) false false true e = refl
-      go false (bit false) false false false e = refl
 
   pub mask-made : map (madeBy vs true) (heardFrom 0 64 (λ n. maskedBy (brings h v n) (middle n) .signal)) ≡ leave vs true leaving (begun .after) .made
   mask-made =
       ap (map (madeBy vs true)) (heard-ext 0 64 _ (λ n. cond (servedIn leaving (begun .after) n) deasserts quiet)
-      (λ i p b. signal (wokenIn i) (brings h v i) (on (l .irr) i) (on (l .mask) i) (on (l .isr) i) (woken-could i b)
+      (λ i p b. ap (λ (x : Stepped). x .signal) (both-steps i b)
       ∙ ap₂ (λ (c d : Bool). cond (c && (not (on (l .mask) i) && d)) deasserts quiet)
       (sym (ap (λ (m : Machine). m .inService) (begun-bits i b))) (sym (half-bit h (l .mask) v i b))))
       ∙ heard-deasserts vs true 0 64 (servedIn leaving (begun .after))
-    where
-      signal : (w : Bool) (x : Brought) (r k s : Bool) → (w && not (wakable x (machine r k s))) ≡ false
-          → maskedBy x (unmaskedBy w x (machine r k s) .after) .signal ≡ cond ((s || w) && (not k && becomes x k)) deasserts quiet
-      signal true nothing r k s e = absurd (true≢false e)
-      signal true (bit true) r k s e = absurd (true≢false e)
-      signal true (bit false) true true false e = refl
-      signal true (bit false) true true true e = absurd (true≢false e)
-      signal true (bit false) true false s e = absurd (true≢false e)
-      signal true (bit false) false true s e = absurd (true≢false e)
-      signal true (bit false) false false s e = absurd (true≢false e)
-      signal false nothing r true true e = refl
-      signal false nothing r true false e = refl
-      signal false nothing r false true e = refl
-      signal false nothing r false false e = refl
-      signal false (bit true) r true true e = refl
-      signal false (bit true) r true false e = refl
-      signal false (bit true) r false true e = refl
-      signal false (bit true) r false false e = refl
-      signal false (bit false) true true true e = refl
-      signal false (bit false) true true false e = refl
-      signal false (bit false) true false true e = refl
-      signal false (bit false) true false false e = refl
-      signal false (bit false) false true true e = refl
-      signal false (bit false) false true false e = refl
-      signal false (bit false) false false true e = refl
-      signal false (bit false) false false false e = refl
 
   -- both turns are the rules' one
   pub masked-is : masked vs l new ≡ record { after = leave vs true leaving (begun .after) .after; made = begun .made ++ leave vs true leaving (begun .after) .made }

@@ -1,22 +1,12 @@
 -- The list of the events offered against the ring: what waits, the drop count, the events made and those dropped, event by event.
-use mathlib.Core.Path.{_≡_, refl, sym, ap, subst, _∙_}
-use mathlib.Core.Bool.{Bool, true, false, cond}
-use mathlib.Core.List.{List, [], _∷_, _++_, map, append-nil, append-assoc}
-use Prim.Native.Nat.{ℕ, _+_, _≤_, min}
-use native.Mathlib.Omega.{arith}
-use lib.Dec.{ltb}
-use lib.ListN.{length, drop, length-append, length-drop, drop-of-length-le}
-use lib.Seq.{drop-append-le, drop-drop, drop-length}
-use borrow.Author.Tests.{ltb-true, ltb-false}
-use Rattle.rules.specs.Lines.{Made, event}
-use Rattle.rules.specs.Ring.{capacity, stop, Event, Ring, offer, drawn, offered, ringStep, ringRun, droppedBy, dropped}
-use Rattle.rules.specs.Device as device
-use Rattle.basics.proofs.laws.Bits.{test}
+use Rattle.basics.proofs.Prelude.{_≡_, refl, sym, ap, subst, _∙_, Bool, true, false, cond, List, [], _∷_, _++_, map, append-nil, append-assoc, ℕ, _+_, _≤_, min, arith, ltb, length, drop, length-append, length-drop, drop-of-length-le, drop-append-le, drop-drop, drop-length, ltb-true, ltb-false, test}
+use Rattle.rules.specs.{Lines.Made, Lines.event, Ring.capacity, Ring.stop, Ring.Event, Ring.Ring, Ring.offer, Ring.drawn, Ring.offered, Ring.ringStep, Ring.ringRun, Ring.droppedBy, Ring.dropped}
 use Rattle.plain.specs.Events.{Source, Offered, Queue, keptIn, droppedIn, waiting, dropCount, hasRoom, withDrained, asLoaded, kept, Note, returned, input}
 use Rattle.plain.specs.Plain.{Engine, withQueue, Heard, returns, offers, eachHeard}
-use Rattle.plain.specs.Events as events
 use Rattle.plain.specs.Sequence.{noteOf, fateIn, ringWith, notesOf, asMade, listedAs, inList, listed}
 use Rattle.plain.proofs.laws.Machines.{madeBy}
+use Rattle.rules.specs.Device as device
+use Rattle.plain.specs.Events as events
 
 -- ---- marks
 

@@ -1,25 +1,15 @@
 -- The plain engine and the ported one side by side: the relation between them, kept by every half, byte and width that is written.
-use mathlib.Core.Path.{_≡_, refl, sym, ap, subst, _∙_}
-use mathlib.Core.Bool.{Bool, true, false}
-use mathlib.Core.List.{List, [], _∷_, _++_, map, append-nil, append-assoc}
-use Prim.Native.Nat.{ℕ, _<_}
-use Rattle.basics.specs.Inputs.{withHalf}
-use Rattle.rules.specs.Lines.{Made, Turn, withIsr, leave, masked}
-use Rattle.rules.specs.Ring.{Event, Ring, RingAct, Drawn, ringRun, dropped}
+use Rattle.basics.proofs.Prelude.{_≡_, refl, sym, ap, subst, _∙_, Bool, true, false, List, [], _∷_, _++_, map, append-nil, append-assoc, ℕ, _<_, withHalf}
+use Rattle.rules.specs.{Lines.Made, Lines.Turn, Lines.withIsr, Lines.leave, Lines.masked, Ring.Event, Ring.Ring, Ring.RingAct, Ring.Drawn, Ring.ringRun, Ring.dropped}
 use Rattle.rules.specs.Core.{Stored, CoreTurn, Move, Act, move, setIsr, setMask, moved, lineTurn, vectorsAfter, storedAfter, turn, turns}
-use Rattle.rules.specs.Device.{Device, acted}
-use Rattle.rules.specs.Device as device
-use Rattle.rules.proofs.laws.Rings.{run-append, dropped-append}
-use Rattle.rules.proofs.laws.Acts.{turns-append, offers-append, acted-none, acted-append}
-use Rattle.rules.proofs.laws.Steps.{turns-one, acted-one}
-use Rattle.plain.specs.Events.{Note}
-use Rattle.plain.specs.Machine.{Machine}
-use Rattle.plain.specs.Plain.{Engine, heardFrom, heard, Steps, stepping, returns, offers, withMachines}
-use Rattle.plain.specs.Plain.{brings, unmaskedBy, maskedBy, wakable, Found, lowestFrom, remaskedBy, remasked}
+use Rattle.rules.{specs.Device.Device, specs.Device.acted, proofs.laws.Rings.run-append, proofs.laws.Rings.dropped-append}
+use Rattle.rules.proofs.laws.{Acts.turns-append, Acts.offers-append, Acts.acted-none, Acts.acted-append, Steps.turns-one, Steps.acted-one}
+use Rattle.plain.specs.{Events.Note, Machine.Machine}
+use Rattle.plain.specs.Plain.{Engine, heardFrom, heard, Steps, stepping, returns, offers, withMachines, brings, unmaskedBy, maskedBy, wakable, Found, lowestFrom, remaskedBy, remasked}
 use Rattle.plain.specs.Sequence.{notesOf}
-use Rattle.plain.proofs.laws.Machines.{machine, oneOf, madeBy, heard-ext, Steps-are, lowest-ext}
-use Rattle.plain.proofs.laws.Machines.{wokenIn, middle, unmask-made, mask-after, mask-made, masked-is, new, begun, leaving}
+use Rattle.plain.proofs.laws.Machines.{machine, oneOf, madeBy, heard-ext, Steps-are, lowest-ext, wokenIn, middle, unmask-made, mask-after, mask-made, masked-is, new, begun, leaving}
 use Rattle.plain.proofs.laws.Queues.{Tail, tail-of, Else, offers-else, returns-else, ringAfter, lostOf, offers-tail, returns-tail, returned-unoffered, notes-append}
+use Rattle.rules.specs.Device as device
 
 -- ---- the relation
 

@@ -1,25 +1,10 @@
 -- The loop of a drain: at each turn the oldest event comes out of the ring and stands as a pair behind those before it.
-use mathlib.Core.Path.{_≡_, refl, sym, ap, ap₂, _∙_}
-use mathlib.Core.Bool.{false}
-use mathlib.Core.List.{List, [], _∷_, _++_, append-nil}
-use Prim.Native.Nat.{ℕ, suc, _+_, _-_, _*_, _/_, _<_, _≤_, min}
-use native.Mathlib.Omega.{arith}
-use lib.ListN.{length, take, drop, getD, set, length-set, length-take, take-append-drop, drop-of-length-le}
-use lib.Seq.{drop-drop, drop-set-lt, drop-cons, take-all}
-use lib.Dec.{leb}
-use borrow.Author.Tests.{leb-true, leb-false}
-use Rattle.rules.specs.Ring as ring
+use Rattle.basics.proofs.Prelude.{_≡_, refl, sym, ap, ap₂, _∙_, false, List, [], _∷_, _++_, append-nil, ℕ, suc, _+_, _-_, _*_, _/_, _<_, _≤_, min, arith, length, take, drop, getD, set, length-set, length-take, take-append-drop, drop-of-length-le, drop-drop, drop-set-lt, drop-cons, take-all, leb, leb-true, leb-false, test, turn}
 use Rattle.rules.specs.Ring.{Event, Drawn, drawn, flag, pairsOf}
-use Rattle.basics.proofs.laws.Bits.{test}
-use Rattle.basics.proofs.laws.Lists.{turn}
-use Rattle.device.proofs.state.Slots.{ringOf}
-use Rattle.device.specs.state.View.{WellRing, ringView, eventOf}
-use Rattle.device.specs.declared.state.Ring.{Ring}
-use Rattle.port.specs.pop.Pops.{Pops, takenOf}
-use Rattle.port.specs.declared.pop.Popped.{Popped}
-use Rattle.port.specs.declared.pop.Taken.{Taken}
-use Rattle.port.specs.declared.pop.Taken.the-variants.{Nothing, One}
+use Rattle.device.{proofs.state.Slots.ringOf, specs.state.View.WellRing, specs.state.View.ringView, specs.state.View.eventOf, specs.declared.state.Ring.Ring}
+use Rattle.port.specs.{pop.Pops.Pops, pop.Pops.takenOf, declared.pop.Popped.Popped, declared.pop.Taken.Taken, declared.pop.Taken.the-variants.Nothing, declared.pop.Taken.the-variants.One}
 use Rattle.port.specs.drain_output.Drains.{Drains, pairPut}
+use Rattle.rules.specs.Ring as ring
 
 -- what holds at turn i of n: the ring is i events shorter, the pairs so far and those to come are all n, and what lies behind is as it was
 pub record Draining (before : ring.Ring) (n : ℕ) (entry buf : List ℕ) (out : Ring) (i : ℕ) : Type 0 where

@@ -1,24 +1,11 @@
 -- Events offered to a ring and how many of them it drops: none, one that is pushed, and one list after another.
-use mathlib.Core.Path.{_≡_, refl, sym, ap, ap₂, subst, _∙_}
-use mathlib.Core.Bool.{Bool, true, false, cond}
-use mathlib.Core.List.{List, [], _∷_, _++_}
-use Prim.Native.Nat.{ℕ, _+_, _≤_}
-use native.Mathlib.Omega.{arith}
-use lib.Dec.{ltb}
-use lib.ListN.{length}
-use Rattle.basics.specs.Inputs.{on}
-use Rattle.rules.specs.Lines.{Made, event}
-use Rattle.rules.specs.Ring as ring
-use Rattle.rules.specs.Ring.{capacity, Event, RingAct, Drawn, offer, dropped, ringStep, ringRun}
-use Rattle.rules.specs.Device.{offers, lost}
-use Rattle.rules.proofs.laws.Acts.{offers-append}
-use Rattle.rules.proofs.laws.Rings.{run-append}
+use Rattle.basics.proofs.Prelude.{_≡_, refl, sym, ap, ap₂, subst, _∙_, Bool, true, false, cond, List, [], _∷_, _++_, ℕ, _+_, _≤_, arith, ltb, length, on}
+use Rattle.rules.specs.{Lines.Made, Lines.event, Ring.capacity, Ring.Event, Ring.RingAct, Ring.Drawn, Ring.offer, Ring.dropped, Ring.ringStep, Ring.ringRun, Device.offers, Device.lost}
+use Rattle.rules.proofs.laws.{Acts.offers-append, Rings.run-append}
 use Rattle.laws.proofs.laws.Losses.{lost-append, lost-few, events-few}
-use Rattle.device.specs.state.View.{WellRing, ringView}
-use Rattle.device.specs.declared.state.Ring.{Ring}
-use Rattle.port.specs.declared.push.Pushed.{Pushed}
-use Rattle.port.specs.push.Pushes.{Pushes}
-use Rattle.port.specs.events_for_mask.Offers.{Offers, eventsOf}
+use Rattle.device.specs.{state.View.WellRing, state.View.ringView, declared.state.Ring.Ring}
+use Rattle.port.specs.{declared.push.Pushed.Pushed, push.Pushes.Pushes, events_for_mask.Offers.Offers, events_for_mask.Offers.eventsOf}
+use Rattle.rules.specs.Ring as ring
 
 pub offers-as : {r : Ring} {n : ℕ} {before : ring.Ring} {ms ns : List Made} → ms ≡ ns → Offers r n before ms → Offers r n before ns
 offers-as {r} {n} {before} e o = subst (Offers r n before) e o

@@ -1,22 +1,11 @@
 -- The loop that offers an event for each input of a mask, lowest first.
-use mathlib.Core.Path.{_≡_, refl, sym, ap, _∙_}
-use mathlib.Core.Bool.{Bool, true, cond}
-use mathlib.Core.List.{List, [], _∷_, _++_, map, append-nil, append-assoc}
-use Prim.Native.Nat.{ℕ, suc, _+_, _^_, _<_, _≤_}
-use native.Mathlib.Omega.{arith}
-use lib.ListN.{length, getD}
-use Rattle.basics.specs.Inputs.{on, inputs, only, without}
-use Rattle.rules.specs.Lines.{Made, event}
-use Rattle.rules.specs.Ring as ring
-use Rattle.rules.specs.Device.{offers}
-use Rattle.basics.proofs.laws.Inputs.{no-input}
+use Rattle.basics.proofs.Prelude.{_≡_, refl, sym, ap, _∙_, Bool, true, cond, List, [], _∷_, _++_, map, append-nil, append-assoc, ℕ, suc, _+_, _^_, _<_, _≤_, arith, length, getD, on, inputs, only, without, no-input}
+use Rattle.rules.specs.{Lines.Made, Lines.event, Device.offers}
 use Rattle.laws.proofs.laws.Losses.{from-few}
-use Rattle.device.specs.state.View.{WellRing, ringView}
-use Rattle.device.specs.declared.state.Ring.{Ring}
-use Rattle.port.specs.declared.push.Pushed.{Pushed}
-use Rattle.port.specs.push.Pushes.{Pushes}
-use Rattle.port.specs.events_for_mask.Offers.{Offers, eventsOf}
+use Rattle.device.specs.{state.View.WellRing, state.View.ringView, declared.state.Ring.Ring}
+use Rattle.port.specs.{declared.push.Pushed.Pushed, push.Pushes.Pushes, events_for_mask.Offers.Offers, events_for_mask.Offers.eventsOf}
 use Rattle.port.proofs.events_for_mask.Offering.{offers-as, none-offered, one-at-most, one-offered, offered-then}
+use Rattle.rules.specs.Ring as ring
 
 -- what holds at each turn: what was offered so far and what is left are all; and what was dropped and what is left are 64 at most
 pub record Queueing (vs : List ℕ) (a : Bool) (before : ring.Ring) (all : ℕ) (r : Ring) (n x : ℕ) : Type 0 where

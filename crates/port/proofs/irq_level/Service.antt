@@ -1,22 +1,10 @@
 -- What `update_irq` comes to: what `decide` gives, and its own mask expression, hold the inputs that can move, and the lowest bit is the first of them.
-use mathlib.Core.Path.{_≡_, refl, sym, ap, subst, subst⁻¹, _∙_}
-use mathlib.Core.Bool.{true, false}
-use mathlib.Core.List.{List}
-use Prim.Native.Nat.{ℕ, _<_, _-_, _^_}
-use lib.Bits.{bitAnd, bitOr}
-use lib.Count.{trailingZeros}
-use lib.ListN.{getD}
-use Rattle.basics.specs.Inputs.{on, inputs, register}
+use Rattle.basics.proofs.Prelude.{_≡_, refl, sym, ap, subst, subst⁻¹, _∙_, true, false, List, ℕ, _<_, _-_, _^_, bitAnd, bitOr, trailingZeros, getD, on, inputs, register, put-is, without-only-is, and-below, numberWith-lt, first-below, first-input, no-input}
 use Rattle.rules.specs.Lines.{withIsr, serve, pendingIn}
-use Rattle.basics.proofs.laws.Bits.{put-is, without-only-is, and-below, numberWith-lt}
-use Rattle.basics.proofs.laws.Inputs.{first-below, first-input, no-input}
 use Rattle.laws.proofs.laws.Sets.{unlatched-is}
-use Rattle.device.specs.state.View.{linesView}
-use Rattle.device.specs.declared.state.Lines.{Lines}
-use Rattle.device.specs.decide.Sets.{waitingOf}
-use Rattle.port.specs.irq_level.Moves.{Answers, retire, updated}
-use Rattle.device.specs.declared.state.Answer.the-variants.{None, Vector}
+use Rattle.device.specs.{state.View.linesView, declared.state.Lines.Lines, decide.Sets.waitingOf, declared.state.Answer.the-variants.None, declared.state.Answer.the-variants.Vector}
 use Rattle.device.proofs.decide.Deciding.{inputs-of}
+use Rattle.port.specs.irq_level.Moves.{Answers, retire, updated}
 use Rattle.port.proofs.irq_level.Turns.{bit}
 
 abbrev withService : Lines → ℕ → Lines

@@ -1,16 +1,7 @@
 -- What the engine's functions come to, over the rules alone: a move that returns its event beside the same move that offers it, the moves over no input, one input.
-use mathlib.Core.Path.{_≡_, refl, sym, ap, _∙_}
-use mathlib.Core.Bool.{Bool, true, false, cond, not, _&&_, and-false}
-use mathlib.Core.List.{List, [], _∷_, map}
-use Prim.Native.Nat.{ℕ, _*_, _%_, _^_, _<_}
-use lib.Dec.{eqb}
-use borrow.Author.Tests.{eq-eqb, eqb-true}
-use Rattle.basics.specs.Inputs.{on, inputs, only, put, without}
+use Rattle.basics.proofs.Prelude.{apart, _≡_, refl, sym, ap, _∙_, Bool, true, false, cond, not, _&&_, and-false, List, [], _∷_, map, ℕ, _*_, _%_, _^_, _<_, eqb, eq-eqb, eqb-true, on, inputs, only, put, without, test, is-number, put-lt, on-bit, on-without, inputs-ext, no-inputs}
 use Rattle.rules.specs.Lines.{Lines, stay, withIsr, withIrr, event, serve, enter, leave, pendingIn, servedIn, unlatchedIn, raised, lowered, polled}
-use Rattle.rules.specs.Ring.{offer}
-use Rattle.rules.specs.Device.{none, some, offers, returned}
-use Rattle.basics.proofs.laws.Bits.{test, is-number, put-lt, on-bit, on-without}
-use Rattle.basics.proofs.laws.Inputs.{inputs-ext, no-inputs}
+use Rattle.rules.specs.{Ring.offer, Device.none, Device.some, Device.offers, Device.returned}
 use Rattle.laws.proofs.laws.Sets.{only-served, only-unlatched, enter-ext}
 use Rattle.port.specs.irq_level.Moves.{retire, updated}
 
@@ -46,12 +37,7 @@ enter-none vs o f l e = ap (serve vs o l) (no-inputs (pendingIn f l) (λ i h. rw
 -- a register without what it does not hold
 pub without-none : (x : ℕ) (f : ℕ → Bool) → x < 2 ^ 64 → ((i : ℕ) → i < 64 → (on x i && f i) ≡ false) → without x f ≡ x
 unfolding without
-without-none x f h e = sym (is-number 64 x (λ m. on x m && not (f m)) h (λ i l. keeps (on x i) (f i) (e i l)))
-  where
-    keeps : (a b : Bool) → (a && b) ≡ false → a ≡ (a && not b)
-    keeps true true e = e
-    keeps true false e = refl
-    keeps false b e = refl
+without-none x f h e = sym (is-number 64 x (λ m. on x m && not (f m)) h (λ i l. apart (on x i) (f i) (e i l)))
 
 pub leave-none : (vs : List ℕ) (o : Bool) (f : ℕ → Bool) (l : Lines) → l .isr < 2 ^ 64 → ((i : ℕ) → i < 64 → (on (l .isr) i && f i) ≡ false) → leave vs o f l ≡ stay l
 leave-none vs o f l h e =

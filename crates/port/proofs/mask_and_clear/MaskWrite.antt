@@ -1,32 +1,15 @@
 -- What `update_int_mask` comes to, in its two stages: the lowest newly unmasked input that waits enters, then the newly masked ones leave.
-use mathlib.Core.Path.{_≡_, sym, ap, subst⁻¹, _∙_}
-use mathlib.Core.Bool.{Bool, true, false, cond, _&&_, and-false}
-use mathlib.Core.List.{List, _++_, map, append-nil}
-use Prim.Native.Nat.{ℕ, _+_, _<_, _≤_, _-_, _^_}
-use native.Mathlib.Omega.{arith}
-use lib.Bits.{bitAnd}
-use Rattle.basics.specs.Inputs.{on, inputs, register}
-use Rattle.rules.specs.Lines as lines
+use Rattle.basics.proofs.Prelude.{_≡_, sym, ap, subst⁻¹, _∙_, Bool, true, false, cond, _&&_, and-false, List, _++_, map, append-nil, ℕ, _+_, _<_, _≤_, _-_, _^_, arith, bitAnd, on, inputs, register, without-common-is, on-none}
 use Rattle.rules.specs.Lines.{Made, Turn, withMask, withIsr, event, enter, leave, pendingIn, newlyUnmasked, newlyMasked, masked}
 use Rattle.rules.specs.Device.{offers, returned}
-use Rattle.basics.proofs.laws.Bits.{without-common-is, on-none}
-use Rattle.laws.proofs.laws.Sets.{enter-ext, leave-ext}
-use Rattle.laws.proofs.laws.Losses.{lost-few, enter-few}
-use Rattle.device.specs.state.View.{WellRing, linesView, ringView}
-use Rattle.device.specs.declared.state.Lines.{Lines}
-use Rattle.device.specs.declared.state.Ring.{Ring}
-use Rattle.port.specs.declared.push.Pushed.{Pushed}
-use Rattle.port.specs.push.Pushes.{Pushes}
-use Rattle.device.specs.decide.Sets.{servedOf}
-use Rattle.port.specs.irq_level.Moves.{Answers}
-use Rattle.device.specs.state.View.{answerValue}
-use Rattle.port.specs.events_for_mask.Offers.{Offers, eventsOf}
-use Rattle.port.specs.mask_and_clear.Moves.{Moves}
-use Rattle.device.specs.declared.state.Answer.the-variants.{None, Vector}
+use Rattle.laws.proofs.laws.{Sets.enter-ext, Sets.leave-ext, Losses.lost-few, Losses.enter-few}
+use Rattle.device.specs.{state.View.WellRing, state.View.linesView, state.View.ringView, state.View.answerValue, declared.state.Lines.Lines, declared.state.Ring.Ring, decide.Sets.servedOf}
+use Rattle.device.{specs.declared.state.Answer.the-variants.None, specs.declared.state.Answer.the-variants.Vector, proofs.decide.Deciding.served-is, proofs.decide.Deciding.inputs-of}
+use Rattle.port.specs.{declared.push.Pushed.Pushed, push.Pushes.Pushes, irq_level.Moves.Answers, events_for_mask.Offers.Offers, events_for_mask.Offers.eventsOf, mask_and_clear.Moves.Moves}
 use Rattle.port.specs.declared.irq_level.Routed.{Routed}
-use Rattle.device.proofs.decide.Deciding.{served-is, inputs-of}
 use Rattle.port.proofs.irq_level.Turns.{serve-after, serve-isr, offers-one, offers-none, enter-none, leave-none}
 use Rattle.port.proofs.events_for_mask.Offering.{offers-as, none-offered, one-offered, offered-then}
+use Rattle.rules.specs.Lines as lines
 
 module _ (vs : List ℕ) (l : Lines) (r : Ring) (new up : ℕ) (ups : (i : ℕ) → i < 64 → on up i ≡ newlyUnmasked (l .«int_mask») new i)
     (hisr : l .intisr < 2 ^ 64) where

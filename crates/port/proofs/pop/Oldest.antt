@@ -1,15 +1,7 @@
 -- The slots of the ring with the oldest event taken out.
-use mathlib.Core.Path.{_≡_, refl, sym, ap, ap₂, _∙_}
-use mathlib.Core.Bool.{Bool, false}
-use mathlib.Core.List.{List, [], _∷_}
-use Prim.Native.Nat.{ℕ, zero, suc, _+_, _-_, _%_, _<_}
-use native.Mathlib.Nat.{mod-eq-of-lt}
-use native.Mathlib.Omega.{arith}
-use lib.ListN.{getD, take, drop}
+use Rattle.basics.proofs.Prelude.{_≡_, refl, sym, ap, ap₂, _∙_, Bool, false, List, [], _∷_, ℕ, zero, suc, _+_, _-_, _%_, _<_, mod-eq-of-lt, arith, getD, take, drop}
 use Rattle.rules.specs.Ring.{Event, Drawn, drawn}
-use Rattle.device.specs.state.View.{slots, ringView}
-use Rattle.device.specs.declared.state.Ring.{Ring}
-use Rattle.device.proofs.state.Slots.{ev, ringOf}
+use Rattle.device.{specs.state.View.slots, specs.state.View.ringView, specs.declared.state.Ring.Ring, proofs.state.Slots.ev, proofs.state.Slots.ringOf}
 
 module _ (vs : List ℕ) (fs : List Bool) where
   -- a head and the same head counted round are one

@@ -1,19 +1,7 @@
 -- The slots of the ring with one event more, behind the newest.
-use mathlib.Core.Path.{_≡_, refl, sym, ap, ap₂, _∙_}
-use mathlib.Core.Bool.{Bool, true, false}
-use mathlib.Core.List.{List, [], _∷_, _++_}
-use Prim.Native.Nat.{ℕ, zero, suc, _+_, _%_, _≤_, _<_, min}
-use native.Mathlib.Nat.{add-zero, add-suc, suc-add}
-use native.Mathlib.Numerals.{add-one}
-use native.Mathlib.Omega.{arith}
-use lib.ListN.{length, set}
-use lib.Seq.{getD-set-same, getD-set-other}
-use lib.Dec.{ltb}
-use borrow.Author.Tests.{lt-ltb, le-ltb}
-use Rattle.rules.specs.Ring.{capacity, stop, Event, offered}
-use Rattle.rules.proofs.laws.Rings.{offered-room, offered-full}
-use Rattle.device.specs.state.View.{slot, slots, ringView}
-use Rattle.device.specs.declared.state.Ring.{Ring}
+use Rattle.basics.proofs.Prelude.{_≡_, refl, sym, ap, ap₂, _∙_, Bool, true, false, List, [], _∷_, _++_, ℕ, zero, suc, _+_, _%_, _≤_, _<_, min, add-zero, add-suc, suc-add, add-one, arith, length, set, getD-set-same, getD-set-other, ltb, lt-ltb, le-ltb}
+use Rattle.rules.{specs.Ring.capacity, specs.Ring.stop, specs.Ring.Event, specs.Ring.offered, proofs.laws.Rings.offered-room, proofs.laws.Rings.offered-full}
+use Rattle.device.specs.{state.View.slot, state.View.slots, state.View.ringView, declared.state.Ring.Ring}
 use Rattle.device.proofs.state.Slots.{ev, ringOf, waiting-length}
 
 module _ (vs : List ℕ) (fs : List Bool) where

@@ -1,16 +1,7 @@
 -- Bytes read one after another: one byte more, and the Dword and the Word that they make.
-use mathlib.Core.Path.{_≡_, sym, ap, _∙_}
-use Prim.Native.Nat.{ℕ, _+_, _*_, _%_, _^_, _<_}
-use native.Mathlib.Nat.{add-zero, mul-le-mul-left}
-use native.Mathlib.Numerals.{add-one}
-use native.Mathlib.Omega.{arith}
-use lib.Bits.{bitOr, or-shifted-r}
-use lib.Pow.{pow-add, shl-exact}
-use Rattle.rules.specs.Core.{Core}
-use Rattle.rules.specs.Map.{bytes, cellAt}
-use Rattle.rules.specs.Access.{word, readByte, readDword, readAt}
-use Rattle.laws.proofs.laws.Halves.{byte-place}
-use Rattle.laws.proofs.laws.Widths.{dword-four}
+use Rattle.basics.proofs.Prelude.{_≡_, sym, ap, _∙_, ℕ, _+_, _*_, _%_, _^_, _<_, add-zero, mul-le-mul-left, add-one, arith, bitOr, or-shifted-r, pow-add, shl-exact}
+use Rattle.rules.specs.{Core.Core, Map.bytes, Map.cellAt, Access.word, Access.readByte, Access.readDword, Access.readAt}
+use Rattle.laws.proofs.laws.{Halves.byte-place, Widths.dword-four}
 use Rattle.port.specs.readers.Bytes.{bytesRead}
 
 -- v | b << (i * 8), for a v of i bytes

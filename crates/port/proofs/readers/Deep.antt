@@ -1,8 +1,5 @@
 -- A depth that is enough: for the four Bytes of a Dword among the bytes, and for a Word anywhere.
-use mathlib.Core.Path.{_≡_, sym, _∙_}
-use mathlib.Core.Bool.{true≢false}
-use Prim.Native.Nat.{ℕ, _-_, _≤_}
-use native.Mathlib.Omega.{arith}
+use Rattle.basics.proofs.Prelude.{_≡_, sym, _∙_, true≢false, ℕ, _-_, _≤_, arith}
 use Rattle.rules.specs.Map.{bytes, cellAt}
 use Rattle.laws.proofs.laws.Maps.{at-bytes, four-inside}
 use Rattle.port.specs.readers.Depths.{SplitDepth}

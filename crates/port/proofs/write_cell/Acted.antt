@@ -1,32 +1,16 @@
 -- A state that shows a device after acts, and how many events were dropped: by what was put into it, and acts after acts.
-use mathlib.Core.Path.{_≡_, refl, sym, ap, ap₂, subst⁻¹, _∙_}
-use mathlib.Core.Bool.{Bool, false}
-use mathlib.Core.List.{List, [], _∷_, _++_}
-use Prim.Native.Nat.{ℕ, _+_, _*_, _^_, _<_, _≤_}
-use native.Mathlib.Numerals.{add-one}
-use native.Mathlib.Omega.{arith}
-use lib.Bits.{bitAnd}
-use lib.ListN.{length, set}
-use Rattle.basics.specs.Numbers.{byteOf, withByte}
-use Rattle.basics.specs.Inputs.{withHalf}
+use Rattle.basics.proofs.Prelude.{_≡_, refl, sym, ap, ap₂, subst⁻¹, _∙_, Bool, false, List, [], _∷_, _++_, ℕ, _+_, _*_, _^_, _<_, _≤_, add-one, arith, bitAnd, length, set, byteOf, withByte, withHalf}
 use Rattle.rules.specs.Ring.{dropped}
-use Rattle.rules.specs.Core as core
 use Rattle.rules.specs.Core.{Core, CoreTurn, Act, Move, Plain, plain, withPlain, move, moved, lineTurn, turns, store, setPlain, setRoute, setVector}
-use Rattle.rules.specs.Map.{inByteArea}
-use Rattle.rules.specs.Access.{readDword, dwordActs, byteActs}
-use Rattle.rules.specs.Device.{Device, offers, acted, lost}
-use Rattle.rules.proofs.laws.Acts.{acted-none, acted-append}
-use Rattle.rules.proofs.laws.Steps.{turns-one}
+use Rattle.rules.specs.{Map.inByteArea, Access.readDword, Access.dwordActs, Access.byteActs, Device.Device, Device.offers, Device.acted, Device.lost}
+use Rattle.rules.proofs.laws.{Acts.acted-none, Acts.acted-append, Steps.turns-one}
 use Rattle.laws.proofs.laws.Losses.{losses, lost-acts, lost-acts-few, dword-short, byte-short}
 use Rattle.laws.proofs.laws.Writes.{byte-acts-outside, deviceOf, acted-move, acted-store, acted-vector}
-use Rattle.device.specs.declared.state.PchPicState.{PchPicState}
-use Rattle.device.specs.declared.state.Stored.{Stored}
+use Rattle.device.specs.declared.state.{PchPicState.PchPicState, Stored.Stored}
 use Rattle.device.specs.state.View.{linesView, storedView, ringView, view, Well, Is}
-use Rattle.port.specs.declared.mask_and_clear.Moved.{Moved}
-use Rattle.port.specs.mask_and_clear.Moves.{Moves}
-use Rattle.port.specs.declared.write_cell.Written.{Written}
-use Rattle.port.specs.write_cell.Writes.{Writes, bytesActs}
+use Rattle.port.specs.{declared.mask_and_clear.Moved.Moved, mask_and_clear.Moves.Moves, declared.write_cell.Written.Written, write_cell.Writes.Writes, write_cell.Writes.bytesActs}
 use Rattle.port.proofs.write_cell.Bytes.{bytes-short}
+use Rattle.rules.specs.Core as core
 
 -- the same acts, said otherwise
 pub is-acts : (d : Device) {s : PchPicState} {xs ys : List Act} → xs ≡ ys → Is s (acted d ys) → Is s (acted d xs)

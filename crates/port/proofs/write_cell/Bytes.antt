@@ -1,23 +1,8 @@
 -- Bytes written one after another: the Dword and the Word that they make, and how many acts they are.
-use mathlib.Core.Path.{_≡_, sym, _∙_}
-use mathlib.Core.Bool.{false}
-use mathlib.Core.List.{append-assoc}
-use Prim.Native.Nat.{ℕ, zero, suc, _+_, _*_, _≤_}
-use native.Mathlib.Nat.{add-zero}
-use native.Mathlib.Omega.{arith}
-use lib.ListN.{length, length-append}
-use Rattle.basics.specs.Numbers.{byteOf}
-use Rattle.basics.specs.Inputs.{half}
-use Rattle.rules.specs.Core.{Core, turns}
-use Rattle.rules.specs.Map.{bytes, cellAt}
-use Rattle.rules.specs.Access.{word, dwordActs, byteActs, writeActs}
-use Rattle.laws.proofs.laws.Writes.{dword-acts-four}
-use Rattle.laws.proofs.laws.Losses.{byte-short}
+use Rattle.basics.proofs.Prelude.{_≡_, sym, _∙_, append-assoc, ℕ, zero, suc, _+_, _*_, _≤_, add-zero, arith, length, length-append, byteOf}
+use Rattle.rules.specs.{Core.Core, Core.turns, Map.bytes, Map.cellAt, Access.word, Access.dwordActs, Access.byteActs, Access.writeActs}
+use Rattle.laws.proofs.laws.{Writes.dword-acts-four, Losses.byte-short}
 use Rattle.port.specs.write_cell.Writes.{bytesActs}
-
--- the low half keeps the low bytes
-pub low-bytes : (v w : ℕ) → w ≡ half false v → (byteOf w 0 ≡ byteOf v 0) × (byteOf w 1 ≡ byteOf v 1)
-low-bytes v w e = (omega arith, omega arith)
 
 module _ (c : Core) (o v : ℕ) where
   pub four-bytes : cellAt o ≡ bytes → bytesActs c o v 4 ≡ dwordActs o v

@@ -1,24 +1,16 @@
 -- Request C-17: `last_intirr`, written where the Rust writes it, never differs from IRR; and a route or vector index of 64 or more never arises.
-use mathlib.Core.Path.{_≡_, refl, sym, ap, _∙_}
-use mathlib.Core.Bool.{Bool, true, false, and-eq-true-iff}
-use mathlib.Core.List.{List, [], _∷_}
-use Prim.Native.Nat.{ℕ, _-_, _<_}
-use native.Mathlib.Omega.{arith}
-use lib.Dec.{leb, ltb}
-use borrow.Author.Tests.{leb-true, ltb-true, lt-ltb}
-use Rattle.basics.specs.Inputs.{only, put, inputs}
+use Rattle.basics.proofs.Prelude.{_≡_, refl, sym, ap, _∙_, Bool, true, false, and-eq-true-iff, List, [], _∷_, ℕ, _-_, _<_, arith, leb, ltb, leb-true, ltb-true, lt-ltb, only, put, inputs}
 use Rattle.rules.specs.Lines.{Lines, withIrr, withMask, pendingIn, serve, enter, newlyUnmasked, polled, raised, lowered, cleared, masked}
 use Rattle.rules.specs.Core.{Core, Move, poll, raise, lower, clear, setMask, Act, move, setIsr, store, setVector, moved, lineTurn, turn, turns}
 use Rattle.rules.specs.Map.{within, routesAt, routesEnd, vectorsAt, vectorsEnd, inRoutes, inVectors}
-use Rattle.rules.specs.Device.{Device, Call, some, actsOf, acted, step, reset}
-use Rattle.rules.specs.History.{history, fromReset}
+use Rattle.rules.specs.{Device.Device, Device.Call, Device.some, Device.actsOf, Device.acted, Device.step, Device.reset, History.history, History.fromReset}
 use Rattle.rules.specs.Copy.{copyMoved, copyAfter, copyActed, copyThrough, irqCount, indexFrom}
 use Rattle.rules.proofs.laws.Computed as computed
 
 -- ---- the copy
 
 -- going into service changes no latch
-serve-irr : (vs : List ℕ) (o : Bool) (l : Lines) (ns : List ℕ) → serve vs o l ns .after .irr ≡ l .irr
+pub serve-irr : (vs : List ℕ) (o : Bool) (l : Lines) (ns : List ℕ) → serve vs o l ns .after .irr ≡ l .irr
 serve-irr vs o l [] = refl
 serve-irr vs o l (n ∷ ns) = refl
 

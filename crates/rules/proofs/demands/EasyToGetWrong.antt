@@ -1,13 +1,7 @@
 -- Two of 01's points under 'Easy to get wrong', for every state: what a MASK write announces, and a cleared input. (The others are rows of the marked dozen, in crate sessions.)
-use mathlib.Core.Path.{_≡_, refl, ap, _∙_}
-use mathlib.Core.Bool.{Bool, true, false, not, _&&_, and-false}
-use mathlib.Core.List.{List, [], _∷_, _++_, map}
-use Prim.Native.Nat.{ℕ, zero, suc, _<_}
-use lib.ListN.{getD}
-use Rattle.basics.specs.Inputs.{on, inputs, without}
+use Rattle.basics.proofs.Prelude.{_≡_, refl, ap, _∙_, Bool, true, false, not, _&&_, and-false, List, [], _∷_, _++_, map, ℕ, zero, suc, _<_, getD, on, inputs, without, on-without}
 use Rattle.rules.specs.Lines.{Lines, Made, event, isPending, withMask, serve, pendingIn, servedIn, newlyUnmasked, newlyMasked, cleared, masked}
 use Rattle.rules.proofs.laws.Computed as computed
-use Rattle.basics.proofs.laws.Bits.{on-without}
 
 abbrev assertFlags : List Made → List Bool
 assertFlags ms = map (λ (m : Made). m .asserted) ms

@@ -1,20 +1,10 @@
 -- What a write tells of the events that it dropped (02, C-15): always their number, at the stop of the count too, where the count rises by less; of a
 -- Qword and of a Word the sum of both parts.
-use mathlib.Core.Path.{_≡_, refl, ap, _∙_}
-use mathlib.Core.Bool.{true, false}
-use mathlib.Core.List.{List, _++_}
-use Prim.Native.Nat.{ℕ, _+_, _/_, _^_, _<_}
-use native.Mathlib.Omega.{arith}
-use lib.ListN.{length, replicate, length-append}
-use Rattle.basics.specs.Numbers.{byteOf}
-use Rattle.basics.specs.Inputs.{half}
-use Rattle.rules.specs.Ring.{dropped, ringRun}
-use Rattle.rules.specs.Core.{Act, CoreTurn, turns}
+use Rattle.basics.proofs.Prelude.{_≡_, refl, ap, _∙_, true, false, List, _++_, ℕ, _+_, _/_, _^_, _<_, arith, length, replicate, length-append, byteOf, half}
+use Rattle.rules.specs.{Ring.dropped, Ring.ringRun, Core.Act, Core.CoreTurn, Core.turns}
 use Rattle.rules.specs.Access.{byte, word, dword, qword, dwordActs, byteActs, writeActs}
 use Rattle.rules.specs.Device.{Device, write, some, amount, offers, acted, actsOf, step, lost, value, withLines, withRing, reset}
-use Rattle.rules.proofs.laws.Running.{running}
-use Rattle.rules.proofs.laws.Rings.{dropped-append}
-use Rattle.rules.proofs.laws.Acts.{turns-append, offers-append}
+use Rattle.rules.proofs.laws.{Running.running, Rings.dropped-append, Acts.turns-append, Acts.offers-append}
 
 -- ---- always
 

@@ -1,16 +1,7 @@
 -- What a single event does to the numbers (02, C-19): it takes the next number, whether it is returned, kept or dropped, and one that is kept waits with its
 -- number behind the others. A returned vector has its number in bits 16 to 31 of the value.
-use mathlib.Core.Path.{_≡_, refl, sym, ap, _∙_}
-use mathlib.Core.Bool.{true, false}
-use mathlib.Core.List.{List, [], _∷_, _++_, map}
-use Prim.Native.Nat.{ℕ, _+_, _*_, _/_, _%_, _^_, _<_, _≤_, min}
-use native.Mathlib.Omega.{arith}
-use lib.ListN.{length, take, drop, length-take}
-use borrow.Author.Tests.{lt-ltb, le-ltb}
-use Rattle.rules.specs.Lines.{Made}
-use Rattle.rules.specs.Ring.{Event, drawn}
-use Rattle.rules.specs.Core.{turns}
-use Rattle.rules.specs.Device.{Device, drain, some, actsOf, step}
+use Rattle.basics.proofs.Prelude.{_≡_, refl, sym, ap, _∙_, true, false, List, [], _∷_, _++_, map, ℕ, _+_, _*_, _/_, _%_, _^_, _<_, _≤_, min, arith, length, take, drop, length-take, lt-ltb, le-ltb}
+use Rattle.rules.specs.{Lines.Made, Ring.Event, Ring.drawn, Core.turns, Device.Device, Device.drain, Device.some, Device.actsOf, Device.step}
 use Rattle.rules.specs.Numbering.{Numbers, WellNumbered, following, takes, takesAll, returnedWith, withNumbers, quadsOf, numbersAfter, drainedWith}
 use Rattle.rules.proofs.laws.Steps.{drain-drained}
 

@@ -1,10 +1,6 @@
 -- Acts, one after another: acting in two parts is acting in one, in the core, in what is made, in what is offered, and in the device.
-use mathlib.Core.Path.{_≡_, refl, sym, ap, _∙_}
-use mathlib.Core.Bool.{Bool, true, false, cond}
-use mathlib.Core.List.{List, [], _∷_, _++_, append-assoc}
-use Rattle.rules.specs.Lines.{Made}
-use Rattle.rules.specs.Ring.{Ring, RingAct, offer, Drawn, ringRun}
-use Rattle.rules.specs.Core.{Core, Act, CoreTurn, turn, turns}
+use Rattle.basics.proofs.Prelude.{_≡_, refl, sym, ap, _∙_, Bool, true, false, cond, List, [], _∷_, _++_, append-assoc}
+use Rattle.rules.specs.{Lines.Made, Ring.Ring, Ring.RingAct, Ring.offer, Ring.Drawn, Ring.ringRun, Core.Core, Core.Act, Core.CoreTurn, Core.turn, Core.turns}
 use Rattle.rules.specs.Device.{Device, Call, actsOf, draws, offers, acted, step}
 use Rattle.rules.proofs.laws.Rings.{run-append}
 

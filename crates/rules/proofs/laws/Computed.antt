@@ -1,12 +1,6 @@
 -- The definitions on closed numbers, so that it is seen what they say: what a MASK write announces, what a Byte written to ISR leaves, and numbers of events.
-use mathlib.Core.Path.{_≡_, refl}
-use mathlib.Core.Bool.{true, false}
-use mathlib.Core.List.{[], _∷_}
-use Rattle.basics.specs.Numbers.{written}
-use Rattle.rules.specs.Lines.{masked}
-use Rattle.rules.specs.Access.{byte}
-use Rattle.rules.specs.Device.{write, step, reset, withLines, upFrom}
-use Rattle.rules.specs.Numbering.{fromZero, numberTwos}
+use Rattle.basics.proofs.Prelude.{_≡_, refl, true, false, [], _∷_, written}
+use Rattle.rules.specs.{Lines.masked, Access.byte, Device.write, Device.step, Device.reset, Device.withLines, Device.upFrom, Numbering.fromZero, Numbering.numberTwos}
 use Rattle.rules.proofs.laws.Running.{running}
 
 -- 3 and 9 wait, and are unmasked at once: only 3 goes into service, and is announced (01, The marked dozen: M9)

@@ -1,19 +1,9 @@
 -- Counts over the inputs and over events, and the balance of the two moves of the lines: whatever is counted, asserts and what was in service before
 -- come to deasserts and what is in service after. p says which inputs count, q which events: that of each input as that input.
-use mathlib.Core.Path.{_≡_, refl, sym, ap, _∙_}
-use mathlib.Core.Bool.{Bool, true, false, cond, not, _&&_, _||_}
-use mathlib.Core.List.{List, [], _∷_, _++_, map}
-use Prim.Native.Nat.{ℕ, zero, suc, _+_, _<_}
-use native.Mathlib.Omega.{arith}
-use lib.ListN.{length}
-use borrow.Author.Tests.{eqb-true}
-use Rattle.basics.specs.Inputs.{on, from, inputs, only, put, without, withHalf}
-use Rattle.rules.specs.Lines.{Lines, Made, Turn, stay, andThen, event, pendingIn, servedIn, serve, enter, leave, withIrr, withMask}
-use Rattle.rules.specs.Lines.{newlyUnmasked, newlyMasked, polled, raised, lowered, cleared, masked}
+use Rattle.basics.proofs.Prelude.{agree, agreed, swap, table₃, _≡_, refl, sym, ap, _∙_, Bool, true, false, cond, not, _&&_, _||_, List, [], _∷_, _++_, map, ℕ, zero, suc, _+_, _<_, arith, length, eqb-true, on, from, inputs, only, put, without, withHalf, test, on-put, on-without, inputs-ext, only-input, first-has}
+use Rattle.rules.specs.Lines.{Lines, Made, Turn, stay, andThen, event, pendingIn, servedIn, serve, enter, leave, withIrr, withMask, newlyUnmasked, newlyMasked, polled, raised, lowered, cleared, masked}
 use Rattle.rules.specs.Core.{Move, poll, raise, lower, clear, setMask, moved}
 use Rattle.rules.specs.Account.{tally, assertsWith, deassertsWith, servedWith, hasVector, carries, asserts, deasserts}
-use Rattle.basics.proofs.laws.Bits.{test, on-put, on-without}
-use Rattle.basics.proofs.laws.Inputs.{inputs-ext, only-input, first-has}
 
 -- ---- how many inputs
 
@@ -77,22 +67,9 @@ tally-map q e n (suc k) f = omega (arith, tally-from q e n k f, tally-map q e (s
 
 -- ---- the balance of a turn
 
-swap : (a b c : Bool) → ((a && b) && c) ≡ ((a && c) && b)
-swap true true true = refl
-swap true true false = refl
-swap true false true = refl
-swap true false false = refl
-swap false b c = refl
-
 -- a: in service before; p: counted; e: the input that enters
 entered : (a p e : Bool) → (((a || e) && p) && e) ≡ (e && p)
-entered true true true = refl
-entered true true false = refl
-entered true false true = refl
-entered true false false = refl
-entered false true true = refl
-entered false false true = refl
-entered false p false = refl
+entered = table₃ agree agreed _ _ refl
 
 others : (a p e : Bool) → (e ≡ true → a ≡ false) → (((a || e) && p) && not e) ≡ (a && p)
 others true true true h = sym (h refl)

@@ -1,19 +1,9 @@
 -- The numbers of events beside the device: they stay in step with its ring, whatever is made and drained.
-use mathlib.Core.Path.{_≡_, refl, sym, ap, _∙_}
-use mathlib.Core.Bool.{true, false}
-use mathlib.Core.List.{List, [], _∷_, _++_}
-use Prim.Native.Nat.{ℕ, zero, suc, _+_, _-_, _^_, _<_}
-use native.Mathlib.Omega.{arith}
-use lib.Dec.{ltb, lit<}
-use lib.ListN.{length, drop, getD, length-append, length-drop}
-use lib.Seq.{getD-drop}
-use Rattle.rules.specs.Lines.{Made}
-use Rattle.rules.specs.Ring.{capacity, Event, Ring, offered, drawn, ringStep, ringRun}
-use Rattle.rules.specs.Device.{Device, Call, level, poll, read, write, drain, offers, acted, actsOf, step}
-use Rattle.rules.specs.Core.{turns}
+use Rattle.basics.proofs.Prelude.{_≡_, refl, sym, ap, _∙_, true, false, List, [], _∷_, _++_, ℕ, zero, suc, _+_, _-_, _^_, _<_, arith, ltb, lit<, length, drop, getD, length-append, length-drop, getD-drop, test}
+use Rattle.rules.specs.{Lines.Made, Ring.capacity, Ring.Event, Ring.Ring, Ring.offered, Ring.drawn, Ring.ringStep, Ring.ringRun}
+use Rattle.rules.specs.{Device.Device, Device.Call, Device.level, Device.poll, Device.read, Device.write, Device.drain, Device.offers, Device.acted, Device.actsOf, Device.step, Core.turns}
 use Rattle.rules.specs.Access.{Width}
 use Rattle.rules.specs.Numbering.{Numbers, WellNumbered, following, takes, takesAll, roomOf, fewer, numbersAfter}
-use Rattle.basics.proofs.laws.Bits.{test}
 
 -- numbers of 16 bits, n of them waiting: what WellNumbered says of a device's ring
 pub record Fits (s : Numbers) (n : ℕ) : Type 0 where

@@ -1,14 +1,7 @@
 -- The ring: an offer by the room that it finds, a drain, and runs of offers and drains joined. What waited and what was kept since is what was drained
 -- since and what waits (fifo), and the count is of those dropped, up to the stop (drops-run).
-use mathlib.Core.Path.{_≡_, refl, sym, ap, _∙_}
-use mathlib.Core.List.{List, [], _∷_, _++_, append-assoc, append-nil}
-use Prim.Native.Nat.{ℕ, _+_, _<_, _≤_, min}
-use native.Mathlib.Omega.{arith}
-use lib.Dec.{ltb}
-use lib.ListN.{length, length-append, take-append-drop}
-use borrow.Author.Tests.{lt-ltb, le-ltb}
+use Rattle.basics.proofs.Prelude.{_≡_, refl, sym, ap, _∙_, List, [], _∷_, _++_, append-assoc, append-nil, ℕ, _+_, _<_, _≤_, min, arith, ltb, length, length-append, take-append-drop, lt-ltb, le-ltb, test}
 use Rattle.rules.specs.Ring.{capacity, stop, Event, Ring, RingAct, Drawn, offer, draw, offered, drawn, ringStep, ringRun, keptBy, droppedBy, kept, dropped, lostOf}
-use Rattle.basics.proofs.laws.Bits.{test}
 
 -- an event that finds room waits behind the others
 pub offered-room : (r : Ring) (e : Event) → length (r .waiting) < capacity → offered r e ≡ record { waiting = r .waiting ++ (e ∷ []); drops = r .drops }

@@ -1,21 +1,14 @@
 -- One call of the device, in terms of the lines or of the ring alone: a level or poll call moves the lines and returns its event, a drain draws from the ring, a read changes nothing.
-use mathlib.Core.Path.{_≡_, refl, ap, _∙_}
-use mathlib.Core.Bool.{Bool, true, false}
-use mathlib.Core.List.{List, [], _∷_, map, append-nil}
-use Prim.Native.Nat.{ℕ, zero, suc}
-use native.Mathlib.Omega.{arith}
-use lib.ListN.{drop, length-drop}
-use Rattle.basics.specs.Numbers.{Bytes}
-use Rattle.basics.specs.Inputs.{inputs, only, put, without}
+use Rattle.basics.proofs.Prelude.{_≡_, refl, ap, _∙_, Bool, true, false, List, [], _∷_, map, append-nil, ℕ, zero, suc, arith, drop, length-drop, Bytes, inputs, only, put, without}
 use Rattle.rules.specs.Lines.{Lines, Made, withIrr, event, serve, enter, leave, pendingIn, servedIn, polled, raised, lowered}
-pub use Rattle.rules.specs.Lines.{levelled}
 use Rattle.rules.specs.Ring.{Event, RingAct, drawn, ringStep, ringRun}
 use Rattle.rules.specs.Core.{Core, Act, move, Move, poll, raise, lower, CoreTurn, turn, turns, lineTurn, moved, vectorsAfter, storedAfter}
 use Rattle.rules.specs.Access.{Width, writeActs}
 use Rattle.rules.specs.Device.{Device, WellFormed, level, read, write, drain, actsOf, offers, acted, step, value, returned}
-pub use Rattle.rules.specs.Device.{withLines, withRing}
-use Rattle.rules.specs.Device as device
 use Rattle.rules.proofs.laws.Acts.{acted-none, step-acted}
+use Rattle.rules.specs.Device as device
+pub use Rattle.rules.specs.Lines.{levelled}
+pub use Rattle.rules.specs.Device.{withLines, withRing}
 
 -- one act
 pub turns-one : (c : Core) (a : Act) → turns c (a ∷ []) ≡ turn c a

@@ -1,44 +1,21 @@
 -- `feed_byte` is right since an ending closes the line so far, and any other byte only makes it longer; a long line may lose it.
-use mathlib.Core.Path.{sym}
-use native.Mathlib.Omega.{arith}
-use lib.Seq.{length-take-le}
-use borrow.Author.Needs.{needs}
-use Rattle.session.proofs.Feeding.{fed-ending, fed-kept, fed-lost}
-use Rattle.session.proofs.feed_byte.Statement.{statement}
+use Rattle.basics.proofs.Prelude.{sym, arith, length-take-le, needs}
+use Rattle.session.proofs.{Feeding.fed-ending, Feeding.fed-kept, Feeding.fed-lost, feed_byte.Statement.statement}
 use Rattle.session.proofs.feed_byte.Tie as tie
 
-returns : tie.Need-returns
-returns c =
-    let p = c .before .before .before in
+pub feed-byte-spec : {M : Type 1} → statement M
+feed-byte-spec = tie.close (tie.spec (λ c. search needs)
+    (λ c. let s = c .before .before .before .before .before in sym (length-take-le (s .args .session .kept) (s .args .line .now) (s .pre .0 .kept)))
+    (λ c κs. search needs) (λ c. search needs) (λ c. search needs)
+    (λ c. let p = c .before .before .before in
     let t = p .before .before .before in
     let s = t .before .before .before .before in
     record {
       feeds = fed-ending (s .args .session) (s .args .line .now) (s .pre .0) (s .args .byte) (p .play-line .result) _ _ (t .if1 .taken) (p .play-line .ensures .0);
       short = p .play-line .ensures .1;
-    }
-
-returns-2 : tie.Need-returns-2
-returns-2 c =
-    let s = c .before .before .before .before .before in
-    record { feeds = fed-lost (s .args .session) (s .args .line .now) (s .pre .0) (s .args .byte) _ (c .before .if1 .left) (c .if2 .taken); short = omega arith }
-
-returns-3 : tie.Need-returns-3
-returns-3 c =
-    let s = c .before .before .before .before .before in
-    record { feeds = fed-kept (s .args .session) (s .args .line .now) (s .pre .0) (s .args .byte) _ (c .before .if1 .left) (c .if2 .left); short = omega arith }
-
-pub feed-byte-spec : {M : Type 1} → statement M
-feed-byte-spec =
-    tie.close
-    (tie.spec
-    (λ c. search needs)
-    (λ c. let s = c .before .before .before .before .before in sym (length-take-le (s .args .session .kept) (s .args .line .now) (s .pre .0 .kept)))
-    (λ c κs. search needs)
-    (λ c. search needs)
-    (λ c. search needs)
-    returns
-    returns-2
-    (λ c. search needs)
-    (λ c. search needs)
-    (λ c. search needs)
-    returns-3)
+    })
+    (λ c. let s = c .before .before .before .before .before in
+    record { feeds = fed-lost (s .args .session) (s .args .line .now) (s .pre .0) (s .args .byte) _ (c .before .if1 .left) (c .if2 .taken); short = omega arith })
+    (λ c. search needs) (λ c. search needs) (λ c. search needs)
+    (λ c. let s = c .before .before .before .before .before in
+    record { feeds = fed-kept (s .args .session) (s .args .line .now) (s .pre .0) (s .args .byte) _ (c .before .if1 .left) (c .if2 .left); short = omega arith }))

@@ -1,17 +1,7 @@
 -- Hex digits: which bytes are digits, a number read digit by digit from the front, and its digits written from the back.
-use mathlib.Core.Path.{_≡_, refl, sym, ap, _∙_}
-use mathlib.Core.List.{List, _++_, append-assoc}
-use Prim.Native.Nat.{ℕ, zero, suc, _+_, _-_, _*_, _/_, _%_, _^_, _<_, _≤_}
-use native.Mathlib.Nat.{pow-succ', pow-le-pow-right}
-use native.Mathlib.Numerals.{add-one}
-use native.Mathlib.Omega.{arith}
-use lib.ListN.{length, take, drop, getD, set, length-append}
-use lib.Seq.{length-take-le, set-split, drop-at}
-use Rattle.rules.specs.Map.{within}
-use Rattle.rules.specs.Device.{Value, none, some}
+use Rattle.basics.proofs.Prelude.{_≡_, refl, sym, ap, _∙_, List, _++_, append-assoc, ℕ, zero, suc, _+_, _-_, _*_, _/_, _%_, _^_, _<_, _≤_, pow-succ', pow-le-pow-right, add-one, arith, length, take, drop, getD, set, length-append, length-take-le, set-split, drop-at, test, next}
+use Rattle.rules.specs.{Map.within, Device.Value, Device.none, Device.some}
 use Rattle.sessions.specs.Session.{digitOf, digit, digits, ifSome, digitsSpell}
-use Rattle.basics.proofs.laws.Bits.{test}
-use Rattle.basics.proofs.laws.Lists.{next}
 use Rattle.laws.proofs.laws.Maps.{inside, inside-from, outside}
 
 -- ---- a byte

@@ -1,14 +1,7 @@
 -- One field of a line, by its place: too short, with no space before it, or spelled by digits.
-use mathlib.Core.Path.{_≡_, refl, ap, _∙_}
-use mathlib.Core.Bool.{and-false}
-use mathlib.Core.List.{List, [], _∷_}
-use Prim.Native.Nat.{ℕ, _+_, _<_, _≤_}
-use native.Mathlib.Omega.{arith}
-use lib.ListN.{length, take, drop, getD, length-drop}
-use borrow.Author.Tests.{eq-eqb, ne-eqb, le-leb, lt-leb}
+use Rattle.basics.proofs.Prelude.{_≡_, refl, ap, _∙_, and-false, List, [], _∷_, ℕ, _+_, _<_, _≤_, arith, length, take, drop, getD, length-drop, eq-eqb, ne-eqb, le-leb, lt-leb, next}
 use Rattle.rules.specs.Device.{none}
 use Rattle.sessions.specs.Session.{space, digitsSpell}
-use Rattle.basics.proofs.laws.Lists.{next}
 use Rattle.session.specs.hex.Reads.{fieldOf}
 
 module _ (line : List ℕ) (at n : ℕ) where

@@ -1,32 +1,15 @@
 -- What each kind of line comes to: a refusal, or the call's device and its answer.
-use mathlib.Core.Path.{_≡_, refl, sym, ap, subst, _∙_}
-use mathlib.Core.Bool.{Bool, true, false, cond}
-use mathlib.Core.List.{List, [], _∷_, _++_}
-use Prim.Native.Nat.{ℕ, zero, suc, _+_, _-_, _*_, _/_, _<_, _≤_}
-use native.Mathlib.Nat.{le-refl}
-use native.Mathlib.Omega.{arith}
-use lib.Dec.{eqb}
-use lib.ListN.{length, take, drop, getD, length-take}
-use lib.Seq.{take-suc, take-length}
-use Rattle.rules.specs.Ring as ring
-use Rattle.rules.specs.Ring.{Event, capacity, drawn, flag, pairsOf}
-use Rattle.rules.specs.Access.{Width, readAt, writeActs}
-use Rattle.rules.specs.Device.{Device, Call, level, poll, read, write, drain, step, acted}
-use Rattle.calls.specs.Calls.{Tested, pass, refuse, noWidth, outside, inputCall, widthTest, addressTest, accessCall}
-use Rattle.sessions.specs.Session.{space, plus, minus, equals, letter-d, letter-k, letter-o, digits, asks, sessionBase, sessionSize, vectorSaid, eventsSaid, said, playedLine}
-use Rattle.sessions.specs.Session as session
-use Rattle.laws.proofs.laws.Maps as maps
+use Rattle.basics.proofs.Prelude.{_≡_, refl, sym, ap, subst, _∙_, Bool, true, false, cond, List, [], _∷_, _++_, ℕ, zero, suc, _+_, _*_, _/_, _<_, _≤_, le-refl, arith, eqb, length, take, drop, getD, length-take, take-suc, take-length}
+use Rattle.rules.specs.{Ring.Event, Ring.capacity, Ring.drawn, Ring.flag, Ring.pairsOf, Access.Width, Access.readAt, Access.writeActs}
+use Rattle.rules.specs.{Device.Device, Device.Call, Device.level, Device.poll, Device.read, Device.write, Device.drain, Device.step, Device.acted, Lines.polled, Lines.levelled}
 use Rattle.rules.proofs.laws.Steps.{withLines, withRing, level-device, level-value, poll-device, poll-value, drain-device, drain-drained, read-device, write-device}
-use Rattle.rules.specs.Lines.{polled, levelled}
+use Rattle.calls.specs.Calls.{Tested, pass, refuse, noWidth, outside, inputCall, widthTest, addressTest, accessCall}
 use Rattle.calls.proofs.laws.Outcomes.{input-refused, input-passed, width-refused, address-refused, access-passed}
+use Rattle.sessions.specs.Session.{space, plus, minus, equals, letter-d, letter-k, letter-o, digits, asks, sessionBase, sessionSize, vectorSaid, eventsSaid, said, playedLine}
 use Rattle.device.specs.state.View.{ringView}
-use Rattle.port.specs.declared.irq_level.Routed.{Routed}
-use Rattle.port.specs.declared.drain_output.Drained.{Drained}
-use Rattle.port.specs.irq_level.Moves.{Answers}
-use Rattle.port.specs.drain_output.Drains.{Drains}
-use Rattle.session.specs.reply.Says.{pairSaid, pairsSaid}
-use Rattle.session.specs.play_line.Plays.{Plays, refusedWith, routedWith}
-use Rattle.session.specs.declared.play_line.Played.{Played}
+use Rattle.port.specs.{declared.irq_level.Routed.Routed, declared.drain_output.Drained.Drained, irq_level.Moves.Answers, drain_output.Drains.Drains}
+use Rattle.session.specs.{reply.Says.pairSaid, reply.Says.pairsSaid, play_line.Plays.Plays, play_line.Plays.refusedWith, play_line.Plays.routedWith, declared.play_line.Played.Played}
+use Rattle.sessions.specs.Session as session
 
 pub plays-as : {r : Played} {entry exit : List ℕ} {p q : session.Played} → Plays r entry exit p → p ≡ q → Plays r entry exit q
 plays-as {r} {entry} {exit} h e = subst (Plays r entry exit) e h

@@ -1,15 +1,6 @@
 -- Bytes written to the front of a buffer, one after another (Filled, of the laws of parts), and what that says.
-use mathlib.Core.Path.{_≡_, refl, sym, ap, _∙_}
-use mathlib.Core.List.{List, [], _∷_, _++_, append-assoc}
-use Prim.Native.Nat.{ℕ, _+_, _*_, _<_, _≤_}
-use native.Mathlib.Numerals.{add-one}
-use native.Mathlib.Omega.{arith}
-use lib.ListN.{length, take, drop, getD, set, length-append, length-drop, take-append-drop}
-use lib.Seq.{length-take-le, take-at, drop-at, drop-append-le, drop-drop, set-at}
-use borrow.Rule.Slice.PartMut.{putMid}
+use Rattle.basics.proofs.Prelude.{_≡_, refl, sym, ap, _∙_, List, [], _∷_, _++_, append-assoc, ℕ, _+_, _*_, _<_, _≤_, add-one, arith, length, take, drop, getD, set, length-append, length-drop, take-append-drop, length-take-le, take-at, drop-at, drop-append-le, drop-drop, set-at, putMid, Filled, start, put-front, next}
 use Rattle.sessions.specs.Session.{digits}
-use Rattle.basics.proofs.laws.Parts.{Filled, start, put-front}
-use Rattle.basics.proofs.laws.Lists.{next}
 use Rattle.session.specs.reply.Says.{Says, pairSaid, pairsSaid}
 use Rattle.session.proofs.hex.Digits.{length-digits}
 

@@ -1,18 +1,8 @@
 -- The fields of a line by their places, and the line's letter before them.
-use mathlib.Core.Path.{_≡_, refl, sym, ap, _∙_}
-use mathlib.Core.Bool.{Bool, true, false, cond, _&&_}
-use mathlib.Core.List.{List, [], _∷_}
-use Prim.Native.Nat.{ℕ, suc, _+_, _<_, _≤_}
-use native.Mathlib.Omega.{arith}
-use lib.Dec.{eqb, leb}
-use lib.ListN.{length, take, drop, getD, drop-of-length-le}
-use lib.Seq.{drop-drop}
+use Rattle.basics.proofs.Prelude.{_≡_, refl, sym, ap, _∙_, Bool, true, false, cond, _&&_, List, [], _∷_, ℕ, suc, _+_, _<_, _≤_, arith, eqb, leb, length, take, drop, getD, drop-of-length-le, drop-drop, next}
 use Rattle.rules.specs.Device.{Value, none, some}
 use Rattle.sessions.specs.Session.{space, letter-l, letter-p, letter-r, letter-w, letter-d, digitsSpell, Fields, wrong, right, joined, fields, Line, unknown, ifRight, levelLine, pollLine, readLine, writeLine, drainLine, lineOf}
-use Rattle.basics.proofs.laws.Lists.{next}
-use Rattle.session.specs.hex.Reads.{numberView, fieldOf}
-use Rattle.session.specs.declared.hex.Number.{Number}
-use Rattle.session.specs.declared.hex.Number.the-variants.{Is, Wrong}
+use Rattle.session.specs.{hex.Reads.numberView, hex.Reads.fieldOf, declared.hex.Number.Number, declared.hex.Number.the-variants.Is, declared.hex.Number.the-variants.Wrong}
 
 -- ---- a run of fields
 

@@ -2,10 +2,8 @@
 use mathlib.Core.Path.{_≡_, refl, sym, _∙_}
 use Prim.Native.Nat.{_+_, _-_, _<_, _≤_}
 use native.Mathlib.Omega.{arith}
-use lib.ListN.{length, take, drop, length-drop}
-use lib.Seq.{length-take-le}
-use borrow.Author.Needs.{needs}
-use borrow.Author.Tests.{ltb-true}
+use lib.{ListN.length, ListN.take, ListN.drop, ListN.length-drop, Seq.length-take-le}
+use borrow.Author.{Needs.needs, Tests.ltb-true}
 use Rattle.session.specs.Feeds.{Ready}
 use Rattle.session_main.proofs.play_chunk.Statement.{statement}
 use Rattle.session_main.proofs.play_chunk.Tie as tie
@@ -35,37 +33,18 @@ takes c =
 written : (c : tie.After-feed Inv-loop μ-loop) → c .feed .result .len ≤ length (c .feed .last .1 .1 .1 .0)
 written c = omega (arith, c .feed .kept .1 .1 .1 .0, c .feed .ensures .takes .room)
 
-add-at : tie.Need-add-at Inv-loop μ-loop
-add-at c =
-    let f = c .before .before .before .before .before .before .before in
-    omega (arith, takes f, f .before .before .before .before .before .before .before .before .before .before .good)
-
-loop-again : tie.Need-loop-again Inv-loop μ-loop
-loop-again c =
-    let f = c .before .before .before .before .before .before .before in
-    let l = f .before .before .before .before .before .before .loop in
-    (f .feed .ensures .feeds .ready, f .feed .kept .1 .0 ∙ l .inv .1, takes f .1, f .feed .kept .1 .1 .1 .0 ∙ l .inv .3)
-
 pub play-chunk-spec : {M : Type 1} → statement M
-play-chunk-spec =
-    tie.close
-    (tie.spec
-    Inv-loop
-    μ-loop
-    (λ c κs. search needs)
-    (λ c. (c .before .before .before .pre, refl, omega arith, sym (c .buffer .ensures)))
-    (λ c. c .before .before .before .loop .inv .2)
-    (λ c. c .before .before .before .loop .inv .2)
-    (λ c. omega arith)
-    (λ c. sym (c .before .before .before .before .before .loop .inv .3))
+play-chunk-spec = tie.close (tie.spec Inv-loop μ-loop (λ c κs. search needs)
+    (λ c. (c .before .before .before .pre, refl, omega arith, sym (c .buffer .ensures))) (λ c. c .before .before .before .loop .inv .2)
+    (λ c. c .before .before .before .loop .inv .2) (λ c. omega arith) (λ c. sym (c .before .before .before .before .before .loop .inv .3))
     (λ c κs. let l = c .before .before .before .before .before .loop in (l .inv .0, omega (arith, l .inv .3)))
     (λ c. written (c .before .before .before))
     (λ c. let f = c .before .before .before .before in sym (length-take-le (f .feed .result .len) (f .feed .last .1 .1 .1 .0) (written f)))
     (λ c κs. search needs)
-    add-at
+    (λ c. let f = c .before .before .before .before .before .before .before in
+    omega (arith, takes f, f .before .before .before .before .before .before .before .before .before .before .good))
     (λ c. omega (arith, takes (c .before .before .before .before .before .before .before)))
-    loop-again
-    (λ c. c .before .before .loop .inv .1)
-    (λ c. c .before .before .loop .inv .0)
-    (λ c. c .before .loop .inv .1)
-    (λ c. c .before .loop .inv .0))
+    (λ c. let f = c .before .before .before .before .before .before .before in
+    let l = f .before .before .before .before .before .before .loop in
+    (f .feed .ensures .feeds .ready, f .feed .kept .1 .0 ∙ l .inv .1, takes f .1, f .feed .kept .1 .1 .1 .0 ∙ l .inv .3))
+    (λ c. c .before .before .loop .inv .1) (λ c. c .before .before .loop .inv .0) (λ c. c .before .loop .inv .1) (λ c. c .before .loop .inv .0))

@@ -1,6 +1,5 @@
 -- The worked session of 01: its input, by the definition of the session program, gives its output, byte for byte.
-use mathlib.Core.Path.{_≡_, refl}
-use mathlib.Core.List.{List, [], _∷_}
+use mathlib.Core.{Path._≡_, Path.refl, List.List, List.[], List._∷_}
 use Prim.Native.Nat.{ℕ}
 use Rattle.sessions.specs.Session.{newline, digitsSpell, fields, lineOf, said, played, linesOf, answers, session}
 use Rattle.calls.proofs.laws.Computing.{computing}

@@ -1,16 +1,8 @@
 -- What the exported call that writes a sheet leaves (02, C-21): refused, not a byte of the sheet changes, and 7 writes none at all; and there is one outcome.
-use mathlib.Core.Path.{_≡_, refl, sym, ap, _∙_}
-use mathlib.Core.Bool.{Bool, true, false, _&&_}
-use mathlib.Core.List.{List}
-use Prim.Native.Nat.{ℕ}
-use native.Mathlib.Omega.{arith}
-use lib.Dec.{leb}
-use lib.ListN.{length}
-use Rattle.basics.proofs.laws.Bits.{test}
+use Rattle.basics.proofs.Prelude.{_≡_, refl, sym, ap, _∙_, Bool, true, false, _&&_, List, ℕ, arith, leb, length, test}
 use Rattle.calls.specs.Calls.{answerLength}
 use Rattle.traces.specs.Trace.{TraceTest, good, wrongContents, badRecord, traceTest}
-use Rattle.sheets.specs.Sheet.{sheetLength}
-use Rattle.sheets.specs.Sheeting.{SheetLeft, sheetLeaves, sheetSettled, sheeting}
+use Rattle.sheets.specs.{Sheet.sheetLength, Sheeting.SheetLeft, Sheeting.sheetLeaves, Sheeting.sheetSettled, Sheeting.sheeting}
 
 module _ (l s a : List ℕ) where
   abbrev left : SheetLeft

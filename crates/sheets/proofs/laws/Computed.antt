@@ -1,21 +1,9 @@
 -- Small days computed, so that it is seen what the definitions say.
-use mathlib.Core.Path.{_≡_, refl}
-use mathlib.Core.Bool.{true, false}
-use mathlib.Core.List.{List, [], _∷_, map}
-use Prim.Native.Nat.{ℕ}
-use lib.ListN.{drop, replicate}
-use Rattle.rules.specs.Map.{cellAt}
-use Rattle.rules.specs.Access.{byte, dword}
-use Rattle.rules.specs.Device.{level, write}
-use Rattle.rules.specs.Account.{tally}
-use Rattle.plain.specs.Events.{asLoaded}
-use Rattle.plain.specs.Plain.{Engine}
-use Rattle.plain.specs.Sequence.{Item, call, refused}
-use Rattle.plain.proofs.laws.Plainly.{plainly}
-use Rattle.traces.specs.Trace.{recordOf}
-use Rattle.traces.specs.Played.{requestOf}
-use Rattle.sheets.specs.Day.{itemOf, begun, moments, dayFrom}
-use Rattle.sheets.specs.Waits.{End, endFrom, waits, greatest, answered, withdrawn, stillOpen}
+use Rattle.basics.proofs.Prelude.{_≡_, refl, true, false, List, [], _∷_, map, ℕ, drop, replicate}
+use Rattle.rules.specs.{Map.cellAt, Access.byte, Access.dword, Device.level, Device.write, Account.tally}
+use Rattle.plain.{specs.Events.asLoaded, specs.Plain.Engine, specs.Sequence.Item, specs.Sequence.call, specs.Sequence.refused, proofs.laws.Plainly.plainly}
+use Rattle.traces.specs.{Trace.recordOf, Played.requestOf}
+use Rattle.sheets.specs.{Day.itemOf, Day.begun, Day.moments, Day.dayFrom, Waits.End, Waits.endFrom, Waits.waits, Waits.greatest, Waits.answered, Waits.withdrawn, Waits.stillOpen}
 use Rattle.sheets.specs.Sheet.{Row, rowOf, totalBelow, rowsBelow, bytesOfRow, sheetBytes}
 
 -- one name that opens what has to compute

@@ -1,31 +1,17 @@
 -- How a read or a write on an accepted image ends, by the answers of its width's and its address's test: refused, or done.
-use mathlib.Core.Path.{_≡_, refl, sym, ap, _∙_}
-use mathlib.Core.List.{List, []}
-use Prim.Native.Nat.{ℕ}
-use Rattle.rules.specs.Access.{Width, readAt, writeActs}
-use Rattle.rules.specs.Device.{Call, none, some, actsOf, acted, step, value}
-use Rattle.rules.specs.Device as device
-use Rattle.rules.specs.Core.{turns}
-use Rattle.rules.specs.Numbering.{takesAll, valueWith}
-use lib.ListN.{length}
-use Rattle.images.specs.Form.{Form}
-use Rattle.images.specs.Image.{decode, numbersIn}
+use Rattle.basics.proofs.Prelude.{_≡_, refl, sym, ap, _∙_, List, [], ℕ, length}
+use Rattle.rules.specs.{Access.Width, Access.readAt, Access.writeActs, Device.Call, Device.none, Device.some, Device.actsOf, Device.acted, Device.step, Device.value, Core.turns}
+use Rattle.rules.{specs.Numbering.takesAll, specs.Numbering.valueWith, proofs.laws.Steps.read-device, proofs.laws.Steps.write-device, proofs.laws.Numbered.undrained, proofs.laws.Numbered.read-numbers}
+use Rattle.images.specs.{Form.Form, Image.decode, Image.numbersIn}
 use Rattle.calls.specs.Calls.{noWidth, outside, pass, widthTest, addressTest, accessCall, Request, calls, askedBy, bufferOf, ending}
-use Rattle.calls.specs.Calls as asked
-use Rattle.laws.proofs.laws.Images.{encode-same}
 use Rattle.calls.proofs.laws.Outcomes.{call-refused, call-done, no-events, width-refused, address-refused, access-passed}
-use Rattle.rules.proofs.laws.Steps.{read-device, write-device}
-use Rattle.rules.proofs.laws.Numbered.{undrained, read-numbers}
-use Rattle.device.specs.window.Tests.{knownView, locatedView}
-use Rattle.device.specs.declared.window.Known.{Known}
-use Rattle.device.specs.declared.window.Known.the-variants.{As, Unknown}
-use Rattle.device.specs.declared.window.Located.{Located}
-use Rattle.device.specs.declared.window.Located.the-variants.{At, Outside}
-use Rattle.device.specs.map.Views.{widthView}
+use Rattle.laws.proofs.laws.Images.{encode-same}
+use Rattle.device.specs.{window.Tests.knownView, window.Tests.locatedView, declared.window.Known.Known, declared.window.Known.the-variants.As, declared.window.Known.the-variants.Unknown}
+use Rattle.device.specs.{declared.window.Located.Located, declared.window.Located.the-variants.At, declared.window.Located.the-variants.Outside, map.Views.widthView}
+use Rattle.fields.{specs.inplace.Held.Reads, specs.inplace.Held.Writes, specs.inplace.Passed.Passed, proofs.inplace.Passing.here}
+use Rattle.rules.specs.Device as device
+use Rattle.calls.specs.Calls as asked
 use Rattle.device.specs.declared.map.Width as code
-use Rattle.fields.specs.inplace.Held.{Reads, Writes}
-use Rattle.fields.specs.inplace.Passed.{Passed}
-use Rattle.fields.proofs.inplace.Passing.{here}
 
 module _ {f : Form} {i : List ℕ} (p : Passed f i) (base size address width : ℕ) {k : Known} (e : knownView k ≡ widthTest width) where
   -- ---- refused

@@ -1,19 +1,7 @@
 -- A narrow write takes the low half of a value: the bytes that it stores are the value's.
-use mathlib.Core.Path.{_≡_, ap, _∙_}
-use mathlib.Core.Bool.{false}
-use mathlib.Core.List.{List, _++_}
-use Prim.Native.Nat.{ℕ, _+_}
-use native.Mathlib.Omega.{arith}
-use Rattle.basics.specs.Numbers.{byteOf}
-use Rattle.basics.specs.Inputs.{half}
-use Rattle.rules.specs.Core.{turns}
-use Rattle.rules.specs.Access.{byte, word, dword, byteActs, dwordActs, writeActs}
-use Rattle.fields.specs.inplace.Held.{Writes}
-use Rattle.fields.proofs.inplace.Doing.{writes-same}
-
--- the low half keeps the low bytes
-low-bytes : (v w : ℕ) → w ≡ half false v → (byteOf w 0 ≡ byteOf v 0) × (byteOf w 1 ≡ byteOf v 1)
-low-bytes v w e = (omega arith, omega arith)
+use Rattle.basics.proofs.Prelude.{low-bytes, _≡_, ap, _∙_, false, List, _++_, ℕ, _+_, byteOf, half}
+use Rattle.rules.specs.{Core.turns, Access.byte, Access.word, Access.dword, Access.byteActs, Access.dwordActs, Access.writeActs}
+use Rattle.fields.{specs.inplace.Held.Writes, proofs.inplace.Doing.writes-same}
 
 module _ (o v : ℕ) {w : ℕ} (e : w ≡ half false v) {i j : List ℕ} {n : ℕ} where
   pub byte-low : {b : ℕ} → b ≡ byteOf w 0 → Writes i j n (λ c. byteActs c o b) → Writes i j n (λ c. writeActs c byte o v)

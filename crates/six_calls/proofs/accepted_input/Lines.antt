@@ -1,32 +1,19 @@
 -- How a call on an input of an accepted image ends: there is no such input, or the lines took its move.
-use mathlib.Core.Path.{_≡_, refl, sym, ap, subst, _∙_}
-use mathlib.Core.Bool.{Bool, true, false, cond, not}
-use mathlib.Core.List.{List, [], _∷_, map}
-use Prim.Native.Nat.{ℕ, _<_, _≤_}
-use lib.Dec.{eqb}
-use Rattle.basics.specs.Inputs.{on, inputs, only, put, without}
+use Rattle.basics.proofs.Prelude.{_≡_, refl, sym, ap, subst, _∙_, Bool, true, false, cond, not, List, [], _∷_, map, ℕ, _<_, _≤_, eqb, length, on, inputs, only, put, without}
 use Rattle.rules.specs.Lines.{Lines, Made, withIrr, event, pendingIn, serve, polled, raised, lowered}
 use Rattle.rules.specs.Core.{Act, Move, move, poll, raise, lower, moved, turns}
 use Rattle.rules.specs.Device.{Device, Call, Value, none, actsOf, draws, offers, acted, step, returned}
 use Rattle.rules.specs.Numbering.{Numbers, takesAll, returnedWith, roomOf, drainedWith, valueWith}
-use Rattle.rules.specs.Device as device
-use lib.ListN.{length}
-use Rattle.images.specs.Form.{Form}
-use Rattle.images.specs.Image.{decode, numbersIn}
+use Rattle.rules.proofs.laws.{Acts.step-acted, Numbered.undrained, Steps.moved-device, Steps.moved-made}
+use Rattle.images.specs.{Form.Form, Image.decode, Image.numbersIn}
 use Rattle.calls.specs.Calls.{noInput, inputCall, Request, calls, askedBy, bufferOf, placeOf, written, ending}
-use Rattle.calls.specs.Calls as asked
-use Rattle.rules.proofs.laws.Acts.{step-acted}
-use Rattle.laws.proofs.laws.Sets.{only-served}
-use Rattle.rules.proofs.laws.Numbered.{undrained}
-use Rattle.rules.proofs.laws.Steps.{moved-device, moved-made}
-use Rattle.laws.proofs.laws.Images.{encode-same}
 use Rattle.calls.proofs.laws.Outcomes.{call-refused, call-done, no-events, input-refused, input-passed}
-use Rattle.fields.specs.inplace.Held.{Returns}
-use Rattle.fields.proofs.inplace.Doing.{same-numbers}
+use Rattle.laws.proofs.laws.{Sets.only-served, Images.encode-same}
+use Rattle.fields.{specs.inplace.Held.Returns, specs.inplace.Passed.Passed, proofs.inplace.Doing.same-numbers, proofs.inplace.Passing.long, proofs.inplace.Passing.here}
 use Rattle.six_calls.specs.accepted_input.Returned.{valueNumbered, takenFor, TakesNumber}
 use Rattle.lines.specs.service.Offered.{levelMove}
-use Rattle.fields.specs.inplace.Passed.{Passed}
-use Rattle.fields.proofs.inplace.Passing.{long, here}
+use Rattle.rules.specs.Device as device
+use Rattle.calls.specs.Calls as asked
 
 -- ---- a move that returns its event makes one at most
 

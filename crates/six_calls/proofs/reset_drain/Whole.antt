@@ -1,25 +1,15 @@
 -- How a drain of an accepted image ends.
-use mathlib.Core.Path.{_≡_, refl, sym, ap, _∙_}
-use mathlib.Core.List.{List, _++_}
-use Prim.Native.Nat.{ℕ, _+_, _-_, _*_, _/_, min}
-use native.Mathlib.Omega.{arith}
-use lib.ListN.{length, take, drop, length-take}
-use Rattle.images.specs.Form.{Form}
-use Rattle.rules.specs.Ring.{Event, Drawn, drawn}
-use Rattle.rules.specs.Device.{some, value}
-use Rattle.rules.specs.Device as device
+use Rattle.basics.proofs.Prelude.{_≡_, refl, sym, ap, _∙_, List, _++_, ℕ, _+_, _-_, _*_, _/_, min, arith, length, take, drop, length-take}
+use Rattle.images.specs.{Form.Form, Image.encodeLike, Image.decode, Image.numbersIn}
+use Rattle.rules.specs.{Ring.Event, Ring.Drawn, Ring.drawn, Device.some, Device.value}
 use Rattle.rules.specs.Numbering.{Numbered, withNumbers, drainedLength, quadsOf, fewer, drainedWith, valueWith}
-use Rattle.images.specs.Image.{encodeLike, decode, numbersIn}
-use Rattle.calls.specs.Calls.{written, ending}
-use Rattle.calls.specs.Calls as asked
+use Rattle.rules.proofs.laws.{Numbered.drain-numbers, Steps.withRing, Steps.drain-device, Steps.drain-drained}
+use Rattle.calls.{specs.Calls.written, specs.Calls.ending, proofs.laws.Outcomes.call-done, proofs.laws.Answers.length-with}
 use Rattle.laws.proofs.laws.Images.{encode-same}
-use Rattle.calls.proofs.laws.Outcomes.{call-done}
-use Rattle.calls.proofs.laws.Answers.{length-with}
-use Rattle.rules.proofs.laws.Numbered.{drain-numbers}
-use Rattle.rules.proofs.laws.Steps.{withRing, drain-device, drain-drained}
 use Rattle.drain.specs.drains.Drained.{Drains}
-use Rattle.fields.specs.inplace.Passed.{Passed}
-use Rattle.fields.proofs.inplace.Passing.{here}
+use Rattle.fields.{specs.inplace.Passed.Passed, proofs.inplace.Passing.here}
+use Rattle.rules.specs.Device as device
+use Rattle.calls.specs.Calls as asked
 
 module _ {f : Form} {i : List ℕ} (p : Passed f i) (entry : List ℕ) {n : ℕ} {j exit : List ℕ} (s : length j ≡ length i) (d : Drains i j entry exit n) where
   abbrev room : ℕ

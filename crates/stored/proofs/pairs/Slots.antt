@@ -1,19 +1,8 @@
 -- Events as pairs of bytes spell them, and as the slots of a ring hold them.
-use mathlib.Core.Path.{_≡_, refl, sym, ap, _∙_}
-use mathlib.Core.Bool.{Bool, false}
-use mathlib.Core.List.{List, [], _∷_, _++_, map}
-use Prim.Native.Nat.{ℕ, zero, suc, _+_, _-_, _*_, _%_, _<_, _≤_}
-use native.Mathlib.Nat.{mod-eq-of-lt}
-use native.Mathlib.Numerals.{add-one}
-use native.Mathlib.Omega.{arith}
-use lib.Dec.{eqb}
-use lib.ListN.{length, take, drop, getD, set, length-set, List·getD-map}
+use Rattle.basics.proofs.Prelude.{_≡_, refl, sym, ap, _∙_, Bool, false, List, [], _∷_, _++_, map, ℕ, zero, suc, _+_, _-_, _*_, _%_, _<_, _≤_, mod-eq-of-lt, add-one, arith, eqb, length, take, drop, getD, set, length-set, List·getD-map, turn, done, next}
 use Rattle.rules.specs.Ring.{Event, eventTwos}
-use Rattle.images.specs.Image.{eventsOf}
-use Rattle.basics.proofs.laws.Lists.{turn, done, next}
-use Rattle.images.proofs.laws.Twos.{length-spelled}
-use Rattle.device.specs.state.View.{slots}
-use Rattle.device.proofs.state.Slots.{ev}
+use Rattle.images.{specs.Image.eventsOf, proofs.laws.Twos.length-spelled}
+use Rattle.device.{specs.state.View.slots, proofs.state.Slots.ev}
 
 next-two : (l : List ℕ) (i d : ℕ) → i + 1 < length l → drop i l ≡ getD l i d ∷ getD l (i + 1) d ∷ drop (i + 2) l
 next-two l i d h =

@@ -1,15 +1,7 @@
 -- Events in the slots of a ring, written as pairs of bytes.
-use mathlib.Core.Path.{_≡_, refl, sym, ap, _∙_}
-use mathlib.Core.Bool.{Bool, false}
-use mathlib.Core.List.{List, _∷_, _++_, append-nil}
-use Prim.Native.Nat.{ℕ, zero, suc, _+_, _-_, _*_, _%_, _<_, _≤_}
-use native.Mathlib.Nat.{add-zero, sub-zero}
-use native.Mathlib.Omega.{arith}
-use lib.ListN.{length, take, drop, getD, set, replicate, length-set, take-append-drop}
-use lib.Seq.{drop-drop, drop-set-lt, take-all}
+use Rattle.basics.proofs.Prelude.{_≡_, refl, sym, ap, _∙_, Bool, false, List, _∷_, _++_, append-nil, ℕ, zero, suc, _+_, _-_, _*_, _%_, _<_, _≤_, add-zero, sub-zero, arith, length, take, drop, getD, set, replicate, length-set, take-append-drop, drop-drop, drop-set-lt, take-all, turn}
 use Rattle.rules.specs.Ring.{Event, capacity, flag, eventTwos, pairsOf}
 use Rattle.images.specs.Image.{sixteen}
-use Rattle.basics.proofs.laws.Lists.{turn}
 use Rattle.device.specs.state.View.{slot, slots}
 
 module _ (vs : List ℕ) (fs : List Bool) where

@@ -1,28 +1,12 @@
 -- Fields put into an image one after another: what is put stands there, all else stays, and where every field is put the image is the device's.
-use mathlib.Core.Path.{_≡_, refl, sym, ap, _∙_, subst}
-use mathlib.Core.Bool.{Bool, true, false, _||_, false≢true, or-false}
-use mathlib.Core.List.{List, [], _∷_, _++_, append-assoc}
-use Prim.Native.Nat.{ℕ, _+_, _-_, _≤_}
-use native.Mathlib.Nat.{zero-add}
-use native.Mathlib.Omega.{arith}
-use lib.ListN.{length, take, drop, length-append, length-drop}
-use lib.Seq.{drop-drop, length-take-le, take-all, take-at, drop-at, take-take, take-append-le, drop-append-add}
-use borrow.Rule.Slice.PartMut.{putMid}
-use Rattle.basics.specs.Numbers.{bytesOf, part}
-use Rattle.rules.specs.Device.{Device}
-use Rattle.rules.specs.Numbering.{Numbers}
+use Rattle.basics.proofs.Prelude.{neither as both-off, _≡_, refl, sym, ap, _∙_, subst, Bool, true, false, _||_, false≢true, or-false, List, [], _∷_, _++_, append-assoc, ℕ, _+_, _-_, _≤_, zero-add, arith, length, take, drop, length-append, length-drop, drop-drop, length-take-le, take-all, take-at, drop-at, take-take, take-append-le, drop-append-add, putMid, bytesOf, part, length-part, part-add, length-bytesOf, part-number, test}
+use Rattle.rules.specs.{Device.Device, Numbering.Numbers}
 use Rattle.images.specs.Form.{Field, word, copy, irr, next, numbers, Form, one, two, numbered, is, listed, has, size, place, formLength, contentsLength, contentsOf, read}
 use Rattle.images.specs.Image.{fieldOf, encodeAs, registerAt, numberBody, numberBodyLength}
-use Rattle.basics.proofs.laws.Lists.{length-part, part-add}
-use Rattle.basics.proofs.laws.Bytes.{length-bytesOf, part-number}
-use Rattle.basics.proofs.laws.Bits.{test}
 use Rattle.images.proofs.laws.Layout.{is-sound, never, always, has-all, field-fits, listed-append, image-known, length-contents, length-over, read-over, other-over, head-over}
 use Rattle.images.proofs.laws.Saved.{bytes-contents}
-use Rattle.image.specs.Shown.{placeIn, PlacesOf, ContentsOf}
+use Rattle.image.{specs.Shown.placeIn, specs.Shown.PlacesOf, specs.Shown.ContentsOf, specs.declared.form.Places.Places, specs.declared.form.Contents.Contents, proofs.Forms.behind-next}
 use Rattle.bits.specs.bytes.Put.{withBytes}
-use Rattle.image.proofs.Forms.{behind-next}
-use Rattle.image.specs.declared.form.Places.{Places}
-use Rattle.image.specs.declared.form.Contents.{Contents}
 use Rattle.stored.specs.saves.Shown.{Puts}
 
 module _ (f : Form) (d : Device) (s : Numbers) where
@@ -43,12 +27,8 @@ module _ (f : Form) (d : Device) (s : Numbers) where
     size = b .size ∙ a .size;
     head = b .head ∙ a .head;
     put = λ p h t. test (listed p rs) (b .put p h) (λ u. b .stays p h u ∙ a .put p h (sym (ap (λ x. x || listed p ps) u) ∙ sym (listed-append p rs ps) ∙ t));
-    stays = λ p h t. let u = neither (listed p rs) (listed p ps) (sym (listed-append p rs ps) ∙ t) in b .stays p h (u .0) ∙ a .stays p h (u .1);
+    stays = λ p h t. let u = both-off (listed p rs) (listed p ps) (sym (listed-append p rs ps) ∙ t) in b .stays p h (u .0) ∙ a .stays p h (u .1);
   }
-    where
-      neither : (s t : Bool) → (s || t) ≡ false → (s ≡ false) × (t ≡ false)
-      neither true t e = absurd (false≢true (sym e))
-      neither false t e = (refl, e)
 
   -- a field that the form lacks is listed for nothing
   pub puts-lacking : {ps : List Field} {l m : List ℕ} (rs : List Field) → ((p : Field) → has f p ≡ true → listed p rs ≡ listed p ps) → Puts f d s ps l m → Puts f d s rs l m

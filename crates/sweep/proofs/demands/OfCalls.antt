@@ -1,33 +1,18 @@
 -- 02, C-24, of exported calls, each given the image that the one before it left. A refused call counts as none.
-use mathlib.Core.Path.{_≡_, refl, sym, ap, subst, _∙_}
-use mathlib.Core.Bool.{true, false, true≢false, and-eq-true-iff}
-use mathlib.Core.List.{List}
-use Prim.Native.Nat.{ℕ, _+_, _*_, _%_, _^_, _<_, _≤_}
-use native.Mathlib.Omega.{arith}
-use lib.Dec.{lit≤}
-use lib.ListN.{length, getD}
-use Rattle.basics.specs.Numbers.{Bytes}
-use Rattle.rules.specs.Device.{Call}
-use Rattle.rules.specs.Device as call
-use Rattle.rules.specs.Numbering.{valueWith}
+use Rattle.basics.proofs.Prelude.{_≡_, refl, sym, ap, subst, _∙_, true, false, true≢false, and-eq-true-iff, List, ℕ, _+_, _*_, _%_, _^_, _<_, _≤_, arith, lit≤, length, getD, Bytes}
+use Rattle.rules.specs.{Device.Call, Numbering.valueWith, History.history}
 use Rattle.images.specs.Image.{decode, numbersIn, imageTest, accepted}
-use Rattle.calls.specs.Calls.{Request, askedBy, answered, presentIn, valueIn, Outcome}
-use Rattle.calls.specs.Calls as request
-use Rattle.rules.specs.History.{history}
+use Rattle.calls.{specs.Calls.Request, specs.Calls.askedBy, specs.Calls.answered, specs.Calls.presentIn, specs.Calls.valueIn, specs.Calls.Outcome, proofs.laws.Answers.value-read}
 use Rattle.histories.specs.Demands.{pollsOrRaises}
-use Rattle.histories.specs.exported.Exported.{Exported, leftBy, isDone, isReset, Underway, carriedThrough, NoLoads, HandedOn, doneCalls}
-use Rattle.histories.specs.exported.Exported.{leftAfter, current, inImage, Faithful, atLoad}
-use Rattle.sweep.specs.Sweeps.{sweeping, Sweep}
-use Rattle.sweep.specs.Handed.{asksFor, readsAssert, WakesAllRead, pollsAll}
-use Rattle.calls.proofs.laws.Answers.{value-read}
-use Rattle.laws.proofs.laws.Images.{decode-well-formed, numbers-well}
-use Rattle.histories.proofs.exported.laws.Chains.{faithful-at-load, done-call}
-use Rattle.histories.proofs.exported.laws.Readings.{read-as}
+use Rattle.histories.specs.exported.Exported.{Exported, leftBy, isDone, isReset, Underway, carriedThrough, NoLoads, HandedOn, doneCalls, leftAfter, current, inImage, Faithful, atLoad}
+use Rattle.histories.proofs.exported.laws.{Chains.faithful-at-load, Chains.done-call, Readings.read-as}
 use Rattle.histories.proofs.exported.demands.FromCalls.{image-holds-device, image-holds-history, handed-on-is-no-load, left-through}
-use Rattle.sweep.proofs.laws.Announcing.{call-announces, vector-answered}
-use Rattle.sweep.proofs.laws.Reading.{returned-silent, asserts-read, asks-is}
-use Rattle.sweep.proofs.laws.Polls.{all-polled, polls-done}
+use Rattle.sweep.specs.{Sweeps.sweeping, Sweeps.Sweep, Handed.asksFor, Handed.readsAssert, Handed.WakesAllRead, Handed.pollsAll}
+use Rattle.laws.proofs.laws.Images.{decode-well-formed, numbers-well}
+use Rattle.sweep.proofs.laws.{Announcing.call-announces, Announcing.vector-answered, Reading.returned-silent, Reading.asserts-read, Reading.asks-is, Polls.all-polled, Polls.polls-done}
 use Rattle.sweep.proofs.demands.WakesAll.{one-sweep-wakes-all, sweep-offers-nothing}
+use Rattle.rules.specs.Device as call
+use Rattle.calls.specs.Calls as request
 
 -- From any history under way, over exported calls of which none is a load and of which the done ones are a sweep.
 pub sweep-of-calls : (h : Underway) → Faithful h → (xs : List Exported) → NoLoads h xs → Sweep (doneCalls xs)

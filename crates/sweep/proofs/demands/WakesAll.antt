@@ -1,22 +1,10 @@
 -- 02, C-24: one sweep wakes everything. From any device, so from any loaded one.
-use mathlib.Core.Path.{_≡_, refl, sym, ap, _∙_}
-use mathlib.Core.Logic.{_⊎_, inl, inr, ⊎-elim}
-use mathlib.Core.Bool.{Bool, true, false, cond, not, _&&_, true≢false, or-true}
-use mathlib.Core.List.{List, [], _∷_, _++_}
-use Prim.Native.Nat.{ℕ, _+_, _<_}
-use native.Mathlib.Omega.{arith}
-use lib.Dec.{lit<}
-use Rattle.basics.specs.Inputs.{on}
-use Rattle.rules.specs.Device.{Device, Call, actsOf}
-use Rattle.rules.specs.Device as call
-use Rattle.rules.specs.History.{history}
-use Rattle.histories.specs.Premises.{Along}
-use Rattle.histories.specs.Demands.{inService, Eligible, pollsOrRaises, assertsOf, someAct}
+use Rattle.basics.proofs.Prelude.{_≡_, refl, sym, ap, _∙_, _⊎_, inl, inr, ⊎-elim, Bool, true, false, cond, not, _&&_, true≢false, or-true, List, [], _∷_, _++_, ℕ, _+_, _<_, arith, lit<, on, test}
+use Rattle.rules.specs.{Device.Device, Device.Call, Device.actsOf, History.history}
+use Rattle.histories.specs.{Premises.Along, Demands.inService, Demands.Eligible, Demands.pollsOrRaises, Demands.assertsOf, Demands.someAct}
 use Rattle.sweep.specs.Sweeps.{unsettles, sweeping, isPoll, everyCall, someCall, Sweep, wakes, WakesAll, Announced, AssertedBy}
-use Rattle.basics.proofs.laws.Bits.{test}
-use Rattle.sweep.proofs.laws.Quiet.{sweeping-is}
-use Rattle.sweep.proofs.laws.OneInput.{calls-swept, calls-awake}
-use Rattle.sweep.proofs.laws.Announcing.{calls-announce, asserted-by, calls-drain}
+use Rattle.sweep.proofs.laws.{Quiet.sweeping-is, OneInput.calls-swept, OneInput.calls-awake, Announcing.calls-announce, Announcing.asserted-by, Announcing.calls-drain}
+use Rattle.rules.specs.Device as call
 
 -- ---- one input
 

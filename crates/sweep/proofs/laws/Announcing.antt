@@ -1,32 +1,15 @@
 -- What a call of a sweep makes: nothing, or the assert of the input that it polls or raises, returned, with the vector byte that it meets (call-announces).
 -- So the ring is offered nothing; and of the call's answer area, where it is exported, a host reads that assert (read-is-asserted).
-use mathlib.Core.Path.{_≡_, refl, sym, ap, _∙_}
-use mathlib.Core.Bool.{true, false, cond, _&&_, true≢false, and-eq-true-iff, and-true}
-use mathlib.Core.List.{List, [], _∷_, _++_, append-nil, append-assoc}
-use Prim.Native.Nat.{ℕ, _+_, _*_, _^_, _<_}
-use native.Mathlib.Omega.{arith}
-use lib.ListN.{getD}
-use borrow.Author.Tests.{eq-eqb, eqb-true}
-use Rattle.basics.specs.Inputs.{inputs, only, put}
+use Rattle.basics.proofs.Prelude.{_≡_, refl, sym, ap, _∙_, true, false, cond, _&&_, true≢false, and-eq-true-iff, and-true, List, [], _∷_, _++_, append-nil, append-assoc, ℕ, _+_, _*_, _^_, _<_, arith, getD, eq-eqb, eqb-true, inputs, only, put, test, first-has}
 use Rattle.rules.specs.Lines.{Lines, Made, withIrr, pendingIn, serve, enter, polled, raised}
-use Rattle.rules.specs.Ring.{Event, Ring, draw, kept, ringStep, ringRun, drawn}
-use Rattle.rules.specs.Core.{moved, lineTurn, turns}
-use Rattle.rules.specs.Device.{Device, Call, some, actsOf, acted, offers, draws, step}
-use Rattle.rules.specs.Device as call
-use Rattle.rules.specs.Numbering.{Numbers, returnedWith, valueWith}
-use Rattle.rules.specs.History.{history}
-use Rattle.calls.specs.Calls.{answered, presentIn}
-use Rattle.rules.specs.Account.{tally}
-use Rattle.histories.specs.Premises.{Along}
-use Rattle.histories.specs.Demands.{pollsOrRaises, assertsOf}
+use Rattle.rules.specs.{Ring.Event, Ring.Ring, Ring.draw, Ring.kept, Ring.ringStep, Ring.ringRun, Ring.drawn, Core.moved, Core.lineTurn, Core.turns}
+use Rattle.rules.specs.{Device.Device, Device.Call, Device.some, Device.actsOf, Device.acted, Device.offers, Device.draws, Device.step, Numbering.Numbers, Numbering.returnedWith, Numbering.valueWith}
+use Rattle.rules.{specs.History.history, specs.Account.tally, proofs.laws.Rings.fifo, proofs.laws.Counts.tally-append, proofs.laws.Counts.tally-nil}
+use Rattle.calls.{specs.Calls.answered, specs.Calls.presentIn, proofs.laws.Answers.none-read, proofs.laws.Answers.some-read}
+use Rattle.histories.{specs.Premises.Along, specs.Demands.pollsOrRaises, specs.Demands.assertsOf, proofs.laws.Folds.still, proofs.laws.Folds.along-each}
 use Rattle.sweep.specs.Sweeps.{sweeping, everyCall, assertFrom, Announced, nothing, one, AssertedBy}
-use Rattle.basics.proofs.laws.Bits.{test}
-use Rattle.basics.proofs.laws.Inputs.{first-has}
-use Rattle.rules.proofs.laws.Rings.{fifo}
-use Rattle.rules.proofs.laws.Counts.{tally-append, tally-nil}
-use Rattle.calls.proofs.laws.Answers.{none-read, some-read}
-use Rattle.histories.proofs.laws.Folds.{still, along-each}
 use Rattle.sweep.proofs.laws.Quiet.{write-leaves-lines, along-every}
+use Rattle.rules.specs.Device as call
 
 -- ---- what one call makes
 

@@ -1,27 +1,14 @@
 -- One input along a sweep: its mask bit stays, its latch and its service never go off, it comes into service only latched and unmasked and then makes one
 -- assert, and once it has been polled it is in service whenever it is latched and unmasked.
-use mathlib.Core.Path.{_≡_, refl, sym, ap, _∙_}
-use mathlib.Core.Logic.{_⊎_, inl, inr, ⊎-elim}
-use mathlib.Core.Bool.{Bool, true, false, cond, not, _&&_, true≢false, and-eq-true-iff, or-true, or-false}
-use mathlib.Core.List.{List, [], _∷_, _++_}
-use Prim.Native.Nat.{ℕ, _+_, _<_}
-use native.Mathlib.Omega.{arith}
-use borrow.Author.Tests.{eq-eqb, ne-eqb, eqb-true, eqb-false}
-use Rattle.basics.specs.Inputs.{on, inputs, only, put}
+use Rattle.basics.proofs.Prelude.{_≡_, refl, sym, ap, _∙_, _⊎_, inl, inr, ⊎-elim, Bool, true, false, cond, not, _&&_, true≢false, and-eq-true-iff, or-true, or-false, List, [], _∷_, _++_, ℕ, _+_, _<_, arith, eq-eqb, ne-eqb, eqb-true, eqb-false, on, inputs, only, put, test, on-put, first-has}
 use Rattle.rules.specs.Lines.{Lines, Made, event, withIrr, withIsr, pendingIn, serve, enter, polled, raised}
 use Rattle.rules.specs.Core.{Core, poll, raise, lower, clear, setMask, Act, move, setIsr, store, setVector, moved, lineTurn, turn, turns}
-use Rattle.rules.specs.Device.{Device, Call, actsOf, acted, step}
-use Rattle.rules.specs.Device as call
-use Rattle.rules.specs.History.{history}
-use Rattle.rules.specs.Account.{tally}
-use Rattle.histories.specs.Demands.{inService, Eligible, pollsOrRaises, assertsOf}
+use Rattle.rules.{specs.Device.Device, specs.Device.Call, specs.Device.actsOf, specs.Device.acted, specs.Device.step, specs.History.history, specs.Account.tally, proofs.laws.Counts.tally-append}
+use Rattle.histories.{specs.Demands.inService, specs.Demands.Eligible, specs.Demands.pollsOrRaises, specs.Demands.assertsOf, proofs.laws.Folds.fold-acts, proofs.laws.Folds.fold-calls}
 use Rattle.sweep.specs.Sweeps.{sweeping, everyCall, someCall, deassertsIn}
-use Rattle.basics.proofs.laws.Bits.{test, on-put}
-use Rattle.basics.proofs.laws.Inputs.{first-has}
-use Rattle.rules.proofs.laws.Counts.{tally-append}
 use Rattle.laws.proofs.laws.Serving.{poll-serves}
-use Rattle.histories.proofs.laws.Folds.{fold-acts, fold-calls}
 use Rattle.sweep.proofs.laws.Quiet.{Settled, settled-acts, along-every}
+use Rattle.rules.specs.Device as call
 
 pending-is : (a b c d : Bool) → (a && ((b && not c) && not d)) ≡ true → (b ≡ true) × (c ≡ false) × (d ≡ false)
 pending-is true true false false u = (refl, refl, refl)

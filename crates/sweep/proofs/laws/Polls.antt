@@ -1,28 +1,15 @@
 -- Polls one after another, from any accepted image and with an answer area that has room: each is done and leaves such an image and area (polls-done). The
 -- calls of all 64 are a sweep (all-polled).
-use mathlib.Core.Path.{_≡_, refl, sym, ap₂, _∙_}
-use mathlib.Core.Logic.{⊎-elim}
-use mathlib.Core.Bool.{true, or-true}
-use mathlib.Core.List.{List, [], _∷_, _++_, map}
-use Prim.Native.Nat.{ℕ, zero, suc, _+_, _<_, _≤_}
-use native.Mathlib.Nat.{eq-or-lt-of-le}
-use native.Mathlib.Omega.{arith}
-use lib.ListN.{length}
-use borrow.Author.Tests.{eq-eqb, le-leb, lt-ltb}
-use Rattle.basics.specs.Numbers.{Bytes}
-use Rattle.rules.specs.Device.{Call, poll, upFrom, Value, step}
-use Rattle.rules.specs.Numbering.{numbersAfter, valueWith}
-use Rattle.images.specs.Image.{decode, numbersIn, imageTest, accepted}
-use Rattle.calls.specs.Calls.{performed, answerLength, answered, outcome}
-use Rattle.calls.specs.Calls as request
-use Rattle.histories.specs.exported.Exported.{Exported, leftBy, isDone, HandedOn, doneCall, doneCalls}
-use Rattle.sweep.specs.Sweeps.{sweeping, isPoll, everyCall, someCall, Sweep}
-use Rattle.sweep.specs.Handed.{pollsFrom}
+use Rattle.basics.proofs.Prelude.{_≡_, refl, sym, ap₂, _∙_, ⊎-elim, true, or-true, List, [], _∷_, _++_, map, ℕ, zero, suc, _+_, _<_, _≤_, eq-or-lt-of-le, arith, length, eq-eqb, le-leb, lt-ltb, Bytes}
+use Rattle.rules.specs.{Device.Call, Device.poll, Device.upFrom, Device.Value, Device.step, Numbering.numbersAfter, Numbering.valueWith}
 use Rattle.rules.proofs.laws.Numbered.{numbers-step}
-use Rattle.images.proofs.laws.Saved.{bytes-encode}
+use Rattle.images.{specs.Image.decode, specs.Image.numbersIn, specs.Image.imageTest, specs.Image.accepted, proofs.laws.Saved.bytes-encode}
+use Rattle.calls.specs.Calls.{performed, answerLength, answered, outcome}
+use Rattle.histories.specs.exported.Exported.{Exported, leftBy, isDone, HandedOn, doneCall, doneCalls}
+use Rattle.histories.proofs.{laws.WellFormed.step-well, exported.demands.FromCalls.a-call-is-a-step}
+use Rattle.sweep.specs.{Sweeps.sweeping, Sweeps.isPoll, Sweeps.everyCall, Sweeps.someCall, Sweeps.Sweep, Handed.pollsFrom}
 use Rattle.laws.proofs.laws.Images.{accepted-has, encode-as, encode-decode, decode-well-formed, numbers-well, accepted-encode}
-use Rattle.histories.proofs.laws.WellFormed.{step-well}
-use Rattle.histories.proofs.exported.demands.FromCalls.{a-call-is-a-step}
+use Rattle.calls.specs.Calls as request
 
 -- ---- their calls
 

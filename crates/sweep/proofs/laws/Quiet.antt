@@ -1,23 +1,14 @@
 -- Which acts a call of a sweep does: it lowers no input and writes neither MASK, CLEAR nor ISR. A call that is no such call does one of these (sweeping-is).
-use mathlib.Core.Path.{_≡_, refl, sym, ap, ap₂, _∙_}
-use mathlib.Core.Bool.{Bool, true, false, not, _||_, true≢false, and-eq-true-iff}
-use mathlib.Core.List.{List, [], _∷_}
-use Prim.Native.Nat.{ℕ, _+_, _-_, _%_}
-use lib.Dec.{eqb}
-use borrow.Author.Tests.{eqb-true, not-true}
-use Rattle.basics.specs.Numbers.{byteOf}
-use Rattle.basics.specs.Inputs.{half}
+use Rattle.basics.proofs.Prelude.{_≡_, refl, sym, ap, ap₂, _∙_, Bool, true, false, not, _||_, true≢false, and-eq-true-iff, List, [], _∷_, ℕ, _+_, _-_, _%_, eqb, eqb-true, not-true, byteOf, half, test}
 use Rattle.rules.specs.Core.{Core, Act, poll, raise, lower, clear, setMask, move, setIsr, store, setVector}
 use Rattle.rules.specs.Map.{Cell, halfOf, bytes, nothing, inRoutes, inVectors, inByteArea, cellAt}
-use Rattle.rules.specs.Map as map
 use Rattle.rules.specs.Access.{Width, byte, word, dword, qword, entryActs, cellActs, dwordActs, byteActs, writeActs}
 use Rattle.rules.specs.Device.{Device, Call, actsOf}
-use Rattle.rules.specs.Device as call
-use Rattle.histories.specs.Premises.{Along, byteReaches, reaches}
-use Rattle.histories.specs.Demands.{Each, done, also, someAct}
-use Rattle.sweep.specs.Sweeps.{movesLines, unsettles, sweeping, everyCall}
-use Rattle.basics.proofs.laws.Bits.{test}
+use Rattle.histories.specs.{Premises.Along, Premises.byteReaches, Premises.reaches, Demands.Each, Demands.done, Demands.also, Demands.someAct}
 use Rattle.histories.proofs.laws.Reach.{each-both, each-so, cell-has, ruled-out, some-append, ReturnsNone, write-returns-none, LeavesLines}
+use Rattle.sweep.specs.Sweeps.{movesLines, unsettles, sweeping, everyCall}
+use Rattle.rules.specs.Map as map
+use Rattle.rules.specs.Device as call
 
 -- an act that does none of it
 abbrev pub Settled : Act → Type 0

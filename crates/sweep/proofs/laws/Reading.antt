@@ -1,32 +1,17 @@
 -- What a host reads of exported calls whose calls are such as a sweep admits: in answer areas the asserts that the history makes, input by input
 -- (asserts-read). And the 64 polls one after another: all are done (polls-done).
-use mathlib.Core.Path.{_≡_, refl, sym, ap, ap₂, _∙_}
-use mathlib.Core.Bool.{Bool, true, false, cond, not, _&&_, true≢false, and-eq-true-iff, and-true, and-false}
-use mathlib.Core.List.{List, [], _∷_, _++_}
-use Prim.Native.Nat.{ℕ, _+_}
-use native.Mathlib.Omega.{arith}
-use lib.Dec.{eqb}
-use Rattle.basics.specs.Inputs.{only}
-use Rattle.rules.specs.Lines.{Made}
-use Rattle.rules.specs.Ring.{Event}
-use Rattle.rules.specs.Device.{Call, Step, step}
-use Rattle.rules.specs.Device as device
-use Rattle.rules.specs.Numbering.{valueWith}
+use Rattle.basics.proofs.Prelude.{_≡_, refl, sym, ap, ap₂, _∙_, Bool, true, false, cond, not, _&&_, true≢false, and-eq-true-iff, and-true, and-false, List, [], _∷_, _++_, ℕ, _+_, arith, eqb, only, test}
+use Rattle.rules.specs.{Lines.Made, Ring.Event, Device.Call, Device.Step, Device.step, Numbering.valueWith, History.history, Account.tally}
+use Rattle.rules.proofs.laws.Counts.{tally-append, tally-nil}
 use Rattle.images.specs.Image.{numbersIn}
-use Rattle.calls.specs.Calls.{Request, pass, calls, askedBy, widthTest, addressTest, answered, presentIn, Outcome}
-use Rattle.calls.specs.Calls as request
-use Rattle.rules.specs.History.{history}
-use Rattle.rules.specs.Account.{tally}
+use Rattle.calls.{specs.Calls.Request, specs.Calls.pass, specs.Calls.calls, specs.Calls.askedBy, specs.Calls.answered, specs.Calls.presentIn, specs.Calls.Outcome, proofs.laws.Requests.by-request}
 use Rattle.histories.specs.Demands.{pollsOrRaises, assertsOf, returnedIn}
 use Rattle.histories.specs.exported.Exported.{Exported, leftBy, isDone, isLoad, callOf, Underway, carriedOn, NoLoads, doneCall, doneCalls, current, Faithful}
-use Rattle.sweep.specs.Sweeps.{sweeping, everyCall, deassertsIn}
-use Rattle.sweep.specs.Handed.{asksFor, readsAssert, assertsRead}
-use Rattle.basics.proofs.laws.Bits.{test}
-use Rattle.rules.proofs.laws.Counts.{tally-append, tally-nil}
-use Rattle.histories.proofs.laws.Folds.{history-append}
-use Rattle.histories.proofs.exported.laws.Chains.{passed, handed, faithful-on, carried-on}
-use Rattle.histories.proofs.exported.laws.Readings.{access-is, input-is, asked-is}
+use Rattle.histories.proofs.{laws.Folds.history-append, exported.laws.Chains.handed, exported.laws.Chains.faithful-on, exported.laws.Chains.carried-on}
+use Rattle.sweep.specs.{Sweeps.sweeping, Sweeps.everyCall, Sweeps.deassertsIn, Handed.asksFor, Handed.readsAssert, Handed.assertsRead}
 use Rattle.sweep.proofs.laws.Announcing.{call-announces, read-is-asserted}
+use Rattle.rules.specs.Device as device
+use Rattle.calls.specs.Calls as request
 
 -- ---- deasserts
 
@@ -42,18 +27,13 @@ returned-silent (m ∷ ms) e =
 
 -- what a request asks for is what its call polls or raises
 pub asks-is : (n : ℕ) (q : Request) (c : Call) → askedBy q ≡ calls (pass c) → asksFor n q ≡ pollsOrRaises n c
-asks-is n request.reset c e = absurd (let z : _≡_ {A = ℕ} 0 1 = cc in omega arith)
-asks-is n (request.read base size address width) c e =
-    rw (access-is (widthTest width) (addressTest base size address width) device.read c (asked-is e) .2)
-asks-is n (request.write base size address width v) c e =
-    rw (access-is (widthTest width) (addressTest base size address width) (λ x o. device.write x o v) c (asked-is e) .2)
-asks-is n (request.level m v) c e = rw (input-is m (device.level m (not (eqb v 0))) c (asked-is e) .1) (levels (not (eqb v 0)))
+asks-is n =
+    by-request (λ q c. asksFor n q ≡ pollsOrRaises n c) (λ base size address width w o. refl) (λ base size address width v w o. refl) (λ m v. levels m (not (eqb v 0)))
+    (λ m. refl) (λ buffer place. refl)
   where
-    levels : (b : Bool) → (only n m && b) ≡ pollsOrRaises n (device.level m b)
-    levels true = and-true (only n m)
-    levels false = and-false (only n m)
-asks-is n (request.poll m) c e = rw (input-is m (device.poll m) c (asked-is e) .1)
-asks-is n (request.drain buffer place) c e = rw (sym (passed (asked-is e)))
+    levels : (m : ℕ) (b : Bool) → (only n m && b) ≡ pollsOrRaises n (device.level m b)
+    levels m true = and-true (only n m)
+    levels m false = and-false (only n m)
 
 -- of a refused call no assert is read
 refused-reads-none : (i : ℕ) (x : Exported) → isDone x ≡ false → readsAssert i x ≡ false

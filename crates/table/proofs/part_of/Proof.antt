@@ -1,6 +1,5 @@
 -- `part_of`: the contract itself, by computing. Written out, so that a wrong one is refused here, and not at what calls it.
-use mathlib.Core.Path.{refl}
-use borrow.Author.Needs.{needs}
+use Rattle.basics.proofs.Prelude.{refl, needs}
 use Rattle.table.proofs.part_of.Statement.{statement}
 use Rattle.table.proofs.part_of.Tie as tie
 

@@ -1,12 +1,5 @@
 -- A rule of a table in rows of 32, proved at all of its entries by one test that computes.
-use mathlib.Core.Path.{_≡_, _∙_, subst, sym}
-use mathlib.Core.Bool.{Bool, true}
-use mathlib.Core.List.{List, [], _∷_}
-use Prim.Native.Nat.{ℕ, zero, suc, _+_, _*_, _/_, _%_, _<_}
-use native.Mathlib.Nat.{add-zero, add-suc, suc-add, le-of-suc-le-suc, not-suc-le-zero}
-use native.Mathlib.Omega.{arith}
-use lib.Dec.{T, eqb, eqb→eq}
-use lib.ListN.{length, getD}
+use Rattle.basics.proofs.Prelude.{_≡_, _∙_, subst, sym, Bool, true, List, [], _∷_, ℕ, zero, suc, _+_, _*_, _/_, _%_, _<_, add-zero, add-suc, suc-add, le-of-suc-le-suc, not-suc-le-zero, arith, T, eqb, eqb→eq, length, getD}
 use Rattle.table.specs.Meaning.{reading, meant, entryAt, Agrees}
 use Rattle.table.proofs.table_rows.Same.{both, both-left, both-right, same, same-meaning}
 

@@ -1,10 +1,6 @@
 -- Two meanings are told apart by a test that computes.
-use mathlib.Core.Path.{_≡_, refl, sym, ap, _∙_}
-use mathlib.Core.Bool.{Bool, true, false, cond}
-use Prim.Native.Nat.{ℕ}
-use lib.Dec.{T, eqb, eqb→eq}
-use Rattle.rules.specs.Core.{htmsiEn, edge, pol, auto0, auto1}
-use Rattle.rules.specs.Map.{Register, id, mask, clear, irr, isr, plain}
+use Rattle.basics.proofs.Prelude.{_≡_, refl, sym, ap, _∙_, Bool, true, false, cond, ℕ, T, eqb, eqb→eq}
+use Rattle.rules.specs.{Core.htmsiEn, Core.edge, Core.pol, Core.auto0, Core.auto1, Map.Register, Map.id, Map.mask, Map.clear, Map.irr, Map.isr, Map.plain}
 use Rattle.table.specs.Meaning.{Meaning, part, route, vector, nothing}
 
 -- ---- registers by a number each

@@ -1,15 +1,8 @@
 -- Blocks looked at one after another: those before number b stand, and what is left decides.
-use mathlib.Core.Path.{_≡_, sym, ap, _∙_}
-use mathlib.Core.Bool.{false, _&&_, and-false}
-use mathlib.Core.List.{List}
-use Prim.Native.Nat.{ℕ, suc, _+_, _-_, _*_, _<_, _≤_}
-use native.Mathlib.Omega.{arith}
-use lib.Dec.{eqb, leb}
-use borrow.Author.Tests.{eq-eqb, ne-eqb, le-leb, lt-leb}
+use Rattle.basics.proofs.Prelude.{_≡_, sym, ap, _∙_, false, _&&_, and-false, List, ℕ, suc, _+_, _-_, _*_, _<_, _≤_, arith, eqb, leb, eq-eqb, ne-eqb, le-leb, lt-leb}
 use Rattle.traces.specs.Trace.{mostRecords, recordLength, twoAt, listedAt, blockAt, blocksFrom, recordsIn, backToBack}
 use Rattle.traces.proofs.laws.Blocks.{records-none, records-front, stand-none, stand-next}
-use Rattle.trace.specs.declared.blocks.Listed.the-variants.{Records, Wrong}
-use Rattle.trace.specs.blocks.Found.{listedIf, standing, listedAs}
+use Rattle.trace.specs.{declared.blocks.Listed.the-variants.Records, declared.blocks.Listed.the-variants.Wrong, blocks.Found.listedIf, blocks.Found.standing, blocks.Found.listedAs}
 
 -- of n blocks the first b stand and have r records
 pub record Looked (l : List ℕ) (n r b : ℕ) : Type 0 where

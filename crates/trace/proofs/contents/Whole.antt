@@ -1,20 +1,11 @@
 -- The contents as a whole: each refusal is a fact of good contents that does not hold.
-use mathlib.Core.Path.{_≡_, refl, sym, ap, _∙_}
-use mathlib.Core.Bool.{Bool, true, false, _&&_, false≢true, and-eq-true-iff}
-use mathlib.Core.List.{List}
-use Prim.Native.Nat.{ℕ, _+_, _*_, _≤_}
-use native.Mathlib.Omega.{arith}
-use lib.Dec.{leb}
-use lib.ListN.{length}
-use borrow.Author.Tests.{le-leb, leb-true}
+use Rattle.basics.proofs.Prelude.{_≡_, refl, sym, ap, _∙_, Bool, true, false, _&&_, false≢true, and-eq-true-iff, List, ℕ, _+_, _*_, _≤_, arith, leb, length, le-leb, leb-true}
 use Rattle.traces.specs.Trace.{mostBlocks, mostRecords, recordLength, blockCount, blocks, backToBack, firstPlace, recordCount}
-use Rattle.traces.proofs.laws.Contents as contents-laws
 use Rattle.traces.proofs.laws.Contents.{contents-are, contents-wrong}
-use Rattle.trace.specs.declared.blocks.Listed.{Listed}
+use Rattle.trace.specs.{declared.blocks.Listed.Listed, blocks.Found.listedIf, blocks.Found.standing, blocks.Found.listedAs}
+use Rattle.trace.specs.{declared.contents.Contents.the-variants.Good, declared.contents.Contents.the-variants.Wrong, contents.Found.contentsIf, contents.Found.contentsAs}
+use Rattle.traces.proofs.laws.Contents as contents-laws
 use Rattle.trace.specs.declared.blocks.Listed.the-variants as listed
-use Rattle.trace.specs.blocks.Found.{listedIf, standing, listedAs}
-use Rattle.trace.specs.declared.contents.Contents.the-variants.{Good, Wrong}
-use Rattle.trace.specs.contents.Found.{contentsIf, contentsAs}
 
 -- an answer about blocks taken apart
 abbrev areListed : Listed → Bool

@@ -1,9 +1,5 @@
 -- The tests on a record, by what is not zero in it.
-use mathlib.Core.Path.{_≡_}
-use mathlib.Core.Bool.{true, false, not, _&&_, _||_, and-true, and-false, or-true, or-false}
-use lib.Dec.{eqb}
-use borrow.Author.Tests.{eqb-true}
-use Rattle.basics.proofs.laws.Bits.{test}
+use Rattle.basics.proofs.Prelude.{_≡_, true, false, not, _&&_, _||_, and-true, and-false, or-true, or-false, eqb, eqb-true, test}
 use Rattle.traces.specs.Trace.{Record, isKind, usesByte, usesOffset, usesValue, isGood}
 
 -- what is not zero says which kinds are left

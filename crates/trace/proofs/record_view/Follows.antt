@@ -1,15 +1,8 @@
 -- What follows of a view that shows a place of bytes.
-use mathlib.Core.Path.{_≡_, ap, _∙_}
-use mathlib.Core.List.{List}
-use Prim.Native.Nat.{ℕ, _+_, _≤_}
-use native.Mathlib.Omega.{arith}
-use lib.ListN.{length}
+use Rattle.basics.proofs.Prelude.{_≡_, ap, _∙_, List, ℕ, _+_, _≤_, arith, length, part, length-part}
 use denote.Ref.{now}
-use Rattle.basics.specs.Numbers.{part}
-use Rattle.basics.proofs.laws.Lists.{length-part}
 use Rattle.traces.specs.Trace.{recordLength}
-use Rattle.trace.specs.declared.record_view.View.{View}
-use Rattle.trace.specs.record_view.Showing.{Inside, partShown, Shows}
+use Rattle.trace.specs.{declared.record_view.View.View, record_view.Showing.Inside, record_view.Showing.partShown, record_view.Showing.Shows}
 
 -- a whole record stands there, where one stands at that place
 pub shows-inside : (v : View) (l : List ℕ) (p : ℕ) → Shows v l p → p + recordLength ≤ length l → Inside v

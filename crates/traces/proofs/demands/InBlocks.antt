@@ -1,18 +1,8 @@
 -- Each record of a trace whose contents are good stands in one block (02, C-11: blocks back to back in that order).
-use mathlib.Core.Path.{_≡_, ap}
-use mathlib.Core.Bool.{true}
-use mathlib.Core.List.{List}
-use Prim.Native.Nat.{ℕ, _+_, _<_}
-use native.Mathlib.Nat.{zero-add}
-use native.Mathlib.Omega.{arith}
-use lib.Dec.{ltb}
-use borrow.Author.Tests.{ltb-true, ltb-false}
-use Rattle.basics.specs.Numbers.{part}
-use Rattle.basics.proofs.laws.Bits.{test}
+use Rattle.basics.proofs.Prelude.{_≡_, ap, true, List, ℕ, _+_, _<_, zero-add, arith, ltb, ltb-true, ltb-false, part, test}
 use Rattle.traces.specs.Trace.{recordLength, blockCount, blockAt, firstPlace, recordPlace, recordCount, contentsGood}
 use Rattle.traces.specs.Blocks.{recordsBefore, placeInBlock, InBlock, Has}
-use Rattle.traces.proofs.laws.Contents.{contents-have}
-use Rattle.traces.proofs.laws.Blocks.{begins, find, apart}
+use Rattle.traces.proofs.laws.{Contents.contents-have, Blocks.begins, Blocks.find, Blocks.apart}
 
 module _ (l : List ℕ) (e : contentsGood l ≡ true) where
   -- record j of block b is the record of the trace whose number is j and those before the block

@@ -1,22 +1,10 @@
 -- What 02, C-11 says of playing: from reset, a refused call counting as one that did nothing; and sixteen answer bytes for each record.
-use mathlib.Core.Path.{_≡_, refl, ap}
-use mathlib.Core.Bool.{cond}
-use mathlib.Core.List.{List, []}
-use Prim.Native.Nat.{ℕ, zero, suc, _*_}
-use native.Mathlib.Omega.{arith}
-use lib.ListN.{length, take, replicate, length-append}
-use borrow.Author.Tests.{ne-eqb}
-use Rattle.rules.specs.Device.{reset}
-use Rattle.rules.specs.Numbering.{drainedLength, fromZero}
-use Rattle.images.specs.Form.{Form, known, formOf}
-use Rattle.images.specs.Image.{encodeLike}
+use Rattle.basics.proofs.Prelude.{_≡_, refl, ap, cond, List, [], ℕ, zero, suc, _*_, arith, length, take, replicate, length-append, ne-eqb, test}
+use Rattle.rules.specs.{Device.reset, Numbering.drainedLength, Numbering.fromZero}
+use Rattle.images.specs.{Form.Form, Form.known, Form.formOf, Image.encodeLike}
 use Rattle.calls.specs.Calls.{Request, answerLength, answered, valueIn, hasRoom, Ending, outcome}
-use Rattle.calls.specs.Calls as request
-use Rattle.basics.proofs.laws.Bits.{test}
-use Rattle.calls.proofs.laws.Outcomes.{reset-done}
-use Rattle.calls.proofs.demands.Refused.{refused-changes-nothing}
-use Rattle.traces.specs.Trace.{Record, recordCount, nth}
-use Rattle.traces.specs.Played.{requestOf, asked, playedOn, drainedIn, playedFrom, afresh, played}
+use Rattle.calls.proofs.{laws.Outcomes.reset-done, demands.Refused.refused-changes-nothing}
+use Rattle.traces.specs.{Trace.Record, Trace.recordCount, Trace.nth, Played.requestOf, Played.asked, Played.playedOn, Played.drainedIn, Played.playedFrom, Played.afresh, Played.played}
 use Rattle.traces.proofs.laws.Plays.{played-none, played-next}
 
 -- bytes of an admitted length, whatever they are, become the image of the device after reset, in that form, with numbers from 0

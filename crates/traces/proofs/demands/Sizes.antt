@@ -1,13 +1,7 @@
 -- The sizes of a trace whose contents are good (02, C-11): up to 4,000 calls, held whole in a buffer of 64 KiB.
-use mathlib.Core.Path.{_≡_}
-use mathlib.Core.Bool.{true}
-use mathlib.Core.List.{List}
-use Prim.Native.Nat.{ℕ, zero, suc, _+_, _*_, _<_, _≤_}
-use native.Mathlib.Omega.{arith}
-use lib.ListN.{length}
+use Rattle.basics.proofs.Prelude.{_≡_, true, List, ℕ, zero, suc, _+_, _*_, _<_, _≤_, arith, length}
 use Rattle.traces.specs.Trace.{recordLength, blockCount, blocksFrom, recordsIn, backToBack, firstPlace, recordPlace, recordCount, contentsGood}
-use Rattle.traces.proofs.laws.Contents.{Good, contents-have}
-use Rattle.traces.proofs.laws.Blocks.{records-front, stand-front}
+use Rattle.traces.proofs.laws.{Contents.Good, Contents.contents-have, Blocks.records-front, Blocks.stand-front}
 
 module _ (l : List ℕ) (e : contentsGood l ≡ true) where
   facts : Good l

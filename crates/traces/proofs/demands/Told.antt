@@ -1,11 +1,5 @@
 -- What the test of a trace tells is so (02, C-11): 12 of wrong contents, 13 of the first bad record, else a trace in which all is good.
-use mathlib.Core.Path.{_≡_, refl}
-use mathlib.Core.Bool.{Bool, true, false, cond}
-use mathlib.Core.List.{List}
-use Prim.Native.Nat.{ℕ, _<_}
-use native.Mathlib.Omega.{arith}
-use lib.Dec.{ltb}
-use borrow.Author.Tests.{ltb-true, ltb-false, not-true, not-false}
+use Rattle.basics.proofs.Prelude.{_≡_, refl, Bool, true, false, cond, List, ℕ, _<_, arith, ltb, ltb-true, ltb-false, not-true, not-false}
 use Rattle.traces.specs.Trace.{firstPlace, recordCount, contentsGood, nth, isGood, isBad, firstBad, TraceTest, good, wrongContents, badRecord, foundBad, traceTest}
 use Rattle.traces.proofs.laws.Firsts.{First, first-found}
 

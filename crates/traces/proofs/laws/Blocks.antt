@@ -1,14 +1,7 @@
 -- Blocks that stand back to back: where each begins, and the block and the place in it of each record.
-use mathlib.Core.Path.{_≡_, refl, ap, _∙_}
-use mathlib.Core.Bool.{true, _&&_, and-eq-true-iff}
-use mathlib.Core.List.{List}
-use Prim.Native.Nat.{ℕ, zero, suc, _+_, _-_, _*_, _<_, _≤_}
-use native.Mathlib.Omega.{arith}
-use lib.Dec.{eqb, leb, ltb}
-use borrow.Author.Tests.{leb-true, eqb-true, ltb-true, ltb-false}
-use Rattle.basics.proofs.laws.Bits.{test}
-use Rattle.traces.proofs.laws.Computed as computed
+use Rattle.basics.proofs.Prelude.{_≡_, refl, ap, _∙_, true, _&&_, and-eq-true-iff, List, ℕ, zero, suc, _+_, _-_, _*_, _<_, _≤_, arith, eqb, leb, ltb, leb-true, eqb-true, ltb-true, ltb-false, test}
 use Rattle.traces.specs.Trace.{recordLength, blockAt, blocksFrom, recordsIn, backToBack}
+use Rattle.traces.proofs.laws.Computed as computed
 
 -- ---- one block more
 

@@ -1,14 +1,9 @@
 -- The definitions on closed bytes, so that it is seen what they say: a trace of two blocks, and such traces with one thing wrong.
-use mathlib.Core.Path.{_≡_, refl}
-use mathlib.Core.Bool.{Bool, true, false}
-use mathlib.Core.List.{List, [], _∷_, _++_, map}
-use Prim.Native.Nat.{ℕ}
-use lib.ListN.{take, set, replicate}
-use Rattle.basics.specs.Numbers.{bytesOf}
+use Rattle.basics.proofs.Prelude.{_≡_, refl, Bool, true, false, List, [], _∷_, _++_, map, ℕ, take, set, replicate, bytesOf}
 use Rattle.rules.specs.Device.{none, some}
-use Rattle.calls.specs.Calls as request
 use Rattle.traces.specs.Trace.{blocksFrom, recordsIn, backToBack, contentsGood, recordOf, isGood, firstBad, good, wrongContents, badRecord, traceTest, traceNumber, traceValue}
 use Rattle.traces.specs.Played.{requestOf}
+use Rattle.calls.specs.Calls as request
 
 -- one name that opens what has to compute
 unfoldable pub tracing : ℕ
@@ -17,7 +12,7 @@ tracing = 0
 
 -- ---- a trace
 
-abbrev bytesAs : (kind byte offset value : ℕ) → List ℕ
+abbrev pub bytesAs : (kind byte offset value : ℕ) → List ℕ
 bytesAs kind byte offset value = kind ∷ byte ∷ (bytesOf 2 offset ++ (replicate 4 0 ++ bytesOf 8 value))
 
 -- two blocks: the first with a raise, the second with a write and a drain

@@ -1,13 +1,7 @@
 -- Good contents, fact by fact.
-use mathlib.Core.Path.{_≡_}
-use mathlib.Core.Bool.{true, false, and-eq-true-iff}
-use mathlib.Core.List.{List}
-use Prim.Native.Nat.{ℕ, _+_, _*_, _≤_}
-use lib.ListN.{length}
-use borrow.Author.Tests.{leb-true, eqb-true, le-leb, eq-eqb}
-use Rattle.basics.proofs.laws.Bits.{test}
-use Rattle.traces.proofs.laws.Computed as computed
+use Rattle.basics.proofs.Prelude.{_≡_, true, false, and-eq-true-iff, List, ℕ, _+_, _*_, _≤_, length, leb-true, eqb-true, le-leb, eq-eqb, test}
 use Rattle.traces.specs.Trace.{mostBlocks, mostRecords, recordLength, blockCount, blocks, backToBack, firstPlace, recordCount, contentsGood}
+use Rattle.traces.proofs.laws.Computed as computed
 
 pub record Good (l : List ℕ) : Type 0 where
   pub some : 1 ≤ blockCount l

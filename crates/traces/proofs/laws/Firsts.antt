@@ -1,13 +1,7 @@
 -- The first bad one: found by looking at one after another, and what it is that it was found.
-use mathlib.Core.Path.{_≡_, refl, sym, subst}
-use mathlib.Core.Bool.{Bool, true, false}
-use Prim.Native.Nat.{ℕ, zero, suc, _+_, _<_, _≤_}
-use native.Mathlib.Omega.{arith}
-use lib.Dec.{eqb}
-use borrow.Author.Tests.{eqb-true, eqb-false}
-use Rattle.basics.proofs.laws.Bits.{test}
-use Rattle.traces.proofs.laws.Computed as computed
+use Rattle.basics.proofs.Prelude.{_≡_, refl, sym, subst, Bool, true, false, ℕ, zero, suc, _+_, _<_, _≤_, arith, eqb, eqb-true, eqb-false, test}
 use Rattle.traces.specs.Trace.{firstBad}
+use Rattle.traces.proofs.laws.Computed as computed
 
 module _ (bad : ℕ → Bool) where
   pub first-end : (k : ℕ) → firstBad bad 0 k ≡ k

@@ -1,9 +1,6 @@
 -- A play one record at a time, from number k on.
-use mathlib.Core.Path.{_≡_, refl}
-use mathlib.Core.List.{List, [], _++_}
-use Prim.Native.Nat.{ℕ, suc}
-use Rattle.traces.specs.Trace.{nth}
-use Rattle.traces.specs.Played.{playedOn, drainedIn, recordsFrom, outcomes, gathered, playedFrom}
+use Rattle.basics.proofs.Prelude.{_≡_, refl, List, [], _++_, ℕ, suc}
+use Rattle.traces.specs.{Trace.nth, Played.playedOn, Played.drainedIn, Played.recordsFrom, Played.outcomes, Played.gathered, Played.playedFrom}
 
 module _ (l : List ℕ) (k : ℕ) (i : List ℕ) where
   pub played-none : playedFrom l 0 k i ≡ record { image = i; answers = []; events = [] }

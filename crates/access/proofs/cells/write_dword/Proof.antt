@@ -1,27 +1,16 @@
 -- `write_dword`: by what stands at the offset.
-use mathlib.Core.Path.{sym, ap, _∙_}
-use mathlib.Core.List.{[]}
-use native.Mathlib.Omega.{arith}
-use Rattle.rules.specs.Map.{bytes}
-use Rattle.rules.specs.Access.{cellActs, dwordActs}
+use Rattle.basics.proofs.Prelude.{sym, ap, _∙_, [], arith, needs}
+use Rattle.rules.specs.{Map.bytes, Access.cellActs, Access.dwordActs}
 use Rattle.laws.proofs.laws.Writes.{dword-acts-of}
 use Rattle.device.specs.map.Views.{cellView}
 use Rattle.fields.proofs.inplace.Doing.{writes-none, writes-same}
-use borrow.Author.Needs.{needs}
 use Rattle.access.proofs.cells.write_dword.Statement.{statement}
 use Rattle.access.proofs.cells.write_dword.Tie as tie
 
 pub write-dword-spec : {M : Type 1} → statement M
 unfolding cellActs
-write-dword-spec =
-    tie.close
-    (tie.spec
-    (λ c κs. search needs)
-    (λ c. search needs)
-    (λ c κs. search needs)
-    (λ c. search needs)
-    (λ c κs. (search needs, sym (c .before .before .before .decode-low .ensures) ∙ ap cellView (c .before .enum-told .given .1)))
-    (λ c. search needs)
+write-dword-spec = tie.close (tie.spec (λ c κs. search needs) (λ c. search needs) (λ c κs. search needs) (λ c. search needs)
+    (λ c κs. (search needs, sym (c .before .before .before .decode-low .ensures) ∙ ap cellView (c .before .enum-told .given .1))) (λ c. search needs)
     (λ c. search needs)
     (λ c. let w = c .before .before .write-half .ensures in
     let a = c .before .before .before .before .before .before .before .before .before .args in

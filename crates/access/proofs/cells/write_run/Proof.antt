@@ -1,17 +1,11 @@
 -- `write_run`: by the table that the run lies in.
-use mathlib.Core.Logic.{⊎-elim}
-use Rattle.access.proofs.cells.Entries.{routes-acts, vectors-acts}
-use borrow.Author.Needs.{needs}
-use Rattle.access.proofs.cells.write_run.Statement.{statement}
+use Rattle.basics.proofs.Prelude.{⊎-elim, needs}
+use Rattle.access.proofs.cells.{Entries.routes-acts, Entries.vectors-acts, write_run.Statement.statement}
 use Rattle.access.proofs.cells.write_run.Tie as tie
 
 pub write-run-spec : {M : Type 1} → statement M
-write-run-spec =
-    tie.close
-    (tie.spec
-    (λ c κs. (search needs, c .before .before .before .pre .1 .fits))
-    (λ c κs. (search needs, c .before .before .before .pre .1 .fits))
-    (λ c. search needs)
+write-run-spec = tie.close (tie.spec (λ c κs. (search needs, c .before .before .before .pre .1 .fits))
+    (λ c κs. (search needs, c .before .before .before .pre .1 .fits)) (λ c. search needs)
     (λ c. let p = c .before .before in
     let s = p .before .before .before .before in
     routes-acts (s .args .image .now) (s .args .offset) (s .args .n) (s .args .x) (s .pre .1 .fits) (p .before .before .match .keys1) (p .put-routes .ensures))

@@ -1,28 +1,16 @@
 -- `write_qword`: eight bytes of a run at once; and else a Dword, and the next one.
-use native.Mathlib.Omega.{arith}
-use Rattle.access.proofs.cells.Entries.{eight-together}
-use Rattle.access.proofs.wide.Dwords.{qword-both}
-use borrow.Author.Needs.{needs}
-use Rattle.access.proofs.wide.write_qword.Statement.{statement}
+use Rattle.basics.proofs.Prelude.{arith, needs}
+use Rattle.access.proofs.{cells.Entries.eight-together, wide.Dwords.qword-both, wide.write_qword.Statement.statement}
 use Rattle.access.proofs.wide.write_qword.Tie as tie
 
 pub write-qword-spec : {M : Type 1} → statement M
-write-qword-spec =
-    tie.close
-    (tie.spec
-    (λ c κs. search needs)
-    (λ c κs. (search needs, c .before .before .eight-together .ensures (c .before .if1 .taken)))
-    (λ c. search needs)
+write-qword-spec = tie.close (tie.spec (λ c κs. search needs)
+    (λ c κs. (search needs, c .before .before .eight-together .ensures (c .before .if1 .taken))) (λ c. search needs)
     (λ c. let w = c .before .before in
     let t = w .before .before in
     let a = t .before .before .before .args in
     (omega arith, eight-together (a .image .now) (a .offset) (a .value) (t .before .eight-together .ensures (t .if1 .taken)) (w .write-run .ensures)))
-    (λ c κs. search needs)
-    (λ c κs. search needs)
-    (λ c. search needs)
-    (λ c κs. search needs)
-    (λ c κs. search needs)
-    (λ c. search needs)
+    (λ c κs. search needs) (λ c κs. search needs) (λ c. search needs) (λ c κs. search needs) (λ c κs. search needs) (λ c. search needs)
     (λ c. search needs)
     (λ c. let q = c .before .before in
     let p = q .before .before .before .before .before in

@@ -1,16 +1,5 @@
 -- `number`: after i bytes x is the number that they spell. Moved up by 8 * i the next byte stands above them, so that `or` is the sum.
-use mathlib.Core.Path.{_≡_, refl, sym, ap, _∙_}
-use mathlib.Core.List.{List}
-use Prim.Native.Nat.{ℕ, zero, suc, _+_, _-_, _*_, _%_, _^_, _≤_, _<_}
-use native.Mathlib.Nat.{pow-succ'}
-use native.Mathlib.Omega.{arith}
-use borrow.Author.Needs.{needs}
-use lib.Bits.{bitOr, or-shifted-r}
-use lib.ListN.{length, take, getD}
-use lib.Pow.{pow-add, shl-exact}
-use lib.Seq.{length-take-le, take-all}
-use Rattle.basics.specs.Numbers.{numberOf, Bytes}
-use Rattle.basics.proofs.laws.Bytes.{bytes-take, numberOf-below, numberOf-next}
+use Rattle.basics.proofs.Prelude.{_≡_, refl, sym, ap, _∙_, List, ℕ, zero, suc, _+_, _-_, _*_, _%_, _^_, _≤_, _<_, pow-succ', arith, needs, bitOr, or-shifted-r, length, take, getD, pow-add, shl-exact, length-take-le, take-all, numberOf, Bytes, bytes-take, numberOf-below, numberOf-next}
 use Rattle.bits.proofs.bytes.number.Statement.{statement}
 use Rattle.bits.proofs.bytes.number.Tie as tie
 
@@ -36,37 +25,10 @@ put-above l i {x} {w} b h k e f =
     ap (bitOr x) (shl-exact 8 (8 * i) 64 byte (omega arith)) ∙ or-shifted-r w (8 * i) x room ∙ (λ j. f j * eights i j + e j)
     ∙ omega (arith, numberOf-next l i k)
 
-loop-holds : tie.Need-loop-holds Inv-loop μ-loop
-loop-holds c = (omega arith, refl)
-
-shared-slice-read-wide : tie.Need-shared-slice-read-wide Inv-loop μ-loop
-shared-slice-read-wide c = search needs
-
-wide-requires : tie.Need-wide-requires Inv-loop μ-loop
-wide-requires c κs = search needs
-
-mul-x : tie.Need-mul-x Inv-loop μ-loop
-mul-x c = search needs
-
-shl-x : tie.Need-shl-x Inv-loop μ-loop
-shl-x c = omega arith
-
-add-i : tie.Need-add-i Inv-loop μ-loop
-add-i c = search needs
-
-loop-less : tie.Need-loop-less Inv-loop μ-loop
-loop-less c = search needs
-
-loop-again : tie.Need-loop-again Inv-loop μ-loop
-loop-again c =
-    let r = c .before .before .before .before in
-    let l = c .before .before .before .loop in
-    (omega arith, put-above (r .before .args .b .now) (l .i) (λ k. omega (arith, r .shared-slice-known .given k)) (omega arith) (omega arith) (l .inv .1) (c .wide .ensures))
-
-returns : tie.Need-returns Inv-loop μ-loop
-returns c = c .before .loop .inv .1 ∙ ap numberOf (take-all (c .before .loop .i) (c .before .before .before .args .b .now) (omega arith))
-
 pub number-spec : {M : Type 1} → statement M
-number-spec =
-    tie.close
-    (tie.spec Inv-loop μ-loop loop-holds shared-slice-read-wide wide-requires mul-x shl-x add-i loop-less loop-again returns)
+number-spec = tie.close (tie.spec Inv-loop μ-loop (λ c. (omega arith, refl)) (λ c. search needs) (λ c κs. search needs) (λ c. search needs)
+    (λ c. omega arith) (λ c. search needs) (λ c. search needs)
+    (λ c. let r = c .before .before .before .before in
+    let l = c .before .before .before .loop in
+    (omega arith, put-above (r .before .args .b .now) (l .i) (λ k. omega (arith, r .shared-slice-known .given k)) (omega arith) (omega arith) (l .inv .1) (c .wide .ensures)))
+    (λ c. c .before .loop .inv .1 ∙ ap numberOf (take-all (c .before .loop .i) (c .before .before .before .args .b .now) (omega arith))))

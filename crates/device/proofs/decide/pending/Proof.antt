@@ -1,7 +1,6 @@
 -- `pending` is right bit by bit.
-use borrow.Author.Needs.{needs}
-use Rattle.device.proofs.decide.Deciding.{pending-is}
-use Rattle.device.proofs.decide.pending.Statement.{statement}
+use Rattle.basics.proofs.Prelude.{needs}
+use Rattle.device.proofs.decide.{Deciding.pending-is, pending.Statement.statement}
 use Rattle.device.proofs.decide.pending.Tie as tie
 
 pub pending-spec : {M : Type 1} → statement M

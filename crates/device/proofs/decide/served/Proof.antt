@@ -1,7 +1,6 @@
 -- `served` is right bit by bit.
-use borrow.Author.Needs.{needs}
-use Rattle.device.proofs.decide.Deciding.{served-is}
-use Rattle.device.proofs.decide.served.Statement.{statement}
+use Rattle.basics.proofs.Prelude.{needs}
+use Rattle.device.proofs.decide.{Deciding.served-is, served.Statement.statement}
 use Rattle.device.proofs.decide.served.Tie as tie
 
 pub served-spec : {M : Type 1} → statement M

@@ -1,12 +1,6 @@
 -- `decode_low` is right since at a listed low half the map computes, and an offset whose low half no arm lists is missed by every row of the table.
-use mathlib.Core.Path.{_≡_, refl, sym, ap, subst, _∙_}
-use mathlib.Core.Bool.{Bool, true, false}
-use Prim.Native.Nat.{ℕ, _+_, _*_, _/_, _%_, _≤_, _<_}
-use native.Mathlib.Omega.{arith}
-use lib.Dec.{eqb}
-use borrow.Author.Needs.{needs}
-use Rattle.rules.specs.Map.{Register, id, mask, clear, irr, isr, plain, halfOf, table, cellAt}
-use Rattle.rules.specs.Core.{htmsiEn, edge, pol, auto0, auto1}
+use Rattle.basics.proofs.Prelude.{_≡_, refl, sym, ap, subst, _∙_, Bool, true, false, ℕ, _+_, _*_, _/_, _%_, _≤_, _<_, arith, eqb, needs}
+use Rattle.rules.specs.{Map.Register, Map.id, Map.mask, Map.clear, Map.irr, Map.isr, Map.plain, Map.halfOf, Map.table, Map.cellAt, Core.htmsiEn, Core.edge, Core.pol, Core.auto0, Core.auto1}
 use Rattle.laws.proofs.laws.Maps.{MissedLow, lowOf, halves-missed, half-of, below, between, beyond, unlisted-route, unlisted-vector, unlisted-elsewhere}
 use Rattle.device.proofs.map_low.decode_low.Statement.{statement}
 use Rattle.device.proofs.map_low.decode_low.Tie as tie
@@ -24,11 +18,7 @@ below-low o x n e h = omega arith
 
 pub decode-low-spec : {M : Type 1} → statement M
 unfolding cellAt
-decode-low-spec =
-    tie.close
-    (tie.spec
-    (λ c κs. search needs)
-    (λ c κs. search needs)
+decode-low-spec = tie.close (tie.spec (λ c κs. search needs) (λ c κs. search needs)
     (λ c. arm _ 0x000 _ _ id refl refl (c .before .before .is-high .ensures) (c .before .low-offset .ensures) (c .match .keys1))
     (λ c. arm _ 0x020 _ _ mask refl refl (c .before .before .is-high .ensures) (c .before .low-offset .ensures) (c .match .keys2))
     (λ c. arm _ 0x040 _ _ (plain htmsiEn) refl refl (c .before .before .is-high .ensures) (c .before .low-offset .ensures) (c .match .keys3))

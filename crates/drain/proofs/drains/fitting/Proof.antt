@@ -1,5 +1,5 @@
 -- `fitting`: the fewer of the two.
-use native.Mathlib.Omega.{arith}
+use Rattle.basics.proofs.Prelude.{arith}
 use Rattle.drain.proofs.drains.fitting.Statement.{statement}
 use Rattle.drain.proofs.drains.fitting.Tie as tie
 

@@ -1,16 +1,8 @@
 -- `shift`: the pairs, the numbers and the count.
-use mathlib.Core.Path.{_≡_, refl, _∙_}
-use mathlib.Core.Bool.{true}
-use Prim.Native.Nat.{_+_, _≤_}
-use native.Mathlib.Omega.{arith}
-use lib.ListN.{length, length-set}
-use borrow.Author.Needs.{needs}
-use Rattle.images.specs.Form.{Field, count, pairs, size}
-use Rattle.images.proofs.laws.Layout.{always}
-use Rattle.image.specs.Shown.{formView, placeIn}
-use Rattle.image.proofs.Forms.{placed, always-within}
-use Rattle.drain.proofs.shifts.Shifting.{shifts}
-use Rattle.drain.proofs.shifts.shift.Statement.{statement}
+use Rattle.basics.proofs.Prelude.{_≡_, refl, _∙_, true, _+_, _≤_, arith, length, length-set, needs}
+use Rattle.images.{specs.Form.Field, specs.Form.count, specs.Form.pairs, specs.Form.size, proofs.laws.Layout.always}
+use Rattle.image.{specs.Shown.formView, specs.Shown.placeIn, proofs.Forms.placed, proofs.Forms.always-within}
+use Rattle.drain.proofs.shifts.{Shifting.shifts, shift.Statement.statement}
 use Rattle.drain.proofs.shifts.shift.Tie as tie
 
 within : (c : tie.After-places-of) (q : Field) → always q ≡ true → placeIn (c .places-of .result) q + size q ≤ length (c .before .before .args .image .now)
@@ -19,17 +11,8 @@ within c q h =
     always-within (formView (s .args .form)) (s .args .image .now) (s .pre .0) (c .places-of .result) (c .places-of .ensures) q h
 
 pub shift-spec : {M : Type 1} → statement M
-shift-spec =
-    tie.close
-    (tie.spec
-    (λ c κs. search needs)
-    (λ c. record { fits = omega (arith, within c pairs refl) })
-    (λ c. search needs)
-    (λ c. search needs)
-    (λ c. omega (arith, within c pairs refl))
-    (λ c κs. search needs)
-    (λ c κs. search needs)
-    (λ c. search needs)
+shift-spec = tie.close (tie.spec (λ c κs. search needs) (λ c. record { fits = omega (arith, within c pairs refl) }) (λ c. search needs)
+    (λ c. search needs) (λ c. omega (arith, within c pairs refl)) (λ c κs. search needs) (λ c κs. search needs) (λ c. search needs)
     (λ c. search needs)
     (λ c. let n = c .before .before in let p = n .before .before .before .before .before .before in let s = p .before .before in
     let same : length (n .leave-numbers .last .0) ≡ length (s .args .image .now) = search needs in

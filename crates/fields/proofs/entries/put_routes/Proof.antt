@@ -1,19 +1,12 @@
 -- `put_routes`: the bytes from the input's place on are replaced.
-use mathlib.Core.Path.{refl}
-use native.Mathlib.Omega.{arith}
+use Rattle.basics.proofs.Prelude.{refl, arith, needs}
 use Rattle.images.specs.Form.{routes}
-use Rattle.image.specs.Shown.{formView}
-use Rattle.image.proofs.Forms.{placed, always-fits}
-use Rattle.fields.proofs.entries.Tables.{routes-stored}
-use borrow.Author.Needs.{needs}
-use Rattle.fields.proofs.entries.put_routes.Statement.{statement}
+use Rattle.image.{specs.Shown.formView, proofs.Forms.placed, proofs.Forms.always-fits}
+use Rattle.fields.proofs.entries.{Tables.routes-stored, put_routes.Statement.statement}
 use Rattle.fields.proofs.entries.put_routes.Tie as tie
 
 pub put-routes-spec : {M : Type 1} → statement M
-put-routes-spec =
-    tie.close
-    (tie.spec
-    (λ c κs. search needs)
+put-routes-spec = tie.close (tie.spec (λ c κs. search needs)
     (λ c. (let p = c .before .before in omega (arith, placed (p .places-of .ensures) routes refl, always-fits (formView (p .before .before .args .form)) routes refl)))
     (λ c κs. (let p = c .before .before in omega (arith, placed (p .places-of .ensures) routes refl, always-fits (formView (p .before .before .args .form)) routes refl)))
     (λ c. search needs)

@@ -1,23 +1,15 @@
 -- `vectors`: the bytes from the input's place on spell the number.
-use mathlib.Core.Path.{refl}
-use native.Mathlib.Omega.{arith}
+use Rattle.basics.proofs.Prelude.{refl, arith, needs}
 use Rattle.images.specs.Form.{vectors}
-use Rattle.image.specs.Shown.{formView}
-use Rattle.image.proofs.Forms.{placed, always-fits}
-use Rattle.fields.proofs.entries.Tables.{entries-read}
-use borrow.Author.Needs.{needs}
-use Rattle.fields.proofs.entries.vectors.Statement.{statement}
+use Rattle.image.{specs.Shown.formView, proofs.Forms.placed, proofs.Forms.always-fits}
+use Rattle.fields.proofs.entries.{Tables.entries-read, vectors.Statement.statement}
 use Rattle.fields.proofs.entries.vectors.Tie as tie
 
 pub vectors-spec : {M : Type 1} → statement M
-vectors-spec =
-    tie.close
-    (tie.spec
-    (λ c κs. search needs)
+vectors-spec = tie.close (tie.spec (λ c κs. search needs)
     (λ c. (let p = c .before in omega (arith, placed (p .places-of .ensures) vectors refl, always-fits (formView (p .before .before .args .form)) vectors refl)))
     (λ c. (let p = c .before in omega (arith, placed (p .places-of .ensures) vectors refl, always-fits (formView (p .before .before .args .form)) vectors refl)))
-    (λ c. search needs)
-    (λ c. search needs)
+    (λ c. search needs) (λ c. search needs)
     (λ c. (let p = c .before in omega (arith, placed (p .places-of .ensures) vectors refl, always-fits (formView (p .before .before .args .form)) vectors refl)))
     (λ c κs. search needs)
     (λ c. let p = c .before .before .before in

@@ -1,17 +1,8 @@
 -- `take_offered`: nothing without numbers; else the next one is taken, and put behind those that wait if there is room.
-use mathlib.Core.Path.{_≡_, refl, _∙_}
-use mathlib.Core.Bool.{true}
-use Prim.Native.Nat.{_+_, _≤_}
-use native.Mathlib.Omega.{arith}
-use lib.ListN.{length}
-use borrow.Author.Needs.{needs}
-use Rattle.images.specs.Form.{Field, count, next, numbers, has, size}
-use Rattle.images.proofs.laws.Layout.{has-all}
-use Rattle.images.proofs.laws.Saved.{has-next}
-use Rattle.image.specs.Shown.{formView, placeIn}
-use Rattle.image.proofs.Forms.{placed, field-within, has-numbers, no-numbers}
-use Rattle.fields.proofs.event_numbers.Takings.{none-offered, full-offered, room-offered}
-use Rattle.fields.proofs.event_numbers.take_offered.Statement.{statement}
+use Rattle.basics.proofs.Prelude.{_≡_, refl, _∙_, true, _+_, _≤_, arith, length, needs}
+use Rattle.images.{specs.Form.Field, specs.Form.count, specs.Form.next, specs.Form.numbers, specs.Form.has, specs.Form.size, proofs.laws.Layout.has-all, proofs.laws.Saved.has-next}
+use Rattle.image.{specs.Shown.formView, specs.Shown.placeIn, proofs.Forms.placed, proofs.Forms.field-within, proofs.Forms.has-numbers, proofs.Forms.no-numbers}
+use Rattle.fields.proofs.event_numbers.{Takings.none-offered, Takings.full-offered, Takings.room-offered, take_offered.Statement.statement}
 use Rattle.fields.proofs.event_numbers.take_offered.Tie as tie
 
 there : (c : tie.After-places-of) → has (formView (c .before .before .before .before .args .form)) numbers ≡ true
@@ -23,10 +14,7 @@ within c q h =
     field-within (formView (s .args .form)) (s .args .image .now) (s .pre) (c .places-of .result) (c .places-of .ensures) q h
 
 pub take-offered-spec : {M : Type 1} → statement M
-take-offered-spec =
-    tie.close
-    (tie.spec
-    (λ c. search needs)
+take-offered-spec = tie.close (tie.spec (λ c. search needs)
     (λ c. let s = c .before .before in none-offered (formView (s .args .form)) (s .args .image .now) (s .pre) (no-numbers (s .args .form) (c .match .keys2)))
     (λ c κs. search needs)
     (λ c κs. let p = c .before in omega (arith, within p next (has-next (formView (p .before .before .before .before .args .form)) ∙ there p)))

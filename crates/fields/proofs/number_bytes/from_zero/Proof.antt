@@ -1,12 +1,8 @@
 -- `from_zero`: the same bytes by computing.
-use mathlib.Core.Path.{refl}
+use Rattle.basics.proofs.Prelude.{refl}
 use Rattle.rules.specs.Device.{upFrom}
 use Rattle.fields.proofs.number_bytes.from_zero.Statement.{statement}
 use Rattle.fields.proofs.number_bytes.from_zero.Tie as tie
 
-returns : tie.Need-returns
-unfolding upFrom
-returns c = refl
-
 pub from-zero-spec : {M : Type 1} → statement M
-from-zero-spec = tie.close (tie.spec returns)
+from-zero-spec = tie.close (tie.spec (λ c. unfold upFrom in refl))

@@ -1,19 +1,12 @@
 -- `irr`: the eight bytes from its place on spell it.
-use mathlib.Core.Path.{refl}
-use native.Mathlib.Omega.{arith}
+use Rattle.basics.proofs.Prelude.{refl, arith, needs}
 use Rattle.images.specs.Form.{irr, word}
-use Rattle.image.specs.Shown.{formView}
-use Rattle.image.proofs.Forms.{placed}
-use Rattle.fields.proofs.words.Registers.{word-within, word-read}
-use borrow.Author.Needs.{needs}
-use Rattle.fields.proofs.words.irr.Statement.{statement}
+use Rattle.image.{specs.Shown.formView, proofs.Forms.placed}
+use Rattle.fields.proofs.words.{Registers.word-within, Registers.word-read, irr.Statement.statement}
 use Rattle.fields.proofs.words.irr.Tie as tie
 
 pub irr-spec : {M : Type 1} → statement M
-irr-spec =
-    tie.close
-    (tie.spec
-    (λ c κs. search needs)
+irr-spec = tie.close (tie.spec (λ c κs. search needs)
     (λ c κs. let a = c .before .before .args in
     omega (arith, word-within (formView (a .form)) irr (placed (c .places-of .ensures) (word irr) refl) refl))
     (λ c. let p = c .before in

@@ -1,19 +1,12 @@
 -- `isr`: the eight bytes from its place on spell it.
-use mathlib.Core.Path.{refl}
-use native.Mathlib.Omega.{arith}
+use Rattle.basics.proofs.Prelude.{refl, arith, needs}
 use Rattle.images.specs.Form.{isr, word}
-use Rattle.image.specs.Shown.{formView}
-use Rattle.image.proofs.Forms.{placed}
-use Rattle.fields.proofs.words.Registers.{word-within, word-read}
-use borrow.Author.Needs.{needs}
-use Rattle.fields.proofs.words.isr.Statement.{statement}
+use Rattle.image.{specs.Shown.formView, proofs.Forms.placed}
+use Rattle.fields.proofs.words.{Registers.word-within, Registers.word-read, isr.Statement.statement}
 use Rattle.fields.proofs.words.isr.Tie as tie
 
 pub isr-spec : {M : Type 1} → statement M
-isr-spec =
-    tie.close
-    (tie.spec
-    (λ c κs. search needs)
+isr-spec = tie.close (tie.spec (λ c κs. search needs)
     (λ c κs. let a = c .before .before .args in
     omega (arith, word-within (formView (a .form)) isr (placed (c .places-of .ensures) (word isr) refl) refl))
     (λ c. let p = c .before in

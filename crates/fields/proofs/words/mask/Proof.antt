@@ -1,19 +1,12 @@
 -- `mask`: the eight bytes from its place on spell it.
-use mathlib.Core.Path.{refl}
-use native.Mathlib.Omega.{arith}
+use Rattle.basics.proofs.Prelude.{refl, arith, needs}
 use Rattle.images.specs.Form.{mask, word}
-use Rattle.image.specs.Shown.{formView}
-use Rattle.image.proofs.Forms.{placed}
-use Rattle.fields.proofs.words.Registers.{word-within, word-read}
-use borrow.Author.Needs.{needs}
-use Rattle.fields.proofs.words.mask.Statement.{statement}
+use Rattle.image.{specs.Shown.formView, proofs.Forms.placed}
+use Rattle.fields.proofs.words.{Registers.word-within, Registers.word-read, mask.Statement.statement}
 use Rattle.fields.proofs.words.mask.Tie as tie
 
 pub mask-spec : {M : Type 1} → statement M
-mask-spec =
-    tie.close
-    (tie.spec
-    (λ c κs. search needs)
+mask-spec = tie.close (tie.spec (λ c κs. search needs)
     (λ c κs. let a = c .before .before .args in
     omega (arith, word-within (formView (a .form)) mask (placed (c .places-of .ensures) (word mask) refl) refl))
     (λ c. let p = c .before in

@@ -1,20 +1,12 @@
 -- `put_irr`: its eight bytes are replaced, and those of its copy.
-use mathlib.Core.Path.{_≡_, refl}
-use native.Mathlib.Omega.{arith}
-use lib.ListN.{length}
+use Rattle.basics.proofs.Prelude.{_≡_, refl, arith, length, needs}
 use Rattle.images.specs.Form.{irr, word}
-use Rattle.image.specs.Shown.{formView}
-use Rattle.image.proofs.Forms.{placed, copy-within}
-use Rattle.fields.proofs.words.Registers.{word-within, irr-stored}
-use borrow.Author.Needs.{needs}
-use Rattle.fields.proofs.words.put_irr.Statement.{statement}
+use Rattle.image.{specs.Shown.formView, proofs.Forms.placed, proofs.Forms.copy-within}
+use Rattle.fields.proofs.words.{Registers.word-within, Registers.irr-stored, put_irr.Statement.statement}
 use Rattle.fields.proofs.words.put_irr.Tie as tie
 
 pub put-irr-spec : {M : Type 1} → statement M
-put-irr-spec =
-    tie.close
-    (tie.spec
-    (λ c κs. search needs)
+put-irr-spec = tie.close (tie.spec (λ c κs. search needs)
     (λ c κs. let p = c .before in omega (arith, word-within (formView (p .before .before .args .form)) irr (placed (p .places-of .ensures) (word irr) refl) refl))
     (λ c κs. let p = c .before .before .before .before .before in
     let s = p .before .before in

@@ -1,19 +1,12 @@
 -- `put_isr`: its eight bytes are replaced.
-use mathlib.Core.Path.{refl}
-use native.Mathlib.Omega.{arith}
+use Rattle.basics.proofs.Prelude.{refl, arith, needs}
 use Rattle.images.specs.Form.{isr, word}
-use Rattle.image.specs.Shown.{formView}
-use Rattle.image.proofs.Forms.{placed}
-use Rattle.fields.proofs.words.Registers.{word-within, isr-stored}
-use borrow.Author.Needs.{needs}
-use Rattle.fields.proofs.words.put_isr.Statement.{statement}
+use Rattle.image.{specs.Shown.formView, proofs.Forms.placed}
+use Rattle.fields.proofs.words.{Registers.word-within, Registers.isr-stored, put_isr.Statement.statement}
 use Rattle.fields.proofs.words.put_isr.Tie as tie
 
 pub put-isr-spec : {M : Type 1} → statement M
-put-isr-spec =
-    tie.close
-    (tie.spec
-    (λ c κs. search needs)
+put-isr-spec = tie.close (tie.spec (λ c κs. search needs)
     (λ c κs. let p = c .before in
     omega (arith, word-within (formView (p .before .before .args .form)) isr (placed (p .places-of .ensures) (word isr) refl) refl))
     (λ c. search needs)

@@ -1,30 +1,15 @@
 -- 01, Easy to get wrong, of exported calls: 'Re-asserting a cleared input whose line is still high: it needs a new raise.'
-use mathlib.Core.Path.{_≡_, sym, ap, _∙_}
-use mathlib.Core.Bool.{true, false, _&&_}
-use mathlib.Core.List.{List, [], _∷_}
-use Prim.Native.Nat.{ℕ, _+_, _<_}
-use native.Mathlib.Omega.{arith}
-use lib.Dec.{eqb}
-use Rattle.basics.specs.Inputs.{on}
-use Rattle.rules.specs.Ring.{Event, dropped}
-use Rattle.rules.specs.Device.{Call, none, step}
-use Rattle.rules.specs.Device as device
-use Rattle.rules.specs.Numbering.{valueWith}
+use Rattle.basics.proofs.Prelude.{_≡_, sym, ap, _∙_, true, false, _&&_, List, [], _∷_, ℕ, _+_, _<_, arith, eqb, on}
+use Rattle.rules.specs.{Ring.Event, Ring.dropped, Device.Call, Device.none, Device.step, Numbering.valueWith, History.history, Account.assertsAmong}
 use Rattle.images.specs.Image.{numbersIn}
-use Rattle.calls.specs.Calls.{poll, askedBy, answered, Outcome}
-use Rattle.rules.specs.History.{history}
-use Rattle.histories.specs.Premises.{Along}
-use Rattle.rules.specs.Account.{assertsAmong}
-use Rattle.histories.specs.Demands.{Clears, Unraised, assertsOf, CarriedAlone, ringActs}
-use Rattle.histories.specs.exported.Exported.{Exported, leftBy, isDone, isLoad, Underway, carriedOn, carriedThrough, NoLoads, doneCall, doneCalls}
-use Rattle.histories.specs.exported.Exported.{current, inImage, Faithful, returnedBy, drainedBy}
-use Rattle.histories.proofs.laws.Draining.{all-accounted}
-use Rattle.histories.proofs.exported.laws.Chains.{handed, calls-split}
-use Rattle.histories.proofs.laws.Latches.{quiet-until-raised, poll-finds-none, call-unlatches}
-use Rattle.histories.proofs.laws.Carriers.{asserts-within}
-use Rattle.histories.proofs.exported.laws.Readings.{input-is, asked-is, read-as}
+use Rattle.calls.{proofs.laws.Requests.input-is, proofs.laws.Requests.asked-is, specs.Calls.poll, specs.Calls.askedBy, specs.Calls.answered, specs.Calls.Outcome}
+use Rattle.histories.specs.{Premises.Along, Demands.Clears, Demands.Unraised, Demands.assertsOf, Demands.CarriedAlone, Demands.ringActs}
+use Rattle.histories.specs.exported.Exported.{Exported, leftBy, isDone, isLoad, Underway, carriedOn, carriedThrough, NoLoads, doneCall, doneCalls, current, inImage, Faithful, returnedBy, drainedBy}
+use Rattle.histories.proofs.{laws.Draining.all-accounted, exported.laws.Chains.handed, exported.laws.Chains.calls-split}
+use Rattle.histories.proofs.{laws.Latches.quiet-until-raised, laws.Latches.poll-finds-none, laws.Latches.call-unlatches, laws.Carriers.asserts-within, exported.laws.Readings.read-as}
 use Rattle.histories.proofs.demands.Cleared.{no-assert-until-raised}
 use Rattle.histories.proofs.exported.demands.FromCalls.{image-holds-device, faithful-through, image-holds-history}
+use Rattle.rules.specs.Device as device
 
 -- In a history under way the done call x clears the input i, and none of the calls after it is a load or a raise of i.
 module _ (h : Underway) (f : Faithful h) (i : ℕ) (b : i < 64) (x : Exported) (later : List Exported) (c : Call) (n : NoLoads h (x ∷ later)) (e : doneCall x ≡ c ∷ [])
@@ -54,7 +39,7 @@ module _ (h : Underway) (f : Faithful h) (i : ℕ) (b : i < 64) (x : Exported) (
       let u = carriedThrough h (x ∷ later) in
       let still = faithful-through h f (x ∷ later) n in
       let r = handed u y still t l in
-      let is = input-is i (device.poll i) (r .call) (asked-is (sym (ap askedBy a) ∙ r .passes)) .1 in
+      let is = input-is i (device.poll i) (r .call) (asked-is (sym (ap askedBy a) ∙ r .passes)) in
       let off = ap (λ d. on (d .core .lines .irr) i) (sym (image-holds-device u still)) ∙ cleared-stays-unlatched in
       ap (λ (o : Outcome). o .answer) (r .left)
       ∙ ap (λ v. answered 0 v (y .answer)) (ap (valueWith (current u) (numbersIn (y .given))) is ∙ poll-finds-none i b (current u) (numbersIn (y .given)) off)

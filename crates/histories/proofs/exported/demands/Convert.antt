@@ -2,29 +2,21 @@
 -- later call alike, whatever the form of each: an image and what it is moved to, for one, and to move it first or last is the same. And a call, done or
 -- refused, leaves an image of the length that it was given. Request C-19: of images without the fifth body all this is so in every byte. Where one of them has it, the
 -- numbers of events can differ, and nothing else: from image to image only the fifth body brings them on.
-use mathlib.Core.Path.{_≡_, refl, sym, ap, subst, _∙_}
-use mathlib.Core.Bool.{Bool, true, false, cond, false≢true}
-use mathlib.Core.List.{List, [], _∷_}
-use Prim.Native.Nat.{ℕ}
-use lib.ListN.{length}
-use Rattle.basics.specs.Numbers.{Bytes}
-use Rattle.rules.specs.Device.{Device, WellFormed, none, step, reset}
-use Rattle.rules.specs.Numbering.{Numbers, WellNumbered, fromZero, numbersAfter}
+use Rattle.basics.proofs.Prelude.{_≡_, refl, sym, ap, subst, _∙_, Bool, true, false, cond, false≢true, List, [], _∷_, ℕ, length, Bytes, test}
+use Rattle.rules.specs.{Device.Device, Device.WellFormed, Device.none, Device.step, Device.reset, Numbering.Numbers, Numbering.WellNumbered, Numbering.fromZero, Numbering.numbersAfter}
+use Rattle.rules.proofs.laws.Numbered.{numbers-step}
 use Rattle.images.specs.Form.{Form, one, two, numbered, numbers, has, formLength}
 use Rattle.images.specs.Image.{imageTest, accepted, encodeAs, encodeLike, decode, numbersIn}
-use Rattle.calls.specs.Calls.{noRoom, refusalNumber, Tested, pass, refuse, onPass, imageAnswer, Request, Asked, afresh, calls, askedBy, Done, doneOn, resetAs, performed}
-use Rattle.calls.specs.Calls.{bufferOf, Outcome, leaves, ended, settled, hasRoom, outcome}
+use Rattle.images.proofs.laws.Saved.{bytes-encode, length-encode, encode-without, from-zero-well}
+use Rattle.calls.proofs.laws.Requests.{passed}
+use Rattle.calls.specs.Calls.{noRoom, refusalNumber, Tested, pass, refuse, onPass, imageAnswer, Request, Asked, afresh, calls, askedBy, Done, doneOn, resetAs, performed, bufferOf, Outcome, leaves, ended, settled, hasRoom, outcome}
 use Rattle.calls.specs.Convert.{converted}
 use Rattle.histories.specs.exported.Exported.{Exported, leftBy, isDone, answerLeft, eventsLeft, isReset, atLoad, leftAfter}
 use Rattle.histories.specs.exported.Alike.{Asking, askedOf, madeOn, SameDevice, Alike, AlikeBut, NoFifth, AllAlike, AllAlikeBut}
-use Rattle.basics.proofs.laws.Bits.{test}
-use Rattle.rules.proofs.laws.Numbered.{numbers-step}
-use Rattle.images.proofs.laws.Saved.{bytes-encode, length-encode, encode-without, from-zero-well}
 use Rattle.laws.proofs.laws.Images.{form-of, encode-as, accepted-has, encode-decode, decode-well-formed, numbers-well, accepted-encode, decode-encode, numbers-encode, numbers-lost, reset-well-formed, reset-numbered}
 use Rattle.laws.proofs.demands.Convert.{Converted, was-converted, can-be-converted, copied-as-it-is}
 use Rattle.histories.proofs.laws.WellFormed.{step-well}
-use Rattle.histories.proofs.exported.laws.Chains.{passed, place-fits, refused-leaves, reset-leaves, done-accepted}
-use Rattle.histories.proofs.exported.laws.Without.{answer-without, events-without}
+use Rattle.histories.proofs.exported.laws.{Chains.place-fits, Chains.refused-leaves, Chains.reset-leaves, Chains.done-accepted, Without.answer-without, Without.events-without}
 
 -- ---- what a call does, of the device and of the numbers beside it
 
@@ -146,8 +138,8 @@ module _ (d : Device) (w : WellFormed d) (s t : Numbers) (v : WellNumbered d s) 
   leaves-back-but true r afresh e = record { number = refl; answer = refl; events = refl }
   leaves-back-but true r (calls (pass c)) e = record {
     number = refl;
-    answer = answer-without d w s v q c a e ∙ sym (answer-without d w t u q c a e);
-    events = events-without d w s v q c a e (place-fits q a r) ∙ sym (events-without d w t u q c a e (place-fits q a r));
+    answer = answer-without d w s v a q c e ∙ sym (answer-without d w t u a q c e);
+    events = events-without d w s v a q c e (place-fits q a r) ∙ sym (events-without d w t u a q c e (place-fits q a r));
   }
   leaves-back-but true r (calls (refuse f)) e = record { number = refl; answer = refl; events = refl }
   leaves-back-but false r k e = record { number = refl; answer = refl; events = refl }

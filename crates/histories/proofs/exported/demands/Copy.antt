@@ -1,26 +1,11 @@
 -- Request C-17, of exported calls on an image of form 1: the copy that it holds, carried through the calls as the Rust writes it, is the one that the image
 -- left last holds; and that is IRR. And of any call: it stores no route or vector byte at an index of 64 or more.
-use mathlib.Core.Path.{_≡_, refl, sym, ap, _∙_}
-use mathlib.Core.Bool.{Bool}
-use mathlib.Core.List.{List}
-use Prim.Native.Nat.{ℕ}
-use native.Mathlib.Omega.{arith}
-use lib.ListN.{length}
-use Rattle.basics.specs.Numbers.{Bytes}
-use Rattle.rules.specs.Map.{Register, inRoutes, inVectors}
-use Rattle.rules.specs.Access.{registerActs, entryActs}
-use Rattle.rules.specs.Device.{Device, Call, actsOf, reset}
-use Rattle.rules.specs.Numbering.{fromZero}
-use Rattle.images.specs.Form.{copy, irr, word, one, place, formLength, read}
-use Rattle.images.specs.Image.{wordIn, encodeAs, decode, imageTest, accepted}
-use Rattle.rules.specs.History.{history}
-use Rattle.rules.specs.Copy.{copyThrough, IndexBelow}
-use Rattle.basics.proofs.laws.Bits.{test}
-use Rattle.basics.proofs.laws.Bytes.{part-number, part-known}
-use Rattle.images.proofs.laws.Tests.{accepted-has, known-length}
-use Rattle.images.proofs.laws.Saved.{bytes-encode, length-encode}
+use Rattle.basics.proofs.Prelude.{_≡_, refl, sym, ap, _∙_, Bool, List, ℕ, arith, length, Bytes, test, part-number, part-known}
+use Rattle.rules.specs.{Map.Register, Map.inRoutes, Map.inVectors, Access.registerActs, Access.entryActs, Device.Device, Device.Call, Device.actsOf, Device.reset, Numbering.fromZero, History.history}
+use Rattle.rules.{specs.Copy.copyThrough, specs.Copy.IndexBelow, proofs.demands.Copy.copy-is-irr, proofs.demands.Copy.route-index-below, proofs.demands.Copy.vector-index-below}
+use Rattle.images.specs.{Form.copy, Form.irr, Form.word, Form.one, Form.place, Form.formLength, Form.read, Image.wordIn, Image.encodeAs, Image.decode, Image.imageTest, Image.accepted}
+use Rattle.images.proofs.laws.{Tests.accepted-has, Tests.known-length, Saved.bytes-encode, Saved.length-encode}
 use Rattle.laws.proofs.laws.Images.{decode-as, accepted-encode, reset-well-formed, reset-numbered}
-use Rattle.rules.proofs.demands.Copy.{copy-is-irr, route-index-below, vector-index-below}
 use Rattle.histories.specs.Demands.{Each, done, also}
 use Rattle.histories.specs.exported.Exported.{Exported, Underway, carriedThrough, NoLoads, doneCalls, GivenBytes, current, inImage, Faithful, afterReset, atLoad}
 use Rattle.histories.proofs.laws.Reach.{Passes, register-has, any-met, call-has}

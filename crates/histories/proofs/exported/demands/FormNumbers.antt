@@ -1,16 +1,8 @@
 -- Request C-17, 'Refusals: 4 now means a length that is neither 259 nor 251, 5 compares with the contents for that length, and 8 belongs to form 1 only.' Request C-19
 -- has 4 and 5 admit a third length, that of form 2 with numbers. Each of 4 and 5 is told exactly then.
-use mathlib.Core.Path.{_≡_, refl, sym, _∙_}
-use mathlib.Core.Bool.{Bool, true, false, cond, false≢true}
-use mathlib.Core.List.{List}
-use Prim.Native.Nat.{ℕ}
-use native.Mathlib.Omega.{arith}
-use lib.ListN.{length}
-use borrow.Author.Tests.{eq-eqb, ne-eqb}
-use Rattle.basics.specs.Numbers.{part}
+use Rattle.basics.proofs.Prelude.{_≡_, refl, sym, _∙_, Bool, true, false, cond, false≢true, List, ℕ, arith, length, eq-eqb, ne-eqb, part, same}
 use Rattle.images.specs.Form.{Form, one, two, numbered, forms, Known, unknown, known, formOf, formLength, contentsLength, contentsOf}
 use Rattle.images.specs.Image.{copyDiffers, Finding, clear, found, rules, firstFault, wrongLength, wrongContents, broken, bodyTest, imageTest}
-use Rattle.basics.specs.Numbers.{same}
 use Rattle.images.proofs.laws.Tests.{test-known, known-length, form-known, test-contents, test-body}
 use Rattle.laws.proofs.demands.Broken.{Why, told-is-so}
 

@@ -1,22 +1,14 @@
 -- From exported calls to histories: exported calls of which each done one is given the image that the last done one left are a history of the device.
 -- A done call hands back what its step gives, and the image that it leaves holds the device after it; so what holds of histories holds of exported
 -- calls.
-use mathlib.Core.Path.{_≡_, refl, sym, ap, subst, _∙_}
-use mathlib.Core.Bool.{true, false, cond, and-false, and-eq-true-iff}
-use mathlib.Core.List.{List, [], _∷_, _++_, append-nil, append-assoc}
-use lib.ListN.{length}
+use Rattle.basics.proofs.Prelude.{_≡_, refl, sym, ap, subst, _∙_, true, false, cond, and-false, and-eq-true-iff, List, [], _∷_, _++_, append-nil, append-assoc, length, equal-same}
 use Rattle.rules.specs.Device.{Device, WellFormed, Call, Step, value, reset}
-use Rattle.rules.specs.Numbering.{Numbers, fromZero, WellNumbered, drainedWith, valueWith}
-use Rattle.images.specs.Form.{Form, numbered, numbers, has, formLength}
-use Rattle.images.specs.Image.{encodeAs, encodeLike, decode, numbersIn, imageTest, accepted}
+use Rattle.rules.specs.{Numbering.Numbers, Numbering.fromZero, Numbering.WellNumbered, Numbering.drainedWith, Numbering.valueWith, History.history, History.fromReset}
+use Rattle.images.specs.{Form.Form, Form.numbered, Form.numbers, Form.has, Form.formLength, Image.encodeAs, Image.encodeLike, Image.decode, Image.numbersIn, Image.imageTest, Image.accepted}
 use Rattle.calls.specs.Calls.{afresh, askedBy, Outcome}
-use Rattle.rules.specs.History.{history, fromReset}
-use Rattle.histories.specs.exported.Exported.{Exported, leftBy, isDone, isReset, isLoad, callOf, Underway, carriedOn, carriedThrough, NoLoads}
-use Rattle.histories.specs.exported.Exported.{HandedOn, leftAfter, doneCall, doneCalls, IsStep, GivenBytes, current, inImage, Faithful, numbersThrough, afterReset, atLoad}
-use Rattle.basics.proofs.laws.Lists.{equal-same}
+use Rattle.histories.specs.exported.Exported.{Exported, leftBy, isDone, isReset, isLoad, callOf, Underway, carriedOn, carriedThrough, NoLoads, HandedOn, leftAfter, doneCall, doneCalls, IsStep, GivenBytes, current, inImage, Faithful, numbersThrough, afterReset, atLoad}
 use Rattle.laws.proofs.laws.Images.{encode-as, decode-encode, numbers-encode}
-use Rattle.histories.proofs.laws.Folds.{history-append}
-use Rattle.histories.proofs.laws.WellFormed.{history-well}
+use Rattle.histories.proofs.laws.{Folds.history-append, WellFormed.history-well}
 use Rattle.histories.proofs.exported.laws.Chains.{current-well, left-length, left-holds, through-append, through-numbered, handed, carried-on, faithful-kept, faithful-on, left-last, reset-leaves, reset-begins, faithful-after-reset, done-accepted, own-image, load-begins}
 use Rattle.histories.proofs.exported.laws.Without.{handed-answer, handed-events}
 

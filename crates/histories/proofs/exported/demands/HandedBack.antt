@@ -1,35 +1,16 @@
 -- Demand 3 of what exported calls hand back. What a host reads in answer areas and event buffers is what the history returns and drains, in order
 -- (Readings); so the account holds of the events that it has read, those that still wait in the image and those dropped, and so do service and order.
-use mathlib.Core.Path.{_≡_, refl, sym, ap, ap₂, subst, _∙_}
-use mathlib.Core.Bool.{Bool, true, false, not, _&&_}
-use mathlib.Core.List.{List, [], _∷_, _++_}
-use Prim.Native.Nat.{ℕ, _+_, _<_, min}
-use native.Mathlib.Omega.{arith}
-use lib.Dec.{eqb, lit≤}
-use lib.ListN.{length, getD}
-use Rattle.basics.specs.Numbers.{Bytes}
-use Rattle.basics.specs.Inputs.{on}
-use Rattle.rules.specs.Lines.{Made}
-use Rattle.rules.specs.Ring.{Event, dropped}
-use Rattle.rules.specs.Device.{Device, Call, level, step, reset}
-use Rattle.images.specs.Form.{Form}
-use Rattle.images.specs.Image.{decode}
+use Rattle.basics.proofs.Prelude.{_≡_, refl, sym, ap, ap₂, subst, _∙_, Bool, true, false, not, _&&_, List, [], _∷_, _++_, ℕ, _+_, _<_, min, arith, eqb, lit≤, length, getD, Bytes, on}
+use Rattle.rules.specs.{Lines.Made, Ring.Event, Ring.dropped, Device.Device, Device.Call, Device.level, Device.step, Device.reset, History.history}
+use Rattle.rules.{specs.Account.carrying, specs.Account.asserts, specs.Account.deasserts, specs.Account.assertsAmong, specs.Account.deassertsAmong, proofs.laws.Counts.tally-nil}
+use Rattle.images.specs.{Form.Form, Image.decode}
 use Rattle.calls.specs.Calls.{askedBy}
-use Rattle.rules.specs.History.{history}
 use Rattle.histories.specs.Premises.{Along, Admitted}
-use Rattle.rules.specs.Account.{carrying}
 use Rattle.histories.specs.Demands.{inService, Eligible, Spared, Undisturbed, pollsOrRaises, asEvent, foundBy, ringActs, returnedIn}
-use Rattle.rules.specs.Account.{asserts, deasserts, assertsAmong, deassertsAmong}
-use Rattle.histories.specs.exported.Exported.{Exported, isReset, isLoad, Underway, carriedOn, carriedThrough, NoLoads, doneCall, doneCalls}
-use Rattle.histories.specs.exported.Exported.{GivenBytes, current, inImage, Faithful, afterReset, atLoad, returnedBy, drainedBy, Balances}
-use Rattle.rules.proofs.laws.Counts.{tally-nil}
-use Rattle.histories.proofs.laws.Draining.{all-accounted}
-use Rattle.histories.proofs.exported.laws.Chains.{faithful-after-reset, faithful-at-load, calls-split}
-use Rattle.histories.proofs.laws.WellFormed.{history-well}
-use Rattle.histories.proofs.exported.laws.Readings.{read-as}
-use Rattle.histories.proofs.demands.Account.{none-served, asserts-match-service-from}
-use Rattle.histories.proofs.demands.Service.{in-service-from-the-poll-on, in-service-once-raised}
-use Rattle.histories.proofs.demands.Order.{drained-in-turn, drops-counted}
+use Rattle.histories.specs.exported.Exported.{Exported, isReset, isLoad, Underway, carriedOn, carriedThrough, NoLoads, doneCall, doneCalls, GivenBytes, current, inImage, Faithful, afterReset, atLoad, returnedBy, drainedBy, Balances}
+use Rattle.histories.proofs.{laws.Draining.all-accounted, exported.laws.Chains.faithful-after-reset, exported.laws.Chains.faithful-at-load, exported.laws.Chains.calls-split}
+use Rattle.histories.proofs.{laws.WellFormed.history-well, exported.laws.Readings.read-as, demands.Account.none-served, demands.Account.asserts-match-service-from}
+use Rattle.histories.proofs.demands.{Service.in-service-from-the-poll-on, Service.in-service-once-raised, Order.drained-in-turn, Order.drops-counted}
 use Rattle.histories.proofs.exported.demands.FromCalls.{a-load-begins, image-holds-device, image-holds-history, history-since-load}
 
 -- ---- what is read

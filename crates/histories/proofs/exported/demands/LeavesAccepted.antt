@@ -1,15 +1,8 @@
 -- What a call leaves of an accepted image is an accepted image again, as long as it was: so who hands on what the last call left is never refused by it.
-use mathlib.Core.Path.{_≡_, refl, sym, ap, subst, _∙_}
-use mathlib.Core.Bool.{false, and-false}
-use mathlib.Core.List.{List}
-use Prim.Native.Nat.{ℕ}
-use lib.ListN.{length}
-use Rattle.basics.specs.Numbers.{Bytes}
-use Rattle.images.specs.Image.{accepted, imageTest}
+use Rattle.basics.proofs.Prelude.{_≡_, refl, sym, ap, subst, _∙_, false, and-false, List, ℕ, length, Bytes, same-self}
+use Rattle.images.{specs.Image.accepted, specs.Image.imageTest, proofs.laws.Saved.bytes-encode}
 use Rattle.calls.specs.Calls.{Request, askedBy, outcome}
 use Rattle.histories.specs.exported.Exported.{Exported, Underway, isDone, isReset, isLoad, carriedOn, atLoad, current}
-use Rattle.basics.proofs.laws.Lists.{same-self}
-use Rattle.images.proofs.laws.Saved.{bytes-encode}
 use Rattle.laws.proofs.laws.Images.{accepted-encode}
 use Rattle.histories.proofs.exported.laws.Chains.{faithful-at-load, faithful-kept, current-well, left-length, left-last}
 

@@ -1,27 +1,15 @@
 -- What writes say of the events that they dropped (02, C-15), added up, against the drop count: over histories, and over exported calls of what a host reads
 -- in the answer areas of done writes. The count rises by the sum while it stays below its stop, and otherwise by what fits below the stop.
-use mathlib.Core.Path.{_≡_, sym, ap, subst, _∙_}
-use mathlib.Core.Bool.{true, false}
-use mathlib.Core.List.{List, _∷_}
-use Prim.Native.Nat.{ℕ, _+_, _-_, _<_, _≤_, min}
-use native.Mathlib.Omega.{arith}
-use lib.Dec.{lit≤}
-use Rattle.basics.specs.Numbers.{Bytes}
-use Rattle.rules.specs.Device.{Device, Call, reset}
-use Rattle.rules.specs.Numbering.{valueWith}
-use Rattle.images.specs.Form.{Form, one}
-use Rattle.images.specs.Image.{decode, numbersIn}
+use Rattle.basics.proofs.Prelude.{_≡_, sym, ap, subst, _∙_, true, false, List, _∷_, ℕ, _+_, _-_, _<_, _≤_, min, arith, lit≤, Bytes}
+use Rattle.rules.specs.{Device.Device, Device.Call, Device.reset, Numbering.valueWith, History.history}
+use Rattle.images.specs.{Form.Form, Form.one, Image.decode, Image.numbersIn}
 use Rattle.calls.specs.Calls.{askedBy, answered, presentIn, valueIn, Outcome}
-use Rattle.calls.specs.Calls as request
-use Rattle.rules.specs.History.{history}
 use Rattle.histories.specs.Demands.{lossesIn}
-use Rattle.histories.specs.exported.Exported.{Exported, leftBy, isDone, isReset, isLoad, Underway, carriedOn, carriedThrough, NoLoads, doneCall, doneCalls}
-use Rattle.histories.specs.exported.Exported.{GivenBytes, current, inImage, Faithful, afterReset, atLoad, lossesRead}
-use Rattle.histories.proofs.laws.WellFormed.{history-well}
-use Rattle.histories.proofs.exported.laws.Chains.{done-call, faithful-after-reset, faithful-at-load}
-use Rattle.histories.proofs.exported.laws.Dropping.{tells, losses-dropped, losses-read}
-use Rattle.histories.proofs.demands.Order.{drops-counted}
+use Rattle.histories.specs.exported.Exported.{Exported, leftBy, isDone, isReset, isLoad, Underway, carriedOn, carriedThrough, NoLoads, doneCall, doneCalls, GivenBytes, current, inImage, Faithful, afterReset, atLoad, lossesRead}
+use Rattle.histories.proofs.{laws.WellFormed.history-well, exported.laws.Chains.done-call, exported.laws.Chains.faithful-after-reset, exported.laws.Chains.faithful-at-load}
+use Rattle.histories.proofs.{exported.laws.Dropping.tells, exported.laws.Dropping.losses-dropped, exported.laws.Dropping.losses-read, demands.Order.drops-counted}
 use Rattle.histories.proofs.exported.demands.FromCalls.{a-load-begins, image-holds-device, image-holds-history, history-since-load}
+use Rattle.calls.specs.Calls as request
 
 -- ---- histories
 

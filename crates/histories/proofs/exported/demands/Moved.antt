@@ -1,22 +1,12 @@
 -- Request C-17, of the exported conversion on bytes: what a done one leaves is the image moved; moved to another form and back, by two such calls, an image is the
 -- same bytes; and a refused one changes nothing but the answer area, with refusal 7 not even that (00, demand 1).
-use mathlib.Core.Path.{_≡_, refl, sym, ap, _∙_}
-use mathlib.Core.Bool.{true, false}
-use mathlib.Core.List.{List, []}
-use Prim.Native.Nat.{ℕ, _≤_}
-use native.Mathlib.Omega.{arith}
-use lib.Dec.{leb}
-use lib.ListN.{length, drop}
-use borrow.Author.Tests.{le-leb}
-use Rattle.basics.specs.Numbers.{Bytes}
+use Rattle.basics.proofs.Prelude.{_≡_, refl, sym, ap, _∙_, true, false, List, [], ℕ, _≤_, arith, leb, length, drop, le-leb, Bytes, test}
 use Rattle.rules.specs.Device.{none}
-use Rattle.images.specs.Form.{Form, numbered, formLength}
-use Rattle.images.specs.Image.{accepted, copyDiffers, manyWait, badFlag, unusedSet, imageTest}
+use Rattle.images.specs.{Form.Form, Form.numbered, Form.formLength, Image.accepted, Image.copyDiffers, Image.manyWait, Image.badFlag, Image.unusedSet, Image.imageTest}
 use Rattle.calls.specs.Calls.{Refusal, refusalNumber, Tested, pass, refuse, answerLength, answered, Outcome, leaves, settled}
-use Rattle.calls.specs.Calls as calls
 use Rattle.calls.specs.Convert.{converted, convertEnded, conversion}
-use Rattle.basics.proofs.laws.Bits.{test}
 use Rattle.laws.proofs.demands.Convert.{there-and-back, can-be-converted}
+use Rattle.calls.specs.Calls as calls
 
 -- ---- what the call leaves
 

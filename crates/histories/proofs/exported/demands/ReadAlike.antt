@@ -1,18 +1,11 @@
 -- Request C-17, of what a host reads: one history, two forms. Where exported calls on two images are alike (Convert), the done ones are the same calls of the
 -- device, and a host reads the same events in answer areas and event buffers, and the same sum of what writes say that they dropped. It reads events without their
 -- numbers (02, C-19), so that this is so of any forms.
-use mathlib.Core.Path.{_≡_, refl, sym, ap₂, _∙_}
-use mathlib.Core.Bool.{cond}
-use mathlib.Core.List.{List, [], _∷_, _++_}
-use Prim.Native.Nat.{ℕ, _+_}
-use lib.Dec.{eqb}
-use Rattle.basics.specs.Numbers.{Bytes}
+use Rattle.basics.proofs.Prelude.{_≡_, refl, sym, ap₂, _∙_, cond, List, [], _∷_, _++_, ℕ, _+_, eqb, Bytes, test}
 use Rattle.images.specs.Image.{imageTest, accepted, decode}
-use Rattle.calls.specs.Calls.{pass, askedBy}
-use Rattle.calls.specs.Convert.{converted}
+use Rattle.calls.specs.{Calls.pass, Calls.askedBy, Convert.converted}
 use Rattle.histories.specs.exported.Exported.{Exported, leftBy, isDone, answerWithout, eventsWithout, callOf, doneCalls, returnedTo, drainedTo, lostTo, returnedBy, drainedBy, lossesRead}
 use Rattle.histories.specs.exported.Alike.{Asking, askedOf, madeOn, AllAlikeBut, ReadAlike}
-use Rattle.basics.proofs.laws.Bits.{test}
 use Rattle.histories.proofs.exported.laws.Without.{returned-without, drained-without, lost-without}
 use Rattle.histories.proofs.exported.demands.Convert.{same-device-answers-alike-but-for-numbers, converted-answers-alike-but-for-numbers}
 

@@ -1,33 +1,18 @@
 -- Exported calls and the history that they carry on: what a done call was asked and what it leaves, and that the history's device is always the one
 -- that the image last left holds. A refused call changes nothing; a load begins anew from what it was given.
-use mathlib.Core.Path.{_≡_, refl, sym, ap, subst, _∙_}
-use mathlib.Core.Bool.{Bool, true, false, cond, not, true≢false, and-false, and-eq-true-iff, Bool·not-not}
-use mathlib.Core.List.{List, [], _∷_, _++_, append-nil, append-assoc}
-use Prim.Native.Nat.{ℕ, _≤_}
-use native.Mathlib.Omega.{arith}
-use lib.Dec.{eqb, leb}
-use lib.ListN.{length}
-use borrow.Author.Tests.{leb-true}
-use Rattle.basics.specs.Numbers.{Bytes}
+use Rattle.basics.proofs.Prelude.{_≡_, refl, sym, ap, subst, _∙_, Bool, true, false, cond, not, true≢false, and-false, and-eq-true-iff, Bool·not-not, List, [], _∷_, _++_, append-nil, append-assoc, ℕ, _≤_, eqb, leb, length, leb-true, Bytes, same, test, same-self, same-equal}
 use Rattle.rules.specs.Device.{Device, WellFormed, Call, step, reset}
-use Rattle.rules.specs.Numbering.{Numbers, fromZero, WellNumbered, numbersAfter, drainedWith, valueWith}
+use Rattle.rules.specs.{Numbering.Numbers, Numbering.fromZero, Numbering.WellNumbered, Numbering.numbersAfter, Numbering.drainedWith, Numbering.valueWith, History.history}
+use Rattle.rules.proofs.laws.Numbered.{numbers-step}
 use Rattle.images.specs.Form.{Form, numbers, forms, has, Known, unknown, known, formOf, formLength}
 use Rattle.images.specs.Image.{copyDiffers, manyWait, badFlag, unusedSet, ImageTest, imageTest, encodeAs, encodeLike, decode, numbersIn}
-use Rattle.basics.specs.Numbers.{same}
-use Rattle.images.specs.Image as image
-use Rattle.calls.specs.Calls.{Refusal, outside, noWidth, noInput, wrongLength, wrongContents, noRoom, broken, refusalNumber}
-use Rattle.calls.specs.Calls.{Tested, pass, refuse, Request, Asked, afresh, calls, askedBy, Done, doneOn, performed}
-use Rattle.calls.specs.Calls.{answered, bufferOf, placeOf, written, Outcome, leaves, ended, settled, answerLength, hasRoom, outcome}
-use Rattle.rules.specs.History.{history}
+use Rattle.images.proofs.laws.{Tests.form-known, Saved.bytes-encode, Saved.length-encode, Saved.encode-without}
+use Rattle.calls.proofs.laws.Requests.{never, passed}
+use Rattle.calls.specs.Calls.{Refusal, outside, noWidth, noInput, wrongLength, wrongContents, noRoom, broken, refusalNumber, Tested, pass, refuse, Request, Asked, afresh, calls, askedBy, Done, doneOn, performed, answered, bufferOf, placeOf, written, Outcome, leaves, ended, settled, answerLength, hasRoom, outcome}
 use Rattle.histories.specs.exported.Exported.{Exported, leftBy, isDone, isReset, isLoad, callOf, Underway, carriedOn, doneCall, doneCalls, afterReset, atLoad, current, Faithful, numbersThrough}
-use Rattle.basics.proofs.laws.Bits.{test}
-use Rattle.basics.proofs.laws.Lists.{same-self, same-equal}
-use Rattle.images.proofs.laws.Tests.{form-known}
-use Rattle.rules.proofs.laws.Numbered.{numbers-step}
-use Rattle.images.proofs.laws.Saved.{bytes-encode, length-encode, encode-without}
 use Rattle.laws.proofs.laws.Images.{accepted-has, encode-as, accepted-encode, decode-encode, numbers-encode, encode-decode, decode-well-formed, numbers-well, reset-well-formed, reset-numbered}
-use Rattle.histories.proofs.laws.Folds.{history-append}
-use Rattle.histories.proofs.laws.WellFormed.{history-well}
+use Rattle.histories.proofs.laws.{Folds.history-append, WellFormed.history-well}
+use Rattle.images.specs.Image as image
 
 -- ---- a done call
 
@@ -80,13 +65,6 @@ record DidCall (t : Tested Call) (i : List ℕ) (y : Done) : Type 0 where
   passes : t ≡ pass call
   accepted : imageTest i ≡ image.accepted
   gives : y ≡ doneOn (decode i) (numbersIn i) call
-
--- the tests' answers: a refusal is no pass, and a pass gives one thing
-pub never : {A B : Type 0} (r : Refusal) (y : A) → refuse r ≡ pass y → B
-never r y e = absurd (let z : _≡_ {A = ℕ} 0 1 = cc in omega arith)
-
-pub passed : {A : Type 0} {x y : A} → pass x ≡ pass y → x ≡ y
-passed e = cc
 
 did-call : (t : Tested Call) (i : List ℕ) (y : Done) → performed (calls t) i ≡ pass y → DidCall t i y
 unfolding performed
@@ -202,7 +180,7 @@ unfolding history
 history-snoc d cs c = ap (λ s. s .after) (history-append d cs (c ∷ []))
 
 module _ (h : Underway) (x : Exported) where
-  carried-refused : isDone x ≡ false → carriedOn h x ≡ h
+  pub carried-refused : isDone x ≡ false → carriedOn h x ≡ h
   unfolding carriedOn
   carried-refused t i = continued (t i) (isLoad (h .left) x) (isReset (askedBy (x .asked))) (callOf (askedBy (x .asked))) h x
 

@@ -1,40 +1,23 @@
 -- What a host reads of exported calls. A level or poll call returns at most one event, and its answer area holds it; a write returns none; a drain's event
 -- buffer holds what was drained. So along exported calls a host reads what the history returns and drains, in order (read-as), whatever numbers stand with it.
-use mathlib.Core.Path.{_≡_, refl, sym, ap, ap₂, _∙_}
-use mathlib.Core.Bool.{Bool, true, false, cond, not, true≢false, and-false}
-use mathlib.Core.List.{List, [], _∷_, _++_, map, append-nil}
-use Prim.Native.Nat.{ℕ, _+_, _-_, _*_, _/_, _%_, _^_, _<_, _≤_, min}
-use native.Mathlib.Omega.{arith}
-use lib.Dec.{eqb, ltb, lit<}
-use lib.ListN.{length, take, drop, length-take}
-use borrow.Author.Tests.{ltb-true, ltb-false, ne-eqb}
-use Rattle.basics.specs.Inputs.{on, inputs, only, put, without, withHalf}
-use Rattle.rules.specs.Lines.{Lines, Made, event, withIrr, withMask, pendingIn, servedIn, serve, enter, leave, newlyUnmasked, newlyMasked}
-use Rattle.rules.specs.Lines.{polled, raised, lowered, cleared, masked}
+use Rattle.basics.proofs.Prelude.{_≡_, refl, sym, ap, ap₂, _∙_, Bool, true, false, cond, not, true≢false, and-false, List, [], _∷_, _++_, map, append-nil, ℕ, _+_, _-_, _*_, _/_, _%_, _^_, _<_, _≤_, min, arith, eqb, ltb, lit<, length, take, drop, length-take, ltb-true, ltb-false, ne-eqb, on, inputs, only, put, without, withHalf, test, no-inputs}
+use Rattle.rules.specs.Lines.{Lines, Made, event, withIrr, withMask, pendingIn, servedIn, serve, enter, leave, newlyUnmasked, newlyMasked, polled, raised, lowered, cleared, masked}
 use Rattle.rules.specs.Ring.{Event, capacity, drawn, ringStep, ringRun}
 use Rattle.rules.specs.Core.{Core, poll, raise, lower, clear, setMask, Act, move, setIsr, store, setVector, moved, lineTurn, turn, turns}
 use Rattle.rules.specs.Access.{Width}
-use Rattle.rules.specs.Device.{Device, WellFormed, Call, Step, Value, none, some, value, actsOf, acted, offers, step}
-use Rattle.rules.specs.Device as device
+use Rattle.rules.specs.Device.{Device, WellFormed, Call, Step, Value, none, some, value, actsOf, acted, offers, step, amount}
 use Rattle.rules.specs.Numbering.{Numbers, WellNumbered, drainedLength, quadsIn, eventsIn, returnedWith, drainedWith, valueWith}
-use Rattle.images.specs.Image.{numbersIn}
-use Rattle.calls.specs.Calls.{Tested, pass, refuse, onPass, inputCall, widthTest, addressTest, Request, calls, askedBy}
-use Rattle.calls.specs.Calls.{answered, valueIn, bufferOf, placeOf, written, Outcome}
-use Rattle.rules.specs.Device.{amount}
-use Rattle.calls.specs.Calls as request
 use Rattle.rules.specs.History.{history}
+use Rattle.images.specs.Image.{numbersIn}
+use Rattle.calls.specs.Calls.{pass, Request, calls, askedBy, answered, valueIn, bufferOf, placeOf, written, Outcome}
+use Rattle.calls.proofs.laws.{Requests.by-request, Answers.none-read, Answers.some-read, Answers.value-read, Answers.length-with, Answers.events-with, Answers.events-read}
 use Rattle.histories.specs.Demands.{returnedIn}
-use Rattle.histories.specs.exported.Exported.{Exported, leftBy, isDone, isLoad, Underway, carriedOn, NoLoads, doneCall}
-use Rattle.histories.specs.exported.Exported.{doneCalls, current, Faithful, eventIn, returnedTo, drainedTo, returnedBy, drainedBy}
-use Rattle.basics.proofs.laws.Bits.{test}
-use Rattle.calls.proofs.laws.Answers.{none-read, some-read, value-read, length-with, events-with, events-read}
-use Rattle.basics.proofs.laws.Inputs.{no-inputs}
+use Rattle.histories.specs.exported.Exported.{Exported, leftBy, isDone, isLoad, Underway, carriedOn, NoLoads, doneCall, doneCalls, current, Faithful, inAnswer, returnedTo, drainedTo, returnedBy, drainedBy}
 use Rattle.laws.proofs.laws.Sets.{only-served}
-use Rattle.histories.proofs.laws.Reach.{ReturnsNone, write-returns-none}
-use Rattle.histories.proofs.laws.Folds.{fold-acts, history-append}
-use Rattle.histories.proofs.laws.Draining.{returned-append}
-use Rattle.histories.proofs.laws.WellFormed.{ByteEvents, step-events}
-use Rattle.histories.proofs.exported.laws.Chains.{never, passed, current-well, handed, faithful-on, carried-on}
+use Rattle.histories.proofs.laws.{Reach.ReturnsNone, Reach.write-returns-none, Folds.fold-acts, Folds.history-append, Draining.returned-append, WellFormed.ByteEvents, WellFormed.step-events}
+use Rattle.histories.proofs.exported.laws.Chains.{current-well, handed, faithful-on, carried-on}
+use Rattle.rules.specs.Device as device
+use Rattle.calls.specs.Calls as request
 
 -- ---- a level or poll call returns at most one event
 
@@ -71,10 +54,19 @@ abbrev eventOf : Bool → Value → List Event
 eventOf b none = []
 eventOf b (some v) = record { vector = v % 256; asserted = b } ∷ []
 
--- an answer area holds it
-event-read : (b : Bool) (x : Value) (a : List ℕ) → amount x < 2 ^ 64 → eventIn b (answered 0 x a) ≡ eventOf b x
-event-read b none a h = rw (none-read 0 a)
-event-read b (some v) a h = rw (some-read 0 a v) (λ i. record { vector = value-read 0 a v h i % 256; asserted = b } ∷ [])
+-- an answer area holds it, with its number
+pub none-answered : (b : Bool) (a : List ℕ) → inAnswer b (answered 0 none a) ≡ []
+none-answered b a = rw (none-read 0 a)
+
+pub some-answered : (b : Bool) (v : ℕ) (a : List ℕ) → v < 2 ^ 64
+    → inAnswer b (answered 0 (some v) a) ≡ record { event = record { vector = v % 256; asserted = b }; number = v / 2 ^ 16 } ∷ []
+some-answered b v a h =
+    rw (some-read 0 a v)
+    (λ i. record { event = record { vector = value-read 0 a v h i % 256; asserted = b }; number = value-read 0 a v h i / 2 ^ 16 } ∷ [])
+
+event-read : (b : Bool) (x : Value) (a : List ℕ) → amount x < 2 ^ 64 → eventsIn (inAnswer b (answered 0 x a)) ≡ eventOf b x
+event-read b none a h = ap eventsIn (none-answered b a)
+event-read b (some v) a h = ap eventsIn (some-answered b v a h)
 
 -- the vector is a byte, and the number has 16 bits behind it
 module _ (s : Numbers) (h : s .next < 2 ^ 16) where
@@ -89,7 +81,7 @@ module _ (s : Numbers) (h : s .next < 2 ^ 16) where
   returned-below b ms nothing e = lit< tt
   returned-below b ms (one m o a) e = rw o (omega (arith, e 0, h))
 
-  single-read : (b : Bool) (ms : List Made) (a : List ℕ) → Single b ms → ByteEvents ms → eventIn b (answered 0 (returnedWith s ms) a) ≡ returnedIn ms
+  single-read : (b : Bool) (ms : List Made) (a : List ℕ) → Single b ms → ByteEvents ms → eventsIn (inAnswer b (answered 0 (returnedWith s ms) a)) ≡ returnedIn ms
   single-read b ms a t e = event-read b (returnedWith s ms) a (returned-below b ms t e) ∙ single-returned b ms t e
 
 -- ---- a write returns none
@@ -131,42 +123,16 @@ write-returns d w o v =
     fold-acts (λ c ms e. returnedIn ms ≡ []) (λ c. refl) (λ c e f xs ys x y. returned-append xs ys ∙ ap₂ _++_ x y) ReturnsNone act-returns-none (d .core)
     (write-returns-none (d .core) w o v)
 
--- ---- the call that a request asks
-
--- an access that passed its tests
-pub access-is : (t : Tested Width) (u : Tested ℕ) (f : Width → ℕ → Call) (c : Call) → onPass t (λ w. onPass u (λ o. pass (f w o))) ≡ pass c
-    → (w : Width) × (o : ℕ) × (c ≡ f w o)
-access-is (pass w) (pass o) f c e = (w, o, sym (passed e))
-access-is (pass w) (refuse r) f c e = never r c e
-access-is (refuse r) u f c e = never r c e
-
--- a call on an input that passed its test
-pub input-is : (n : ℕ) (x c : Call) → inputCall n x ≡ pass c → (n < 64) × (c ≡ x)
-input-is n x c e = test (ltb n 64) (λ t. (ltb-true n 64 t, sym (passed (rw t at e)))) (λ t. never request.noInput c (rw t at e))
-
-pub asked-is : {t : Tested Call} {c : Call} → calls t ≡ calls (pass c) → t ≡ pass c
-asked-is e = cc
-
 -- ---- what is read of one call is what its step gives
 
 module _ (d : Device) (w : WellFormed d) (s : Numbers) (v : WellNumbered d s) where
-  reads-returned : (q : Request) (c : Call) (a : List ℕ) → askedBy q ≡ calls (pass c)
-      → returnedTo q (answered 0 (valueWith d s c) a) ≡ returnedIn (step d c .made)
+  reads-returned : (a : List ℕ) (q : Request) (c : Call) → askedBy q ≡ calls (pass c) → returnedTo q (answered 0 (valueWith d s c) a) ≡ returnedIn (step d c .made)
   unfolding valueWith step actsOf acted turns returnedIn
-  reads-returned request.reset c a e = absurd (let z : _≡_ {A = ℕ} 0 1 = cc in omega arith)
-  reads-returned (request.read base size address width) c a e =
-      rw (access-is (widthTest width) (addressTest base size address width) device.read c (asked-is e) .2)
-  reads-returned (request.write base size address width x) c a e =
-      let r = access-is (widthTest width) (addressTest base size address width) (λ y o. device.write y o x) c (asked-is e) in
-      rw (r .2) (sym (write-returns d (r .0) (r .1) x))
-  reads-returned (request.level n x) c a e =
-      let b = not (eqb x 0) in
-      let r = input-is n (device.level n b) c (asked-is e) in
-      rw (r .1) (single-read s (v .next) b (step d (device.level n b) .made) a (level-single d n b) (step-events d (device.level n b) w))
-  reads-returned (request.poll n) c a e =
-      rw (input-is n (device.poll n) c (asked-is e) .1)
-      (single-read s (v .next) true (step d (device.poll n) .made) a (poll-single d n) (step-events d (device.poll n) w))
-  reads-returned (request.drain buffer place) c a e = rw (sym (passed (asked-is e)))
+  reads-returned a =
+      by-request (λ q c. returnedTo q (answered 0 (valueWith d s c) a) ≡ returnedIn (step d c .made)) (λ base size address width y o. refl)
+      (λ base size address width x y o. sym (write-returns d y o x))
+      (λ n x. let b = not (eqb x 0) in single-read s (v .next) b (step d (device.level n b) .made) a (level-single d n b) (step-events d (device.level n b) w))
+      (λ n. single-read s (v .next) true (step d (device.poll n) .made) a (poll-single d n) (step-events d (device.poll n) w)) (λ buffer place. refl)
 
   pub drained-below : (k : ℕ) → length (step d (device.drain k) .drained) ≤ capacity
   unfolding step actsOf acted turns offers ringRun ringStep drawn
@@ -191,21 +157,16 @@ module _ (d : Device) (w : WellFormed d) (s : Numbers) (v : WellNumbered d s) wh
   unfolding value valueWith
   drained-told k a = value-read 0 a (length (step d (device.drain k) .drained)) (omega (arith, drained-below k)) ∙ sym (drained-length k)
 
-  reads-drained : (q : Request) (c : Call) (a : List ℕ) → askedBy q ≡ calls (pass c) → placeOf q ≤ length (bufferOf q)
+  reads-drained : (a : List ℕ) (q : Request) (c : Call) → askedBy q ≡ calls (pass c) → placeOf q ≤ length (bufferOf q)
       → drainedTo q (answered 0 (valueWith d s c) a) (written (bufferOf q) (placeOf q) (drainedWith d s c)) ≡ step d c .drained
   unfolding step ringRun
-  reads-drained request.reset c a e h = absurd (let z : _≡_ {A = ℕ} 0 1 = cc in omega arith)
-  reads-drained (request.read base size address width) c a e h =
-      rw (access-is (widthTest width) (addressTest base size address width) device.read c (asked-is e) .2)
-  reads-drained (request.write base size address width x) c a e h =
-      rw (access-is (widthTest width) (addressTest base size address width) (λ y o. device.write y o x) c (asked-is e) .2)
-  reads-drained (request.level n x) c a e h = rw (input-is n (device.level n (not (eqb x 0))) c (asked-is e) .1)
-  reads-drained (request.poll n) c a e h = rw (input-is n (device.poll n) c (asked-is e) .1)
-  reads-drained (request.drain buffer place) c a e h =
+  reads-drained a =
+      by-request (λ q c. placeOf q ≤ length (bufferOf q) → drainedTo q (answered 0 (valueWith d s c) a) (written (bufferOf q) (placeOf q) (drainedWith d s c)) ≡ step d c .drained)
+      (λ base size address width y o h. refl) (λ base size address width x y o h. refl) (λ n x h. refl) (λ n h. refl)
+      (λ buffer place h.
       let k = (length buffer - place) / drainedLength in
       let xs = drainedWith d s (device.drain k) in
-      rw (sym (passed (asked-is e)))
-      (ap (λ n. eventsIn (quadsIn n (drop place (written buffer place xs)))) (drained-told k a) ∙ events-read xs buffer place h ∙ drained-events k)
+      ap (λ n. eventsIn (quadsIn n (drop place (written buffer place xs)))) (drained-told k a) ∙ events-read xs buffer place h ∙ drained-events k)
 
 -- ---- along exported calls
 
@@ -221,7 +182,7 @@ module _ (h : Underway) (f : Faithful h) (x : Exported) (n : isLoad (h .left) x 
       let r = handed h x f t n in
       let ns = numbersIn (x .given) in
       let answer : leftBy x .answer ≡ answered 0 (valueWith (current h) ns (r .call)) (x .answer) = ap (λ (o : Outcome). o .answer) (r .left) in
-      rw (t, r .passes, answer, append-nil) (reads-returned (current h) well ns (r .numbered) (x .asked) (r .call) (x .answer) (r .passes)))
+      rw (t, r .passes, answer, append-nil) (reads-returned (current h) well ns (r .numbered) (x .answer) (x .asked) (r .call) (r .passes)))
       (λ t. rw t)
 
   one-drained : cond (isDone x) (drainedTo (x .asked) (leftBy x .answer) (leftBy x .events)) [] ≡ history (current h) (doneCall x) .drained
@@ -234,7 +195,7 @@ module _ (h : Underway) (f : Faithful h) (x : Exported) (n : isLoad (h .left) x 
       let es = written (bufferOf (x .asked)) (placeOf (x .asked)) (drainedWith (current h) ns (r .call)) in
       let answer : leftBy x .answer ≡ answered 0 (valueWith (current h) ns (r .call)) (x .answer) = ap (λ (o : Outcome). o .answer) (r .left) in
       let events : leftBy x .events ≡ es = ap (λ (o : Outcome). o .events) (r .left) in
-      rw (t, r .passes, answer, events, append-nil) (reads-drained (current h) well ns (r .numbered) (x .asked) (r .call) (x .answer) (r .passes) (r .fits)))
+      rw (t, r .passes, answer, events, append-nil) (reads-drained (current h) well ns (r .numbered) (x .answer) (x .asked) (r .call) (r .passes) (r .fits)))
       (λ t. rw t)
 
 -- what a host has read is what a history returned and drained

@@ -1,31 +1,18 @@
 -- What a done call hands back, without the numbers of events: the answer area of the device's own value, and an event buffer of the events that it drained.
-use mathlib.Core.Path.{_≡_, refl, sym, ap, ap₂, _∙_}
-use mathlib.Core.Bool.{Bool, true, false, cond, not}
-use mathlib.Core.List.{List, [], _∷_, _++_}
-use Prim.Native.Nat.{ℕ, zero, suc, _+_, _-_, _*_, _/_, _%_, _^_, _<_, _≤_}
-use native.Mathlib.Omega.{arith}
-use lib.Dec.{eqb}
-use lib.ListN.{length, take, drop, getD, set}
-use lib.Seq.{length-take-le, take-at, drop-at, getD-drop, getD-set-other}
-use Rattle.basics.specs.Numbers.{numberOf, bytesOf}
-use Rattle.rules.specs.Lines.{Made}
-use Rattle.rules.specs.Ring.{flag, Event, ringRun}
-use Rattle.rules.specs.Device.{Device, WellFormed, Call, some, returned, value, step}
-use Rattle.rules.specs.Device as device
+use Rattle.basics.proofs.Prelude.{_≡_, refl, sym, ap, ap₂, _∙_, Bool, true, false, cond, not, List, [], _∷_, _++_, ℕ, zero, suc, _+_, _-_, _*_, _/_, _%_, _^_, _<_, _≤_, arith, eqb, length, take, drop, getD, set, length-take-le, take-at, drop-at, getD-drop, getD-set-other, numberOf, bytesOf, test}
+use Rattle.rules.specs.{Lines.Made, Ring.flag, Ring.Event, Ring.ringRun, Device.Device, Device.WellFormed, Device.Call, Device.some, Device.returned, Device.value, Device.step}
 use Rattle.rules.specs.Numbering.{Numbers, WellNumbered, numbersAfter, Numbered, drainedLength, quadsOf, quadsIn, eventsIn, returnedWith, drainedWith, valueWith}
-use Rattle.images.specs.Form.{Form, numbers, has, formLength}
-use Rattle.images.specs.Image.{encodeAs, encodeLike, numbersIn}
-use Rattle.calls.specs.Calls.{Tested, pass, widthTest, addressTest, Request, afresh, calls, askedBy, answered, valueIn, bufferOf, placeOf, written, Outcome}
-use Rattle.calls.specs.Calls as request
-use Rattle.histories.specs.exported.Exported.{Exported, leftBy, isDone, withoutNumber, quadsWithout, withoutNumbers, answerWithout, eventsWithout, unnumbered}
-use Rattle.histories.specs.exported.Exported.{isLoad, Underway, current, Faithful, eventIn, returnedTo, drainedTo, lostTo}
-use Rattle.basics.proofs.laws.Bits.{test}
 use Rattle.rules.proofs.laws.Numbered.{numbers-step}
-use Rattle.images.proofs.laws.Saved.{encode-without}
+use Rattle.images.{specs.Form.Form, specs.Form.numbers, specs.Form.has, specs.Form.formLength, specs.Image.encodeAs, specs.Image.encodeLike, specs.Image.numbersIn, proofs.laws.Saved.encode-without}
+use Rattle.calls.specs.Calls.{Tested, pass, Request, afresh, calls, askedBy, answered, presentIn, valueIn, bufferOf, placeOf, written, Outcome}
+use Rattle.calls.proofs.laws.Requests.{by-request}
+use Rattle.histories.specs.exported.Exported.{Exported, leftBy, isDone, withoutNumber, quadsWithout, withoutNumbers, answerWithout, eventsWithout, unnumbered, isLoad, Underway, current, Faithful, inAnswer, returnedTo, drainedTo, lostTo}
 use Rattle.laws.proofs.laws.Images.{encode-as, numbers-encode}
 use Rattle.histories.proofs.laws.WellFormed.{ByteEvents, step-events, step-well}
-use Rattle.histories.proofs.exported.laws.Chains.{passed, current-well, left-length, Handed, handed}
-use Rattle.histories.proofs.exported.laws.Readings.{Single, nothing, one, level-single, poll-single, access-is, input-is, asked-is, drained-told, drained-events}
+use Rattle.histories.proofs.exported.laws.Chains.{current-well, left-length, Handed, handed}
+use Rattle.histories.proofs.exported.laws.Readings.{Single, nothing, one, level-single, poll-single, drained-told, drained-events}
+use Rattle.rules.specs.Device as device
+use Rattle.calls.specs.Calls as request
 
 -- ---- the answer area
 
@@ -78,41 +65,27 @@ written-without xs buffer place h =
 -- ---- a call
 
 module _ (d : Device) (w : WellFormed d) (s : Numbers) (v : WellNumbered d s) where
-  pub answer-without : (q : Request) (c : Call) (a : List ℕ) → askedBy q ≡ calls (pass c)
+  pub answer-without : (a : List ℕ) (q : Request) (c : Call) → askedBy q ≡ calls (pass c)
       → withoutNumber q (answered 0 (valueWith d s c) a) ≡ answered 0 (value d c) a
   unfolding value valueWith
-  answer-without request.reset c a e = absurd (let z : _≡_ {A = ℕ} 0 1 = cc in omega arith)
-  answer-without (request.read base size address width) c a e =
-      rw (access-is (widthTest width) (addressTest base size address width) device.read c (asked-is e) .2)
-  answer-without (request.write base size address width x) c a e =
-      rw (access-is (widthTest width) (addressTest base size address width) (λ y o. device.write y o x) c (asked-is e) .2)
-  answer-without (request.level n x) c a e =
-      let b = not (eqb x 0) in
-      let r = input-is n (device.level n b) c (asked-is e) in
-      rw (r .1) (single-without s (v .next) b (step d (device.level n b) .made) a (level-single d n b) (step-events d (device.level n b) w))
-  answer-without (request.poll n) c a e =
-      rw (input-is n (device.poll n) c (asked-is e) .1)
-      (single-without s (v .next) true (step d (device.poll n) .made) a (poll-single d n) (step-events d (device.poll n) w))
-  answer-without (request.drain buffer place) c a e = rw (sym (passed (asked-is e)))
+  answer-without a =
+      by-request (λ q c. withoutNumber q (answered 0 (valueWith d s c) a) ≡ answered 0 (value d c) a) (λ base size address width y o. refl) (λ base size address width x y o. refl)
+      (λ n x. let b = not (eqb x 0) in single-without s (v .next) b (step d (device.level n b) .made) a (level-single d n b) (step-events d (device.level n b) w))
+      (λ n. single-without s (v .next) true (step d (device.poll n) .made) a (poll-single d n) (step-events d (device.poll n) w)) (λ buffer place. refl)
 
-  pub events-without : (q : Request) (c : Call) (a : List ℕ) → askedBy q ≡ calls (pass c) → placeOf q ≤ length (bufferOf q)
+  pub events-without : (a : List ℕ) (q : Request) (c : Call) → askedBy q ≡ calls (pass c) → placeOf q ≤ length (bufferOf q)
       → withoutNumbers q (answered 0 (valueWith d s c) a) (written (bufferOf q) (placeOf q) (drainedWith d s c))
       ≡ written (bufferOf q) (placeOf q) (unnumbered (step d c .drained))
   unfolding step ringRun drainedWith
-  events-without request.reset c a e h = absurd (let z : _≡_ {A = ℕ} 0 1 = cc in omega arith)
-  events-without (request.read base size address width) c a e h =
-      rw (access-is (widthTest width) (addressTest base size address width) device.read c (asked-is e) .2)
-  events-without (request.write base size address width x) c a e h =
-      rw (access-is (widthTest width) (addressTest base size address width) (λ y o. device.write y o x) c (asked-is e) .2)
-  events-without (request.level n x) c a e h = rw (input-is n (device.level n (not (eqb x 0))) c (asked-is e) .1)
-  events-without (request.poll n) c a e h = rw (input-is n (device.poll n) c (asked-is e) .1)
-  events-without (request.drain buffer place) c a e h =
+  events-without a =
+      by-request (λ q c. placeOf q ≤ length (bufferOf q)
+      → withoutNumbers q (answered 0 (valueWith d s c) a) (written (bufferOf q) (placeOf q) (drainedWith d s c)) ≡ written (bufferOf q) (placeOf q) (unnumbered (step d c .drained)))
+      (λ base size address width y o h. refl) (λ base size address width x y o h. refl) (λ n x h. refl) (λ n h. refl)
+      (λ buffer place h.
       let k = (length buffer - place) / drainedLength in
       let xs = drainedWith d s (device.drain k) in
-      rw (sym (passed (asked-is e))) (
       ap (λ n. take place (written buffer place xs) ++ quadsWithout n (drop place (written buffer place xs))) (drained-told d w s v k a)
-      ∙ written-without xs buffer place h ∙ ap (λ (es : List Event). written buffer place (unnumbered es)) (drained-events d w s v k)
-      )
+      ∙ written-without xs buffer place h ∙ ap (λ (es : List Event). written buffer place (unnumbered es)) (drained-events d w s v k))
 
 -- ---- an exported call
 
@@ -141,12 +114,12 @@ module _ (h : Underway) (x : Exported) (f : Faithful h) (t : isDone x ≡ true) 
   pub handed-answer : answerWithout x ≡ answered 0 (value (current h) (did .call)) (x .answer)
   handed-answer =
       (λ i. cond (t i) (withoutNumber (x .asked) (did .left i .answer)) (leftBy x .answer))
-      ∙ answer-without (current h) (current-well h f) (numbersIn (x .given)) (did .numbered) (x .asked) (did .call) (x .answer) (did .passes)
+      ∙ answer-without (current h) (current-well h f) (numbersIn (x .given)) (did .numbered) (x .answer) (x .asked) (did .call) (did .passes)
 
   pub handed-events : eventsWithout x ≡ written (bufferOf (x .asked)) (placeOf (x .asked)) (unnumbered (step (current h) (did .call) .drained))
   handed-events =
       (λ i. cond (t i) (withoutNumbers (x .asked) (did .left i .answer) (did .left i .events)) (leftBy x .events))
-      ∙ events-without (current h) (current-well h f) (numbersIn (x .given)) (did .numbered) (x .asked) (did .call) (x .answer) (did .passes) (did .fits)
+      ∙ events-without (current h) (current-well h f) (numbersIn (x .given)) (did .numbered) (x .answer) (x .asked) (did .call) (did .passes) (did .fits)
 
 -- a reset hands back no number of an event
 no-call : {A : Type 0} (u : Tested Call) → calls u ≡ afresh → A
@@ -185,10 +158,13 @@ vector-without a = low-byte (drop 8 a) ∙ ap (λ n. n % 256) (stays a) ∙ sym 
         getD-drop 8 a 0 0 ∙ sym (getD-set-other a 10 8 0 0 (λ e. omega (arith, e))) ∙ sym (getD-set-other (set a 10 0) 11 8 0 0 (λ e. omega (arith, e)))
         ∙ sym (getD-drop 8 (set (set a 10 0) 11 0) 0 0)
 
-event-without : (b : Bool) (a : List ℕ) → eventIn b a ≡ eventIn b (set (set a 10 0) 11 0)
+event-without : (b : Bool) (a : List ℕ) → eventsIn (inAnswer b a) ≡ eventsIn (inAnswer b (set (set a 10 0) 11 0))
 event-without b a =
     let flag-stays : getD a 1 0 ≡ getD (set (set a 10 0) 11 0) 1 0 = sym (getD-set-other a 10 1 0 0 (λ e. omega (arith, e))) ∙ sym (getD-set-other (set a 10 0) 11 1 0 0 (λ e. omega (arith, e))) in
-    (λ i. cond (eqb (flag-stays i) 1) (record { vector = vector-without a i; asserted = b } ∷ []) [])
+    told a ∙ (λ i. cond (eqb (flag-stays i) 1) (record { vector = vector-without a i; asserted = b } ∷ []) []) ∙ sym (told (set (set a 10 0) 11 0))
+  where
+    told : (a : List ℕ) → eventsIn (inAnswer b a) ≡ cond (presentIn a) (record { vector = valueIn a % 256; asserted = b } ∷ []) []
+    told a = test (presentIn a) (λ t. rw t) (λ t. rw t)
 
 pub returned-without : (q : Request) (a : List ℕ) → returnedTo q a ≡ returnedTo q (withoutNumber q a)
 returned-without request.reset a = refl

@@ -1,16 +1,8 @@
 -- A call that the profile lets through, in whatever phase, is one that demand 3 admits: it writes no ISR, and changes no vector byte whose input is in service.
-use mathlib.Core.Path.{_≡_, refl, sym, ap, _∙_}
-use mathlib.Core.Bool.{Bool, true, false, cond, not, _&&_, _||_, true≢false}
-use Prim.Native.Nat.{ℕ, _%_}
-use lib.Dec.{eqb}
-use lib.ListN.{getD}
-use borrow.Author.Tests.{eqb-true}
-use Rattle.rules.specs.Map.{inVectors}
-use Rattle.rules.specs.Core.{turns, vectorsAfter}
-use Rattle.rules.specs.Access.{byte, word, dword, qword}
+use Rattle.basics.proofs.Prelude.{not-false, _≡_, refl, sym, ap, _∙_, Bool, true, false, cond, _&&_, _||_, true≢false, ℕ, _%_, eqb, getD, eqb-true}
+use Rattle.rules.specs.{Map.inVectors, Core.turns, Core.vectorsAfter, Access.byte, Access.word, Access.dword, Access.qword}
 use Rattle.rules.specs.Device.{Device, Call, level, poll, read, write, drain, actsOf, acted, step}
-use Rattle.histories.specs.Premises.{isIsr, ServedVectorsStay, Admitted}
-use Rattle.histories.specs.Demands.{inService}
+use Rattle.histories.specs.{Premises.isIsr, Premises.ServedVectorsStay, Premises.Admitted, Demands.inService}
 use Rattle.hoists.specs.Profile.{changesVector, changesServed, forbidden, Verdict, passes, unaligned, unfit, verdict}
 use Rattle.hoists.proofs.laws.Inputs.{none-here}
 
@@ -43,11 +35,7 @@ no-verdict e f = absurd (true≢false (sym (ap passed e) ∙ f))
 served-stay : (d : Device) (c : Call) → changesServed d c ≡ false → ServedVectorsStay (d .core) (step d c .after .core)
 unfolding changesServed
 served-stay d c e n b s =
-    eqb-true _ _ (unchanged (eqb (getD (step d c .after .core .vectors) n 0) (getD (d .core .vectors) n 0)) (rw s at (none-here (λ m. inService m (d .core .lines) && changesVector d c m) e n b)))
-  where
-    unchanged : (x : Bool) → not x ≡ false → x ≡ true
-    unchanged true t = refl
-    unchanged false t = absurd (true≢false t)
+    eqb-true _ _ (not-false (eqb (getD (step d c .after .core .vectors) n 0) (getD (d .core .vectors) n 0)) (rw s at (none-here (λ m. inService m (d .core .lines) && changesVector d c m) e n b)))
 
 vectors-kept : (d : Device) (c : Call) → step d c .after .core .vectors ≡ d .core .vectors → ServedVectorsStay (d .core) (step d c .after .core)
 vectors-kept d c e n b s = ap (λ vs. getD vs n 0) e

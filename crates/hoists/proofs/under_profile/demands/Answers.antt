@@ -1,23 +1,14 @@
 -- 02, C-22: 'every accepted call answers as the full device does'. A read or a write that the profile does not refuse with 14 or 15 leaves what the full device's leaves, in its number and in every byte;
 -- these two are given only where that would be done; and a refused call changes no byte but the answer area's.
-use mathlib.Core.Path.{_≡_, refl, sym, ap, _∙_}
-use mathlib.Core.Logic.{_⊎_, inl, inr}
-use mathlib.Core.Bool.{Bool, true, false, cond, true≢false, and-false, and-eq-true-iff}
-use mathlib.Core.List.{List}
-use Prim.Native.Nat.{ℕ, _≤_}
-use native.Mathlib.Omega.{arith}
-use lib.Dec.{leb}
-use lib.ListN.{length, drop}
-use borrow.Author.Tests.{le-leb, leb-true}
+use Rattle.basics.proofs.Prelude.{_≡_, refl, sym, ap, _∙_, _⊎_, inl, inr, Bool, true, false, cond, true≢false, and-false, and-eq-true-iff, List, ℕ, _≤_, arith, leb, length, drop, le-leb, leb-true, test}
 use Rattle.rules.specs.Access.{Width}
-use Rattle.rules.specs.Device as device
 use Rattle.images.specs.Image.{imageTest, accepted, decode}
 use Rattle.calls.specs.Calls.{pass, accessCall, Request, read, write, askedBy, answerLength, answered, bufferOf, Outcome, leaves, ending, settled, outcome}
-use Rattle.basics.proofs.laws.Bits.{test}
 use Rattle.calls.proofs.demands.Refused.{refused-changes-nothing}
 use Rattle.hoists.specs.Profile.{running, alignedDword, forbidden, Verdict, passes, unaligned, unfit, verdict}
 use Rattle.hoists.specs.HoistCalls.{judged, endsBy, hoistEnding, hoistRoom, hoistRead, hoistWrite}
 use Rattle.hoists.proofs.laws.Judged.{isUnfit, read-fits, ending-below, ends-by, then-verdict, refuses-done}
+use Rattle.rules.specs.Device as device
 
 -- what a refused call leaves, of an image i and an answer area a: the image, and of the answer area the bytes past its 16; with refusal 7 every byte
 pub record Untouched (x : Outcome) (i a : List ℕ) : Type 0 where

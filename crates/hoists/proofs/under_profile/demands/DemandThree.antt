@@ -1,25 +1,13 @@
 -- 02, C-22: 'Under the profile demand 3 must hold from reset with no premise but the absence of loads.' Over calls under the profile, whatever phases they are given, with levels, polls and drains
 -- between them and refused calls anywhere: the account, service and order, as a host reads them. What demand 3 asks of writes, none to ISR and none that changes a vector byte in service, the profile sees to.
-use mathlib.Core.Path.{_≡_, refl, sym, ap, subst, _∙_}
-use mathlib.Core.Bool.{true, false}
-use mathlib.Core.List.{List, [], _∷_, _++_, append-nil, append-assoc}
-use Prim.Native.Nat.{ℕ, _+_, _<_, min}
-use native.Mathlib.Omega.{arith}
-use lib.ListN.{length, getD}
-use Rattle.basics.specs.Inputs.{on}
-use Rattle.rules.specs.Lines.{Made}
-use Rattle.rules.specs.Ring.{Event, dropped}
-use Rattle.rules.specs.Device.{Device, Call, level, step, reset}
-use Rattle.rules.specs.History.{history}
+use Rattle.basics.proofs.Prelude.{_≡_, refl, sym, ap, subst, _∙_, true, false, List, [], _∷_, _++_, append-nil, append-assoc, ℕ, _+_, _<_, min, arith, length, getD, on}
+use Rattle.rules.specs.{Lines.Made, Ring.Event, Ring.dropped, Device.Device, Device.Call, Device.level, Device.step, Device.reset, History.history}
 use Rattle.rules.specs.Account.{carrying, assertsAmong, deassertsAmong}
-use Rattle.images.specs.Form.{Form}
-use Rattle.images.specs.Image.{decode}
+use Rattle.images.specs.{Form.Form, Image.decode}
 use Rattle.histories.specs.Premises.{Along, Admitted}
 use Rattle.histories.specs.Demands.{inService, Eligible, Spared, Undisturbed, pollsOrRaises, asEvent, foundBy, ringActs}
 use Rattle.histories.specs.exported.Exported.{Exported, Underway, carriedThrough, NoLoads, doneCall, doneCalls, inImage, Faithful, afterReset, drainedBy}
-use Rattle.histories.proofs.laws.Folds.{along-append}
-use Rattle.histories.proofs.exported.laws.Chains.{faithful-after-reset}
-use Rattle.histories.proofs.exported.demands.FromCalls.{image-holds-device}
+use Rattle.histories.proofs.{laws.Folds.along-append, exported.laws.Chains.faithful-after-reset, exported.demands.FromCalls.image-holds-device}
 use Rattle.histories.proofs.exported.demands.HandedBack.{account-under-way, account-of-calls, account-without-drops, service-of-calls, service-once-raised, order-of-calls, drops-of-calls}
 use Rattle.hoists.specs.Hoisted.{resets, Hoisted, leftBy, isDone, exportedAs, plainCall, plainCalls, returnedUnder, drainedUnder, BalancesUnder, HandedOn, leftAfter}
 use Rattle.hoists.proofs.under_profile.demands.Under.{PlainIs, none, one, plain-is, reads-full, all-admitted}

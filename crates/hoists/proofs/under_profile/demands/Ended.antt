@@ -1,29 +1,17 @@
 -- The two calls that store the phase (02, C-22; 00, demand 1): what a refused one leaves; and once start-up has ended, no vector is written.
-use mathlib.Core.Path.{_≡_, sym, ap, _∙_}
-use mathlib.Core.Bool.{Bool, true, false, or-true, and-false}
-use mathlib.Core.List.{List}
-use Prim.Native.Nat.{ℕ, _≤_}
-use native.Mathlib.Omega.{arith}
-use lib.Dec.{leb}
-use lib.ListN.{length, drop, length-set}
-use borrow.Author.Tests.{leb-true}
-use Rattle.rules.specs.Map.{inVectors}
-use Rattle.rules.specs.Access.{Width}
-use Rattle.rules.specs.Device as device
+use Rattle.basics.proofs.Prelude.{_≡_, sym, ap, _∙_, Bool, true, false, or-true, and-false, List, ℕ, _≤_, arith, leb, length, drop, length-set, leb-true, test}
+use Rattle.rules.specs.{Map.inVectors, Access.Width}
 use Rattle.images.specs.Image.{ImageTest, imageTest, decode}
-use Rattle.images.specs.Image as image
-use Rattle.calls.specs.Calls.{answerLength, answered, pass, accessCall, Outcome, outcome}
-use Rattle.calls.specs.Calls as request
-use Rattle.calls.proofs.demands.Refused.{refused-changes-nothing}
-use Rattle.basics.proofs.laws.Bits.{test}
+use Rattle.calls.{specs.Calls.answerLength, specs.Calls.answered, specs.Calls.pass, specs.Calls.accessCall, specs.Calls.Outcome, specs.Calls.outcome, proofs.demands.Refused.refused-changes-nothing}
 use Rattle.histories.specs.Premises.{isIsr}
 use Rattle.hoists.specs.Profile.{running, alignedDword, forbidden}
 use Rattle.hoists.specs.HoistCalls.{hoistRoom, hoistWrite, PhaseLeft, hoistReset, cannotEnd, endTold, endStartup}
 use Rattle.hoists.specs.Hoisted.{unphased}
-use Rattle.hoists.proofs.under_profile.demands.Answers.{forbidden-is-15}
-use Rattle.hoists.proofs.under_profile.demands.Under.{reset-is-full}
-use Rattle.hoists.proofs.under_profile.demands.Handed.{end-keeps-image}
+use Rattle.hoists.proofs.under_profile.demands.{Answers.forbidden-is-15, Under.reset-is-full, Handed.end-keeps-image}
 use Rattle.hoists.proofs.under_profile.demands.Phases.{after-runs, done-end, refused-end-keeps, refused-reset-keeps}
+use Rattle.rules.specs.Device as device
+use Rattle.images.specs.Image as image
+use Rattle.calls.specs.Calls as request
 
 -- ---- refused
 

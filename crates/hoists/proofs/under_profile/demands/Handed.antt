@@ -1,32 +1,18 @@
 -- Calls under the profile, each given the image that the one before it left and none a reset: none is a load, and the image left at last is that of the history.
-use mathlib.Core.Path.{_≡_, refl, sym, ap, _∙_}
-use mathlib.Core.Bool.{Bool, true, false, true≢false, and-false}
-use mathlib.Core.List.{List, [], _∷_, _++_, map}
-use Prim.Native.Nat.{ℕ}
-use native.Mathlib.Omega.{arith}
-use lib.Dec.{eqb, leb}
-use lib.ListN.{length}
-use borrow.Author.Tests.{eq-eqb, leb-true}
+use Rattle.basics.proofs.Prelude.{_≡_, refl, sym, ap, _∙_, Bool, true, false, true≢false, and-false, List, [], _∷_, _++_, map, ℕ, arith, eqb, leb, length, eq-eqb, leb-true, test, equal-same}
 use Rattle.rules.specs.Device.{reset}
-use Rattle.images.specs.Form.{Form}
-use Rattle.images.specs.Form as form
-use Rattle.images.specs.Image.{ImageTest, imageTest, decode}
-use Rattle.images.specs.Image as image
-use Rattle.calls.specs.Calls.{Request, askedBy, Outcome}
-use Rattle.calls.specs.Calls as request
+use Rattle.images.specs.{Form.Form, Image.ImageTest, Image.imageTest, Image.decode}
+use Rattle.calls.{specs.Calls.Request, specs.Calls.askedBy, specs.Calls.Outcome, proofs.demands.Refused.refused-changes-nothing}
 use Rattle.histories.specs.exported.Exported.{Underway, carriedOn, carriedThrough, NoLoads, afterReset}
-use Rattle.histories.specs.exported.Exported as full
-use Rattle.basics.proofs.laws.Bits.{test}
-use Rattle.basics.proofs.laws.Lists.{equal-same}
-use Rattle.calls.proofs.demands.Refused.{refused-changes-nothing}
-use Rattle.histories.proofs.exported.laws.Chains.{left-last}
-use Rattle.histories.proofs.exported.demands.FromCalls.{a-reset-begins}
-use Rattle.hoists.specs.Profile.{running}
-use Rattle.hoists.specs.HoistCalls.{hoistRoom, cannotEnd, endTold, hoistReset, endStartup}
-use Rattle.hoists.specs.Hoisted.{Asks, resets, reads, writes, ends, levels, polls, drains, Hoisted, leftUnder, leftBy, isDone, requestOf, exportedAs, plainCall, plainCalls}
-use Rattle.hoists.specs.Hoisted.{isReset, HandedOn, leftAfter}
+use Rattle.histories.proofs.exported.{laws.Chains.left-last, demands.FromCalls.a-reset-begins}
+use Rattle.hoists.specs.{Profile.running, HoistCalls.hoistRoom, HoistCalls.cannotEnd, HoistCalls.endTold, HoistCalls.hoistReset, HoistCalls.endStartup}
+use Rattle.hoists.specs.Hoisted.{Asks, resets, reads, writes, ends, levels, polls, drains, Hoisted, leftUnder, leftBy, isDone, requestOf, exportedAs, plainCall, plainCalls, isReset, HandedOn, leftAfter}
 use Rattle.hoists.proofs.under_profile.demands.Answers.{refused-write-untouched, refused-read-untouched}
 use Rattle.hoists.proofs.under_profile.demands.Under.{reset-is-full, done-is-full, PlainIs, none, one, plain-is, plain-done}
+use Rattle.images.specs.Form as form
+use Rattle.images.specs.Image as image
+use Rattle.calls.specs.Calls as request
+use Rattle.histories.specs.exported.Exported as full
 
 -- ---- a call that is none of the full device's leaves the image
 

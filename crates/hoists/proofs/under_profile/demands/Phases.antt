@@ -1,31 +1,19 @@
 -- The two phases (02, C-22): a reset starts the first; start-up ends only where no input is in service, and once; after it no vector byte changes.
-use mathlib.Core.Path.{_≡_, refl, sym, ap, _∙_}
-use mathlib.Core.Bool.{Bool, true, false, cond, _||_, true≢false, and-eq-true-iff}
-use mathlib.Core.List.{List, [], _∷_}
-use Prim.Native.Nat.{ℕ, _%_, _≤_}
-use native.Mathlib.Omega.{arith}
-use lib.Dec.{eqb, leb}
-use lib.ListN.{length}
-use borrow.Author.Tests.{eqb-true, eq-eqb, le-leb, leb-true}
-use Rattle.rules.specs.Core.{turns, vectorsAfter}
-use Rattle.rules.specs.Access.{byte, word, dword, qword}
-use Rattle.rules.specs.Device.{Device, Call, level, poll, read, write, drain, none, actsOf, acted, step}
-use Rattle.rules.specs.History.{history}
+use Rattle.basics.proofs.Prelude.{neither, _≡_, refl, sym, ap, _∙_, Bool, true, false, cond, true≢false, and-eq-true-iff, List, [], _∷_, ℕ, _%_, _≤_, arith, eqb, leb, length, eqb-true, eq-eqb, le-leb, leb-true, test}
+use Rattle.rules.specs.{Core.turns, Core.vectorsAfter, Access.byte, Access.word, Access.dword, Access.qword}
+use Rattle.rules.specs.{Device.Device, Device.Call, Device.level, Device.poll, Device.read, Device.write, Device.drain, Device.none, Device.actsOf, Device.acted, Device.step, History.history}
 use Rattle.images.specs.Image.{ImageTest, imageTest, decode}
-use Rattle.images.specs.Image as image
 use Rattle.calls.specs.Calls.{faultNumber, answerLength, answered, ending}
-use Rattle.calls.specs.Calls as request
 use Rattle.histories.specs.Premises.{Along}
 use Rattle.histories.specs.exported.Exported.{Underway, carriedThrough, NoLoads, doneCalls, current, inImage, Faithful}
-use Rattle.basics.proofs.laws.Bits.{test}
-use Rattle.histories.proofs.laws.Folds.{fold-calls}
-use Rattle.histories.proofs.exported.demands.FromCalls.{image-holds-device, image-holds-history}
+use Rattle.histories.proofs.{laws.Folds.fold-calls, exported.demands.FromCalls.image-holds-device, exported.demands.FromCalls.image-holds-history}
 use Rattle.hoists.specs.Profile.{running, inStartUp, afterStartUp, anyServed, forbidden, passes, unaligned, unfit, verdict}
 use Rattle.hoists.specs.HoistCalls.{hoistRoom, PhaseLeft, phaseLeaves, hoistReset, cannotEnd, endEnding, endStartup}
 use Rattle.hoists.specs.Hoisted.{Hoisted, plainCalls}
-use Rattle.hoists.proofs.laws.Vectors.{no-vector-written}
-use Rattle.hoists.proofs.under_profile.demands.Admits.{allowed, passed, no-verdict}
+use Rattle.hoists.proofs.{laws.Vectors.no-vector-written, under_profile.demands.Admits.allowed, under_profile.demands.Admits.passed, under_profile.demands.Admits.no-verdict}
 use Rattle.hoists.proofs.under_profile.demands.Under.{EachCall, along-under}
+use Rattle.images.specs.Image as image
+use Rattle.calls.specs.Calls as request
 
 -- ---- the end of start-up
 
@@ -52,10 +40,6 @@ module _ (i p a : List ℕ) where
   unfolding endStartup
   done-end d = test (hoistRoom p a) (λ t. go t (imageTest i) refl (cannotEnd (running p) (decode i)) refl (rw t at d)) (λ t. absurd (let z : _≡_ {A = ℕ} 7 0 = rw t at d in omega arith))
     where
-      neither : (x y : Bool) → (x || y) ≡ false → (x ≡ false) × (y ≡ false)
-      neither true y e = absurd (true≢false e)
-      neither false y e = (refl, e)
-
       faults : (k : image.Fault) → faultNumber k ≡ 0 → ⊥
       faults image.copyDiffers e = omega arith
       faults image.manyWait e = omega arith

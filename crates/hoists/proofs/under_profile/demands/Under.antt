@@ -1,32 +1,20 @@
 -- Calls under the profile as exported calls of the full device: a done one leaves what that one leaves, and is one that demand 3 admits.
-use mathlib.Core.Path.{_≡_, refl, sym, ap, ap₂, subst, _∙_}
-use mathlib.Core.Bool.{Bool, true, false, cond, not, true≢false, and-false}
-use mathlib.Core.List.{List, [], _∷_, _++_, map}
-use Prim.Native.Nat.{ℕ, _≤_}
-use native.Mathlib.Omega.{arith}
-use lib.Dec.{eqb, leb, lit≤}
-use lib.ListN.{length}
-use borrow.Author.Tests.{eqb-true, le-leb, leb-true}
-use Rattle.rules.specs.Device.{Device, Call}
-use Rattle.rules.specs.Device as device
-use Rattle.rules.specs.History.{history}
-use Rattle.images.specs.Form.{Known, unknown, known, formOf}
-use Rattle.images.specs.Image.{imageTest, accepted, decode}
+use Rattle.basics.proofs.Prelude.{_≡_, refl, sym, ap, ap₂, subst, _∙_, Bool, true, false, cond, not, true≢false, and-false, List, [], _∷_, _++_, map, ℕ, _≤_, arith, eqb, leb, lit≤, length, eqb-true, le-leb, leb-true, test}
+use Rattle.rules.specs.{Device.Device, Device.Call, History.history}
+use Rattle.images.specs.{Form.Known, Form.unknown, Form.known, Form.formOf, Image.imageTest, Image.accepted, Image.decode}
 use Rattle.calls.specs.Calls.{pass, widthTest, addressTest, Request, calls, askedBy, resetAs, performed, answerLength, answered, bufferOf, written, Outcome, leaves, ended, ending, settled, outcome}
-use Rattle.calls.specs.Calls as request
+use Rattle.calls.proofs.laws.Requests.{access-is, input-is, asked-is, passed}
 use Rattle.histories.specs.Premises.{Along, Admitted}
-use Rattle.histories.specs.exported.Exported.{Exported, Underway, carriedOn, NoLoads, doneCall, doneCalls, current, Faithful, returnedTo, drainedTo, returnedBy, drainedBy}
-use Rattle.histories.specs.exported.Exported as full
-use Rattle.basics.proofs.laws.Bits.{test}
-use Rattle.histories.proofs.exported.laws.Chains.{passed, left-holds, handed, done-call, carried-on, faithful-kept}
-use Rattle.histories.proofs.exported.laws.Readings.{access-is, input-is, asked-is}
+use Rattle.histories.specs.exported.Exported.{Underway, carriedOn, NoLoads, doneCall, doneCalls, current, Faithful, returnedTo, drainedTo, returnedBy, drainedBy}
+use Rattle.histories.proofs.exported.laws.Chains.{left-holds, handed, done-call, carried-on, faithful-kept}
 use Rattle.hoists.specs.Profile.{running, Verdict, passes, unaligned, unfit, verdict}
 use Rattle.hoists.specs.HoistCalls.{judged, endsBy, hoistEnding, hoistRoom, hoistRead, hoistWrite, hoistReset}
-use Rattle.hoists.specs.Hoisted.{Asks, resets, reads, writes, ends, levels, polls, drains, Hoisted, unphased, leftUnder, leftBy, isDone, requestOf, exportedAs, plainCall, plainCalls}
-use Rattle.hoists.specs.Hoisted.{returnedOf, drainedOf, returnedUnder, drainedUnder}
-use Rattle.hoists.proofs.laws.Judged.{then-verdict}
-use Rattle.hoists.proofs.under_profile.demands.Admits.{passed-is-admitted}
+use Rattle.hoists.specs.Hoisted.{Asks, resets, reads, writes, ends, levels, polls, drains, Hoisted, unphased, leftUnder, leftBy, isDone, requestOf, exportedAs, plainCall, plainCalls, returnedOf, drainedOf, returnedUnder, drainedUnder}
+use Rattle.hoists.proofs.{laws.Judged.then-verdict, under_profile.demands.Admits.passed-is-admitted}
 use Rattle.hoists.proofs.under_profile.demands.Answers.{done-write-is-full, done-read-is-full}
+use Rattle.rules.specs.Device as device
+use Rattle.calls.specs.Calls as request
+use Rattle.histories.specs.exported.Exported as full
 
 -- ---- one call
 
@@ -107,10 +95,10 @@ module _ (i p a : List ℕ) (good : imageTest i ≡ accepted) (c : Call) where
   let-through (levels n v) d q e asks =
       let y = request.level n v in
       let x = device.level n (not (eqb v 0)) in
-      ap (verdict (running p) (decode i)) (input-is n x c (asked-is (ap askedBy (head y q e) ∙ asks)) .1)
+      ap (verdict (running p) (decode i)) (input-is n x c (asked-is (ap askedBy (head y q e) ∙ asks)))
   let-through (polls n) d q e asks =
       let y = request.poll n in
-      ap (verdict (running p) (decode i)) (input-is n (device.poll n) c (asked-is (ap askedBy (head y q e) ∙ asks)) .1)
+      ap (verdict (running p) (decode i)) (input-is n (device.poll n) c (asked-is (ap askedBy (head y q e) ∙ asks)))
   let-through (drains events place) d q e asks =
       let y = request.drain events place in
       ap (verdict (running p) (decode i)) (sym (passed (asked-is (ap askedBy (head y q e) ∙ asks))))

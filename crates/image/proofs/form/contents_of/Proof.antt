@@ -1,13 +1,7 @@
 -- `contents_of`: the numbers that the contents of each form spell, by computing.
-use mathlib.Core.Path.{refl}
-use Prim.Native.Nat.{_-_, _≤_}
-use native.Mathlib.Omega.{arith}
-use lib.Dec.{lit≤}
-use borrow.Author.Needs.{needs}
-use Rattle.images.specs.Form.{Form, one, two, numbered, contentsLength, contentsOf}
-use Rattle.images.specs.Image.{registerAt}
-use Rattle.image.specs.Shown.{ContentsOf}
-use Rattle.image.specs.declared.form.Contents.{Contents}
+use Rattle.basics.proofs.Prelude.{refl, _-_, _≤_, arith, lit≤, needs}
+use Rattle.images.specs.{Form.Form, Form.one, Form.two, Form.numbered, Form.contentsLength, Form.contentsOf, Image.registerAt}
+use Rattle.image.specs.{Shown.ContentsOf, declared.form.Contents.Contents}
 use Rattle.image.proofs.form.contents_of.Statement.{statement}
 use Rattle.image.proofs.form.contents_of.Tie as tie
 
@@ -30,10 +24,5 @@ spells : (f : Form) → ContentsOf f (told f)
 spells f = let r = reach f in record { first = refl; second = refl; third = refl; last = refl; ends = omega arith; low = omega arith; high = omega arith }
 
 pub contents-of-spec : {M : Type 1} → statement M
-contents-of-spec =
-    tie.close
-    (tie.spec
-    (λ c. search needs) (λ c. search needs) (λ c. search needs)
-    (λ c. rw (c .enum-told .given .1) (spells one))
-    (λ c. rw (c .enum-told2 .given .1) (spells two))
-    (λ c. rw (c .enum-told3 .given .1) (spells numbered)))
+contents-of-spec = tie.close (tie.spec (λ c. search needs) (λ c. search needs) (λ c. search needs) (λ c. rw (c .enum-told .given .1) (spells one))
+    (λ c. rw (c .enum-told2 .given .1) (spells two)) (λ c. rw (c .enum-told3 .given .1) (spells numbered)))

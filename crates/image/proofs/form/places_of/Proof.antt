@@ -1,16 +1,8 @@
 -- `places_of`: in each form, by computing, with the contents' length in front and the copy's for what is added.
-use mathlib.Core.Path.{_≡_, refl, sym, ap, _∙_, subst}
-use mathlib.Core.Bool.{Bool, true, false, _&&_, false≢true, and-eq-true-iff}
-use mathlib.Core.List.{List, [], _∷_}
-use Prim.Native.Nat.{ℕ, _+_}
-use lib.Dec.{eqb}
+use Rattle.basics.proofs.Prelude.{_≡_, refl, sym, ap, _∙_, subst, Bool, true, false, _&&_, false≢true, and-eq-true-iff, List, [], _∷_, ℕ, _+_, eqb, eqb-true, needs, test}
 use Rattle.images.specs.Form.{Field, word, copy, Form, one, two, numbered, is, listed, fields, has, place, contentsLength}
-use Rattle.basics.proofs.laws.Bits.{test}
 use Rattle.images.proofs.laws.Layout.{never, is-sound}
-use Rattle.image.specs.Shown.{formView, placeIn, copyLength, PlacesOf}
-use Rattle.image.specs.declared.form.Places.{Places}
-use borrow.Author.Tests.{eqb-true}
-use borrow.Author.Needs.{needs}
+use Rattle.image.specs.{Shown.formView, Shown.placeIn, Shown.copyLength, Shown.PlacesOf, declared.form.Places.Places}
 use Rattle.image.proofs.form.places_of.Statement.{statement}
 use Rattle.image.proofs.form.places_of.Tie as tie
 
@@ -70,17 +62,9 @@ in-code f h c e g =
       copy = no-copy f;
     })
 
-returns : tie.Need-returns
-returns c =
-    let h = c .before in
-    in-code (formView (h .before .args .form)) (h .contents-length .result) (c .copy-length .result) (h .contents-length .ensures .0) (c .copy-length .ensures .0)
-
 pub places-of-spec : {M : Type 1} → statement M
-places-of-spec =
-    tie.close
-    (tie.spec
-    (λ c κs. search needs) (λ c κs. search needs)
+places-of-spec = tie.close (tie.spec (λ c κs. search needs) (λ c κs. search needs) (λ c. search needs) (λ c. search needs) (λ c. search needs)
+    (λ c. search needs) (λ c. search needs) (λ c. search needs) (λ c. search needs) (λ c. search needs) (λ c. search needs) (λ c. search needs)
     (λ c. search needs) (λ c. search needs) (λ c. search needs) (λ c. search needs) (λ c. search needs) (λ c. search needs)
-    (λ c. search needs) (λ c. search needs) (λ c. search needs) (λ c. search needs) (λ c. search needs) (λ c. search needs)
-    (λ c. search needs) (λ c. search needs) (λ c. search needs) (λ c. search needs)
-    returns)
+    (λ c. let h = c .before in
+    in-code (formView (h .before .args .form)) (h .contents-length .result) (c .copy-length .result) (h .contents-length .ensures .0) (c .copy-length .ensures .0)))

@@ -1,10 +1,5 @@
 -- `all_bits`: after i words it has the bits of those.
-use mathlib.Core.Path.{_≡_, refl, sym, ap, _∙_}
-use Prim.Native.Nat.{_-_, _≤_}
-use native.Mathlib.Numerals.{add-one}
-use native.Mathlib.Omega.{arith}
-use borrow.Author.Needs.{needs}
-use lib.Bits.{bitOr}
+use Rattle.basics.proofs.Prelude.{_≡_, refl, sym, ap, _∙_, _-_, _≤_, add-one, arith, needs, bitOr}
 use Rattle.image.specs.unused.Events.{bitsOf}
 use Rattle.image.proofs.unused.all_bits.Statement.{statement}
 use Rattle.image.proofs.unused.all_bits.Tie as tie
@@ -15,24 +10,12 @@ Inv-loop pairs found₀ i₀ found i = (i ≤ 4) × (found ≡ bitsOf i pairs)
 abbrev μ-loop : tie.MeasureT-loop
 μ-loop pairs found₀ i₀ found i = 4 - i
 
-loop-again : tie.Need-loop-again Inv-loop μ-loop
-loop-again c =
-    let l = c .before .before .loop in
-    let a = c .before .before .before .before .args in
-    (omega arith, (λ t. bitOr (l .inv .1 t) (c .word-at .ensures t)) ∙ ap (λ n. bitsOf n (a .pairs .now)) (sym (add-one (l .i))))
-
-returns : tie.Need-returns Inv-loop μ-loop
-returns c =
-    let l = c .before .loop in
-    let all : l .i ≡ 4 = omega arith in
-    l .inv .1 ∙ ap (λ n. bitsOf n (c .before .before .before .args .pairs .now)) all
-
 pub all-bits-spec : {M : Type 1} → statement M
-all-bits-spec =
-    tie.close
-    (tie.spec Inv-loop μ-loop
-    (λ c. (omega arith, refl))
-    (λ c. search needs) (λ c κs. omega arith)
-    (λ c. search needs) (λ c. search needs)
-    loop-again
-    returns)
+all-bits-spec = tie.close (tie.spec Inv-loop μ-loop (λ c. (omega arith, refl)) (λ c. search needs) (λ c κs. omega arith) (λ c. search needs)
+    (λ c. search needs)
+    (λ c. let l = c .before .before .loop in
+    let a = c .before .before .before .before .args in
+    (omega arith, (λ t. bitOr (l .inv .1 t) (c .word-at .ensures t)) ∙ ap (λ n. bitsOf n (a .pairs .now)) (sym (add-one (l .i)))))
+    (λ c. let l = c .before .loop in
+    let all : l .i ≡ 4 = omega arith in
+    l .inv .1 ∙ ap (λ n. bitsOf n (c .before .before .before .args .pairs .now)) all))

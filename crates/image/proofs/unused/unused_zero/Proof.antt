@@ -1,19 +1,9 @@
 -- `unused_zero`: nothing is gathered from the words looked at, and the bytes to come are zero, exactly where all unused bytes are, of both lists.
-use mathlib.Core.Path.{_≡_, sym, ap, _∙_}
-use mathlib.Core.Bool.{true, _&&_}
-use mathlib.Core.List.{List}
-use Prim.Native.Nat.{ℕ, _+_, _-_, _*_, _/_, _%_, _^_, _≤_, _<_}
-use native.Mathlib.Omega.{arith}
-use borrow.Author.Needs.{needs}
-use lib.Bits.{bitOr}
-use lib.Dec.{eqb}
-use lib.ListN.{length, drop, drop-of-length-le}
-use Rattle.basics.specs.Numbers.{Bytes}
+use Rattle.basics.proofs.Prelude.{_≡_, sym, ap, _∙_, true, _&&_, List, ℕ, _+_, _-_, _*_, _/_, _%_, _^_, _≤_, _<_, arith, needs, bitOr, eqb, length, drop, drop-of-length-le, Bytes}
 use Rattle.rules.specs.Ring.{capacity}
 use Rattle.images.specs.Image.{registerAt}
 use Rattle.image.specs.unused.Events.{allZero}
-use Rattle.image.proofs.unused.Pairs.{zero-or, zero-word, shuffle, both-more, both-none}
-use Rattle.image.proofs.unused.unused_zero.Statement.{statement}
+use Rattle.image.proofs.unused.{Pairs.zero-or, Pairs.zero-word, Pairs.shuffle, Pairs.both-more, Pairs.both-none, unused_zero.Statement.statement}
 use Rattle.image.proofs.unused.unused_zero.Tie as tie
 
 -- the word in which the unused ones begin
@@ -49,49 +39,28 @@ bytes c j = omega (arith, c .shared-slice-known .given j)
 bytes-2 : (c : tie.After-shared-slice-known2 Inv-loop μ-loop) → Bytes (c .before .before .args .spare .now)
 bytes-2 c j = omega (arith, c .shared-slice-known2 .given j)
 
-returns : tie.Need-returns Inv-loop μ-loop
-returns c =
-    let a = c .before .before .before .args in
+pub unused-zero-spec : {M : Type 1} → statement M
+unused-zero-spec = tie.close (tie.spec Inv-loop μ-loop
+    (λ c. let a = c .before .before .before .args in
     let all : length (a .pairs .now) ≤ 2 * a .count = omega arith in
     let rest : length (a .spare .now) ≤ 2 * a .count = omega arith in
-    λ t. allZero (sym (drop-of-length-le (a .pairs .now) all) t) && allZero (sym (drop-of-length-le (a .spare .now) rest) t)
-
-loop-holds : tie.Need-loop-holds Inv-loop μ-loop
-loop-holds c =
-    let k = c .before .before .before in
+    λ t. allZero (sym (drop-of-length-le (a .pairs .now) all) t) && allZero (sym (drop-of-length-le (a .spare .now) rest) t))
+    (λ c. search needs) (λ c. search needs) (λ c κs. omega arith) (λ c. omega arith) (λ c. search needs) (λ c κs. omega arith) (λ c. omega arith)
+    (λ c. search needs)
+    (λ c. let k = c .before .before .before in
     let a = k .before .before .args in (
       omega arith,
       first-words (a .count) (c .before .word-at .result) (c .word-at2 .result) (a .pairs .now) (a .spare .now) (bytes (k .before)) (bytes-2 k)
           (omega arith) (omega arith) (omega arith) (c .before .word-at .ensures) (c .word-at2 .ensures),
-    )
-
-loop-again : tie.Need-loop-again Inv-loop μ-loop
-loop-again c =
-    let l = c .before .before .before .loop in
+    ))
+    (λ c. search needs) (λ c κs. omega arith) (λ c. search needs) (λ c κs. omega arith) (λ c. search needs) (λ c. search needs)
+    (λ c. let l = c .before .before .before .loop in
     let k = c .before .before .before .before .before .before .before in
     let a = k .before .before .args in (
       omega arith,
       both-more (a .pairs .now) (a .spare .now) (l .i) (l .found) (c .before .word-at3 .result) (c .word-at4 .result) (bytes (k .before)) (bytes-2 k)
           (omega arith) (omega arith) (c .before .word-at3 .ensures) (c .word-at4 .ensures) (l .inv .1),
-    )
-
-returns-2 : tie.Need-returns-2 Inv-loop μ-loop
-returns-2 c =
-    let l = c .before .loop in
+    ))
+    (λ c. let l = c .before .loop in
     let a = c .before .before .before .before .before .before .before .args in
-    both-none (a .pairs .now) (a .spare .now) (l .i) (l .found) (omega arith) (omega arith) (l .inv .1)
-
-pub unused-zero-spec : {M : Type 1} → statement M
-unused-zero-spec =
-    tie.close
-    (tie.spec Inv-loop μ-loop returns
-    (λ c. search needs)
-    (λ c. search needs) (λ c κs. omega arith) (λ c. omega arith)
-    (λ c. search needs) (λ c κs. omega arith) (λ c. omega arith)
-    (λ c. search needs)
-    loop-holds
-    (λ c. search needs) (λ c κs. omega arith)
-    (λ c. search needs) (λ c κs. omega arith)
-    (λ c. search needs) (λ c. search needs)
-    loop-again
-    returns-2)
+    both-none (a .pairs .now) (a .spare .now) (l .i) (l .found) (omega arith) (omega arith) (l .inv .1)))

@@ -1,25 +1,12 @@
 -- `write_mask`: its two stages, one after the other, are the rule's.
-use native.Mathlib.Omega.{arith}
+use Rattle.basics.proofs.Prelude.{arith, needs}
 use Rattle.device.specs.state.View.{answerValue}
-use Rattle.lines.proofs.masking.Stages.{mask-done}
-use borrow.Author.Needs.{needs}
-use Rattle.lines.proofs.masking.write_mask.Statement.{statement}
+use Rattle.lines.proofs.masking.{Stages.mask-done, write_mask.Statement.statement}
 use Rattle.lines.proofs.masking.write_mask.Tie as tie
 
 pub write-mask-spec : {M : Type 1} → statement M
-write-mask-spec =
-    tie.close
-    (tie.spec
-    (λ c κs. search needs)
-    (λ c κs. search needs)
-    (λ c κs. search needs)
-    (λ c κs. search needs)
-    (λ c κs. search needs)
-    (λ c κs. search needs)
-    (λ c κs. search needs)
-    (λ c κs. search needs)
-    (λ c. search needs)
-    (λ c. search needs)
+write-mask-spec = tie.close (tie.spec (λ c κs. search needs) (λ c κs. search needs) (λ c κs. search needs) (λ c κs. search needs)
+    (λ c κs. search needs) (λ c κs. search needs) (λ c κs. search needs) (λ c κs. search needs) (λ c. search needs) (λ c. search needs)
     (λ c. let l = c .before .before in
     let d = l .before in
     let o = d .before .before .before .before in

@@ -1,19 +1,11 @@
 -- `lower`: the latch is stored, and then the input leaves.
+use Rattle.basics.proofs.Prelude.{needs}
 use Rattle.device.specs.state.View.{answerValue}
-use Rattle.lines.proofs.service.Calling.{lower-done}
-use borrow.Author.Needs.{needs}
-use Rattle.lines.proofs.service.lower.Statement.{statement}
+use Rattle.lines.proofs.service.{Calling.lower-done, lower.Statement.statement}
 use Rattle.lines.proofs.service.lower.Tie as tie
 
 pub lower-spec : {M : Type 1} → statement M
-lower-spec =
-    tie.close
-    (tie.spec
-    (λ c κs. search needs)
-    (λ c. search needs)
-    (λ c κs. search needs)
-    (λ c κs. search needs)
-    (λ c. search needs)
+lower-spec = tie.close (tie.spec (λ c κs. search needs) (λ c. search needs) (λ c κs. search needs) (λ c κs. search needs) (λ c. search needs)
     (λ c. let e = c .before .before in
     let p = e .before .before .before .before in
     let r = p .before .before in

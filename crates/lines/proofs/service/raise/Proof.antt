@@ -1,19 +1,11 @@
 -- `raise`: the latch is stored, and then it is polled.
+use Rattle.basics.proofs.Prelude.{needs}
 use Rattle.device.specs.state.View.{answerValue}
-use Rattle.lines.proofs.service.Calling.{raise-done}
-use borrow.Author.Needs.{needs}
-use Rattle.lines.proofs.service.raise.Statement.{statement}
+use Rattle.lines.proofs.service.{Calling.raise-done, raise.Statement.statement}
 use Rattle.lines.proofs.service.raise.Tie as tie
 
 pub raise-spec : {M : Type 1} → statement M
-raise-spec =
-    tie.close
-    (tie.spec
-    (λ c κs. search needs)
-    (λ c. search needs)
-    (λ c κs. search needs)
-    (λ c κs. search needs)
-    (λ c. search needs)
+raise-spec = tie.close (tie.spec (λ c κs. search needs) (λ c. search needs) (λ c κs. search needs) (λ c κs. search needs) (λ c. search needs)
     (λ c. let e = c .before .before in
     let p = e .before .before .before .before in
     let r = p .before .before in

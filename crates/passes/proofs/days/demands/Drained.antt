@@ -1,25 +1,13 @@
 -- 02, C-21: what was offered, less what was dropped and what waits at the end, is what was drained. Stated of the sheet's total.
-use mathlib.Core.Path.{_≡_, refl, sym, ap, subst, _∙_}
-use mathlib.Core.List.{List, []}
-use Prim.Native.Nat.{ℕ, zero, suc, _+_}
-use native.Mathlib.Nat.{zero-add}
-use lib.ListN.{length}
-use Rattle.rules.specs.Account.{tally}
-use Rattle.rules.specs.Device.{reset}
+use Rattle.basics.proofs.Prelude.{_≡_, refl, sym, ap, subst, _∙_, List, [], ℕ, zero, suc, _+_, zero-add, length}
+use Rattle.rules.specs.{Account.tally, Device.reset}
 use Rattle.laws.proofs.laws.Images.{reset-well-formed}
-use Rattle.plain.specs.Events.{waiting}
-use Rattle.plain.specs.Sequence.{loadOf}
-use Rattle.plain.proofs.laws.Following.{loadedRun}
-use Rattle.plain.proofs.demands.History.{same-history}
+use Rattle.plain.{specs.Events.waiting, specs.Sequence.loadOf, proofs.laws.Following.loadedRun, proofs.demands.History.same-history}
 use Rattle.traces.specs.Played.{records}
-use Rattle.sheets.specs.Day.{items, begun, dayOf}
-use Rattle.sheets.specs.Sheet.{Row, rowOf, totalBelow}
-use Rattle.passes.specs.Slots.{NoLoad}
-use Rattle.passes.proofs.laws.Passing.{no-load-well, same-begun}
-use Rattle.passes.proofs.laws.Days.{items-loadless}
-use Rattle.passes.specs.days.Accounts.{drainedIn, atLast}
-use Rattle.passes.proofs.days.laws.Flow.{wasOffered, wasDropped, Flows, day-flows}
-use Rattle.passes.proofs.days.laws.Inputs.{FewNotes, few-history, sumBelow, all-of-each}
+use Rattle.sheets.specs.{Day.items, Day.begun, Day.dayOf, Sheet.Row, Sheet.rowOf, Sheet.totalBelow}
+use Rattle.passes.specs.{Slots.NoLoad, days.Accounts.drainedIn, days.Accounts.atLast}
+use Rattle.passes.proofs.laws.{Passing.no-load-well, Passing.same-begun, Days.items-loadless}
+use Rattle.passes.proofs.days.laws.{Flow.wasOffered, Flow.wasDropped, Flow.Flows, Flow.day-flows, Inputs.FewNotes, Inputs.few-history, Inputs.sumBelow, Inputs.all-of-each}
 
 total-offered : (k : ℕ) (f : ℕ → Row) → totalBelow k f .offered ≡ sumBelow k (λ n. f n .offered)
 unfolding totalBelow sumBelow

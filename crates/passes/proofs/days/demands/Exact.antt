@@ -1,19 +1,7 @@
 -- 02, C-21, in exact numbers: the four bytes of each cell of a good trace's sheet spell the number that its column has.
-use mathlib.Core.Path.{_≡_, refl, sym, ap, _∙_}
-use mathlib.Core.List.{List, _++_}
-use Prim.Native.Nat.{ℕ, zero, suc, _+_, _*_, _^_, _<_, _≤_}
-use native.Mathlib.Omega.{arith}
-use lib.Dec.{ltb}
-use lib.ListN.{length, take, drop, length-append, length-drop}
-use lib.Seq.{take-all, drop-at, take-append-le, drop-append-le}
-use borrow.Author.Tests.{ltb-true, ltb-false}
-use Rattle.basics.specs.Numbers.{numberOf, bytesOf, part}
-use Rattle.basics.proofs.laws.Bits.{test}
-use Rattle.basics.proofs.laws.Bytes.{numberOf-bytesOf}
-use Rattle.basics.proofs.laws.Lists.{part-part}
+use Rattle.basics.proofs.Prelude.{_≡_, refl, sym, ap, _∙_, List, _++_, ℕ, zero, suc, _+_, _*_, _^_, _<_, _≤_, arith, ltb, length, take, drop, length-append, length-drop, take-all, drop-at, take-append-le, drop-append-le, ltb-true, ltb-false, numberOf, bytesOf, part, test, numberOf-bytesOf, part-part}
 use Rattle.traces.specs.Trace.{good, traceTest}
-use Rattle.sheets.specs.Day.{dayOf}
-use Rattle.sheets.specs.Sheet.{Row, columnOf, rowOf, totalBelow, bytesOfRow, rowsBelow, sheetBytes, sheetOf}
+use Rattle.sheets.specs.{Day.dayOf, Sheet.Row, Sheet.columnOf, Sheet.rowOf, Sheet.totalBelow, Sheet.bytesOfRow, Sheet.rowsBelow, Sheet.sheetBytes, Sheet.sheetOf}
 use Rattle.passes.specs.tallies.Grid.{cellPlace}
 use Rattle.passes.proofs.days.demands.Fits.{Below, rows-fit, total-fits}
 

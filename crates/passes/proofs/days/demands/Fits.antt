@@ -1,36 +1,17 @@
 -- 02, C-21, in exact numbers: every number of the sheet of a good trace is below 2 ^ 32, so that its four bytes tell it.
-use mathlib.Core.Path.{_≡_, refl, ap, subst}
-use mathlib.Core.Bool.{Bool, true, false}
-use mathlib.Core.List.{List, [], _∷_}
-use Prim.Native.Nat.{ℕ, zero, suc, _+_, _*_, _^_, _<_, _≤_, max}
-use native.Mathlib.Omega.{arith}
-use lib.ListN.{length, length-append}
-use Rattle.basics.specs.Numbers.{byteOf}
-use Rattle.basics.specs.Inputs.{half}
-use Rattle.basics.proofs.laws.Bits.{test}
-use Rattle.rules.specs.Lines.{Made}
-use Rattle.rules.specs.Ring.{Ring}
-use Rattle.rules.specs.Core.{Core, poll, turns}
-use Rattle.rules.specs.Access.{byte, word, dword, qword, dwordActs, byteActs, writeActs}
-use Rattle.rules.specs.Account.{tally}
-use Rattle.rules.specs.Device.{Device, Call, level, read, write, drain, reset, actsOf, step}
-use Rattle.rules.specs.Device as device
-use Rattle.laws.proofs.laws.Images.{reset-well-formed}
-use Rattle.laws.proofs.laws.Losses.{acts-few, dword-short, byte-short}
-use Rattle.plain.specs.Events.{Note}
-use Rattle.plain.specs.Plain.{Engine}
+use Rattle.basics.proofs.Prelude.{_≡_, refl, ap, subst, Bool, true, false, List, [], _∷_, ℕ, zero, suc, _+_, _*_, _^_, _<_, _≤_, arith, length, length-append, byteOf, half, test}
+use Rattle.passes.proofs.laws.{Finishing.max-small, Passing.no-load-well, Passing.great-small, Days.items-loadless, Days.items-length}
+use Rattle.rules.specs.{Lines.Made, Ring.Ring, Core.Core, Core.poll, Core.turns, Access.byte, Access.word, Access.dword, Access.qword, Access.dwordActs, Access.byteActs, Access.writeActs}
+use Rattle.rules.specs.{Account.tally, Device.Call, Device.level, Device.read, Device.write, Device.drain, Device.reset, Device.actsOf, Device.step}
+use Rattle.laws.proofs.laws.{Images.reset-well-formed, Losses.acts-few, Losses.dword-short, Losses.byte-short}
+use Rattle.plain.specs.{Events.Note, Plain.Engine}
 use Rattle.plain.specs.Sequence.{Item, call, load, refused, loadOf, takes, ringWith, notesOf, Ported, portedFollows, portedAfter}
 use Rattle.plain.proofs.demands.History.{same-history}
-use Rattle.traces.specs.Trace.{recordCount, good, traceTest}
-use Rattle.traces.specs.Played.{records}
-use Rattle.traces.proofs.demands.Told.{AllGood, Means, test-told}
+use Rattle.traces.{specs.Trace.recordCount, specs.Trace.good, specs.Trace.traceTest, specs.Played.records, proofs.demands.Told.AllGood, proofs.demands.Told.Means, proofs.demands.Told.test-told}
 use Rattle.traces.proofs.demands.Sizes.{few-records}
-use Rattle.sheets.specs.Day.{Moment, items, begun, moments, dayOf}
-use Rattle.sheets.specs.Waits.{End, begins, waits}
-use Rattle.sheets.specs.Sheet.{Row, rowOf, together, totalBelow}
+use Rattle.sheets.specs.{Day.Moment, Day.items, Day.begun, Day.moments, Day.dayOf, Waits.End, Waits.begins, Waits.waits, Sheet.Row, Sheet.rowOf, Sheet.together, Sheet.totalBelow}
 use Rattle.passes.specs.Slots.{NoLoad}
-use Rattle.passes.proofs.laws.Passing.{no-load-well, great-small}
-use Rattle.passes.proofs.laws.Days.{items-loadless, items-length}
+use Rattle.rules.specs.Device as device
 
 -- ---- how many events a call makes at most
 
@@ -159,10 +140,7 @@ module _ (l : List ℕ) {first k : ℕ} (e : traceTest l ≡ good first k) where
   great-total : (j : ℕ) → j ≤ 64 → totalBelow j (rowOf (dayOf l)) .greatest < 2 ^ 32
   unfolding totalBelow
   great-total zero h = omega arith
-  great-total (suc j) h = larger _ _ (great-total j (omega arith)) (great-small (items l) loadless few (λ n c. 0) j (omega arith))
-    where
-      larger : (a b : ℕ) → a < 2 ^ 32 → b < 2 ^ 32 → max a b < 2 ^ 32
-      larger a b p q = omega arith
+  great-total (suc j) h = max-small _ _ (great-total j (omega arith)) (great-small (items l) loadless few (λ n c. 0) j (omega arith))
 
   -- Of a good trace: the counts of each input are at most 2,080,000, those of the total 64 times as many, and the greatest waits fit too.
   pub rows-fit : (n : ℕ) → n < 64 → Below (520 * 4000) (rowOf (dayOf l) n) × (rowOf (dayOf l) n .greatest < 2 ^ 32)

@@ -1,38 +1,22 @@
 -- The day that is counted is the day that is played (02, C-21, C-11): after each record the plain engine shows the device that the played image holds, and a record is refused in the one just
 -- where it is refused in the other.
-use mathlib.Core.Path.{_≡_, refl, sym, ap, _∙_}
-use mathlib.Core.Bool.{false, true≢false, and-false}
-use mathlib.Core.List.{List, [], _∷_, map}
-use Prim.Native.Nat.{ℕ}
-use lib.Dec.{eqb}
-use lib.ListN.{length, replicate}
-use Rattle.basics.specs.Numbers.{Bytes}
-use Rattle.basics.proofs.laws.Lists.{same-self}
-use Rattle.rules.specs.Device.{reset, step}
-use Rattle.rules.specs.History.{history}
-use Rattle.rules.specs.Numbering.{fromZero}
-use Rattle.images.specs.Form.{Form, forms, known, formOf}
-use Rattle.images.specs.Image.{accepted, imageTest, decode}
-use Rattle.images.proofs.laws.Tests.{form-known}
+use Rattle.basics.proofs.Prelude.{_≡_, refl, sym, ap, _∙_, false, true≢false, and-false, List, [], _∷_, map, ℕ, eqb, length, replicate, Bytes, same-self}
+use Rattle.rules.specs.{Device.reset, Device.step, History.history, Numbering.fromZero}
+use Rattle.images.{specs.Form.Form, specs.Form.forms, specs.Form.known, specs.Form.formOf, specs.Image.accepted, specs.Image.imageTest, specs.Image.decode, proofs.laws.Tests.form-known}
 use Rattle.calls.specs.Calls.{pass, refuse, Asked, afresh, calls, askedBy, performed, answerLength, Outcome}
-use Rattle.calls.specs.Calls as request
 use Rattle.laws.proofs.laws.Images.{reset-well-formed, reset-numbered, decode-encode, encode-as}
 use Rattle.histories.specs.exported.Exported.{Exported, isDone, isReset, isLoad, carriedOn, doneCall, atLoad, current}
 use Rattle.histories.proofs.exported.laws.Chains.{refused-not-done, faithful-at-load, faithful-kept, carried-on, left-holds, left-last}
 use Rattle.plain.specs.Sequence.{call, loadOf, shown, Ported, portedFollows, portedAfter, plainAfter}
 use Rattle.plain.proofs.demands.History.{shows-device}
-use Rattle.traces.specs.Trace.{Record, nth}
-use Rattle.traces.specs.Played.{requestOf, playedOn, recordsFrom, outcomes, gathered}
-use Rattle.traces.specs.Played as played
-use Rattle.traces.proofs.demands.Play.{plays-from-reset}
-use Rattle.traces.specs.plays.Playing.{playedTo}
-use Rattle.traces.proofs.plays.laws.Drained.{asked-ends}
-use Rattle.traces.proofs.plays.laws.Keeps.{no-reset, in-front, keeps-accepted}
+use Rattle.traces.specs.{Trace.Record, Trace.nth, Played.requestOf, Played.playedOn, Played.recordsFrom, Played.outcomes, Played.gathered, plays.Playing.playedTo}
+use Rattle.traces.proofs.{demands.Play.plays-from-reset, plays.laws.Drained.asked-ends, plays.laws.Keeps.no-reset, plays.laws.Keeps.in-front, plays.laws.Keeps.keeps-accepted}
 use Rattle.traces.proofs.plays.demands.Accepted.{afresh-fits, each-fits}
 use Rattle.sheets.specs.Day.{asItem, itemOf, begun}
 use Rattle.passes.specs.days.Accounts.{isMade}
-use Rattle.passes.proofs.laws.Passing.{no-load-well}
-use Rattle.passes.proofs.laws.Days.{items-loadless}
+use Rattle.passes.proofs.laws.{Passing.no-load-well, Days.items-loadless}
+use Rattle.calls.specs.Calls as request
+use Rattle.traces.specs.Played as played
 
 -- ---- one record
 

@@ -1,30 +1,15 @@
 -- 02, C-21, of each input: its asserts less its deasserts are 1 or 0, and are whether it is in service at the end, where no record's write reaches ISR.
-use mathlib.Core.Path.{_≡_, refl, sym, ap, _∙_}
-use mathlib.Core.Bool.{Bool, cond}
-use mathlib.Core.List.{List, [], _∷_}
-use Prim.Native.Nat.{ℕ, _+_, _<_}
-use native.Mathlib.Omega.{arith}
-use Rattle.basics.specs.Inputs.{on}
-use Rattle.basics.proofs.laws.Bits.{on-none}
-use Rattle.rules.specs.Lines.{Made}
-use Rattle.rules.specs.Ring.{Ring}
-use Rattle.rules.specs.Account.{tally}
-use Rattle.rules.specs.Device.{reset, actsOf, acted, step}
-use Rattle.rules.proofs.laws.Counts.{tally-append}
+use Rattle.basics.proofs.Prelude.{_≡_, refl, sym, ap, _∙_, Bool, cond, List, [], _∷_, ℕ, _+_, _<_, arith, on, on-none}
+use Rattle.rules.{specs.Lines.Made, specs.Ring.Ring, specs.Account.tally, specs.Device.reset, specs.Device.actsOf, specs.Device.acted, specs.Device.step, proofs.laws.Counts.tally-append}
 use Rattle.histories.proofs.laws.Reach.{no-isr-act}
 use Rattle.laws.proofs.laws.Images.{reset-well-formed}
 use Rattle.plain.specs.Events.{Note}
 use Rattle.plain.specs.Sequence.{Item, call, load, refused, loadOf, shown, noteOf, fateIn, ringWith, notesOf, Ported, portedFollows, portedAfter}
 use Rattle.plain.proofs.demands.History.{shows-device, same-history}
 use Rattle.traces.specs.Played.{records}
-use Rattle.sheets.specs.Day.{items, begun, dayOf}
-use Rattle.sheets.specs.Waits.{assertOf, deassertOf}
-use Rattle.sheets.specs.Sheet.{rowOf}
-use Rattle.passes.specs.days.Accounts.{NoIsrWrite, atLast}
-use Rattle.passes.proofs.days.laws.Balance.{up, down, balanced-acts}
-use Rattle.passes.specs.Slots.{NoLoad}
-use Rattle.passes.proofs.laws.Passing.{no-load-well}
-use Rattle.passes.proofs.laws.Days.{items-loadless}
+use Rattle.sheets.specs.{Day.items, Day.begun, Day.dayOf, Waits.assertOf, Waits.deassertOf, Sheet.rowOf}
+use Rattle.passes.specs.{days.Accounts.NoIsrWrite, days.Accounts.atLast, Slots.NoLoad}
+use Rattle.passes.proofs.{days.laws.Balance.up, days.laws.Balance.down, days.laws.Balance.balanced-acts, laws.Passing.no-load-well, laws.Days.items-loadless}
 
 -- an event as it is noted has its input and its kind
 noted-tally : (q : Made → Bool) (p : Note → Bool) → ((k : ℕ) (r : Ring) (m : Made) → p (noteOf k (fateIn r m) m) ≡ q m) → (k : ℕ) (r : Ring) (ms : List Made) → tally p (notesOf k r ms) ≡ tally q ms

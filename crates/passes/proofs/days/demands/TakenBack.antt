@@ -1,50 +1,36 @@
 -- 02, C-21: a wait is withdrawn by CLEAR or a lowering, and by nothing else. Of an input that is latched, a record leaves the latch off exactly if it lowers the input or
 -- writes a 1 to its place in CLEAR.
-use mathlib.Core.Path.{_≡_, refl, sym, ap, _∙_}
-use mathlib.Core.Bool.{Bool, true, false, not, _&&_, _||_}
-use mathlib.Core.List.{List, [], _∷_}
-use Prim.Native.Nat.{ℕ, _<_}
-use Rattle.basics.specs.Inputs.{on, inputs, only, put, without, withHalf}
-use Rattle.basics.proofs.laws.Bits.{test, on-put, on-without}
-use Rattle.rules.specs.Lines.{Lines, withMask, withIrr, pendingIn, serve, newlyUnmasked, polled, raised, lowered, cleared, masked}
+use Rattle.basics.proofs.Prelude.{_≡_, refl, sym, ap, _∙_, Bool, true, false, not, _&&_, _||_, List, [], _∷_, ℕ, _<_, on, inputs, only, put, without, withHalf, test, on-put, on-without}
+use Rattle.rules.proofs.demands.Copy.{serve-irr}
+use Rattle.rules.specs.Lines.{Lines, withMask, withIrr, pendingIn, newlyUnmasked, polled, raised, lowered, cleared, masked}
 use Rattle.rules.specs.Core.{Core, Act, move, setIsr, store, setVector, poll, raise, lower, clear, setMask, moved, lineTurn, turn, turns}
 use Rattle.rules.specs.Device.{Device, WellFormed, Call, level, read, write, drain, reset, actsOf, acted, step}
-use Rattle.rules.specs.Device as device
 use Rattle.laws.proofs.laws.Images.{reset-well-formed}
-use Rattle.histories.specs.Demands.{Each, done, also, someAct}
-use Rattle.histories.proofs.laws.Reach.{ReturnsNone, write-returns-none}
+use Rattle.histories.{specs.Demands.Each, specs.Demands.done, specs.Demands.also, specs.Demands.someAct, proofs.laws.Reach.ReturnsNone, proofs.laws.Reach.write-returns-none}
 use Rattle.histories.proofs.laws.WellFormed.{step-well}
-use Rattle.plain.specs.Machine.{Machine}
-use Rattle.plain.specs.Plain.{Engine}
-use Rattle.plain.specs.Sequence.{Item, call, load, refused, shown, takes, plainAfter}
-use Rattle.plain.proofs.laws.Same.{Run, Same}
-use Rattle.plain.proofs.laws.Following.{stepped, countedRun, like-call, sized, same-counted, loadedRun, shown-is}
-use Rattle.sheets.specs.Day.{begun}
-use Rattle.sheets.specs.Waits.{takesBack}
-use Rattle.passes.specs.Slots.{NoLoad}
+use Rattle.plain.specs.{Machine.Machine, Plain.Engine, Sequence.Item, Sequence.call, Sequence.load, Sequence.refused, Sequence.shown, Sequence.takes, Sequence.plainAfter}
+use Rattle.plain.proofs.laws.{Same.Run, Same.Same, Following.stepped, Following.countedRun, Following.like-call, Following.sized, Following.same-counted, Following.loadedRun, Following.shown-is}
+use Rattle.sheets.specs.{Day.begun, Waits.takesBack}
+use Rattle.passes.specs.{Slots.NoLoad, days.Taking.takesLatch, days.Taking.callTakes}
 use Rattle.passes.proofs.laws.Passing.{same-begun}
-use Rattle.passes.specs.days.Taking.{takesLatch, callTakes}
+use Rattle.rules.specs.Device as device
 
 module _ (n : ℕ) (below : n < 64) where
-  serve-latches : (vs : List ℕ) (o : Bool) (l : Lines) (ns : List ℕ) → serve vs o l ns .after .irr ≡ l .irr
-  serve-latches vs o l [] = refl
-  serve-latches vs o l (m ∷ ns) = refl
-
   -- a latch stays on unless the act takes it
   lost : (l : Lines) (f : ℕ → Bool) → on (l .irr) n ≡ true → on (without (l .irr) f) n ≡ not (f n)
   lost l f h = on-without (l .irr) f n below ∙ ap (λ b. b && not (f n)) h
 
   act-takes : (c : Core) (a : Act) → on (c .lines .irr) n ≡ true → on (turn c a .after .lines .irr) n ≡ not (takesLatch n a)
   unfolding lineTurn moved polled raised lowered cleared masked
-  act-takes c (move (poll m)) h = ap (λ x. on x n) (serve-latches (c .vectors) false (c .lines) (inputs (pendingIn (only m) (c .lines)))) ∙ h
+  act-takes c (move (poll m)) h = ap (λ x. on x n) (serve-irr (c .vectors) false (c .lines) (inputs (pendingIn (only m) (c .lines)))) ∙ h
   act-takes c (move (raise m)) h =
       let to = withIrr (c .lines) (put (c .lines .irr) m) in
-      ap (λ x. on x n) (serve-latches (c .vectors) false to (inputs (pendingIn (only m) to))) ∙ on-put (c .lines .irr) m n below ∙ ap (λ b. b || only m n) h
+      ap (λ x. on x n) (serve-irr (c .vectors) false to (inputs (pendingIn (only m) to))) ∙ on-put (c .lines .irr) m n below ∙ ap (λ b. b || only m n) h
   act-takes c (move (lower m)) h = lost (c .lines) (only m) h
   act-takes c (move (clear b)) h = lost (c .lines) (on b) h
   act-takes c (move (setMask g v)) h =
       let to = withMask (c .lines) (withHalf g (c .lines .mask) v) in
-      ap (λ x. on x n) (serve-latches (c .vectors) true to (inputs (pendingIn (newlyUnmasked (c .lines .mask) (withHalf g (c .lines .mask) v)) to))) ∙ h
+      ap (λ x. on x n) (serve-irr (c .vectors) true to (inputs (pendingIn (newlyUnmasked (c .lines .mask) (withHalf g (c .lines .mask) v)) to))) ∙ h
   act-takes c (setIsr g v) h = h
   act-takes c (store s) h = h
   act-takes c (setVector m v) h = h
@@ -58,7 +44,7 @@ module _ (n : ℕ) (below : n < 64) where
   act-leaves c (move (clear b)) t h = on-without (c .lines .irr) (on b) n below ∙ ap (λ x. x && not (on b n)) h
   act-leaves c (move (setMask g v)) t h =
       let to = withMask (c .lines) (withHalf g (c .lines .mask) v) in
-      ap (λ x. on x n) (serve-latches (c .vectors) true to (inputs (pendingIn (newlyUnmasked (c .lines .mask) (withHalf g (c .lines .mask) v)) to))) ∙ h
+      ap (λ x. on x n) (serve-irr (c .vectors) true to (inputs (pendingIn (newlyUnmasked (c .lines .mask) (withHalf g (c .lines .mask) v)) to))) ∙ h
   act-leaves c (setIsr g v) t h = h
   act-leaves c (store s) t h = h
   act-leaves c (setVector m v) t h = h

@@ -1,14 +1,7 @@
 -- 02, C-21: every raise that found its input neither latched nor in service is answered, withdrawn or open, and these add up.
-use mathlib.Core.Path.{_≡_, refl, _∙_}
-use mathlib.Core.List.{List, [], _∷_}
-use Prim.Native.Nat.{ℕ, _+_}
-use native.Mathlib.Omega.{arith}
-use lib.ListN.{length}
-use Rattle.basics.proofs.laws.Bits.{test}
+use Rattle.basics.proofs.Prelude.{_≡_, refl, _∙_, List, [], _∷_, ℕ, _+_, arith, length, test}
 use Rattle.rules.specs.Account.{tally}
-use Rattle.sheets.specs.Day.{Moment, dayOf}
-use Rattle.sheets.specs.Waits.{begins, End, answered, withdrawn, stillOpen, waits, isAnswered, isWithdrawn, isOpen}
-use Rattle.sheets.specs.Sheet.{rowOf}
+use Rattle.sheets.specs.{Day.Moment, Day.dayOf, Waits.begins, Waits.End, Waits.answered, Waits.withdrawn, Waits.stillOpen, Waits.waits, Waits.isAnswered, Waits.isWithdrawn, Waits.isOpen, Sheet.rowOf}
 
 -- a wait has one end
 each-ends : (ws : List End) → length ws ≡ tally isAnswered ws + tally isWithdrawn ws + tally isOpen ws

@@ -1,17 +1,9 @@
 -- One input's asserts, deasserts and service, and the inputs of events: over turns of the lines, acts and calls.
-use mathlib.Core.Path.{_≡_, refl, _∙_}
-use mathlib.Core.Bool.{Bool, not, _&&_, and-comm}
-use mathlib.Core.List.{List, [], _∷_, _++_}
-use Prim.Native.Nat.{ℕ, _+_, _<_}
-use native.Mathlib.Omega.{arith}
-use lib.Dec.{eqb}
-use Rattle.basics.specs.Inputs.{on, only}
-use Rattle.rules.specs.Lines.{Lines, Made, servedIn}
-use Rattle.rules.specs.Core.{Core, Act, Move, move, setIsr, store, setVector, moved, lineTurn, turn, turns}
+use Rattle.basics.proofs.Prelude.{_≡_, refl, _∙_, Bool, not, _&&_, and-comm, List, [], _∷_, _++_, ℕ, _+_, _<_, arith, eqb, on, only}
+use Rattle.rules.specs.{Lines.Lines, Lines.Made, Lines.servedIn, Core.Core, Core.Act, Core.Move, Core.move, Core.setIsr, Core.store, Core.setVector, Core.moved, Core.lineTurn, Core.turn, Core.turns}
 use Rattle.rules.specs.Account.{tally, servedWith}
 use Rattle.rules.proofs.laws.Counts.{one, size-ext, only-size, tally-append, balanced-move}
-use Rattle.histories.specs.Demands.{Each, done, also}
-use Rattle.histories.proofs.laws.Reach.{NotIsr}
+use Rattle.histories.{specs.Demands.Each, specs.Demands.done, specs.Demands.also, proofs.laws.Reach.NotIsr}
 
 -- ---- the events of an input
 

@@ -1,31 +1,15 @@
 -- Events offered, dropped, waiting and drained, over a call and over a day; and the inputs that made them.
-use mathlib.Core.Path.{_≡_, refl, sym, ap, subst, _∙_}
-use mathlib.Core.Bool.{Bool, true, false, not}
-use mathlib.Core.List.{List, [], _∷_}
-use Prim.Native.Nat.{ℕ, _+_}
-use native.Mathlib.Omega.{arith}
-use lib.Dec.{ltb}
-use lib.ListN.{length, length-append}
-use borrow.Author.Tests.{ltb-true, ltb-false}
-use Rattle.basics.proofs.laws.Bits.{test}
-use Rattle.rules.specs.Lines.{Made}
-use Rattle.rules.specs.Ring.{Ring, ringStep, ringRun, kept}
-use Rattle.rules.specs.Core.{poll, turns}
-use Rattle.rules.specs.Account.{tally}
+use Rattle.basics.proofs.Prelude.{_≡_, refl, sym, ap, subst, _∙_, Bool, true, false, not, List, [], _∷_, ℕ, _+_, arith, ltb, length, length-append, ltb-true, ltb-false, test}
+use Rattle.rules.specs.{Lines.Made, Ring.Ring, Ring.ringStep, Ring.ringRun, Ring.kept, Core.poll, Core.turns, Account.tally}
 use Rattle.rules.specs.Device.{Device, WellFormed, Call, level, read, write, drain, offers, draws, actsOf, acted, step}
-use Rattle.rules.specs.Device as device
-use Rattle.rules.proofs.laws.Rings.{offered-room, offered-full, fifo}
-use Rattle.rules.proofs.laws.Counts.{tally-append}
+use Rattle.rules.proofs.laws.{Rings.offered-room, Rings.offered-full, Rings.fifo, Counts.tally-append}
 use Rattle.histories.proofs.laws.WellFormed.{step-well}
-use Rattle.plain.specs.Events.{Note, waiting}
-use Rattle.plain.specs.Plain.{Engine}
+use Rattle.plain.specs.{Events.Note, Events.waiting, Plain.Engine}
 use Rattle.plain.specs.Sequence.{Item, call, load, refused, takes, plainAfter, ringWith, notesOf}
-use Rattle.plain.proofs.laws.Same.{Run, Same}
-use Rattle.plain.proofs.laws.Following.{stepped, countedRun, like-call, sized, same-counted}
-use Rattle.sheets.specs.Day.{moments}
-use Rattle.sheets.specs.Sheet.{isReturned, isDropped}
-use Rattle.passes.specs.Slots.{NoLoad}
-use Rattle.passes.specs.days.Accounts.{drainedIn}
+use Rattle.plain.proofs.laws.{Same.Run, Same.Same, Following.stepped, Following.countedRun, Following.like-call, Following.sized, Following.same-counted}
+use Rattle.sheets.specs.{Day.moments, Sheet.isReturned, Sheet.isDropped}
+use Rattle.passes.specs.{Slots.NoLoad, days.Accounts.drainedIn}
+use Rattle.rules.specs.Device as device
 
 -- an event that was offered, and one that was dropped
 abbrev pub wasOffered : Note → Bool

@@ -1,21 +1,11 @@
 -- Every event is of one of the 64 inputs, so what is counted for each of them adds up to what is counted of all.
-use mathlib.Core.Path.{_≡_, refl, _∙_}
-use mathlib.Core.Bool.{Bool, true, false, cond, _&&_}
-use mathlib.Core.List.{List, [], _∷_, _++_, map}
-use Prim.Native.Nat.{ℕ, zero, suc, _+_, _<_, _≤_}
-use native.Mathlib.Omega.{arith}
-use lib.Dec.{eqb}
-use borrow.Author.Tests.{eqb-true, eqb-false, ne-eqb}
-use Rattle.basics.specs.Inputs.{from, inputs, on, only, put, without, withHalf}
-use Rattle.basics.proofs.laws.Bits.{test}
-use Rattle.basics.proofs.laws.Inputs.{first-has}
+use Rattle.basics.proofs.Prelude.{_≡_, refl, _∙_, Bool, true, false, cond, _&&_, List, [], _∷_, _++_, map, ℕ, zero, suc, _+_, _<_, _≤_, arith, eqb, eqb-true, eqb-false, ne-eqb, from, inputs, on, only, put, without, withHalf, test, first-has}
+use Rattle.passes.proofs.laws.Finishing.{nearer}
 use Rattle.rules.specs.Lines.{Lines, Made, event, withMask, withIrr, pendingIn, servedIn, serve, enter, leave, newlyUnmasked, newlyMasked, polled, raised, lowered, cleared, masked}
 use Rattle.rules.specs.Ring.{Ring}
 use Rattle.rules.specs.Core.{Core, Act, Move, move, setIsr, store, setVector, poll, raise, lower, clear, setMask, moved, lineTurn, turn, turns}
-use Rattle.rules.specs.Account.{tally}
-use Rattle.rules.specs.Device.{actsOf, step}
-use Rattle.plain.specs.Events.{Note}
-use Rattle.plain.specs.Sequence.{Item, call, load, refused, ringWith, notesOf, Ported, portedFollows, portedAfter}
+use Rattle.rules.specs.{Account.tally, Device.actsOf, Device.step}
+use Rattle.plain.specs.{Events.Note, Sequence.Item, Sequence.call, Sequence.load, Sequence.refused, Sequence.ringWith, Sequence.notesOf, Sequence.Ported, Sequence.portedFollows, Sequence.portedAfter}
 use Rattle.passes.specs.Slots.{NoLoad}
 
 -- ---- every event is of an input
@@ -119,9 +109,6 @@ hit-one true i (suc k) h =
     test (eqb i k)
     (λ t. rw t (omega (arith, hit-none true i k (omega (arith, eqb-true i k t)))))
     (λ t. rw t (omega (arith, hit-one true i k (nearer i k (eqb-false i k t) h))))
-  where
-    nearer : (i k : ℕ) → (i ≡ k → ⊥) → i < suc k → i < k
-    nearer i k d h = omega (arith, d, h)
 hit-one false i (suc k) h = omega (arith, sum-none k)
 
 pub all-of-each : (p : Note → Bool) (h : List Note) → FewNotes h → sumBelow 64 (λ n. tally (λ x. p x && eqb (x .input) n) h) ≡ tally p h

@@ -1,19 +1,5 @@
 -- A number of the sheet read and written, in the bytes that hold the grid.
-use mathlib.Core.Path.{_≡_, sym, ap, _∙_}
-use mathlib.Core.Bool.{true, cond, _&&_, and-eq-true-iff, true≢false}
-use mathlib.Core.List.{List, [], _∷_, _++_}
-use Prim.Native.Nat.{ℕ, _+_, _-_, _*_, _/_, _%_, _^_, _<_, _≤_}
-use native.Mathlib.Nat.{mod-lt}
-use native.Mathlib.Omega.{arith}
-use lib.Dec.{eqb, leb}
-use lib.ListN.{length, take, drop}
-use lib.Seq.{drop-drop, drop-at, length-take-le}
-use borrow.Author.Tests.{eqb-true, eq-eqb, leb-true, leb-false}
-use borrow.Rule.Slice.PartMut.{putMid}
-use Rattle.basics.specs.Numbers.{bytesOf, numberOf, part}
-use Rattle.basics.proofs.laws.Bits.{test}
-use Rattle.basics.proofs.laws.Bytes.{length-bytesOf, numberOf-bytesOf}
-use Rattle.basics.proofs.laws.Parts.{put-there, put-before, put-behind, length-put}
+use Rattle.basics.proofs.Prelude.{_≡_, sym, ap, _∙_, true, cond, _&&_, and-eq-true-iff, true≢false, List, [], _∷_, _++_, ℕ, _+_, _-_, _*_, _/_, _%_, _^_, _<_, _≤_, mod-lt, arith, eqb, leb, length, take, drop, drop-drop, drop-at, length-take-le, eqb-true, eq-eqb, leb-true, leb-false, putMid, bytesOf, numberOf, part, test, length-bytesOf, numberOf-bytesOf, put-there, put-before, put-behind, length-put}
 use Rattle.sheets.specs.Sheet.{sheetLength}
 use Rattle.passes.specs.tallies.Grid.{Grid, cellPlace, put, Holds}
 

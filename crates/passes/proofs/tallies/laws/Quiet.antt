@@ -1,24 +1,14 @@
 -- Acts that the pass does not heed, a half of ISR, and a Byte as a half of its register.
-use mathlib.Core.Path.{_≡_, refl, sym, ap, subst, _∙_}
-use mathlib.Core.Bool.{Bool, true, false}
-use mathlib.Core.List.{List, [], _∷_, _++_}
-use Prim.Native.Nat.{ℕ, _+_, _-_, _^_, _<_}
-use lib.Bits.{bitAnd}
-use Rattle.basics.specs.Numbers.{byteOf, withByte}
-use Rattle.basics.specs.Inputs.{half, withHalf}
-use Rattle.basics.proofs.laws.Bits.{test}
-use Rattle.rules.specs.Lines.{Lines, withIsr}
-use Rattle.rules.specs.Ring.{ringRun}
+use Rattle.basics.proofs.Prelude.{_≡_, refl, sym, ap, subst, _∙_, Bool, true, false, List, [], _∷_, _++_, ℕ, _+_, _-_, _^_, _<_, bitAnd, byteOf, withByte, half, withHalf, test}
+use Rattle.rules.specs.{Lines.Lines, Lines.withIsr, Ring.ringRun}
 use Rattle.rules.specs.Core.{Core, Act, Store, setRoute, setIsr, store, setVector, turns, lineTurn, vectorsAfter, storedAfter}
-use Rattle.rules.specs.Map as map
 use Rattle.rules.specs.Map.{Register, Cell, halfOf, bytes, cellAt, inRoutes, inVectors, inByteArea}
-use Rattle.rules.specs.Access.{valueOf, readCell, readDword, registerActs, entryActs, cellActs, dwordActs, byteActs}
-use Rattle.rules.specs.Device.{offers, acted}
+use Rattle.rules.specs.{Access.valueOf, Access.readCell, Access.readDword, Access.registerActs, Access.entryActs, Access.cellActs, Access.dwordActs, Access.byteActs, Device.offers, Device.acted}
 use Rattle.laws.proofs.laws.Writes.{byte-acts-inside, byte-acts-outside, dword-acts-of}
 use Rattle.plain.specs.Sequence.{notesOf}
-use Rattle.passes.specs.tallies.Marks.{marksOf}
-use Rattle.passes.specs.tallies.Following.{Stands, Takes, Follows, ReadsAs}
+use Rattle.passes.specs.tallies.{Marks.marksOf, Following.Stands, Following.Takes, Following.Follows, Following.ReadsAs}
 use Rattle.passes.proofs.tallies.laws.Taking.{takes-none, follows-none, follows-then}
+use Rattle.rules.specs.Map as map
 
 pub follows-same : {l : Lines} {w : ℕ} {m : Lines} {u : ℕ} {b a : List ℕ} (k : ℕ) (xs ys : Core → List Act) → ((c : Core) → c .lines ≡ l → xs c ≡ ys c) → Follows l w m u b a k xs → Follows l w m u b a k ys
 follows-same {m} {u} {b} {a} k xs ys e s d h = subst (λ (zs : List Act). Stands m u (acted d zs) × Takes b a (marksOf k d zs)) (e (d .core) (h .lines)) (s d h)

@@ -1,14 +1,7 @@
 -- Marks one after another, and what follows acts one after another.
-use mathlib.Core.Path.{_≡_, refl, sym, ap, subst, _∙_}
-use mathlib.Core.List.{List, [], _∷_, _++_, append-assoc, append-nil}
-use Prim.Native.Nat.{ℕ}
-use Rattle.rules.specs.Lines.{Lines}
-use Rattle.rules.specs.Core.{Core, Act, turns}
-use Rattle.rules.specs.Device.{Device, acted}
-use Rattle.rules.proofs.laws.Acts.{acted-none, acted-append}
-use Rattle.passes.specs.tallies.Grid.{Grid, Holds}
-use Rattle.passes.specs.tallies.Marks.{Mark, marked, allMarked, actMarks, marksOf}
-use Rattle.passes.specs.tallies.Following.{Stands, Takes, Follows}
+use Rattle.basics.proofs.Prelude.{_≡_, refl, sym, ap, subst, _∙_, List, [], _∷_, _++_, append-assoc, append-nil, ℕ}
+use Rattle.rules.{specs.Lines.Lines, specs.Core.Core, specs.Core.Act, specs.Core.turns, specs.Device.Device, specs.Device.acted, proofs.laws.Acts.acted-none, proofs.laws.Acts.acted-append}
+use Rattle.passes.specs.tallies.{Grid.Grid, Grid.Holds, Marks.Mark, Marks.marked, Marks.allMarked, Marks.actMarks, Marks.marksOf, Following.Stands, Following.Takes, Following.Follows}
 
 pub marked-append : (f : Grid) (ms ns : List Mark) → allMarked f (ms ++ ns) ≡ allMarked (allMarked f ms) ns
 unfolding allMarked

@@ -1,23 +1,11 @@
 -- Events made one after another, turns of the lines, and a move of the lines as an act.
-use mathlib.Core.Path.{_≡_, sym, ap, subst, _∙_}
-use mathlib.Core.Bool.{Bool, true, false}
-use mathlib.Core.List.{List, [], _∷_, _++_, map, map-append}
-use Prim.Native.Nat.{ℕ, _+_, _<_, _≤_}
-use native.Mathlib.Omega.{arith}
-use lib.ListN.{length, length-append}
-use borrow.Author.Tests.{lt-ltb, le-ltb}
-use Rattle.rules.specs.Lines.{Lines, Made, Turn, andThen, event}
-use Rattle.rules.specs.Ring.{Ring, RingAct, Drawn, ringStep, ringRun}
-use Rattle.rules.specs.Core.{Move, move, moved, lineTurn}
-use Rattle.rules.specs.Device.{Device, offers, acted}
-use Rattle.rules.proofs.laws.Rings.{run-append, offered-room, offered-full}
-use Rattle.rules.proofs.laws.Acts.{offers-append}
+use Rattle.basics.proofs.Prelude.{_≡_, sym, ap, subst, _∙_, Bool, true, false, List, [], _∷_, _++_, map, map-append, ℕ, _+_, _<_, _≤_, arith, length, length-append, lt-ltb, le-ltb}
+use Rattle.rules.specs.{Lines.Lines, Lines.Made, Lines.Turn, Lines.andThen, Lines.event, Ring.Ring, Ring.RingAct, Ring.Drawn, Ring.ringStep, Ring.ringRun}
+use Rattle.rules.specs.{Core.Move, Core.move, Core.moved, Core.lineTurn, Device.Device, Device.offers, Device.acted}
+use Rattle.rules.proofs.laws.{Rings.run-append, Rings.offered-room, Rings.offered-full, Acts.offers-append}
 use Rattle.laws.proofs.laws.Writes.{acted-move}
-use Rattle.plain.specs.Events.{returned, kept, dropped}
-use Rattle.plain.specs.Sequence.{notesOf}
-use Rattle.plain.proofs.laws.Queues.{notes-append}
-use Rattle.passes.specs.tallies.Marks.{happened, allMarked, besides, marksOf}
-use Rattle.passes.specs.tallies.Following.{Stands, Takes, Offers, Turns, Follows}
+use Rattle.plain.{specs.Events.returned, specs.Events.kept, specs.Events.dropped, specs.Sequence.notesOf, proofs.laws.Queues.notes-append}
+use Rattle.passes.specs.tallies.{Marks.happened, Marks.allMarked, Marks.besides, Marks.marksOf, Following.Stands, Following.Takes, Following.Offers, Following.Turns, Following.Follows}
 use Rattle.passes.proofs.tallies.laws.Taking.{takes-none, takes-then, takes-same, marks-one}
 
 -- ---- events

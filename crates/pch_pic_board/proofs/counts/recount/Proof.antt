@@ -1,14 +1,6 @@
 -- `recount`: after each turn, what was counted so far and what is left come to all.
-use Prim.Native.Nat.{_<_, _≤_}
-use native.Mathlib.Nat.{lt-of-le-of-lt}
-use native.Mathlib.Omega.{arith}
-use mathlib.Core.Path.{_∙_}
-use lib.Count.{trailingZeros, trailing-le}
-use lib.ListN.{length}
-use Rattle.basics.specs.Inputs.{on, inputs}
-use Rattle.basics.proofs.laws.Inputs.{first-below}
-use Rattle.pch_pic_board.proofs.counts.Counting.{Counting, counting-starts, counting-next, counting-done, zeroed-length, zeroed-past, one-fits, one-less}
-use borrow.Author.Needs.{needs}
+use Rattle.basics.proofs.Prelude.{_<_, _≤_, lt-of-le-of-lt, arith, _∙_, trailingZeros, trailing-le, length, needs, on, inputs, first-below, one-less}
+use Rattle.pch_pic_board.proofs.counts.Counting.{Counting, counting-starts, counting-next, counting-done, zeroed-length, zeroed-past, one-fits}
 use Rattle.pch_pic_board.proofs.counts.recount.Statement.{statement}
 use Rattle.pch_pic_board.proofs.counts.recount.Tie as tie
 
@@ -30,21 +22,12 @@ sized c =
     omega (arith, l .loop .inv .sized, zeroed-length (s .args .board .now) (z .put-zeros .last .0) (s .pre .1) (z .put-zeros .ensures), s .pre .1)
 
 pub recount-spec : {M : Type 1} → statement M
-recount-spec =
-    tie.close
-    (tie.spec
-    Inv-loop
-    μ-loop
-    (λ c. search needs)
-    (λ c. search needs)
-    (λ c. search needs)
-    (λ c κs. search needs)
+recount-spec = tie.close (tie.spec Inv-loop μ-loop (λ c. search needs) (λ c. search needs) (λ c. search needs) (λ c κs. search needs)
     (λ c κs. c .before .before .before .before .before .before .pre .0)
     (λ c. let z = c .before .before .before in let s = z .before .before .before .before in
     counting-starts (s .args .board .now) (z .put-zeros .last .0) (s .pre .1) (z .put-zeros .ensures) (s .args .image .now) (c .isr .result) (search needs))
     (λ c. record { fits = lt-of-le-of-lt (trailing-le 64 _) (omega arith) })
-    (λ c κs. (c .before .before .before .before .before .before .before .before .before .pre .0, below c))
-    (λ c. search needs)
+    (λ c κs. (c .before .before .before .before .before .before .before .before .before .pre .0, below c)) (λ c. search needs)
     (λ c. let h : c .before .vector .result < 256 = search needs in omega (arith, h, below (c .before .before), sized (c .before .before)))
     (λ c. let t = c .before .before in record { fits = one-fits (t .before .loop .inv) (t .loop-test .taken) (c .before .vector .result) (search needs) })
     (λ c. let h : c .before .vector .result < 256 = search needs in omega (arith, h, below (c .before .before), sized (c .before .before)))

@@ -1,18 +1,7 @@
 -- `counted`: the count and a zero byte, so many of the numbers from 0 on, and zeros behind them.
-use mathlib.Core.Path.{_≡_, refl, sym, ap, _∙_}
-use mathlib.Core.List.{List, [], _∷_, _++_}
-use Prim.Native.Nat.{ℕ, zero, suc, _+_, _-_, _*_, _/_, _%_, _<_, _≤_}
-use native.Mathlib.Omega.{arith}
-use lib.ListN.{length, set, replicate}
-use lib.Seq.{set-at}
-use borrow.Author.Needs.{needs}
-use Rattle.basics.specs.Numbers.{written}
-use Rattle.rules.specs.Ring.{capacity}
-use Rattle.rules.specs.Device.{upFrom}
-use Rattle.rules.specs.Numbering.{numberTwos}
-use Rattle.images.specs.Image.{sixteen, numberBody}
-use Rattle.images.proofs.laws.Saved.{length-upFrom}
-use Rattle.images.proofs.laws.Twos.{length-written, written-snoc}
+use Rattle.basics.proofs.Prelude.{_≡_, refl, sym, ap, _∙_, List, [], _∷_, _++_, ℕ, zero, suc, _+_, _-_, _*_, _/_, _%_, _<_, _≤_, arith, length, set, replicate, set-at, needs, written}
+use Rattle.rules.specs.{Ring.capacity, Device.upFrom, Numbering.numberTwos}
+use Rattle.images.{specs.Image.sixteen, specs.Image.numberBody, proofs.laws.Saved.length-upFrom, proofs.laws.Twos.length-written, proofs.laws.Twos.written-snoc}
 use Rattle.pch_pic_convert.proofs.load_numbers.counted.Statement.{statement}
 use Rattle.pch_pic_convert.proofs.load_numbers.counted.Tie as tie
 
@@ -53,28 +42,15 @@ Inv-loop count body₀ i₀ body i = (i ≤ count) × (body ≡ sofar count i)
 abbrev μ-loop : tie.MeasureT-loop
 μ-loop count body₀ i₀ body i = count - i
 
-loop-holds : tie.Need-loop-holds Inv-loop μ-loop
-unfolding upFrom
-loop-holds c = (omega arith, refl)
-
-loop-again : tie.Need-loop-again Inv-loop μ-loop
-loop-again c =
-    let l = c .before .loop in
-    (omega arith, ap (λ (b : List ℕ). set b (2 + 2 * l .i) (l .i)) (l .inv .1) ∙ one-more _ (l .i) (omega arith))
-
-returns : tie.Need-returns Inv-loop μ-loop
-unfolding numberBody
-returns c =
-    let l = c .before .loop in
+pub counted-spec : {M : Type 1} → statement M
+counted-spec = tie.close (tie.spec Inv-loop μ-loop (λ c. search needs) (λ c. search needs) (λ c. unfold upFrom in (omega arith, refl))
+    (λ c. search needs) (λ c. search needs) (λ c. search needs) (λ c. search needs) (λ c. search needs) (λ c. search needs)
+    (λ c. let l = c .before .loop in
+    (omega arith, ap (λ (b : List ℕ). set b (2 + 2 * l .i) (l .i)) (l .inv .1) ∙ one-more _ (l .i) (omega arith)))
+    (λ c. unfold numberBody in let l = c .before .loop in
     let n = c .before .before .args .count in
     let all : l .i ≡ n = omega (arith, l .inv .0) in
     let small : n ≤ 16 = c .before .before .pre in
     let low : n ≡ n % 256 = omega (arith, small) in
     let high : 0 ≡ n / 256 % 256 = omega (arith, small) in
-    l .inv .1 ∙ (λ t. low t ∷ high t ∷ sixteen numberTwos (upFrom 0 (all t)))
-
-pub counted-spec : {M : Type 1} → statement M
-counted-spec =
-    tie.close
-    (tie.spec Inv-loop μ-loop (λ c. search needs) (λ c. search needs) loop-holds (λ c. search needs) (λ c. search needs) (λ c. search needs) (λ c. search needs) (λ c. search needs) (λ c. search needs)
-    loop-again returns)
+    l .inv .1 ∙ (λ t. low t ∷ high t ∷ sixteen numberTwos (upFrom 0 (all t)))))

@@ -1,15 +1,8 @@
 -- `load_stored`: each register is the number that its eight bytes spell.
-use mathlib.Core.Bool.{true}
-use mathlib.Core.Path.{_≡_, refl}
-use Prim.Native.Nat.{_+_, _≤_}
-use lib.ListN.{length}
-use borrow.Author.Needs.{needs}
-use Rattle.images.specs.Form.{stored, Field, word, routes, size}
+use Rattle.basics.proofs.Prelude.{true, _≡_, refl, _+_, _≤_, length, needs}
+use Rattle.images.{specs.Form.stored, specs.Form.Field, specs.Form.word, specs.Form.routes, specs.Form.size, specs.Form.read, proofs.laws.Layout.always}
 use Rattle.rules.specs.Core.{htmsiEn, edge, pol, auto0, auto1}
-use Rattle.images.proofs.laws.Layout.{always}
-use Rattle.image.specs.Shown.{formView, placeIn}
-use Rattle.image.proofs.Forms.{always-within, always-word}
-use Rattle.images.specs.Form.{read}
+use Rattle.image.{specs.Shown.formView, specs.Shown.placeIn, proofs.Forms.always-within, proofs.Forms.always-word}
 use Rattle.pch_pic_convert.proofs.load_words.load_stored.Statement.{statement}
 use Rattle.pch_pic_convert.proofs.load_words.load_stored.Tie as tie
 
@@ -17,9 +10,12 @@ use Rattle.pch_pic_convert.proofs.load_words.load_stored.Tie as tie
 within : (c : tie.After-places-of) (q : Field) → always q ≡ true → placeIn (c .places-of .result) q + size q ≤ length (c .before .before .args .image .now)
 within c = let s = c .before .before in always-within (formView (s .args .form)) (s .args .image .now) (s .pre) (c .places-of .result) (c .places-of .ensures)
 
-returns : tie.Need-returns
-returns c =
-    let four = c .before in
+pub load-stored-spec : {M : Type 1} → statement M
+load-stored-spec = tie.close (tie.spec (λ c κs. search needs) (λ c κs. within c (word (stored htmsiEn)) refl)
+    (λ c κs. within (c .before) (word (stored edge)) refl) (λ c κs. within (c .before .before) (word (stored pol)) refl)
+    (λ c κs. within (c .before .before .before) (word (stored auto0)) refl)
+    (λ c κs. within (c .before .before .before .before) (word (stored auto1)) refl)
+    (λ c. let four = c .before in
     let three = four .before in
     let two = three .before in
     let one = two .before in
@@ -33,16 +29,4 @@ returns c =
       auto0 = word (stored auto0) refl _ (four .word-at4 .ensures) i;
       auto1 = word (stored auto1) refl _ (c .word-at5 .ensures) i;
       routes = read (formView (s .args .form)) (s .args .image .now) routes;
-    }
-
-pub load-stored-spec : {M : Type 1} → statement M
-load-stored-spec =
-    tie.close
-    (tie.spec
-    (λ c κs. search needs)
-    (λ c κs. within c (word (stored htmsiEn)) refl)
-    (λ c κs. within (c .before) (word (stored edge)) refl)
-    (λ c κs. within (c .before .before) (word (stored pol)) refl)
-    (λ c κs. within (c .before .before .before) (word (stored auto0)) refl)
-    (λ c κs. within (c .before .before .before .before) (word (stored auto1)) refl)
-    returns)
+    }))

@@ -1,25 +1,18 @@
 -- `write`: no such width, then outside the window, then no aligned Dword, then a write that is not for this guest; done, the image is that of the device after the write.
-use mathlib.Core.Path.{_≡_, refl, sym, ap, _∙_}
-use mathlib.Core.Bool.{Bool, true}
-use mathlib.Core.List.{List}
-use Prim.Native.Nat.{ℕ}
-use borrow.Author.Needs.{needs}
+use Rattle.basics.proofs.Prelude.{_≡_, refl, sym, ap, _∙_, Bool, true, List, ℕ, needs}
 use Rattle.rules.specs.Access.{Width}
-use Rattle.rules.specs.Device as device
 use Rattle.images.specs.Image.{decode, numbersIn}
 use Rattle.calls.specs.Calls.{Request}
-use Rattle.calls.specs.Calls as asked
 use Rattle.device.specs.map.Views.{widthView}
 use Rattle.fields.proofs.inplace.Passing.{long, here}
 use Rattle.answer.proofs.refusals.Ends.{tells}
-use Rattle.six_calls.proofs.accepted_access.Aims.{no-width, no-place, write-done}
-use Rattle.six_calls.proofs.accepted_access.Reaching.{dword-low}
-use Rattle.pch_pic_hoist.specs.profile.Tests.{alignedView}
-use Rattle.pch_pic_hoist.specs.judge.Judged.{refuses}
-use Rattle.hoists.specs.Profile.{alignedDword, forbidden, Verdict, verdict}
-use Rattle.hoists.specs.HoistCalls.{endsBy, hoistEnding}
+use Rattle.six_calls.proofs.accepted_access.{Aims.no-width, Aims.no-place, Aims.write-done, Reaching.dword-low}
+use Rattle.pch_pic_hoist.specs.{profile.Tests.alignedView, judge.Judged.refuses}
+use Rattle.hoists.specs.{Profile.alignedDword, Profile.forbidden, Profile.Verdict, Profile.verdict, HoistCalls.endsBy, HoistCalls.hoistEnding}
 use Rattle.pch_pic_hoist.proofs.accepted_dword.Ends.{aligned-dword, write-unaligned, write-unfit, write-passes, width-first, place-first, judged-as}
 use Rattle.pch_pic_hoist.proofs.accepted_dword.write.Statement.{statement}
+use Rattle.rules.specs.Device as device
+use Rattle.calls.specs.Calls as asked
 use Rattle.pch_pic_hoist.proofs.accepted_dword.write.Tie as tie
 
 -- what is known where the alignment has been tested: the width and the offset, and what the call was given
@@ -68,10 +61,7 @@ refused : (g : tie.After-judge) → refuses (g .judge .result) ≡ forbidden (ru
 refused g = let t = testedAt (alignedAt g) in g .judge .ensures (decode (imageOf t)) (numbersIn (imageOf t)) (here (t .before .before .before .before .before .before .before .before .before .before .pre))
 
 pub write-spec : {M : Type 1} → statement M
-write-spec =
-    tie.close
-    (tie.spec
-    (λ c κs. search needs) (λ c. search needs) (λ c. search needs) (λ c κs. search needs)
+write-spec = tie.close (tie.spec (λ c κs. search needs) (λ c. search needs) (λ c. search needs) (λ c κs. search needs)
     (λ c. let u = c .before in let w = u .before .before in let s = w .before .before in let a = s .args in
     tells (c .no-width .result) (c .no-width .ensures)
     (no-width (s .pre) (a .base) (a .size) (a .address) (a .width) (w .width-of .ensures) (asked.write (a .base) (a .size) (a .address) (a .width) (a .value)) (λ w o. device.write w o (a .value)) refl (u .enum-told .given .1)
@@ -92,9 +82,7 @@ write-spec =
     (judged t (write-unfit (runningOf t) (decode (imageOf t)) (widthOf t) (offsetOf t) (valueOf t) (aligned u) (sym (refused g) ∙ ap refuses (v .enum-told6 .given .1)))))
     (λ c κs. search needs)
     (λ c κs. let g = c .before .before .before .before in long (testedAt (alignedAt g) .before .before .before .before .before .before .before .before .before .before .pre))
-    (λ c. search needs)
-    (λ c κs. search needs)
-    (λ c. search needs)
+    (λ c. search needs) (λ c κs. search needs) (λ c. search needs)
     (λ c. let r = c .before .before .before in let x = r .before in let v = x .before .before in let g = v .before .before in let u = alignedAt g in let t = testedAt u in
     let o = t .before .before in let l = o .before .before in let e = l .before .before in let w = e .before .before in let s = w .before .before in let a = s .args in
     tells (c .done .result) (c .done .ensures)

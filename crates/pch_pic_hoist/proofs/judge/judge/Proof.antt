@@ -1,10 +1,6 @@
 -- `judge`: ISR, then an offset that is none of the vectors', then the phase, and then the four bytes.
-use mathlib.Core.Path.{_≡_, sym, _∙_}
-use mathlib.Core.Bool.{false}
-use borrow.Author.Needs.{needs}
-use borrow.Author.Tests.{not-true, not-false}
-use Rattle.pch_pic_hoist.proofs.judge.Judging.{wholly, isr-judged, elsewhere-judged, running-judged, vectors-judged}
-use Rattle.pch_pic_hoist.proofs.judge.judge.Statement.{statement}
+use Rattle.basics.proofs.Prelude.{_≡_, sym, _∙_, false, needs, not-true, not-false}
+use Rattle.pch_pic_hoist.proofs.judge.{Judging.wholly, Judging.isr-judged, Judging.elsewhere-judged, Judging.running-judged, Judging.vectors-judged, judge.Statement.statement}
 use Rattle.pch_pic_hoist.proofs.judge.judge.Tie as tie
 
 -- what passes is not ISR's: it stands first, so that ISR let through is refused here
@@ -20,14 +16,10 @@ elsewhere c =
     (sym (y .in-vectors .ensures) ∙ not-true (y .in-vectors .result) (c .if2 .taken))
 
 pub judge-spec : {M : Type 1} → statement M
-judge-spec =
-    tie.close
-    (tie.spec
-    (λ c κs. search needs)
+judge-spec = tie.close (tie.spec (λ c κs. search needs)
     (λ c. let x = c .before in let a = x .before .before .args in
     isr-judged (a .image .now) (a .offset) (a .value) (a .running) (sym (x .is-isr .ensures) ∙ c .if1 .taken))
-    (λ c κs. search needs)
-    elsewhere
+    (λ c κs. search needs) elsewhere
     (λ c. let f = c .before in let y = f .before in let e = y .before in let x = e .before in let s = x .before .before in let a = s .args in
     running-judged (a .image .now) (a .offset) (a .value) (a .running) (sym (x .is-isr .ensures) ∙ e .if1 .left)
     (sym (y .in-vectors .ensures) ∙ not-false (y .in-vectors .result) (f .if2 .left)) (c .if3 .taken))

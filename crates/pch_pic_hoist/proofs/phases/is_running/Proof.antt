@@ -1,6 +1,5 @@
 -- `is_running`: the first byte is not 0. Written out, so that another test is refused here.
-use mathlib.Core.Path.{refl}
-use borrow.Author.Needs.{needs}
+use Rattle.basics.proofs.Prelude.{refl, needs}
 use Rattle.pch_pic_hoist.proofs.phases.is_running.Statement.{statement}
 use Rattle.pch_pic_hoist.proofs.phases.is_running.Tie as tie
 

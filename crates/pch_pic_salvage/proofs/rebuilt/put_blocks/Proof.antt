@@ -1,17 +1,9 @@
 -- `put_blocks`: each block that is kept behind those before it.
-use mathlib.Core.Path.{_≡_, sym, ap, _∙_}
-use mathlib.Core.Logic.{⊎-elim}
-use Prim.Native.Nat.{ℕ, _+_, _-_, _*_, _≤_}
-use native.Mathlib.Omega.{arith}
-use mathlib.Core.List.{List}
-use lib.ListN.{length}
-use Rattle.basics.specs.Numbers.{part}
-use Rattle.basics.proofs.laws.Lists.{length-part}
+use Rattle.basics.proofs.Prelude.{_≡_, sym, ap, _∙_, ⊎-elim, ℕ, _+_, _-_, _*_, _≤_, arith, List, length, part, length-part}
 use Rattle.traces.specs.Trace.{recordLength}
 use Rattle.pch_pic_salvage.proofs.torn.Rounds.{seen, lies, size, few-records}
 use Rattle.pch_pic_salvage.proofs.rebuilt.Rounds.{Joining, joining-start, joining-fits, joining-kept, joining-torn, as-joining, joining-all}
-use Rattle.pch_pic_salvage.proofs.rebuilt.Written.{long}
-use Rattle.pch_pic_salvage.proofs.rebuilt.put_blocks.Statement.{statement}
+use Rattle.pch_pic_salvage.proofs.rebuilt.{Written.long, put_blocks.Statement.statement}
 use Rattle.pch_pic_salvage.proofs.rebuilt.put_blocks.Tie as tie
 
 abbrev Inv-loop : tie.InvT-loop
@@ -45,9 +37,15 @@ module _ (c : tie.Then1 Inv-loop μ-loop) where
         below = omega (arith, joining-fits t k (s .args .out .now) (omega arith) (l .inv) (sym (e .good) ∙ c .if1 .taken), size t k (l .b) (omega arith), e .records, few-records t k);
       }
 
-copy-records-requires : tie.Need-copy-records-requires Inv-loop μ-loop
-copy-records-requires c κs =
-    let n = c .before .before in
+pub put-blocks-spec : {M : Type 1} → statement M
+put-blocks-spec = tie.close (tie.spec Inv-loop μ-loop
+    (λ c. let s = c .before .before in joining-start (s .args .trace .now) (s .pre .surveyed .lists) (s .args .out .now))
+    (λ c κs. let s = c .before .before .before .before in
+    seen (s .args .trace .now) (s .pre .surveyed .lists) (c .before .loop .b) (omega arith) (s .args .bads .now) (s .pre .surveyed .found))
+    (λ c. omega (arith, here c .few)) (λ c. omega (arith, here c .fits)) (λ c. omega (arith, here c .few)) (λ c. omega (arith, here c .below))
+    (λ c. omega arith) (λ c. omega arith) (λ c. omega (arith, here c .goes)) (λ c. omega arith) (λ c. omega arith)
+    (λ c. omega (arith, here (c .before) .fits))
+    (λ c κs. let n = c .before .before in
     let v = n .before in
     let l = v .before .before .loop in
     let s = v .before .before .before .before .before in
@@ -56,11 +54,9 @@ copy-records-requires c κs =
     let q : (v .look .result .place + r) - v .look .result .place ≡ r = omega arith in (
       ap (λ m. length (part (l .at) m (l .out))) p ∙ length-part (l .out) (l .at) r (here n .goes),
       ap (λ m. length (part (v .look .result .place) m (s .args .trace .now))) q ∙ length-part (s .args .trace .now) (v .look .result .place) r (here n .fits),
-    )
-
-loop-again : tie.Need-loop-again Inv-loop μ-loop
-loop-again c =
-    let v = c .before in
+    ))
+    (λ c. omega arith) (λ c. omega arith)
+    (λ c. let v = c .before in
     let l = v .before .before .loop in
     let s = v .before .before .before .before .before in
     let t = s .args .trace .now in
@@ -75,26 +71,8 @@ loop-again c =
     (w .3 .ensures ∙ ap (λ m. part (v .look .result .place) m t) q ∙ (λ i. part (e .place i) (16 * e .records i) t)))
     (w .6) (w .7 ∙ omega arith))
     (λ w. as-joining t k (s .args .out .now) (joining-torn t k (s .args .out .now) (omega arith) (l .inv) (sym (e .good) ∙ w .0 .left)) (w .1) (w .2))
-    (c .if1 .came)
-
-returns : tie.Need-returns Inv-loop μ-loop
-returns c =
-    let l = c .before .loop in
-    let s = c .before .before .before .before in
-    joining-all (s .args .trace .now) (s .pre .surveyed .lists) (s .args .out .now) (l .inv) (omega arith)
-
-pub put-blocks-spec : {M : Type 1} → statement M
-put-blocks-spec =
-    tie.close
-    (tie.spec Inv-loop μ-loop
-    (λ c. let s = c .before .before in joining-start (s .args .trace .now) (s .pre .surveyed .lists) (s .args .out .now))
-    (λ c κs. let s = c .before .before .before .before in
-    seen (s .args .trace .now) (s .pre .surveyed .lists) (c .before .loop .b) (omega arith) (s .args .bads .now) (s .pre .surveyed .found))
-    (λ c. omega (arith, here c .few)) (λ c. omega (arith, here c .fits)) (λ c. omega (arith, here c .few)) (λ c. omega (arith, here c .below))
-    (λ c. omega arith) (λ c. omega arith) (λ c. omega (arith, here c .goes))
-    (λ c. omega arith) (λ c. omega arith) (λ c. omega (arith, here (c .before) .fits))
-    copy-records-requires
-    (λ c. omega arith) (λ c. omega arith)
-    loop-again
+    (c .if1 .came))
     (λ c. let s = c .before .before .before .before in long (c .before .loop .inv .written) (s .pre .room))
-    returns)
+    (λ c. let l = c .before .loop in
+    let s = c .before .before .before .before in
+    joining-all (s .args .trace .now) (s .pre .surveyed .lists) (s .args .out .now) (l .inv) (omega arith)))

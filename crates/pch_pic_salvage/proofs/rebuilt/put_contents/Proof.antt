@@ -1,15 +1,10 @@
 -- `put_contents`: the number of blocks, and an entry for each that is kept.
-use mathlib.Core.Path.{sym, _∙_}
-use mathlib.Core.Logic.{⊎-elim}
-use Prim.Native.Nat.{ℕ, _+_, _-_, _*_, _<_, _≤_}
-use native.Mathlib.Omega.{arith}
-use lib.ListN.{length}
+use Rattle.basics.proofs.Prelude.{sym, _∙_, ⊎-elim, ℕ, _+_, _-_, _*_, _<_, _≤_, arith, length}
 use Rattle.traces.proofs.salvages.laws.Built.{length-contents}
 use Rattle.pch_pic_salvage.specs.torn.Found.{leftOf}
 use Rattle.pch_pic_salvage.proofs.torn.Rounds.{seen, lies, few-left}
 use Rattle.pch_pic_salvage.proofs.rebuilt.Rounds.{Listing, listing-start, listing-fits, listing-stands, listing-kept, listing-torn, as-listing, listing-all}
-use Rattle.pch_pic_salvage.proofs.rebuilt.Written.{long, put-long}
-use Rattle.pch_pic_salvage.proofs.rebuilt.put_contents.Statement.{statement}
+use Rattle.pch_pic_salvage.proofs.rebuilt.{Written.long, Written.put-long, put_contents.Statement.statement}
 use Rattle.pch_pic_salvage.proofs.rebuilt.put_contents.Tie as tie
 
 abbrev Inv-loop : tie.InvT-loop
@@ -45,9 +40,19 @@ module _ (c : tie.Then1 Inv-loop μ-loop) where
         few = omega (arith, e .records, lies t k (l .b) (omega arith) .few);
       }
 
-loop-again : tie.Need-loop-again Inv-loop μ-loop
-loop-again c =
-    let v = c .before in
+pub put-contents-spec : {M : Type 1} → statement M
+put-contents-spec = tie.close (tie.spec Inv-loop μ-loop (λ c κs. let s = c .before .before .before in omega (arith, s .pre .0 .room))
+    (λ c. let s = c .before .before .before .before .before .before in omega (arith, s .pre .1, few-left (s .args .trace .now) (s .pre .0 .surveyed .lists)))
+    (λ c. let s = c .before .before .before .before .before .before in omega (arith, s .pre .1, few-left (s .args .trace .now) (s .pre .0 .surveyed .lists)))
+    (λ c. let s = c .before .before .before .before .before .before in
+    listing-start (s .args .trace .now) (s .pre .0 .surveyed .lists) (c .before .before .put-bytes .last .0) (s .pre .1) (s .args .out .now) (c .before .before .put-bytes .ensures))
+    (λ c κs. let s = c .before .before .before .before .before .before .before .before in
+    seen (s .args .trace .now) (s .pre .0 .surveyed .lists) (c .before .loop .b) (omega arith) (s .args .bads .now) (s .pre .0 .surveyed .found))
+    (λ c κs. let h = here (c .before) in (h .goes, omega (arith, h .stands), omega (arith, h .few)))
+    (λ c. let h = here (c .before .before .before .before) in omega (arith, h .below))
+    (λ c. let h = here (c .before .before .before .before) in omega (arith, h .few))
+    (λ c. let h = here (c .before .before .before .before) in omega (arith, h .stands)) (λ c. omega arith) (λ c. omega arith)
+    (λ c. let v = c .before in
     let l = v .before .before .loop in
     let p = v .before .before .before .before .before in
     let s = p .before .before .before .before in
@@ -58,39 +63,13 @@ loop-again c =
     ⊎-elim
     (λ w. as-listing t k m (listing-kept t k m (omega arith) (l .inv) (e .records) (sym (e .good) ∙ w .0 .taken) (w .2 .ensures)) (w .5) (w .6) (w .7))
     (λ w. as-listing t k m (listing-torn t k m (omega arith) (l .inv) (sym (e .good) ∙ w .0 .left)) (w .1) (w .2) (w .3))
-    (c .if1 .came)
-
-returns : tie.Need-returns Inv-loop μ-loop
-returns c =
-    let l = c .before .loop in
-    let p = c .before .before .before .before in
-    let s = p .before .before .before .before in
-    listing-all (s .args .trace .now) (s .pre .0 .surveyed .lists) (p .put-bytes .last .0) (l .inv) (omega arith) (s .args .left) (s .args .out .now) (p .put-bytes .ensures)
-
-same-length : tie.Need-same-length Inv-loop μ-loop
-same-length c =
-    let l = c .before .loop in
+    (c .if1 .came))
+    (λ c. let l = c .before .loop in
     let p = c .before .before .before .before in
     let s = p .before .before .before .before in
     let same = put-long (s .args .left) (s .args .out .now) (omega (arith, s .pre .0 .room)) (p .put-bytes .ensures) in
-    long (l .inv .written) (omega (arith, s .pre .0 .room, same)) ∙ same
-
-pub put-contents-spec : {M : Type 1} → statement M
-put-contents-spec =
-    tie.close
-    (tie.spec Inv-loop μ-loop
-    (λ c κs. let s = c .before .before .before in omega (arith, s .pre .0 .room))
-    (λ c. let s = c .before .before .before .before .before .before in omega (arith, s .pre .1, few-left (s .args .trace .now) (s .pre .0 .surveyed .lists)))
-    (λ c. let s = c .before .before .before .before .before .before in omega (arith, s .pre .1, few-left (s .args .trace .now) (s .pre .0 .surveyed .lists)))
-    (λ c. let s = c .before .before .before .before .before .before in
-    listing-start (s .args .trace .now) (s .pre .0 .surveyed .lists) (c .before .before .put-bytes .last .0) (s .pre .1) (s .args .out .now) (c .before .before .put-bytes .ensures))
-    (λ c κs. let s = c .before .before .before .before .before .before .before .before in
-    seen (s .args .trace .now) (s .pre .0 .surveyed .lists) (c .before .loop .b) (omega arith) (s .args .bads .now) (s .pre .0 .surveyed .found))
-    (λ c κs. let h = here (c .before) in (h .goes, omega (arith, h .stands), omega (arith, h .few)))
-    (λ c. let h = here (c .before .before .before .before) in omega (arith, h .below))
-    (λ c. let h = here (c .before .before .before .before) in omega (arith, h .few))
-    (λ c. let h = here (c .before .before .before .before) in omega (arith, h .stands))
-    (λ c. omega arith) (λ c. omega arith)
-    loop-again
-    same-length
-    returns)
+    long (l .inv .written) (omega (arith, s .pre .0 .room, same)) ∙ same)
+    (λ c. let l = c .before .loop in
+    let p = c .before .before .before .before in
+    let s = p .before .before .before .before in
+    listing-all (s .args .trace .now) (s .pre .0 .surveyed .lists) (p .put-bytes .last .0) (l .inv) (omega arith) (s .args .left) (s .args .out .now) (p .put-bytes .ensures)))

@@ -1,14 +1,8 @@
 -- `put_list`: an entry for each block that is not kept.
-use mathlib.Core.Path.{sym, _∙_}
-use mathlib.Core.Logic.{⊎-elim}
-use Prim.Native.Nat.{ℕ, _+_, _-_, _<_, _≤_}
-use native.Mathlib.Omega.{arith}
-use borrow.Author.Tests.{not-true, not-false}
-use lib.ListN.{length}
+use Rattle.basics.proofs.Prelude.{sym, _∙_, ⊎-elim, ℕ, _+_, _-_, _<_, _≤_, arith, not-true, not-false, length}
 use Rattle.pch_pic_salvage.proofs.torn.Rounds.{seen, few-blocks, short}
 use Rattle.pch_pic_salvage.proofs.rebuilt.Rounds.{Dropping, dropping-start, dropping-fits, dropping-kept, dropping-torn, as-dropping, dropping-all, few-dropped}
-use Rattle.pch_pic_salvage.proofs.rebuilt.Written.{long}
-use Rattle.pch_pic_salvage.proofs.rebuilt.put_list.Statement.{statement}
+use Rattle.pch_pic_salvage.proofs.rebuilt.{Written.long, put_list.Statement.statement}
 use Rattle.pch_pic_salvage.proofs.rebuilt.put_list.Tie as tie
 
 abbrev Inv-loop : tie.InvT-loop
@@ -41,9 +35,14 @@ module _ (c : tie.Then1 Inv-loop μ-loop) where
         short = omega (arith, e .bad, short t k (l .b) (omega arith));
       }
 
-loop-again : tie.Need-loop-again Inv-loop μ-loop
-loop-again c =
-    let v = c .before .before in
+pub put-list-spec : {M : Type 1} → statement M
+put-list-spec = tie.close (tie.spec Inv-loop μ-loop
+    (λ c. let s = c .before .before in dropping-start (s .args .trace .now) (s .pre .surveyed .lists) (s .args .out .now))
+    (λ c κs. let s = c .before .before .before .before in
+    seen (s .args .trace .now) (s .pre .surveyed .lists) (c .before .loop .b) (omega arith) (s .args .bads .now) (s .pre .surveyed .found))
+    (λ c κs. let h = here (c .before) in (h .goes, omega (arith, h .few), omega (arith, h .short)))
+    (λ c. let h = here (c .before .before .before .before) in omega (arith, h .below)) (λ c. omega arith) (λ c. omega arith)
+    (λ c. let v = c .before .before in
     let l = v .before .before .loop in
     let s = v .before .before .before .before .before in
     let t = s .args .trace .now in
@@ -54,24 +53,8 @@ loop-again c =
     ⊎-elim
     (λ w. as-dropping t k m (dropping-torn t k m (omega arith) (l .inv) (sym (e .good) ∙ not-true g (w .0 .taken)) (e .bad) (w .2 .ensures)) (w .5) (w .6))
     (λ w. as-dropping t k m (dropping-kept t k m (omega arith) (l .inv) (sym (e .good) ∙ not-false g (w .0 .left))) (w .1) (w .2))
-    (c .if1 .came)
-
-returns : tie.Need-returns Inv-loop μ-loop
-returns c =
-    let l = c .before .loop in
-    let s = c .before .before .before .before in
-    dropping-all (s .args .trace .now) (s .pre .surveyed .lists) (s .args .out .now) (l .inv) (omega arith)
-
-pub put-list-spec : {M : Type 1} → statement M
-put-list-spec =
-    tie.close
-    (tie.spec Inv-loop μ-loop
-    (λ c. let s = c .before .before in dropping-start (s .args .trace .now) (s .pre .surveyed .lists) (s .args .out .now))
-    (λ c κs. let s = c .before .before .before .before in
-    seen (s .args .trace .now) (s .pre .surveyed .lists) (c .before .loop .b) (omega arith) (s .args .bads .now) (s .pre .surveyed .found))
-    (λ c κs. let h = here (c .before) in (h .goes, omega (arith, h .few), omega (arith, h .short)))
-    (λ c. let h = here (c .before .before .before .before) in omega (arith, h .below))
-    (λ c. omega arith) (λ c. omega arith)
-    loop-again
+    (c .if1 .came))
     (λ c. let s = c .before .before .before .before in long (c .before .loop .inv .written) (s .pre .room))
-    returns)
+    (λ c. let l = c .before .loop in
+    let s = c .before .before .before .before in
+    dropping-all (s .args .trace .now) (s .pre .surveyed .lists) (s .args .out .now) (l .inv) (omega arith)))

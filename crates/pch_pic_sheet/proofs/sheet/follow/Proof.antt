@@ -1,18 +1,12 @@
 -- `follow`: a record in each round.
-use borrow.Author.Needs.{needs}
-use Rattle.pch_pic_sheet.proofs.sheet.Rounds.{Round, first-round, next-round}
-use Rattle.passes.specs.tallies.Following.{Takes}
-use Rattle.passes.specs.tallies.Marks.{dayMarks}
+use Rattle.basics.proofs.Prelude.{needs, map, ℕ, _-_, arith, _≡_, subst}
+use Rattle.pch_pic_sheet.proofs.sheet.{Rounds.Round, Rounds.first-round, Rounds.next-round, follow.Statement.statement}
+use Rattle.passes.specs.tallies.{Following.Takes, Marks.dayMarks}
 use Rattle.sheets.specs.Day.{itemOf}
 use Rattle.traces.specs.Played.{recordsFrom}
 use Rattle.rules.specs.Device.{reset}
 use Rattle.trace.specs.record_bytes.Shown.{recordView}
 use Rattle.pch_pic_sheet.specs.watch.Kept.{linesOf}
-use mathlib.Core.List.{map}
-use Prim.Native.Nat.{ℕ, _-_}
-use native.Mathlib.Omega.{arith}
-use mathlib.Core.Path.{_≡_, subst}
-use Rattle.pch_pic_sheet.proofs.sheet.follow.Statement.{statement}
 use Rattle.pch_pic_sheet.proofs.sheet.follow.Tie as tie
 
 abbrev Inv-loop : tie.InvT-loop
@@ -21,82 +15,38 @@ Inv-loop trace first records sheet₀ w₀ k₀ sheet w k = Round trace records 
 abbrev μ-loop : tie.MeasureT-loop
 μ-loop trace first records sheet₀ w₀ k₀ sheet w k = records - k
 
-loop-holds : tie.Need-loop-holds Inv-loop μ-loop
-loop-holds c =
-    let s = c .before .before in
+pub follow-spec : {M : Type 1} → statement M
+follow-spec = tie.close (tie.spec Inv-loop μ-loop
+    (λ c. let s = c .before .before in
     let a = s .args in
-    first-round (a .trace .now) (a .records) (a .sheet .now)
-
-mul-place : tie.Need-mul-place Inv-loop μ-loop
-mul-place c =
-    let s = c .before .before .before .before in
-    omega (arith, s .pre .0 .few, c .loop-test .taken)
-
-add-place : tie.Need-add-place Inv-loop μ-loop
-add-place c =
-    let s = c .before .before .before .before in
-    omega (arith, s .pre .0 .few, s .pre .0 .fits, c .loop-test .taken)
-
-record-at-requires : tie.Need-record-at-requires Inv-loop μ-loop
-record-at-requires c κs =
-    let s = c .before .before .before .before in
-    omega (arith, s .pre .0 .fits, c .loop-test .taken)
-
-step-requires : tie.Need-step-requires Inv-loop μ-loop
-step-requires c κs =
-    let t = c .before .before in
+    first-round (a .trace .now) (a .records) (a .sheet .now))
+    (λ c. let s = c .before .before .before .before in
+    omega (arith, s .pre .0 .few, c .loop-test .taken))
+    (λ c. let s = c .before .before .before .before in
+    omega (arith, s .pre .0 .few, s .pre .0 .fits, c .loop-test .taken))
+    (λ c κs. let s = c .before .before .before .before in
+    omega (arith, s .pre .0 .fits, c .loop-test .taken))
+    (λ c κs. let t = c .before .before in
     let l = t .before in
     let s = l .before .before .before in
-    (omega (arith, s .pre .1, l .loop .inv .sized), omega (arith, s .pre .0 .few, t .loop-test .taken))
-
-add-k : tie.Need-add-k Inv-loop μ-loop
-add-k c =
-    let t = c .before .before .before .before .before in
+    (omega (arith, s .pre .1, l .loop .inv .sized), omega (arith, s .pre .0 .few, t .loop-test .taken)))
+    (λ c. let t = c .before .before .before .before .before in
     let s = t .before .before .before .before in
-    omega (arith, s .pre .0 .few, t .loop-test .taken)
-
-loop-less : tie.Need-loop-less Inv-loop μ-loop
-loop-less c =
-    let t = c .before .before .before .before .before in
-    omega (arith, t .loop-test .taken)
-
-loop-again : tie.Need-loop-again Inv-loop μ-loop
-loop-again c =
-    let at-step = c .before .before in
+    omega (arith, s .pre .0 .few, t .loop-test .taken))
+    (λ c. let t = c .before .before .before .before .before in
+    omega (arith, t .loop-test .taken))
+    (λ c. let at-step = c .before .before in
     let at-record-at = at-step .before .before in
     let t = at-record-at .before in
     let l = t .before in
     let s = l .before .before .before in
     let a = s .args in
-    next-round (l .loop .inv) (t .loop-test .taken) (a .first) (s .pre .0 .place) (recordView (at-record-at .record-at .result)) (at-record-at .record-at .ensures) (at-step .step .ensures) (search needs)
-
-same-length : tie.Need-same-length Inv-loop μ-loop
-same-length c =
-    let l = c .before in
-    l .loop .inv .sized
-
-returns : tie.Need-returns Inv-loop μ-loop
-returns c =
-    let l = c .before in
+    next-round (l .loop .inv) (t .loop-test .taken) (a .first) (s .pre .0 .place) (recordView (at-record-at .record-at .result)) (at-record-at .record-at .ensures) (at-step .step .ensures) (search needs))
+    (λ c. let l = c .before in
+    l .loop .inv .sized)
+    (λ c. let l = c .before in
     let s = l .before .before .before in
     let a = s .args in
     let l = l .loop in
     let e : l .k ≡ a .records = omega (arith, c .loop-test .left, l .inv .upto) in
-    subst (λ (k : ℕ). Takes (a .sheet .now) (l .sheet) (dayMarks 0 reset (map itemOf (recordsFrom (a .trace .now) k 0)))) e (l .inv .takes)
-
-pub follow-spec : {M : Type 1} → statement M
-follow-spec =
-    tie.close
-    (tie.spec
-    Inv-loop
-    μ-loop
-    loop-holds
-    mul-place
-    add-place
-    record-at-requires
-    step-requires
-    add-k
-    loop-less
-    loop-again
-    same-length
-    returns)
+    subst (λ (k : ℕ). Takes (a .sheet .now) (l .sheet) (dayMarks 0 reset (map itemOf (recordsFrom (a .trace .now) k 0)))) e (l .inv .takes)))

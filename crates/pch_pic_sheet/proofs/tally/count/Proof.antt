@@ -1,19 +1,13 @@
 -- `count`: the number read, and one more, as four bytes hold it.
-use Rattle.pch_pic_sheet.proofs.tally.Cells.{counts}
-use borrow.Author.Needs.{needs}
-use Rattle.pch_pic_sheet.proofs.tally.count.Statement.{statement}
+use Rattle.basics.proofs.Prelude.{needs}
+use Rattle.pch_pic_sheet.proofs.tally.{Cells.counts, count.Statement.statement}
 use Rattle.pch_pic_sheet.proofs.tally.count.Tie as tie
 
-returns : tie.Need-returns
-returns c =
-    let at-put-cell = c .before .before in
+pub count-spec : {M : Type 1} → statement M
+count-spec = tie.close (tie.spec (λ c κs. search needs) (λ c κs. search needs) (λ c κs. search needs) (λ c. search needs)
+    (λ c. let at-put-cell = c .before .before in
     let at-wrapping-add-u64 = at-put-cell .before in
     let at-cell = at-wrapping-add-u64 .before .before in
     let s = at-cell .before .before .before in
     let a = s .args in
-    counts (a .row) (a .column) (at-cell .cell .ensures) (at-wrapping-add-u64 .wrapping-add-u64 .ensures) (at-put-cell .put-cell .ensures)
-
-pub count-spec : {M : Type 1} → statement M
-count-spec =
-    tie.close
-    (tie.spec (λ c κs. search needs) (λ c κs. search needs) (λ c κs. search needs) (λ c. search needs) returns)
+    counts (a .row) (a .column) (at-cell .cell .ensures) (at-wrapping-add-u64 .wrapping-add-u64 .ensures) (at-put-cell .put-cell .ensures)))

@@ -1,37 +1,19 @@
 -- `withdraw`: a wait that is over stays so; one that is not is counted and is over.
-use Rattle.passes.specs.tallies.Marks.{takenBack, bumped}
-use Rattle.pch_pic_sheet.proofs.tally.Cells.{over-withdraws, withdraws}
-use Rattle.passes.proofs.tallies.laws.Taking.{takes-one}
-use borrow.Author.Needs.{needs}
-use Rattle.pch_pic_sheet.proofs.tally.withdraw.Statement.{statement}
+use Rattle.basics.proofs.Prelude.{needs}
+use Rattle.passes.{specs.tallies.Marks.takenBack, specs.tallies.Marks.bumped, proofs.tallies.laws.Taking.takes-one}
+use Rattle.pch_pic_sheet.proofs.tally.{Cells.over-withdraws, Cells.withdraws, withdraw.Statement.statement}
 use Rattle.pch_pic_sheet.proofs.tally.withdraw.Tie as tie
 
-returns : tie.Need-returns
-unfolding bumped
-returns c =
-    let at-cell = c .before in
+pub withdraw-spec : {M : Type 1} → statement M
+withdraw-spec = tie.close (tie.spec (λ c κs. search needs) (λ c. search needs)
+    (λ c. unfold bumped in let at-cell = c .before in
     let s = at-cell .before .before .before in
-    takes-one (takenBack (s .args .n)) (over-withdraws (s .args .n) (at-cell .cell .ensures) (c .if1 .taken))
-
-returns-2 : tie.Need-returns-2
-unfolding bumped
-returns-2 c =
-    let at-put-cell = c .before .before in
+    takes-one (takenBack (s .args .n)) (over-withdraws (s .args .n) (at-cell .cell .ensures) (c .if1 .taken)))
+    (λ c κs. search needs) (λ c κs. search needs) (λ c. search needs)
+    (λ c. unfold bumped in let at-put-cell = c .before .before in
     let at-count = at-put-cell .before .before .before .before in
     let h = at-count .before .before in
     let at-cell = h .before in
     let s = at-cell .before .before .before in
     let n = s .args .n in
-    takes-one (takenBack n) (withdraws n (at-cell .cell .ensures) (h .if1 .left) (at-count .count .ensures) (at-put-cell .put-cell .ensures))
-
-pub withdraw-spec : {M : Type 1} → statement M
-withdraw-spec =
-    tie.close
-    (tie.spec
-    (λ c κs. search needs)
-    (λ c. search needs)
-    returns
-    (λ c κs. search needs)
-    (λ c κs. search needs)
-    (λ c. search needs)
-    returns-2)
+    takes-one (takenBack n) (withdraws n (at-cell .cell .ensures) (h .if1 .left) (at-count .count .ensures) (at-put-cell .put-cell .ensures))))

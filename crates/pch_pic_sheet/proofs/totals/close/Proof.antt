@@ -1,17 +1,12 @@
 -- `close`: the last column becomes whether a wait is not over.
-use Rattle.pch_pic_sheet.proofs.totals.Rows.{shuts}
-use borrow.Author.Needs.{needs}
-use Rattle.pch_pic_sheet.proofs.totals.close.Statement.{statement}
+use Rattle.basics.proofs.Prelude.{needs}
+use Rattle.pch_pic_sheet.proofs.totals.{Rows.shuts, close.Statement.statement}
 use Rattle.pch_pic_sheet.proofs.totals.close.Tie as tie
 
-returns : tie.Need-returns
-returns c =
-    let at-put-cell = c .before .before in
+pub close-spec : {M : Type 1} → statement M
+close-spec = tie.close (tie.spec (λ c κs. search needs) (λ c κs. search needs) (λ c κs. search needs) (λ c. search needs)
+    (λ c. let at-put-cell = c .before .before in
     let at-is-on = at-put-cell .before in
     let at-cell = at-is-on .before .before in
     let s = at-cell .before .before .before in
-    shuts (s .args .n) (at-cell .cell .ensures) (at-is-on .is-on .ensures) (at-put-cell .put-cell .ensures)
-
-pub close-spec : {M : Type 1} → statement M
-close-spec =
-    tie.close (tie.spec (λ c κs. search needs) (λ c κs. search needs) (λ c κs. search needs) (λ c. search needs) returns)
+    shuts (s .args .n) (at-cell .cell .ensures) (at-is-on .is-on .ensures) (at-put-cell .put-cell .ensures)))

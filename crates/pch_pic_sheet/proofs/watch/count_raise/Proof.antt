@@ -1,37 +1,21 @@
 -- `count_raise`: a wait begins where neither its latch nor its service is on.
+use Rattle.basics.proofs.Prelude.{needs}
 use Rattle.pch_pic_sheet.specs.watch.Kept.{linesOf}
-use Rattle.pch_pic_sheet.proofs.watch.Moving.{raise-counted, raise-begins, raise-found}
-use borrow.Author.Needs.{needs}
-use Rattle.pch_pic_sheet.proofs.watch.count_raise.Statement.{statement}
+use Rattle.pch_pic_sheet.proofs.watch.{Moving.raise-counted, Moving.raise-begins, Moving.raise-found, count_raise.Statement.statement}
 use Rattle.pch_pic_sheet.proofs.watch.count_raise.Tie as tie
 
-returns : tie.Need-returns
-returns c =
-    let at-begin = c .before .before in
+pub count-raise-spec : {M : Type 1} → statement M
+count-raise-spec = tie.close (tie.spec (λ c κs. search needs) (λ c. search needs) (λ c κs. search needs) (λ c κs. search needs) (λ c. search needs)
+    (λ c. let at-begin = c .before .before in
     let h = at-begin .before .before in
     let at-served = h .before in
     let at-count = at-served .before .before .before .before in
     let s = at-count .before .before .before in
     let a = s .args in
-    raise-begins (a .n) (s .pre .1) (linesOf (a .w)) (at-served .served .ensures) (h .if1 .taken) (a .k) (raise-counted (a .n) (at-count .count .ensures)) (at-begin .begin .ensures)
-
-returns-2 : tie.Need-returns-2
-returns-2 c =
-    let at-served = c .before in
+    raise-begins (a .n) (s .pre .1) (linesOf (a .w)) (at-served .served .ensures) (h .if1 .taken) (a .k) (raise-counted (a .n) (at-count .count .ensures)) (at-begin .begin .ensures))
+    (λ c. search needs)
+    (λ c. let at-served = c .before in
     let at-count = at-served .before .before .before .before in
     let s = at-count .before .before .before in
     let a = s .args in
-    raise-found (a .n) (s .pre .1) (linesOf (a .w)) (at-served .served .ensures) (c .if1 .left) (a .k) (raise-counted (a .n) (at-count .count .ensures))
-
-pub count-raise-spec : {M : Type 1} → statement M
-count-raise-spec =
-    tie.close
-    (tie.spec
-    (λ c κs. search needs)
-    (λ c. search needs)
-    (λ c κs. search needs)
-    (λ c κs. search needs)
-    (λ c. search needs)
-    returns
-    (λ c. search needs)
-    returns-2)
+    raise-found (a .n) (s .pre .1) (linesOf (a .w)) (at-served .served .ensures) (c .if1 .left) (a .k) (raise-counted (a .n) (at-count .count .ensures))))

@@ -1,28 +1,20 @@
 -- `enter_one`: `pending` tells whether this one waits.
-use mathlib.Core.Bool.{true}
+use Rattle.basics.proofs.Prelude.{true, needs}
 use Rattle.pch_pic_sheet.specs.watch.Kept.{linesOf}
 use Rattle.passes.proofs.tallies.laws.Turning.{offers-returned}
-use Rattle.pch_pic_sheet.proofs.watch.Moving.{enter-one-none, enter-one-some}
-use borrow.Author.Needs.{needs}
-use Rattle.pch_pic_sheet.proofs.watch.enter_one.Statement.{statement}
+use Rattle.pch_pic_sheet.proofs.watch.{Moving.enter-one-none, Moving.enter-one-some, enter_one.Statement.statement}
 use Rattle.pch_pic_sheet.proofs.watch.enter_one.Tie as tie
 
-returns : tie.Need-returns
-returns c =
-    let at-pending = c .before in
+pub enter-one-spec : {M : Type 1} → statement M
+enter-one-spec = tie.close (tie.spec (λ c. search needs) (λ c κs. search needs)
+    (λ c. let at-pending = c .before in
     let s = at-pending .before .before in
     let a = s .args in
-    enter-one-none (a .n) (s .pre .1) (linesOf (a .w)) (a .sheet .now) (a .k) (a .w .waiting) (at-pending .pending .ensures) (c .if1 .taken)
-
-returns-2 : tie.Need-returns-2
-returns-2 c =
-    let at-event = c .before .before .before in
+    enter-one-none (a .n) (s .pre .1) (linesOf (a .w)) (a .sheet .now) (a .k) (a .w .waiting) (at-pending .pending .ensures) (c .if1 .taken))
+    (λ c κs. search needs) (λ c. search needs)
+    (λ c. let at-event = c .before .before .before in
     let h = at-event .before .before in
     let at-pending = h .before in
     let s = at-pending .before .before in
     let a = s .args in
-    enter-one-some (a .n) (s .pre .1) (linesOf (a .w)) (a .sheet .now) (a .k) (a .w .waiting) (at-pending .pending .ensures) (h .if1 .left) (search needs) (offers-returned (a .n) (a .k) true (a .w .waiting) (at-event .event .ensures))
-
-pub enter-one-spec : {M : Type 1} → statement M
-enter-one-spec =
-    tie.close (tie.spec (λ c. search needs) (λ c κs. search needs) returns (λ c κs. search needs) (λ c. search needs) returns-2)
+    enter-one-some (a .n) (s .pre .1) (linesOf (a .w)) (a .sheet .now) (a .k) (a .w .waiting) (at-pending .pending .ensures) (h .if1 .left) (search needs) (offers-returned (a .n) (a .k) true (a .w .waiting) (at-event .event .ensures))))

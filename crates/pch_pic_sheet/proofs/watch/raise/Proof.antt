@@ -1,18 +1,13 @@
 -- `raise`: counted, latched, and then it enters.
+use Rattle.basics.proofs.Prelude.{needs}
 use Rattle.pch_pic_sheet.specs.watch.Kept.{linesOf}
-use Rattle.pch_pic_sheet.proofs.watch.Moving.{raise-done}
-use borrow.Author.Needs.{needs}
-use Rattle.pch_pic_sheet.proofs.watch.raise.Statement.{statement}
+use Rattle.pch_pic_sheet.proofs.watch.{Moving.raise-done, raise.Statement.statement}
 use Rattle.pch_pic_sheet.proofs.watch.raise.Tie as tie
 
-returns : tie.Need-returns
-returns c =
-    let at-enter-one = c .before .before in
+pub raise-spec : {M : Type 1} → statement M
+raise-spec = tie.close (tie.spec (λ c κs. search needs) (λ c. search needs) (λ c κs. search needs) (λ c. search needs)
+    (λ c. let at-enter-one = c .before .before in
     let at-count-raise = at-enter-one .before .before .before .before .before in
     let s = at-count-raise .before .before .before in
     let a = s .args in
-    raise-done (a .n) (s .pre .1) (linesOf (a .w)) (search needs) (a .k) (at-count-raise .count-raise .ensures) (at-enter-one .enter-one .ensures)
-
-pub raise-spec : {M : Type 1} → statement M
-raise-spec =
-    tie.close (tie.spec (λ c κs. search needs) (λ c. search needs) (λ c κs. search needs) (λ c. search needs) returns)
+    raise-done (a .n) (s .pre .1) (linesOf (a .w)) (search needs) (a .k) (at-count-raise .count-raise .ensures) (at-enter-one .enter-one .ensures)))

@@ -1,29 +1,18 @@
 -- `raise`: an input below 64 is raised, any other refused.
-use mathlib.Core.Bool.{true}
-use Rattle.rules.specs.Core as core
+use Rattle.basics.proofs.Prelude.{true, refl, arith, needs}
 use Rattle.rules.specs.Device.{level, actsOf}
-use mathlib.Core.Path.{refl}
 use Rattle.pch_pic_sheet.specs.watch.Kept.{linesOf}
-use Rattle.pch_pic_sheet.proofs.watch_record.Items.{input-done, input-refused}
-use native.Mathlib.Omega.{arith}
-use borrow.Author.Needs.{needs}
-use Rattle.pch_pic_sheet.proofs.watch_record.raise.Statement.{statement}
+use Rattle.pch_pic_sheet.proofs.watch_record.{Items.input-done, Items.input-refused, raise.Statement.statement}
+use Rattle.rules.specs.Core as core
 use Rattle.pch_pic_sheet.proofs.watch_record.raise.Tie as tie
 
-returns : tie.Need-returns
-unfolding actsOf
-returns c =
-    let at-raise = c .before .before in
+pub raise-spec : {M : Type 1} → statement M
+raise-spec = tie.close (tie.spec (λ c κs. search needs) (λ c. search needs)
+    (λ c. unfold actsOf in let at-raise = c .before .before in
     let h = at-raise .before .before in
     let s = h .before .before in
     let a = s .args in
-    input-done (a .k) (a .n) (level (a .n) true) (core.raise (a .n)) (omega (arith, h .if1 .taken)) refl (λ z. refl) (at-raise .raise .ensures)
-
-returns-2 : tie.Need-returns-2
-returns-2 c =
-    let s = c .before .before in
+    input-done (a .k) (a .n) (level (a .n) true) (core.raise (a .n)) (omega (arith, h .if1 .taken)) refl (λ z. refl) (at-raise .raise .ensures))
+    (λ c. let s = c .before .before in
     let a = s .args in
-    input-refused (linesOf (a .w)) (a .w .waiting) (a .sheet .now) (a .k) (a .n) (level (a .n) true) (c .if1 .left)
-
-pub raise-spec : {M : Type 1} → statement M
-raise-spec = tie.close (tie.spec (λ c κs. search needs) (λ c. search needs) returns returns-2)
+    input-refused (linesOf (a .w)) (a .w .waiting) (a .sheet .now) (a .k) (a .n) (level (a .n) true) (c .if1 .left)))

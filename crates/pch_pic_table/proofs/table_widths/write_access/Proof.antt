@@ -1,23 +1,13 @@
 -- `write_access`: by the width.
-use native.Mathlib.Omega.{arith}
+use Rattle.basics.proofs.Prelude.{arith, needs}
 use Rattle.six_calls.proofs.accepted_access.Reaching.{byte-low, word-low, dword-low}
-use borrow.Author.Needs.{needs}
 use Rattle.pch_pic_table.proofs.table_widths.write_access.Statement.{statement}
 use Rattle.pch_pic_table.proofs.table_widths.write_access.Tie as tie
 
 pub write-access-spec : {M : Type 1} → statement M
-write-access-spec =
-    tie.close
-    (tie.spec
-    (λ c κs. search needs)
-    (λ c. search needs)
-    (λ c κs. search needs)
-    (λ c κs. search needs)
-    (λ c. search needs)
+write-access-spec = tie.close (tie.spec (λ c κs. search needs) (λ c. search needs) (λ c κs. search needs) (λ c κs. search needs) (λ c. search needs)
     (λ c κs. let s = c .before .before .before .before .before in (s .pre .0, s .pre .1, rw (c .before .enum-told2 .given .1) at (s .pre .2)))
-    (λ c. search needs)
-    (λ c κs. search needs)
-    (λ c. search needs)
+    (λ c. search needs) (λ c κs. search needs) (λ c. search needs)
     (λ c κs. let s = c .before .before .before .before .before in (s .pre .0, s .pre .1, rw (c .before .enum-told4 .given .1) at (s .pre .2)))
     (λ c. search needs)
     (λ c. let w = c .before .before in let b = w .before in let e = b .before .before in let h = e .before .before in let a = h .before .before .args in

@@ -1,21 +1,12 @@
 -- `write_qword`: a Dword, and the next one.
-use native.Mathlib.Omega.{arith}
+use Rattle.basics.proofs.Prelude.{arith, needs}
 use Rattle.access.proofs.wide.Dwords.{qword-both}
-use borrow.Author.Needs.{needs}
 use Rattle.pch_pic_table.proofs.table_widths.write_qword.Statement.{statement}
 use Rattle.pch_pic_table.proofs.table_widths.write_qword.Tie as tie
 
 pub write-qword-spec : {M : Type 1} → statement M
-write-qword-spec =
-    tie.close
-    (tie.spec
-    (λ c κs. search needs)
-    (λ c κs. search needs)
-    (λ c. search needs)
-    (λ c κs. search needs)
-    (λ c κs. search needs)
-    (λ c. search needs)
-    (λ c. search needs)
+write-qword-spec = tie.close (tie.spec (λ c κs. search needs) (λ c κs. search needs) (λ c. search needs) (λ c κs. search needs) (λ c κs. search needs)
+    (λ c. search needs) (λ c. search needs)
     (λ c. let q = c .before .before in
     let p = q .before .before .before .before .before in
     let a = p .before .before .before .before .args in

@@ -1,20 +1,14 @@
 -- `read`: each refusal leaves where 01's order puts it; done, the image stays and what the registers read is told.
-use mathlib.Core.Path.{_≡_, refl, sym, ap, _∙_}
-use mathlib.Core.List.{List}
-use lib.ListN.{length}
-use Prim.Native.Nat.{ℕ}
+use Rattle.basics.proofs.Prelude.{_≡_, refl, sym, ap, _∙_, List, length, ℕ, needs}
 use Rattle.images.specs.Form.{formLength}
-use Rattle.rules.specs.Device as device
-use Rattle.calls.specs.Calls as asked
 use Rattle.image.specs.Shown.{formView}
-use Rattle.device.specs.window.Tests.{knownView}
-use Rattle.device.proofs.window.Bounds.{reach}
-use Rattle.fields.specs.inplace.Passed.{Passed}
-use Rattle.fields.proofs.inplace.Passing.{long}
+use Rattle.device.{specs.window.Tests.knownView, proofs.window.Bounds.reach}
+use Rattle.fields.{specs.inplace.Passed.Passed, proofs.inplace.Passing.long}
 use Rattle.answer.proofs.refusals.Ends.{fitting, goes-on, tells, by-head, by-bodies}
 use Rattle.six_calls.proofs.accepted_access.Aims.{no-width, no-place, read-done}
-use borrow.Author.Needs.{needs}
 use Rattle.pch_pic_table.proofs.tested_access.read.Statement.{statement}
+use Rattle.rules.specs.Device as device
+use Rattle.calls.specs.Calls as asked
 use Rattle.pch_pic_table.proofs.tested_access.read.Tie as tie
 
 -- the contents were good: the image is one of the form, and has its length
@@ -38,15 +32,10 @@ on t =
 
 pub read-spec : {M : Type 1} → statement M
 unfolding on
-read-spec =
-    tie.close
-    (tie.spec
-    (λ c κs. search needs) (λ c. search needs) (λ c κs. search needs)
+read-spec = tie.close (tie.spec (λ c κs. search needs) (λ c. search needs) (λ c κs. search needs)
     (λ c. let m = c .before in let h = m .before in let a = h .before .before .args in
     by-head (asked.read (a .base) (a .size) (a .address) (a .width)) (a .image .now) refl (h .test-head .result) (m .match .keys2) (h .test-head .ensures) (c .of-head .result) (c .of-head .ensures))
-    (λ c κs. fit (c))
-    (λ c. search needs) (λ c. search needs)
-    (λ c κs. fit (c .before .before .before))
+    (λ c κs. fit (c)) (λ c. search needs) (λ c. search needs) (λ c κs. fit (c .before .before .before))
     (λ c. let u = c .before in let b = u .before .before in let k = b .before in let e = k .before in let h = e .before .before in let a = h .before .before .args in
     by-bodies (a .image .now) (h .test-head .result) (e .told .given .0 .0) (e .told .given .1) (h .test-head .ensures) (b .test-bodies .result) (b .test-bodies .ensures)
     (asked.read (a .base) (a .size) (a .address) (a .width)) refl (u .enum-told2 .given .1) (c .of-bodies .result) (c .of-bodies .ensures))

@@ -1,13 +1,8 @@
 -- `count_drains`: of the records looked at so far so many drain.
-use mathlib.Core.Path.{_≡_, ap, _∙_}
-use mathlib.Core.Logic.{⊎-elim}
-use Prim.Native.Nat.{ℕ, _-_, _≤_}
-use native.Mathlib.Omega.{arith}
-use Rattle.traces.specs.Played.{recordsFrom}
-use Rattle.traces.specs.plays.Playing.{drainsIn}
+use Rattle.basics.proofs.Prelude.{_≡_, ap, _∙_, ⊎-elim, ℕ, _-_, _≤_, arith}
+use Rattle.traces.specs.{Played.recordsFrom, plays.Playing.drainsIn}
 use Rattle.trace.specs.record_bytes.Shown.{recordView}
-use Rattle.pch_pic_trace.proofs.play_records.Counting.{none-counted, one-counted, other-counted, few-counted}
-use Rattle.pch_pic_trace.proofs.play_records.count_drains.Statement.{statement}
+use Rattle.pch_pic_trace.proofs.play_records.{Counting.none-counted, Counting.one-counted, Counting.other-counted, Counting.few-counted, count_drains.Statement.statement}
 use Rattle.pch_pic_trace.proofs.play_records.count_drains.Tie as tie
 
 abbrev Inv-loop : tie.InvT-loop
@@ -16,16 +11,15 @@ Inv-loop trace first records drains₀ k₀ drains k = (k ≤ records) × (drain
 abbrev μ-loop : tie.MeasureT-loop
 μ-loop trace first records drains₀ k₀ drains k = records - k
 
-add-drains : tie.Need-add-drains Inv-loop μ-loop
-add-drains c =
-    let v = c .before in
+pub count-drains-spec : {M : Type 1} → statement M
+count-drains-spec = tie.close (tie.spec Inv-loop μ-loop (λ c. (omega arith, none-counted (c .before .args .trace .now))) (λ c. omega arith)
+    (λ c. omega (arith, c .before .before .before .pre .fits)) (λ c κs. omega (arith, c .before .before .before .pre .fits))
+    (λ c. let v = c .before in
     let l = v .before .before .loop in
     let s = v .before .before .before .before in
-    omega (arith, l .inv .1, few-counted (s .args .trace .now) (l .k) 0)
-
-loop-again : tie.Need-loop-again Inv-loop μ-loop
-loop-again c =
-    let v = c .before in
+    omega (arith, l .inv .1, few-counted (s .args .trace .now) (l .k) 0))
+    (λ c. omega arith) (λ c. omega arith)
+    (λ c. let v = c .before in
     let l = v .before .before .loop in
     let s = v .before .before .before .before in
     let r = recordView (v .record-at .result) in (
@@ -34,19 +28,8 @@ loop-again c =
           (λ w. w .1 ∙ one-counted (s .args .trace .now) (s .args .first) (l .k) (s .pre .place) (l .inv .1) r (v .record-at .ensures) (w .0 .taken))
           (λ w. w .1 ∙ other-counted (s .args .trace .now) (s .args .first) (l .k) (s .pre .place) (l .inv .1) r (v .record-at .ensures) (w .0 .left))
           (c .if1 .came),
-    )
-
-returns : tie.Need-returns Inv-loop μ-loop
-returns c =
-    let l = c .before .loop in
+    ))
+    (λ c. let l = c .before .loop in
     let a = c .before .before .before .args in
     let z : l .k ≡ a .records = omega (arith, l .inv .0) in
-    l .inv .1 ∙ ap (λ (k : ℕ). drainsIn (recordsFrom (a .trace .now) k 0)) z
-
-pub count-drains-spec : {M : Type 1} → statement M
-count-drains-spec =
-    tie.close
-    (tie.spec Inv-loop μ-loop
-    (λ c. (omega arith, none-counted (c .before .args .trace .now)))
-    (λ c. omega arith) (λ c. omega (arith, c .before .before .before .pre .fits)) (λ c κs. omega (arith, c .before .before .before .pre .fits))
-    add-drains (λ c. omega arith) (λ c. omega arith) loop-again returns)
+    l .inv .1 ∙ ap (λ (k : ℕ). drainsIn (recordsFrom (a .trace .now) k 0)) z))

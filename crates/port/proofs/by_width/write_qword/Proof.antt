@@ -1,25 +1,13 @@
 -- `write_qword` is right since the second Dword meets what the first left, and the drops of both add up.
-use mathlib.Core.Bool.{true, false}
-use Prim.Native.Nat.{_+_}
-use native.Mathlib.Omega.{arith}
-use borrow.Author.Needs.{needs}
-use Rattle.basics.specs.Inputs.{half}
+use Rattle.basics.proofs.Prelude.{true, false, _+_, arith, needs, half}
 use Rattle.rules.specs.Access.{dwordActs, writeActs}
 use Rattle.device.specs.state.View.{view}
-use Rattle.port.proofs.write_cell.Acted.{writes-then, dword-few}
-use Rattle.port.proofs.by_width.write_qword.Statement.{statement}
+use Rattle.port.proofs.{write_cell.Acted.writes-then, write_cell.Acted.dword-few, by_width.write_qword.Statement.statement}
 use Rattle.port.proofs.by_width.write_qword.Tie as tie
 
 pub write-qword-spec : {M : Type 1} → statement M
 unfolding writeActs
-write-qword-spec =
-    tie.close
-    (tie.spec
-    (λ c κs. search needs)
-    (λ c κs. search needs)
-    (λ c. search needs)
-    (λ c κs. search needs)
-    (λ c κs. search needs)
+write-qword-spec = tie.close (tie.spec (λ c κs. search needs) (λ c κs. search needs) (λ c. search needs) (λ c κs. search needs) (λ c κs. search needs)
     (λ c.
     let w = c .before .before in
     let f = w .before .before in

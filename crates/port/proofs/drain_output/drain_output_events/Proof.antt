@@ -1,13 +1,7 @@
 -- `drain_output_events` pops as many events as wait or as fit, and writes each as a pair behind those before it.
-use mathlib.Core.Path.{_≡_, sym, ap, subst, _∙_}
-use Prim.Native.Nat.{ℕ, _-_, _/_, min}
-use native.Mathlib.Omega.{arith}
-use lib.ListN.{length}
-use Rattle.device.specs.state.View.{ringView}
-use Rattle.device.proofs.state.Slots.{waiting-length}
-use Rattle.port.proofs.drain_output.Draining.{Draining, drain-start, drain-step, drain-done}
-use borrow.Author.Needs.{needs}
-use Rattle.port.proofs.drain_output.drain_output_events.Statement.{statement}
+use Rattle.basics.proofs.Prelude.{_≡_, sym, ap, subst, _∙_, ℕ, _-_, _/_, min, arith, length, needs}
+use Rattle.device.{specs.state.View.ringView, proofs.state.Slots.waiting-length}
+use Rattle.port.proofs.drain_output.{Draining.Draining, Draining.drain-start, Draining.drain-step, Draining.drain-done, drain_output_events.Statement.statement}
 use Rattle.port.proofs.drain_output.drain_output_events.Tie as tie
 
 abbrev Inv-loop : tie.InvT-loop
@@ -17,11 +11,7 @@ abbrev μ-loop : tie.MeasureT-loop
 μ-loop buf₀ out₀ count i₀ buf out i = count - i
 
 pub drain-output-events-spec : {M : Type 1} → statement M
-drain-output-events-spec =
-    tie.close
-    (tie.spec Inv-loop μ-loop
-    (λ c κs. search needs)
-    (λ c. drain-start _ _ _ (c .before .before .pre))
+drain-output-events-spec = tie.close (tie.spec Inv-loop μ-loop (λ c κs. search needs) (λ c. drain-start _ _ _ (c .before .before .pre))
     (λ c κs. c .before .loop .inv .well)
     (λ c κs. let l = c .before .before .before .before in omega (arith, l .loop .inv .size, l .before .fitting .ensures))
     (λ c. let l = c .before .before .before .before .before .before .before in omega (arith, l .loop .inv .size, l .before .fitting .ensures))

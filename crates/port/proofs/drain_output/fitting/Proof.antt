@@ -1,5 +1,5 @@
 -- `fitting`: in each way the smaller of the two. Written out, so that a wrong one is refused here, and not at what calls it.
-use borrow.Author.Needs.{needs}
+use Rattle.basics.proofs.Prelude.{needs}
 use Rattle.port.proofs.drain_output.fitting.Statement.{statement}
 use Rattle.port.proofs.drain_output.fitting.Tie as tie
 

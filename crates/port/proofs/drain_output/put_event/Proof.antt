@@ -1,26 +1,13 @@
 -- `put_event` stores the vector and then the flag; where there is no event it stores nothing.
-use mathlib.Core.Path.{sym, ap, _∙_}
-use mathlib.Core.Logic.{⊎-elim}
-use Prim.Native.Nat.{ℕ, _+_, _*_}
-use lib.ListN.{set}
+use Rattle.basics.proofs.Prelude.{sym, ap, _∙_, ⊎-elim, ℕ, _+_, _*_, set, needs}
 use Rattle.rules.specs.Ring.{flag}
 use Rattle.port.specs.drain_output.Drains.{pairPut}
-use borrow.Author.Needs.{needs}
 use Rattle.port.proofs.drain_output.put_event.Statement.{statement}
 use Rattle.port.proofs.drain_output.put_event.Tie as tie
 
 pub put-event-spec : {M : Type 1} → statement M
-put-event-spec =
-    tie.close
-    (tie.spec
-    (λ c. search needs)
-    (λ c. search needs)
-    (λ c. search needs)
-    (λ c. search needs)
-    (λ c. search needs)
-    (λ c. search needs)
-    (λ c. search needs)
-    (λ c. search needs)
+put-event-spec = tie.close (tie.spec (λ c. search needs) (λ c. search needs) (λ c. search needs) (λ c. search needs) (λ c. search needs)
+    (λ c. search needs) (λ c. search needs) (λ c. search needs)
     (λ c.
     let a = c .before .before .before .before .args in
     let e = c .before .before .event .given in

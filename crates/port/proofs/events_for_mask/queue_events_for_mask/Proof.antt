@@ -1,17 +1,7 @@
 -- `queue_events_for_mask` offers an event for each input of the mask, lowest first: at each turn, what was offered and what is left are all.
-use native.Mathlib.Nat.{lt-of-le-of-lt}
-use native.Mathlib.Omega.{arith}
-use lib.Bits.{and-le-l}
-use lib.Count.{trailing-le}
-use lib.ListN.{length}
-use Rattle.basics.specs.Inputs.{on, inputs}
-use Rattle.basics.proofs.laws.Inputs.{first-below, first-input}
-use Rattle.basics.proofs.laws.Bits.{without-only-is}
+use Rattle.basics.proofs.Prelude.{lt-of-le-of-lt, arith, and-le-l, trailing-le, length, needs, on, inputs, first-below, first-input, without-only-is}
 use Rattle.device.specs.state.View.{ringView}
-use Rattle.port.proofs.events_for_mask.Offering.{one-at-most}
-use Rattle.port.proofs.events_for_mask.Queue.{Queueing, queue-start, queue-step, queue-done, queue-less}
-use borrow.Author.Needs.{needs}
-use Rattle.port.proofs.events_for_mask.queue_events_for_mask.Statement.{statement}
+use Rattle.port.proofs.events_for_mask.{Offering.one-at-most, Queue.Queueing, Queue.queue-start, Queue.queue-step, Queue.queue-done, Queue.queue-less, queue_events_for_mask.Statement.statement}
 use Rattle.port.proofs.events_for_mask.queue_events_for_mask.Tie as tie
 
 abbrev Inv-loop : tie.InvT-loop
@@ -21,13 +11,10 @@ abbrev μ-loop : tie.MeasureT-loop
 μ-loop vectors mask asserted out₀ dropped₀ left₀ out dropped left = length (inputs (on left))
 
 pub queue-events-for-mask-spec : {M : Type 1} → statement M
-queue-events-for-mask-spec =
-    tie.close
-    (tie.spec Inv-loop μ-loop
+queue-events-for-mask-spec = tie.close (tie.spec Inv-loop μ-loop
     (λ c. queue-start (c .args .vectors .now) (c .args .asserted) (c .args .ring) (c .args .mask) (search needs) (search needs))
     (λ c. record { fits = lt-of-le-of-lt (trailing-le 64 _) (omega arith) })
-    (λ c. let l = c .before .loop in first-below (l .left) (l .inv .below) (c .loop-test .taken))
-    (λ c κs. c .before .before .loop .inv .offers .well)
+    (λ c. let l = c .before .loop in first-below (l .left) (l .inv .below) (c .loop-test .taken)) (λ c κs. c .before .before .loop .inv .offers .well)
     (λ c κs. search needs)
     (λ c. record { fits = omega (arith, c .before .before .before .before .before .loop .inv .few, one-at-most (c .before .before .push-output-event .result .kept) (c .lost .ensures)) })
     (λ c.

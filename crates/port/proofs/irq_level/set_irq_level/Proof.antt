@@ -1,19 +1,9 @@
 -- `set_irq_level` latches the input and polls it, or takes its latch off and lets it leave service.
-use mathlib.Core.Path.{_≡_, ap, subst, _∙_}
-use mathlib.Core.Logic.{⊎-elim}
-use mathlib.Core.Bool.{Bool, true, false}
-use mathlib.Core.List.{List}
-use Prim.Native.Nat.{ℕ, _-_, _<_, _^_}
-use lib.Bits.{bitAnd, bitOr}
+use Rattle.basics.proofs.Prelude.{_≡_, ap, subst, _∙_, ⊎-elim, Bool, true, false, List, ℕ, _-_, _<_, _^_, bitAnd, bitOr, needs, put-is, without-only-is}
 use Rattle.rules.specs.Lines.{withIrr, levelled}
-use Rattle.basics.proofs.laws.Bits.{put-is, without-only-is}
-use Rattle.device.specs.state.View.{linesView}
-use Rattle.device.specs.declared.state.Lines.{Lines}
-use Rattle.port.specs.irq_level.Moves.{Answers, updated}
-use Rattle.port.specs.declared.irq_level.Routed.{Routed}
-use Rattle.port.proofs.irq_level.Turns.{bit, raise-is, lower-is}
-use borrow.Author.Needs.{needs}
-use Rattle.port.proofs.irq_level.set_irq_level.Statement.{statement}
+use Rattle.device.specs.{state.View.linesView, declared.state.Lines.Lines}
+use Rattle.port.specs.{irq_level.Moves.Answers, irq_level.Moves.updated, declared.irq_level.Routed.Routed}
+use Rattle.port.proofs.irq_level.{Turns.bit, Turns.raise-is, Turns.lower-is, set_irq_level.Statement.statement}
 use Rattle.port.proofs.irq_level.set_irq_level.Tie as tie
 
 abbrev withLatches : Lines → ℕ → Lines
@@ -35,11 +25,7 @@ module _ (vs : List ℕ) (l out : Lines) (n : ℕ) (r : Routed) (level : Bool) (
       (rw e at answers))
 
 pub set-irq-level-spec : {M : Type 1} → statement M
-set-irq-level-spec =
-    tie.close
-    (tie.spec
-    (λ c. search needs)
-    (λ c κs. search needs)
+set-irq-level-spec = tie.close (tie.spec (λ c. search needs) (λ c κs. search needs)
     (λ c.
     let a = c .before .before .args in
     ⊎-elim

@@ -1,18 +1,11 @@
 -- `update_irq`: of the inputs that its mask expression holds the lowest moves, and its vector is handed back.
-use native.Mathlib.Nat.{lt-of-le-of-lt}
-use native.Mathlib.Omega.{arith}
-use lib.Count.{trailing-le}
-use borrow.Author.Needs.{needs}
+use Rattle.basics.proofs.Prelude.{lt-of-le-of-lt, arith, trailing-le, needs}
 use Rattle.port.proofs.irq_level.Service.{pending-below, pending-some, pending-none, inactive-below, inactive-some, inactive-none}
 use Rattle.port.proofs.irq_level.update_irq.Statement.{statement}
 use Rattle.port.proofs.irq_level.update_irq.Tie as tie
 
 pub update-irq-spec : {M : Type 1} → statement M
-update-irq-spec =
-    tie.close
-    (tie.spec
-    (λ c κs. search needs)
-    (λ c. record { fits = lt-of-le-of-lt (trailing-le 64 _) (omega arith) })
+update-irq-spec = tie.close (tie.spec (λ c κs. search needs) (λ c. record { fits = lt-of-le-of-lt (trailing-le 64 _) (omega arith) })
     (λ c. let p = c .before in let a = p .before .before .args in pending-below (a .lines) (a .mask) _ (p .pending .ensures) (c .if2 .taken))
     (λ c. let t = c .before in let p = t .before in let a = p .before .before .args in pending-below (a .lines) (a .mask) _ (p .pending .ensures) (t .if2 .taken))
     (λ c.

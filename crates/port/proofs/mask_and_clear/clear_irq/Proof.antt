@@ -1,22 +1,10 @@
 -- `clear_irq`: latches and service lose the inputs of the mask, and those of them that were in service are queued.
-use mathlib.Core.Path.{_≡_, ap}
-use mathlib.Core.Bool.{true, false}
-use mathlib.Core.List.{List, map}
-use Prim.Native.Nat.{ℕ, _-_, _<_, _^_}
-use lib.Bits.{bitAnd}
-use Rattle.basics.specs.Inputs.{register}
+use Rattle.basics.proofs.Prelude.{_≡_, ap, true, false, List, map, ℕ, _-_, _<_, _^_, bitAnd, needs, register, without-is}
 use Rattle.rules.specs.Lines.{event, cleared}
-use Rattle.basics.proofs.laws.Bits.{without-is}
-use Rattle.device.specs.state.View.{linesView, ringView}
-use Rattle.device.specs.declared.state.Lines.{Lines}
-use Rattle.device.specs.declared.state.Ring.{Ring}
-use Rattle.device.specs.decide.Sets.{servedOf}
-use Rattle.port.specs.events_for_mask.Offers.{Offers, eventsOf}
-use Rattle.port.specs.mask_and_clear.Moves.{Moves}
+use Rattle.device.specs.{state.View.linesView, state.View.ringView, declared.state.Lines.Lines, declared.state.Ring.Ring, decide.Sets.servedOf}
 use Rattle.device.proofs.decide.Deciding.{inputs-of}
-use Rattle.port.proofs.events_for_mask.Offering.{offers-as}
-use borrow.Author.Needs.{needs}
-use Rattle.port.proofs.mask_and_clear.clear_irq.Statement.{statement}
+use Rattle.port.specs.{events_for_mask.Offers.Offers, events_for_mask.Offers.eventsOf, mask_and_clear.Moves.Moves}
+use Rattle.port.proofs.{events_for_mask.Offering.offers-as, mask_and_clear.clear_irq.Statement.statement}
 use Rattle.port.proofs.mask_and_clear.clear_irq.Tie as tie
 
 abbrev off : ℕ → ℕ → ℕ
@@ -39,11 +27,7 @@ isr-fits : (s : tie.Start) → s .args .lines .intisr < 2 ^ 64
 isr-fits s = search needs
 
 pub clear-irq-spec : {M : Type 1} → statement M
-clear-irq-spec =
-    tie.close
-    (tie.spec
-    (λ c κs. search needs)
-    (λ c κs. search needs)
+clear-irq-spec = tie.close (tie.spec (λ c κs. search needs) (λ c κs. search needs)
     (λ c.
     let q = c .before in
     let s = q .before .before .before .before in

@@ -1,18 +1,10 @@
 -- `update_int_mask` in its two stages: where the ways of the first meet, what entered service is known (`entered`); the second takes out what is newly masked.
-use mathlib.Core.Path.{ap, subst}
-use mathlib.Core.Logic.{⊎-elim}
-use mathlib.Core.Bool.{false}
-use Prim.Native.Nat.{ℕ, _<_, _^_}
-use native.Mathlib.Omega.{arith}
-use Rattle.basics.specs.Inputs.{on, withHalf}
+use Rattle.basics.proofs.Prelude.{ap, subst, ⊎-elim, false, ℕ, _<_, _^_, arith, needs, on, withHalf}
 use Rattle.rules.specs.Lines.{withMask, enter}
 use Rattle.device.specs.state.View.{linesView}
-use Rattle.port.specs.irq_level.Moves.{Answers}
-use Rattle.port.specs.declared.irq_level.Routed.{Routed}
+use Rattle.port.specs.{irq_level.Moves.Answers, declared.irq_level.Routed.Routed}
 use Rattle.port.proofs.mask_and_clear.MaskWrite.{Entered, entered-one, entered-none, entered-skip, entered-few, left-some, left-none}
-use Rattle.port.proofs.events_for_mask.Offering.{events-lost}
-use borrow.Author.Needs.{needs}
-use Rattle.port.proofs.mask_and_clear.update_int_mask.Statement.{statement}
+use Rattle.port.proofs.{events_for_mask.Offering.events-lost, mask_and_clear.update_int_mask.Statement.statement}
 use Rattle.port.proofs.mask_and_clear.update_int_mask.Tie as tie
 
 isr-fits : (s : tie.Start) → s .args .lines .intisr < 2 ^ 64
@@ -39,18 +31,8 @@ entered c =
     (c .if1 .came)
 
 pub update-int-mask-spec : {M : Type 1} → statement M
-update-int-mask-spec =
-    tie.close
-    (tie.spec
-    (λ c κs. search needs)
-    (λ c κs. search needs)
-    (λ c κs. search needs)
-    (λ c. search needs)
-    (λ c κs. search needs)
-    (λ c κs. search needs)
-    (λ c. search needs)
-    (λ c κs. search needs)
-    (λ c κs. search needs)
+update-int-mask-spec = tie.close (tie.spec (λ c κs. search needs) (λ c κs. search needs) (λ c κs. search needs) (λ c. search needs)
+    (λ c κs. search needs) (λ c κs. search needs) (λ c. search needs) (λ c κs. search needs) (λ c κs. search needs)
     (λ c κs. search (needs, entered (c .before .before .before .before) .offers .well))
     (λ c.
     let q = c .before .before .before in

@@ -1,21 +1,12 @@
 -- The three readers meet their contracts together; the measure of each is its depth, which falls at each call.
 -- A Byte outside 0x100..0x39f lies in a Dword that is not among the bytes, and the four Bytes of one that is lie inside, so two steps end it.
-use mathlib.Core.Path.{_≡_, refl, ap, sym, _∙_}
-use Prim.Native.Nat.{ℕ, _-_, _*_, _^_, _≤_, _<_}
-use native.Mathlib.Omega.{arith}
-use lib.Bits.{mask-lt}
-use lib.Dec.{lit<}
-use borrow.Author.Needs.{needs}
-use borrow.Fn.Kinds.{In}
-use borrow.Fn.PlainCycle.{Measures, is, falls, and}
+use Rattle.basics.proofs.Prelude.{_≡_, refl, ap, sym, _∙_, ℕ, _-_, _*_, _^_, _≤_, _<_, arith, mask-lt, lit<, needs}
+use borrow.Fn.{Kinds.In, PlainCycle.Measures, PlainCycle.is, PlainCycle.falls, PlainCycle.and}
 use Rattle.rules.specs.Access.{entry, readCell}
 use Rattle.laws.proofs.laws.Widths.{aligned-no-bytes, byte-inside, byte-outside, dword-of}
-use Rattle.device.specs.state.View.{view}
-use Rattle.device.specs.map.Views.{cellView}
+use Rattle.device.{specs.state.View.view, specs.map.Views.cellView, proofs.map.Indexes.byte-came, proofs.map.Indexes.no-byte}
 use Rattle.port.specs.readers.Bytes.{bytesRead}
-use Rattle.device.proofs.map.Indexes.{byte-came, no-byte}
-use Rattle.port.proofs.readers.Bytes.{more, more-lt, four-read}
-use Rattle.port.proofs.readers.Deep.{four-deep}
+use Rattle.port.proofs.readers.{Bytes.more, Bytes.more-lt, Bytes.four-read, Deep.four-deep, +read_byte+read_dword+read_split_bytes.statement, +read_byte+read_dword+read_split_bytes.Tie.close}
 use Rattle.bits.proofs.byte_of.Reads as byte-of-reads
 use Rattle.bits.proofs.half.Reads as half-reads
 use Rattle.device.proofs.map.decode.Reads as decode-reads
@@ -31,8 +22,6 @@ use Rattle.port.proofs.readers.read_split_bytes.Kinds as read-split-byt
 use Rattle.port.proofs.readers.+read_byte+read_dword+read_split_bytes.Lts-read_byte as read-byte-lts
 use Rattle.port.proofs.readers.+read_byte+read_dword+read_split_bytes.Lts-read_dword as read-dword-lts
 use Rattle.port.proofs.readers.+read_byte+read_dword+read_split_bytes.Lts-read_split_bytes as read-split-bytes-lts
-use Rattle.port.proofs.readers.+read_byte+read_dword+read_split_bytes.{statement}
-use Rattle.port.proofs.readers.+read_byte+read_dword+read_split_bytes.Tie.{close}
 
 -- ---- the depth of each, and what a call within the cycle may ask and learn
 abbrev μ-read-byte : Measures 0 read-byte-kinds.ps ℕ

@@ -1,18 +1,11 @@
 -- `write_entry` is right since its ranges are those of the rule, and in each the input is below 64 and its byte alone changes.
-use native.Mathlib.Omega.{arith}
-use borrow.Author.Needs.{needs}
-use Rattle.laws.proofs.laws.Maps.{below, between, beyond}
-use Rattle.laws.proofs.laws.Writes.{entry-acts-route, entry-acts-vector, entry-acts-none}
-use Rattle.port.proofs.write_cell.Acted.{is-acts, is-none, is-route, is-vector}
-use Rattle.port.proofs.write_cell.write_entry.Statement.{statement}
+use Rattle.basics.proofs.Prelude.{arith, needs}
+use Rattle.laws.proofs.laws.{Maps.below, Maps.between, Maps.beyond, Writes.entry-acts-route, Writes.entry-acts-vector, Writes.entry-acts-none}
+use Rattle.port.proofs.write_cell.{Acted.is-acts, Acted.is-none, Acted.is-route, Acted.is-vector, write_entry.Statement.statement}
 use Rattle.port.proofs.write_cell.write_entry.Tie as tie
 
 pub write-entry-spec : {M : Type 1} → statement M
-write-entry-spec =
-    tie.close
-    (tie.spec
-    (λ c. search needs)
-    (λ c. search needs)
+write-entry-spec = tie.close (tie.spec (λ c. search needs) (λ c. search needs)
     (λ c.
     let a = c .before .before .before in
     is-acts _ (entry-acts-route (a .args .index) (a .args .val) (omega arith) (omega arith)) (is-route _ (a .pre) _ _))

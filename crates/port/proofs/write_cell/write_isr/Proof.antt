@@ -1,7 +1,5 @@
 -- `write_isr` is right since nothing but the half of ISR changes.
-use mathlib.Core.Path.{sym, ap, _∙_}
-use Prim.Native.Nat.{ℕ}
-use borrow.Author.Needs.{needs}
+use Rattle.basics.proofs.Prelude.{sym, ap, _∙_, ℕ, needs}
 use Rattle.rules.specs.Lines.{withIsr}
 use Rattle.laws.proofs.laws.Writes.{deviceOf, acted-isr}
 use Rattle.device.specs.state.View.{view}
@@ -9,10 +7,7 @@ use Rattle.port.proofs.write_cell.write_isr.Statement.{statement}
 use Rattle.port.proofs.write_cell.write_isr.Tie as tie
 
 pub write-isr-spec : {M : Type 1} → statement M
-write-isr-spec =
-    tie.close
-    (tie.spec
-    (λ c κs. search needs)
+write-isr-spec = tie.close (tie.spec (λ c κs. search needs)
     (λ c.
     let a = c .before .before in
     let d = view (a .args .state) in

@@ -1,23 +1,13 @@
 -- `write_plain` is right since each arm is told its register, whose field alone changes.
-use mathlib.Core.Path.{refl, ap}
-use borrow.Author.Needs.{needs}
+use Rattle.basics.proofs.Prelude.{refl, ap, needs}
 use Rattle.rules.specs.Core.{htmsiEn, edge, pol, auto0, auto1}
 use Rattle.device.specs.map.Views.{plainView}
-use Rattle.port.proofs.write_cell.Acted.{is-plain}
-use Rattle.port.proofs.write_cell.write_plain.Statement.{statement}
+use Rattle.port.proofs.write_cell.{Acted.is-plain, write_plain.Statement.statement}
 use Rattle.port.proofs.write_cell.write_plain.Tie as tie
 
 pub write-plain-spec : {M : Type 1} → statement M
-write-plain-spec =
-    tie.close
-    (tie.spec
-    (λ c κs. search needs)
-    (λ c κs. search needs)
-    (λ c. search needs)
-    (λ c. search needs)
-    (λ c. search needs)
-    (λ c. search needs)
-    (λ c. search needs)
+write-plain-spec = tie.close (tie.spec (λ c κs. search needs) (λ c κs. search needs) (λ c. search needs) (λ c. search needs) (λ c. search needs)
+    (λ c. search needs) (λ c. search needs)
     (λ c.
     let a = c .before .before .before .before .before in
     is-plain (a .args .state) (a .pre) _ htmsiEn _ _ refl (ap plainView (c .before .enum-told .given .1)) (c .before .before .before .before .plain-of .ensures) (c .before .before .before .replace-u32 .ensures))

@@ -1,22 +1,13 @@
 -- The three writers meet their contracts together; the measure of each is its depth, which falls at each call, as with the readers.
-use mathlib.Core.Path.{_≡_, ap, sym, _∙_}
-use Prim.Native.Nat.{ℕ, _-_, _≤_, _<_}
-use native.Mathlib.Omega.{arith}
-use lib.Bits.{mask-lt}
-use borrow.Author.Needs.{needs}
-use borrow.Fn.Kinds.{In}
-use borrow.Fn.PlainCycle.{Measures, is, falls, and}
+use Rattle.basics.proofs.Prelude.{_≡_, ap, sym, _∙_, ℕ, _-_, _≤_, _<_, arith, mask-lt, needs}
+use borrow.Fn.{Kinds.In, PlainCycle.Measures, PlainCycle.is, PlainCycle.falls, PlainCycle.and}
 use Rattle.rules.specs.Access.{entryActs, cellActs}
-use Rattle.laws.proofs.laws.Widths.{aligned-no-bytes}
-use Rattle.laws.proofs.laws.Losses.{entry-quiet}
-use Rattle.laws.proofs.laws.Writes.{byte-acts-inside, dword-acts-of}
-use Rattle.device.specs.state.View.{view}
-use Rattle.device.specs.map.Views.{cellView}
+use Rattle.laws.proofs.laws.{Widths.aligned-no-bytes, Losses.entry-quiet, Writes.byte-acts-inside, Writes.dword-acts-of}
+use Rattle.device.{specs.state.View.view, specs.map.Views.cellView, proofs.map.Indexes.byte-came, proofs.map.Indexes.no-byte}
 use Rattle.port.specs.write_cell.Writes.{Writes, bytesActs}
-use Rattle.device.proofs.map.Indexes.{byte-came, no-byte}
-use Rattle.port.proofs.readers.Deep.{four-deep}
-use Rattle.port.proofs.write_cell.Bytes.{four-bytes}
+use Rattle.port.proofs.{readers.Deep.four-deep, write_cell.Bytes.four-bytes}
 use Rattle.port.proofs.write_cell.Acted.{writes-acts, writes-quiet, writes-none, byte-few, bytes-few, writes-outside, writes-more}
+use Rattle.port.proofs.writers.+write_byte+write_dword+write_split_bytes.{statement, Tie.close}
 use Rattle.bits.proofs.byte_of.Reads as byte-of-reads
 use Rattle.bits.proofs.with_byte.Reads as with-byte-reads
 use Rattle.device.proofs.map.decode.Reads as decode-reads
@@ -33,8 +24,6 @@ use Rattle.port.proofs.writers.write_split_bytes.Kinds as write-split-b
 use Rattle.port.proofs.writers.+write_byte+write_dword+write_split_bytes.Lts-write_byte as write-byte-lts
 use Rattle.port.proofs.writers.+write_byte+write_dword+write_split_bytes.Lts-write_dword as write-dword-lts
 use Rattle.port.proofs.writers.+write_byte+write_dword+write_split_bytes.Lts-write_split_bytes as write-split-bytes-lts
-use Rattle.port.proofs.writers.+write_byte+write_dword+write_split_bytes.{statement}
-use Rattle.port.proofs.writers.+write_byte+write_dword+write_split_bytes.Tie.{close}
 
 -- ---- the depth of each, and what a call within the cycle may ask and learn
 abbrev μ-write-byte : Measures 0 write-byte-kinds.ps ℕ

@@ -1,19 +1,10 @@
 -- `make` is right since a call that is no drain writes no event, and a drain writes in the bytes that it is lent.
-use mathlib.Core.Path.{_≡_, refl, sym, ap, _∙_}
-use mathlib.Core.Bool.{cond}
-use mathlib.Core.Logic.{⊎-elim}
-use mathlib.Core.List.{List, []}
-use Prim.Native.Nat.{ℕ, _<_}
-use native.Mathlib.Omega.{arith}
-use lib.ListN.{take, drop}
-use lib.Seq.{length-take-le}
-use borrow.Author.Needs.{needs}
-use borrow.Author.Tests.{lt-ltb, ne-eqb}
+use Rattle.basics.proofs.Prelude.{_≡_, refl, sym, ap, _∙_, cond, ⊎-elim, List, [], ℕ, _<_, arith, take, drop, length-take-le, needs, lt-ltb, ne-eqb}
 use Rattle.calls.specs.Calls.{Request, leaves, outcome}
-use Rattle.calls.specs.Calls as asked
 use Rattle.replay.specs.records.Records.{kindOf, lentEvents, wordAt, eventFill}
 use Rattle.replay.specs.replay_call.Recorded.{requestOf, made, Makes}
 use Rattle.replay.proofs.replay_call.make.Statement.{statement}
+use Rattle.calls.specs.Calls as asked
 use Rattle.replay.proofs.replay_call.make.Tie as tie
 
 -- a call that is no drain is lent none of the event buffer
@@ -30,16 +21,16 @@ drain-noted kind r e h = rw (ne-eqb kind 1 (λ q. h (omega arith) (omega arith))
 not-plain : (c : tie.Joined1) → let k = kindOf (c .before .before .before .before .before .args .noted .now) in 0 < k → k < 6 → ⊥
 not-plain c a b = ⊎-elim (λ w. omega (arith, w .taken)) (λ w. omega (arith, w .1 .left)) (c .if1 .came)
 
-returns : tie.Need-returns
-returns c =
-    let p = c .before .before .before .before in
+pub make-spec : {M : Type 1} → statement M
+make-spec = tie.close (tie.spec (λ c. search needs) (λ c κs. search needs) (λ c κs. search needs) (λ c. search needs)
+    (λ c. let s = c .before .before .before .before .before .before .before .before in sym (length-take-le (s .args .k) eventFill (s .pre .2)))
+    (λ c κs. search needs) (λ c. search needs) (λ c. search needs)
+    (λ c. let p = c .before .before .before .before in
     let t = p .before .before .before in
     let s = t .before .before .before .before .before .before in
-    unlent (s .args .noted .now) (s .args .image .now) (s .args .answer .now) _ _ (s .args .k) _ (omega (arith, t .if2 .taken)) (s .pre .1) (p .make-plain .ensures)
-
-returns-2 : tie.Need-returns-2
-returns-2 c =
-    let p = c .before .before .before .before .before in
+    unlent (s .args .noted .now) (s .args .image .now) (s .args .answer .now) _ _ (s .args .k) _ (omega (arith, t .if2 .taken)) (s .pre .1) (p .make-plain .ensures))
+    (λ c. search needs) (λ c. search needs)
+    (λ c. let p = c .before .before .before .before .before in
     let w = p .before .before .before .before in
     let s = w .before .before .before .before .before .before in
     let r = s .args .noted .now in
@@ -50,21 +41,4 @@ returns-2 c =
       left = p .pch-pic-drain .ensures
           ∙ (λ t. outcome (asked.drain e (w .word-at .ensures t)) (s .args .image .now) (s .args .answer .now))
           ∙ ap (λ (q : Request). outcome q (s .args .image .now) (s .args .answer .now)) (drain-noted (kindOf r) r e (not-plain (w .before)));
-    }
-
-pub make-spec : {M : Type 1} → statement M
-make-spec =
-    tie.close
-    (tie.spec
-    (λ c. search needs)
-    (λ c κs. search needs)
-    (λ c κs. search needs)
-    (λ c. search needs)
-    (λ c. let s = c .before .before .before .before .before .before .before .before in sym (length-take-le (s .args .k) eventFill (s .pre .2)))
-    (λ c κs. search needs)
-    (λ c. search needs)
-    (λ c. search needs)
-    returns
-    (λ c. search needs)
-    (λ c. search needs)
-    returns-2)
+    }))

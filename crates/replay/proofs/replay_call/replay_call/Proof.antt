@@ -1,16 +1,8 @@
 -- `replay_call` is right since what the call left is what the rules give, and the rest of each area stays.
-use mathlib.Core.Path.{_≡_, sym, ap, _∙_}
-use mathlib.Core.Bool.{false≢true}
-use mathlib.Core.List.{List, _++_}
-use Prim.Native.Nat.{ℕ, _≤_}
-use native.Mathlib.Omega.{arith}
-use lib.ListN.{length, take, drop, length-append, length-drop}
-use lib.Seq.{length-take-le}
-use borrow.Author.Needs.{needs}
+use Rattle.basics.proofs.Prelude.{_≡_, sym, ap, _∙_, false≢true, List, _++_, ℕ, _≤_, arith, length, take, drop, length-append, length-drop, length-take-le, needs}
 use Rattle.calls.specs.Calls.{Outcome, leaves}
 use Rattle.replay.specs.records.Records.{kindOf, lentImage, lentAnswer, lentEvents, answerFill, eventFill, checksumOf, AsNoted}
-use Rattle.replay.specs.replay_call.Recorded.{made, Makes, ruled, Recorded}
-use Rattle.replay.specs.declared.replay_call.Made.{Made}
+use Rattle.replay.specs.{replay_call.Recorded.made, replay_call.Recorded.Makes, replay_call.Recorded.ruled, replay_call.Recorded.Recorded, declared.replay_call.Made.Made}
 use Rattle.replay.proofs.replay_call.replay_call.Statement.{statement}
 use Rattle.replay.proofs.replay_call.replay_call.Tie as tie
 
@@ -47,41 +39,21 @@ answer-whole c =
     let h : e .before .before .before .before .lent-answer .result ≤ 32 = omega (arith, e .before .if2 .left) in
     sym (whole _ answerFill (c .make .last .1 .1 .0) (c .make .kept .1 .1 .0) h)
 
-make-requires : tie.Need-make-requires
-make-requires c κs =
-    let e = c .before .before in
+pub replay-call-spec : {M : Type 1} → statement M
+replay-call-spec = tie.close (tie.spec (λ c κs. search needs) (λ c κs. search needs) (λ c κs. search needs) (λ c t. absurd (false≢true t))
+    (λ c t. absurd (false≢true t)) (λ c t. absurd (false≢true t)) (λ c. search needs) (λ c. sym (length-take-le _ _ (image-fits (c .before))))
+    (λ c. search needs)
+    (λ c. sym (length-take-le (c .before .before .before .before .before .before .lent-answer .result) answerFill (omega (arith, c .before .before .before .if2 .left))))
+    (λ c κs. let e = c .before .before in
     let l = e .before .before .before in
     let s = l .before .before .before .before .before in
-    (s .pre .0, l .lent-events .ensures, omega (arith, e .if3 .left))
-
-returns-4 : tie.Need-returns-4
-returns-4 c t =
-    let m = c .before .before .before .before .before .before .before .before in
+    (s .pre .0, l .lent-events .ensures, omega (arith, e .if3 .left)))
+    (λ c. answer-whole (c .before .before .before .before .before .before)) (λ c. search needs) (λ c κs. search needs) (λ c. search needs)
+    (λ c t. let m = c .before .before .before .before .before .before .before .before in
     let e = m .before .before .before in
     let l = e .before .before .before in
     let a = l .before in
     let i = a .before in
     let s = i .before .before .before in
     as-ruled (m .make .result) (s .args .noted .now) (s .args .image .now) (i .lent-image .result) (a .lent-answer .result) (l .lent-events .result) _ _
-    (i .lent-image .ensures) (a .lent-answer .ensures) (l .lent-events .ensures) (m .make .ensures) (c .compare .ensures t)
-
-pub replay-call-spec : {M : Type 1} → statement M
-replay-call-spec =
-    tie.close
-    (tie.spec
-    (λ c κs. search needs)
-    (λ c κs. search needs)
-    (λ c κs. search needs)
-    (λ c t. absurd (false≢true t))
-    (λ c t. absurd (false≢true t))
-    (λ c t. absurd (false≢true t))
-    (λ c. search needs)
-    (λ c. sym (length-take-le _ _ (image-fits (c .before))))
-    (λ c. search needs)
-    (λ c. sym (length-take-le (c .before .before .before .before .before .before .lent-answer .result) answerFill (omega (arith, c .before .before .before .if2 .left))))
-    make-requires
-    (λ c. answer-whole (c .before .before .before .before .before .before))
-    (λ c. search needs)
-    (λ c κs. search needs)
-    (λ c. search needs)
-    returns-4)
+    (i .lent-image .ensures) (a .lent-answer .ensures) (l .lent-events .ensures) (m .make .ensures) (c .compare .ensures t)))

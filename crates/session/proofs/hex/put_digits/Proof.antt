@@ -1,12 +1,7 @@
 -- `put_digits` is right since the digits still to come, and what stands behind them, are the whole at every turn.
-use mathlib.Core.Path.{_≡_, refl}
-use mathlib.Core.List.{_++_}
-use Prim.Native.Nat.{_≤_}
-use native.Mathlib.Omega.{arith}
-use lib.ListN.{length, drop, length-set}
+use Rattle.basics.proofs.Prelude.{_≡_, refl, _++_, _≤_, arith, length, drop, length-set}
 use Rattle.sessions.specs.Session.{digits}
-use Rattle.session.proofs.hex.Digits.{digit-stored}
-use Rattle.session.proofs.hex.put_digits.Statement.{statement}
+use Rattle.session.proofs.hex.{Digits.digit-stored, put_digits.Statement.statement}
 use Rattle.session.proofs.hex.put_digits.Tie as tie
 
 abbrev Inv-loop : tie.InvT-loop
@@ -16,32 +11,15 @@ Inv-loop out₀ n x rest₀ left₀ out rest left =
 abbrev μ-loop : tie.MeasureT-loop
 μ-loop out₀ n x rest₀ left₀ out rest left = left
 
-loop-again : tie.Need-loop-again Inv-loop μ-loop
-loop-again c =
-    let l = c .before .before .loop in (
+pub put-digits-spec : {M : Type 1} → statement M
+put-digits-spec = tie.close (tie.spec Inv-loop μ-loop (λ c. (refl, c .before .pre, refl)) (λ c. omega arith) (λ c. omega arith) (λ c κs. omega arith)
+    (λ c. omega arith) (λ c. omega arith)
+    (λ c. let l = c .before .before .loop in (
       rw (c .hex-digit .ensures) (digit-stored (l .out) (l .left) (l .rest) (omega arith) (omega arith) (l .inv .0)),
       simp length-set (omega arith),
       simp length-set (l .inv .2),
-    )
-
-returns : tie.Need-returns Inv-loop μ-loop
-returns c =
-    let l = c .before .loop in
-    let z : l .left ≡ 0 = omega arith in
-    rw z at (l .inv .0)
-
-pub put-digits-spec : {M : Type 1} → statement M
-put-digits-spec =
-    tie.close
-    (tie.spec
-    Inv-loop
-    μ-loop
-    (λ c. (refl, c .before .pre, refl))
-    (λ c. omega arith)
-    (λ c. omega arith)
-    (λ c κs. omega arith)
-    (λ c. omega arith)
-    (λ c. omega arith)
-    loop-again
+    ))
     (λ c. c .before .loop .inv .2)
-    returns)
+    (λ c. let l = c .before .loop in
+    let z : l .left ≡ 0 = omega arith in
+    rw z at (l .inv .0)))

@@ -1,11 +1,5 @@
 -- `play_line` is right since the answer has at most the 65 bytes that are lent, so that there is room for the ending behind it.
-use mathlib.Core.Path.{sym}
-use mathlib.Core.List.{List, _++_}
-use Prim.Native.Nat.{ℕ, _≤_}
-use native.Mathlib.Omega.{arith}
-use lib.ListN.{drop}
-use lib.Seq.{length-take-le}
-use borrow.Author.Needs.{needs}
+use Rattle.basics.proofs.Prelude.{sym, List, _++_, ℕ, _≤_, arith, drop, length-take-le, needs}
 use Rattle.sessions.specs.Session.{newline, played}
 use Rattle.device.specs.state.View.{view}
 use Rattle.session.specs.reply.Says.{Says}
@@ -23,24 +17,15 @@ answered : (c : tie.After-play)
     → Says (c .play .result .len) (buffer c) (c .play .last .1 .1 .0 ++ drop 65 (buffer c)) (played (view (c .before .before .before .before .args .state)) (c .before .before .before .before .args .line .now) .answer)
 answered c = in-front 65 _ (buffer c) _ _ (omega arith) (short c) (c .play .ensures .says)
 
-slice-write-out : tie.Need-slice-write-out
-slice-write-out c =
-    let p = c .before .before .before in
-    rw (size (answered p) (omega (arith, short p))) (omega (arith, short p))
-
 returns : tie.Need-returns
 returns c =
     let p = c .before .before .before in
     (record { state = p .play .ensures .state; says = says (put-byte (filled (answered p)) newline (omega (arith, short p))) }, omega (arith, short p))
 
 pub play-line-spec : {M : Type 1} → statement M
-play-line-spec =
-    tie.close
-    (tie.spec
-    (λ c. search needs)
-    (λ c. sym (length-take-le 65 (c .before .before .before .args .out .now) (omega arith)))
+play-line-spec = tie.close (tie.spec (λ c. search needs) (λ c. sym (length-take-le 65 (c .before .before .before .args .out .now) (omega arith)))
     (λ c κs. (c .before .before .before .pre .0, rw (length-take-le 65 (c .before .before .before .args .out .now) (omega arith)) (omega arith)))
-    slice-write-out
-    (λ c. omega (arith, short (c .before .before .before)))
-    (λ c. size (returns c .0 .says) (omega (arith, short (c .before .before .before))))
+    (λ c. let p = c .before .before .before in
+    rw (size (answered p) (omega (arith, short p))) (omega (arith, short p)))
+    (λ c. omega (arith, short (c .before .before .before))) (λ c. size (returns c .0 .says) (omega (arith, short (c .before .before .before))))
     returns)

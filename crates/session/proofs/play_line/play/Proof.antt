@@ -1,15 +1,10 @@
 -- `play` is right since each kind of request has its own function, and a line that asks for nothing is answered with a question mark.
-use mathlib.Core.Path.{_≡_, refl, sym, ap, _∙_}
-use mathlib.Core.List.{List}
-use Prim.Native.Nat.{ℕ}
-use borrow.Author.Needs.{needs}
+use Rattle.basics.proofs.Prelude.{_≡_, refl, sym, ap, _∙_, List, ℕ, needs}
 use Rattle.rules.specs.Device.{Device}
 use Rattle.sessions.specs.Session.{lineOf, playedLine, played}
 use Rattle.device.specs.state.View.{view}
-use Rattle.session.specs.request.Requests.{requestView}
-use Rattle.session.specs.declared.request.Request.{Request}
-use Rattle.session.proofs.play_line.Playing.{plays-as}
-use Rattle.session.proofs.play_line.play.Statement.{statement}
+use Rattle.session.specs.{request.Requests.requestView, declared.request.Request.Request}
+use Rattle.session.proofs.play_line.{Playing.plays-as, play.Statement.statement}
 use Rattle.session.proofs.play_line.play.Tie as tie
 
 -- the request is what the line asks for
@@ -17,69 +12,31 @@ asked : (d : Device) (line : List ℕ) {r q : Request} → requestView r ≡ lin
 unfolding played
 asked d line e f = ap (λ (x : Request). playedLine d (requestView x)) (sym f) ∙ ap (playedLine d) e
 
-returns : tie.Need-returns
-returns c =
-    let k = c .before .before .before .before .before in
+pub play-spec : {M : Type 1} → statement M
+play-spec = tie.close (tie.spec (λ c κs. search needs) (λ c. search needs) (λ c κs. search needs) (λ c. search needs) (λ c κs. search needs)
+    (λ c. search needs) (λ c κs. search needs) (λ c. search needs) (λ c κs. search needs) (λ c. search needs) (λ c κs. search needs)
+    (λ c. search needs) (λ c κs. search needs) (λ c. search needs)
+    (λ c. let k = c .before .before .before .before .before in
     let s = k .before .before .before .before .before in
-    plays-as (c .before .before .play-level .ensures) (asked (view (s .args .state)) (s .args .line .now) (k .before .before .parse .ensures) (k .input .given .1))
-
-returns-2 : tie.Need-returns-2
-returns-2 c =
-    let k = c .before .before .before .before .before in
+    plays-as (c .before .before .play-level .ensures) (asked (view (s .args .state)) (s .args .line .now) (k .before .before .parse .ensures) (k .input .given .1)))
+    (λ c. search needs)
+    (λ c. let k = c .before .before .before .before .before in
     let s = k .before .before .before .before .before in
-    plays-as (c .before .before .play-poll .ensures) (asked (view (s .args .state)) (s .args .line .now) (k .before .before .parse .ensures) (k .input2 .given .1))
-
-returns-3 : tie.Need-returns-3
-returns-3 c =
-    let k = c .before .before .before .before .before in
+    plays-as (c .before .before .play-poll .ensures) (asked (view (s .args .state)) (s .args .line .now) (k .before .before .parse .ensures) (k .input2 .given .1)))
+    (λ c. search needs)
+    (λ c. let k = c .before .before .before .before .before in
     let s = k .before .before .before .before .before in
-    plays-as (c .before .before .play-read .ensures) (asked (view (s .args .state)) (s .args .line .now) (k .before .before .parse .ensures) (k .width .given .1))
-
-returns-4 : tie.Need-returns-4
-returns-4 c =
-    let k = c .before .before .before .before .before in
+    plays-as (c .before .before .play-read .ensures) (asked (view (s .args .state)) (s .args .line .now) (k .before .before .parse .ensures) (k .width .given .1)))
+    (λ c. search needs)
+    (λ c. let k = c .before .before .before .before .before in
     let s = k .before .before .before .before .before in
-    plays-as (c .before .before .play-write .ensures) (asked (view (s .args .state)) (s .args .line .now) (k .before .before .parse .ensures) (k .width2 .given .1))
-
-returns-5 : tie.Need-returns-5
-returns-5 c =
-    let k = c .before .before .before .before in
+    plays-as (c .before .before .play-write .ensures) (asked (view (s .args .state)) (s .args .line .now) (k .before .before .parse .ensures) (k .width2 .given .1)))
+    (λ c. search needs)
+    (λ c. let k = c .before .before .before .before in
     let s = k .before .before .before .before .before in
-    plays-as (c .before .before .play-drain .ensures) (asked (view (s .args .state)) (s .args .line .now) (k .before .before .parse .ensures) (k .enum-told .given .1))
-
-returns-6 : tie.Need-returns-6
-returns-6 c =
-    let k = c .before .before .before .before in
+    plays-as (c .before .before .play-drain .ensures) (asked (view (s .args .state)) (s .args .line .now) (k .before .before .parse .ensures) (k .enum-told .given .1)))
+    (λ c. search needs)
+    (λ c. let k = c .before .before .before .before in
     let s = k .before .before .before .before .before in
     plays-as (record { state = record { well = s .pre .0; shows = refl }; says = c .before .before .put-unknown .ensures })
-    (asked (view (s .args .state)) (s .args .line .now) (k .before .before .parse .ensures) (k .enum-told2 .given .1))
-
-pub play-spec : {M : Type 1} → statement M
-play-spec =
-    tie.close
-    (tie.spec
-    (λ c κs. search needs)
-    (λ c. search needs)
-    (λ c κs. search needs)
-    (λ c. search needs)
-    (λ c κs. search needs)
-    (λ c. search needs)
-    (λ c κs. search needs)
-    (λ c. search needs)
-    (λ c κs. search needs)
-    (λ c. search needs)
-    (λ c κs. search needs)
-    (λ c. search needs)
-    (λ c κs. search needs)
-    (λ c. search needs)
-    returns
-    (λ c. search needs)
-    returns-2
-    (λ c. search needs)
-    returns-3
-    (λ c. search needs)
-    returns-4
-    (λ c. search needs)
-    returns-5
-    (λ c. search needs)
-    returns-6)
+    (asked (view (s .args .state)) (s .args .line .now) (k .before .before .parse .ensures) (k .enum-told2 .given .1))))

@@ -1,12 +1,7 @@
 -- `put_drained` writes the letter, and the events behind it.
-use mathlib.Core.Path.{_≡_, sym}
-use Prim.Native.Nat.{_+_, _-_, _*_}
-use native.Mathlib.Omega.{arith}
-use borrow.Author.Needs.{needs}
-use Rattle.basics.proofs.laws.Parts.{start, put-front}
+use Rattle.basics.proofs.Prelude.{_≡_, sym, _+_, _-_, _*_, arith, needs, start, put-front}
 use Rattle.session.specs.reply.Says.{pairsSaid}
-use Rattle.session.proofs.reply.Writing.{put-byte, size, says}
-use Rattle.session.proofs.reply.put_drained.Statement.{statement}
+use Rattle.session.proofs.reply.{Writing.put-byte, Writing.size, Writing.says, put_drained.Statement.statement}
 use Rattle.session.proofs.reply.put_drained.Tie as tie
 
 returns : tie.Need-returns
@@ -19,15 +14,5 @@ returns c =
     (rw k at (c .before .before .put-events .ensures .out))))
 
 pub put-drained-spec : {M : Type 1} → statement M
-put-drained-spec =
-    tie.close
-    (tie.spec
-    (λ c. search needs)
-    (λ c. search needs)
-    (λ c. search needs)
-    (λ c. search needs)
-    (λ c. search needs)
-    (λ c. search needs)
-    (λ c κs. search needs)
-    (λ c. size (returns c) (omega arith))
-    returns)
+put-drained-spec = tie.close (tie.spec (λ c. search needs) (λ c. search needs) (λ c. search needs) (λ c. search needs) (λ c. search needs)
+    (λ c. search needs) (λ c κs. search needs) (λ c. size (returns c) (omega arith)) returns)

@@ -1,10 +1,6 @@
 -- `put_drops` writes the six bytes, and the digits behind them.
-use native.Mathlib.Omega.{arith}
-use lib.ListN.{length-set}
-use borrow.Author.Needs.{needs}
-use Rattle.basics.proofs.laws.Parts.{start}
-use Rattle.session.proofs.reply.Writing.{put-byte, put-number, size, says}
-use Rattle.session.proofs.reply.put_drops.Statement.{statement}
+use Rattle.basics.proofs.Prelude.{arith, length-set, needs, start}
+use Rattle.session.proofs.reply.{Writing.put-byte, Writing.put-number, Writing.size, Writing.says, put_drops.Statement.statement}
 use Rattle.session.proofs.reply.put_drops.Tie as tie
 
 returns : tie.Need-returns
@@ -16,18 +12,6 @@ returns c =
     8 (a .drops) _ (omega arith) (c .before .before .put-digits .ensures))
 
 pub put-drops-spec : {M : Type 1} → statement M
-put-drops-spec =
-    tie.close
-    (tie.spec
-    (λ c. search needs)
-    (λ c. simp length-set (omega arith))
-    (λ c. simp length-set (omega arith))
-    (λ c. simp length-set (omega arith))
-    (λ c. simp length-set (omega arith))
-    (λ c. simp length-set (omega arith))
-    (λ c. search needs)
-    (λ c. search needs)
-    (λ c. search needs)
-    (λ c κs. search needs)
-    (λ c. size (returns c) (omega arith))
-    returns)
+put-drops-spec = tie.close (tie.spec (λ c. search needs) (λ c. simp length-set (omega arith)) (λ c. simp length-set (omega arith))
+    (λ c. simp length-set (omega arith)) (λ c. simp length-set (omega arith)) (λ c. simp length-set (omega arith)) (λ c. search needs)
+    (λ c. search needs) (λ c. search needs) (λ c κs. search needs) (λ c. size (returns c) (omega arith)) returns)

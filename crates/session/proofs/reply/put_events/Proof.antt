@@ -1,13 +1,7 @@
 -- `put_events` is right since after i turns the first i pairs are said at the front, and what lies behind is as it was.
-use mathlib.Core.Path.{_≡_, refl, subst}
-use Prim.Native.Nat.{ℕ, _+_, _-_, _*_, _≤_}
-use native.Mathlib.Omega.{arith}
-use lib.ListN.{length, drop, length-drop}
-use lib.Seq.{length-take-le}
-use Rattle.basics.proofs.laws.Parts.{Filled, start}
+use Rattle.basics.proofs.Prelude.{_≡_, refl, subst, ℕ, _+_, _-_, _*_, _≤_, arith, length, drop, length-drop, length-take-le, Filled, start}
 use Rattle.session.specs.reply.Says.{Says, pairsSaid}
-use Rattle.session.proofs.reply.Writing.{pair-said, size, says}
-use Rattle.session.proofs.reply.put_events.Statement.{statement}
+use Rattle.session.proofs.reply.{Writing.pair-said, Writing.size, Writing.says, put_events.Statement.statement}
 use Rattle.session.proofs.reply.put_events.Tie as tie
 
 abbrev Inv-loop : tie.InvT-loop
@@ -16,52 +10,22 @@ Inv-loop out₀ pairs count i₀ out i = Filled out out₀ (pairsSaid i pairs) (
 abbrev μ-loop : tie.MeasureT-loop
 μ-loop out₀ pairs count i₀ out i = count - i
 
-loop-holds : tie.Need-loop-holds Inv-loop μ-loop
-unfolding pairsSaid
-loop-holds c = (start _, omega arith, refl)
-
-put-event-requires : tie.Need-put-event-requires Inv-loop μ-loop
-put-event-requires c κs =
-    let l = c .before .before .before .before in
+pub put-events-spec : {M : Type 1} → statement M
+put-events-spec = tie.close (tie.spec Inv-loop μ-loop (λ c. unfold pairsSaid in (start _, omega arith, refl)) (λ c. omega arith) (λ c. omega arith)
+    (λ c. omega arith) (λ c. omega arith) (λ c. omega arith) (λ c. omega arith) (λ c. omega arith) (λ c. omega arith) (λ c. omega arith)
+    (λ c. omega arith)
+    (λ c κs. let l = c .before .before .before .before in
     let k : 4 * l .loop .i + 4 - 4 * l .loop .i ≡ 4 = omega arith in
-    rw (k, length-take-le 4 (drop (4 * l .loop .i) (l .loop .out)) (simp length-drop (omega (arith, l .loop .inv .2)))) (omega arith)
-
-loop-again : tie.Need-loop-again Inv-loop μ-loop
-loop-again c =
-    let l = c .before .before .before .before .before .before .before in
+    rw (k, length-take-le 4 (drop (4 * l .loop .i) (l .loop .out)) (simp length-drop (omega (arith, l .loop .inv .2)))) (omega arith))
+    (λ c. omega arith) (λ c. omega arith)
+    (λ c. let l = c .before .before .before .before .before .before .before in
     let s = l .before .before .before in
     let k : 4 * l .loop .i + 4 - 4 * l .loop .i ≡ 4 = omega arith in
     let f =
     pair-said (l .loop .out) (s .args .out .now) (s .args .pairs .now) _ (l .loop .i) _ (l .loop .inv .0) k (omega (arith, s .pre, l .loop .inv .2))
     (c .before .before .put-event .ensures) in
-    (f, omega arith, size (says f) (omega (arith, s .pre)))
-
-returns : tie.Need-returns Inv-loop μ-loop
-returns c =
-    let l = c .before in
-    let done : l .loop .i ≡ l .before .before .before .args .count = omega arith in
-    subst (λ (n : ℕ). Says (4 * n) (l .before .before .before .args .out .now) (l .loop .out) (pairsSaid n (l .before .before .before .args .pairs .now))) done (says (l .loop .inv .0))
-
-pub put-events-spec : {M : Type 1} → statement M
-put-events-spec =
-    tie.close
-    (tie.spec
-    Inv-loop
-    μ-loop
-    loop-holds
-    (λ c. omega arith)
-    (λ c. omega arith)
-    (λ c. omega arith)
-    (λ c. omega arith)
-    (λ c. omega arith)
-    (λ c. omega arith)
-    (λ c. omega arith)
-    (λ c. omega arith)
-    (λ c. omega arith)
-    (λ c. omega arith)
-    put-event-requires
-    (λ c. omega arith)
-    (λ c. omega arith)
-    loop-again
+    (f, omega arith, size (says f) (omega (arith, s .pre))))
     (λ c. c .before .loop .inv .2)
-    returns)
+    (λ c. let l = c .before in
+    let done : l .loop .i ≡ l .before .before .before .args .count = omega arith in
+    subst (λ (n : ℕ). Says (4 * n) (l .before .before .before .args .out .now) (l .loop .out) (pairsSaid n (l .before .before .before .args .pairs .now))) done (says (l .loop .inv .0))))

@@ -1,5 +1,5 @@
 -- `sign` tests as the rule does.
-use borrow.Author.Tests.{eq-eqb, ne-eqb}
+use Rattle.basics.proofs.Prelude.{eq-eqb, ne-eqb}
 use Rattle.session.proofs.reply.sign.Statement.{statement}
 use Rattle.session.proofs.reply.sign.Tie as tie
 

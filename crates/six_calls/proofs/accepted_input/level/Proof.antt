@@ -1,22 +1,14 @@
 -- `level`: no such input; done, only the lines moved, and the vector returned is told with its number.
-use mathlib.Core.Path.{_≡_, refl, _∙_}
-use lib.ListN.{length}
-use mathlib.Core.Bool.{not}
-use lib.Dec.{eqb}
-use Rattle.rules.specs.Device as device
-use Rattle.calls.specs.Calls as asked
+use Rattle.basics.proofs.Prelude.{_≡_, refl, _∙_, length, not, eqb, needs}
 use Rattle.fields.proofs.inplace.Passing.{long}
 use Rattle.answer.proofs.refusals.Ends.{tells}
-use Rattle.six_calls.proofs.accepted_input.Lines.{no-input, level-done}
-use borrow.Author.Needs.{needs}
-use Rattle.six_calls.proofs.accepted_input.level.Statement.{statement}
+use Rattle.six_calls.proofs.accepted_input.{Lines.no-input, Lines.level-done, level.Statement.statement}
+use Rattle.rules.specs.Device as device
+use Rattle.calls.specs.Calls as asked
 use Rattle.six_calls.proofs.accepted_input.level.Tie as tie
 
 pub level-spec : {M : Type 1} → statement M
-level-spec =
-    tie.close
-    (tie.spec
-    (λ c κs. search needs)
+level-spec = tie.close (tie.spec (λ c κs. search needs)
     (λ c. let h = c .before in let s = h .before .before in let a = s .args in
     tells (c .no-input .result) (c .no-input .ensures) (no-input (s .pre) (a .input) (asked.level (a .input) (a .level)) (device.level (a .input) (not (eqb (a .level) 0))) refl (h .if1 .taken)))
     (λ c κs. (long (c .before .before .before .pre), search needs))

@@ -1,20 +1,14 @@
 -- `poll`: no such input; done, only the lines moved, and the vector returned is told with its number.
-use mathlib.Core.Path.{_≡_, refl, _∙_}
-use lib.ListN.{length}
-use Rattle.rules.specs.Device as device
-use Rattle.calls.specs.Calls as asked
+use Rattle.basics.proofs.Prelude.{_≡_, refl, _∙_, length, needs}
 use Rattle.fields.proofs.inplace.Passing.{long}
 use Rattle.answer.proofs.refusals.Ends.{tells}
-use Rattle.six_calls.proofs.accepted_input.Lines.{no-input, poll-done}
-use borrow.Author.Needs.{needs}
-use Rattle.six_calls.proofs.accepted_input.poll.Statement.{statement}
+use Rattle.six_calls.proofs.accepted_input.{Lines.no-input, Lines.poll-done, poll.Statement.statement}
+use Rattle.rules.specs.Device as device
+use Rattle.calls.specs.Calls as asked
 use Rattle.six_calls.proofs.accepted_input.poll.Tie as tie
 
 pub poll-spec : {M : Type 1} → statement M
-poll-spec =
-    tie.close
-    (tie.spec
-    (λ c κs. search needs)
+poll-spec = tie.close (tie.spec (λ c κs. search needs)
     (λ c. let h = c .before in let s = h .before .before in let a = s .args in
     tells (c .no-input .result) (c .no-input .ensures) (no-input (s .pre) (a .input) (asked.poll (a .input)) (device.poll (a .input)) refl (h .if1 .taken)))
     (λ c κs. (long (c .before .before .before .pre), search needs))

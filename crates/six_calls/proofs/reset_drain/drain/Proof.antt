@@ -1,17 +1,11 @@
 -- `drain`: refused for the image alone; done, the oldest events are drained into the front of the buffer.
-use mathlib.Core.Path.{_≡_, refl}
-use mathlib.Core.List.{List}
-use lib.ListN.{length}
-use Prim.Native.Nat.{ℕ}
+use Rattle.basics.proofs.Prelude.{_≡_, refl, List, length, ℕ, needs}
 use Rattle.images.specs.Form.{formLength}
-use Rattle.calls.specs.Calls as asked
 use Rattle.image.specs.Shown.{formView}
-use Rattle.fields.specs.inplace.Passed.{Passed}
-use Rattle.fields.proofs.inplace.Passing.{long, few}
+use Rattle.fields.{specs.inplace.Passed.Passed, proofs.inplace.Passing.long, proofs.inplace.Passing.few}
 use Rattle.answer.proofs.refusals.Ends.{fitting, goes-on, tells, by-head, by-bodies}
-use Rattle.six_calls.proofs.reset_drain.Whole.{drain-done}
-use borrow.Author.Needs.{needs}
-use Rattle.six_calls.proofs.reset_drain.drain.Statement.{statement}
+use Rattle.six_calls.proofs.reset_drain.{Whole.drain-done, drain.Statement.statement}
+use Rattle.calls.specs.Calls as asked
 use Rattle.six_calls.proofs.reset_drain.drain.Tie as tie
 
 -- the contents were good: the image is one of the form, and has its length
@@ -35,20 +29,13 @@ on t =
 
 pub drain-spec : {M : Type 1} → statement M
 unfolding on
-drain-spec =
-    tie.close
-    (tie.spec
-    (λ c κs. search needs) (λ c. search needs) (λ c κs. search needs) (λ c. search needs)
+drain-spec = tie.close (tie.spec (λ c κs. search needs) (λ c. search needs) (λ c κs. search needs) (λ c. search needs)
     (λ c. let m = c .before in let h = m .before in let a = h .before .before .before .before .args in
     by-head (asked.drain (a .events .now) 0) (a .image .now) refl (h .test-head .result) (m .match .keys2) (h .test-head .ensures) (c .of-head .result) (c .of-head .ensures))
-    (λ c κs. fit (c .before))
-    (λ c. search needs) (λ c. search needs)
-    (λ c κs. fit (c .before .before .before .before .before))
-    (λ c. search needs)
+    (λ c κs. fit (c .before)) (λ c. search needs) (λ c. search needs) (λ c κs. fit (c .before .before .before .before .before)) (λ c. search needs)
     (λ c. let u = c .before .before in let b = u .before .before in let k = b .before .before in let e = k .before in let h = e .before .before in let a = h .before .before .before .before .args in
     by-bodies (a .image .now) (h .test-head .result) (e .told .given .0 .0) (e .told .given .1) (h .test-head .ensures) (b .test-bodies .result) (b .test-bodies .ensures)
     (asked.drain (a .events .now) 0) refl (u .enum-told2 .given .1) (c .of-bodies .result) (c .of-bodies .ensures))
-    (λ c κs. let p = on (c .before .before) in (long p, few p))
-    (λ c κs. search needs) (λ c. search needs) (λ c. search needs)
+    (λ c κs. let p = on (c .before .before) in (long p, few p)) (λ c κs. search needs) (λ c. search needs) (λ c. search needs)
     (λ c. let d = c .before .before .before .before .before in let t = d .before .before .before in
     tells (c .done .result) (c .done .ensures) (drain-done (on t) (knownAt t .before .before .before .before .before .before .before .args .events .now) (search needs) (d .drain .ensures))))

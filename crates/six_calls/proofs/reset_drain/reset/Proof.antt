@@ -1,17 +1,11 @@
 -- `reset`: refused for its length alone; done, the image is that of the device after reset, with numbers from 0.
-use mathlib.Core.Path.{_≡_, refl, sym, ap, _∙_}
-use mathlib.Core.List.{[]}
-use lib.ListN.{length, replicate}
-use Rattle.rules.specs.Device.{Device, none, reset, upFrom}
-use Rattle.rules.specs.Numbering.{fromZero}
-use Rattle.images.specs.Form.{forms, known, formOf, formLength}
-use Rattle.images.specs.Image.{encodeAs, numberBody}
-use Rattle.images.proofs.laws.Tests.{form-known}
+use Rattle.basics.proofs.Prelude.{_≡_, refl, sym, ap, _∙_, [], length, replicate, needs}
+use Rattle.rules.specs.{Device.Device, Device.none, Device.reset, Device.upFrom, Numbering.fromZero}
+use Rattle.images.{specs.Form.forms, specs.Form.known, specs.Form.formOf, specs.Form.formLength, specs.Image.encodeAs, specs.Image.numberBody, proofs.laws.Tests.form-known}
 use Rattle.laws.proofs.laws.Images.{encode-as}
 use Rattle.calls.proofs.laws.Outcomes.{reset-refused, reset-done}
 use Rattle.image.specs.Shown.{formView, formKnown}
 use Rattle.answer.proofs.refusals.Ends.{tells}
-use borrow.Author.Needs.{needs}
 use Rattle.six_calls.proofs.reset_drain.reset.Statement.{statement}
 use Rattle.six_calls.proofs.reset_drain.reset.Tie as tie
 
@@ -29,15 +23,10 @@ no-numbers = refl
 
 pub reset-spec : {M : Type 1} → statement M
 unfolding told
-reset-spec =
-    tie.close
-    (tie.spec
-    (λ c κs. search needs) (λ c. search needs) (λ c. search needs) (λ c κs. search needs)
+reset-spec = tie.close (tie.spec (λ c κs. search needs) (λ c. search needs) (λ c. search needs) (λ c κs. search needs)
     (λ c. let u = c .before in let f = u .before .before in let i = f .before .before .args .image .now in
     tells (c .wrong-length .result) (c .wrong-length .ensures) (sym (reset-refused i (sym (f .form-of .ensures) ∙ ap formKnown (u .enum-told .given .1)))))
-    (λ c κs. search needs)
-    (λ c κs. (sized (c .before .before .before), search needs))
-    (λ c κs. search needs) (λ c. search needs)
+    (λ c κs. search needs) (λ c κs. (sized (c .before .before .before), search needs)) (λ c κs. search needs) (λ c. search needs)
     (λ c. let s = c .before .before .before in let r = s .before .before in let t = r .before .before in let i = t .before .before .before .before .before .args .image .now in
     let f = formView (t .before .form .given .0 .0) in
     tells (c .done .result) (c .done .ensures)

@@ -1,16 +1,15 @@
 -- `save`: the contents and every field are put, one part after another, of whatever numbers have that body.
-use mathlib.Core.Path.{refl}
-use borrow.Author.Needs.{needs}
+use Rattle.basics.proofs.Prelude.{refl, needs}
 use Rattle.image.specs.Shown.{formView}
 use Rattle.images.proofs.laws.Layout.{by-word, by-plain, by-field}
 use Rattle.device.specs.state.View.{view}
-use Rattle.stored.proofs.saves.Putting.{puts-then, puts-all, headed}
-use Rattle.stored.proofs.save_state.save.Statement.{statement}
+use Rattle.stored.proofs.{saves.Putting.puts-then, saves.Putting.puts-all, saves.Putting.headed, save_state.save.Statement.statement}
 use Rattle.stored.proofs.save_state.save.Tie as tie
 
-returns : tie.Need-returns
-returns c ns e =
-    let numbers = c .before .before in
+pub save-spec : {M : Type 1} → statement M
+save-spec = tie.close (tie.spec (λ c κs. search needs) (λ c κs. search needs) (λ c κs. search needs) (λ c κs. search needs) (λ c κs. search needs)
+    (λ c κs. search needs) (λ c. search needs)
+    (λ c ns e. let numbers = c .before .before in
     let ring = numbers .before .before .before .before in
     let tables = ring .before .before .before .before in
     let stored = tables .before .before .before .before in
@@ -26,12 +25,4 @@ returns c ns e =
     (puts-then f d ns
     (puts-then f d ns (puts-then f d ns (lines .save-lines .ensures d ns refl) (stored .save-stored .ensures d ns refl)) (tables .save-tables .ensures d ns refl refl))
     (ring .save-ring .ensures d ns refl))
-    (numbers .save-numbers .ensures d ns e))
-
-pub save-spec : {M : Type 1} → statement M
-save-spec =
-    tie.close
-    (tie.spec
-    (λ c κs. search needs) (λ c κs. search needs) (λ c κs. search needs) (λ c κs. search needs) (λ c κs. search needs) (λ c κs. search needs)
-    (λ c. search needs)
-    returns)
+    (numbers .save-numbers .ensures d ns e))))

@@ -1,15 +1,6 @@
 -- `row_end`: up to where it stands no row has begun.
-use mathlib.Core.Path.{_≡_, sym, subst, _∙_}
-use mathlib.Core.Logic.{inl, inr}
-use mathlib.Core.Bool.{Bool, false}
-use Prim.Native.Nat.{ℕ, _+_, _-_, _<_, _≤_}
-use native.Mathlib.Omega.{arith}
-use lib.Dec.{eqb}
-use borrow.Author.Needs.{needs}
-use borrow.Author.Tests.{eqb-true, eqb-false}
-use Rattle.basics.proofs.laws.Bits.{test}
-use Rattle.table.specs.Meaning.{Meaning, meant}
-use Rattle.table.specs.map_rows.Rows.{begins}
+use Rattle.basics.proofs.Prelude.{_≡_, sym, subst, _∙_, inl, inr, Bool, false, ℕ, _+_, _-_, _<_, _≤_, arith, eqb, needs, eqb-true, eqb-false, test}
+use Rattle.table.specs.{Meaning.Meaning, Meaning.meant, map_rows.Rows.begins}
 use Rattle.table.proofs.map_rows.row_end.Statement.{statement}
 use Rattle.table.proofs.map_rows.row_end.Tie as tie
 
@@ -31,20 +22,11 @@ seen : {x y : Meaning} {r b : Bool} (a o : ℕ) → x ≡ meant a → y ≡ mean
 seen a o e f g h = (λ t. begins (sym e t) (sym f t)) ∙ sym g ∙ h
 
 pub row-end-spec : {M : Type 1} → statement M
-row-end-spec =
-    tie.close
-    (tie.spec
-    Inv-loop
-    μ-loop
-    (λ c κs. search needs)
-    (λ c. search needs)
-    (λ c. (omega arith, omega (arith, c .before .pre .1), λ o p q. absurd (omega arith)))
-    (λ c κs. search needs)
-    (λ c κs. search needs)
+row-end-spec = tie.close (tie.spec Inv-loop μ-loop (λ c κs. search needs) (λ c. search needs)
+    (λ c. (omega arith, omega (arith, c .before .pre .1), λ o p q. absurd (omega arith))) (λ c κs. search needs) (λ c κs. search needs)
     (λ c. let b = c .before in let y = b .before in let l = y .before .before in let x = l .before in
     record { some = l .loop .inv .0; within = l .loop .inv .1; one = l .loop .inv .2; ends = inr (seen _ _ (x .look .ensures) (y .look2 .ensures) (b .begins .ensures) (c .if1 .taken)) })
-    (λ c. omega arith)
-    (λ c. let t = c .before .before .before .loop-test .taken in omega (arith, t))
+    (λ c. omega arith) (λ c. let t = c .before .before .before .loop-test .taken in omega (arith, t))
     (λ c. let b = c .before in let y = b .before in let l = y .before .before in let x = l .before in let t = y .before .loop-test .taken in
     (omega (arith, l .loop .inv .0), omega (arith, t), one-more _ _ (l .loop .inv .2) (seen _ _ (x .look .ensures) (y .look2 .ensures) (b .begins .ensures) (c .if1 .left))))
     (λ c. let l = c .before .loop in

@@ -1,9 +1,8 @@
 -- `whole`: the table's rule, computed once over all of its entries.
-use mathlib.Core.Path.{refl}
+use Rattle.basics.proofs.Prelude.{refl}
 use Rattle.rules.specs.Map.{cellAt}
 use Rattle.table.specs.Meaning.{reading, meant}
-use Rattle.table.proofs.table_rows.Once.{agrees}
-use Rattle.table.proofs.table_rows.whole.Statement.{statement}
+use Rattle.table.proofs.table_rows.{Once.agrees, whole.Statement.statement}
 use Rattle.table.proofs.table_rows.whole.Tie as tie
 
 pub whole-spec : {M : Type 1} → statement M

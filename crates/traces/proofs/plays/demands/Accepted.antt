@@ -1,23 +1,11 @@
 -- Every image along a play is accepted: from reset, and after each record.
-use mathlib.Core.Path.{_≡_, sym, ap, subst, _∙_}
-use mathlib.Core.List.{List}
-use Prim.Native.Nat.{ℕ, zero, suc}
-use lib.ListN.{length}
-use Rattle.basics.specs.Numbers.{Bytes}
-use Rattle.rules.specs.Device.{reset}
-use Rattle.rules.specs.Numbering.{fromZero}
-use Rattle.images.specs.Form.{Form, forms, known, formOf}
-use Rattle.images.specs.Image.{accepted, imageTest}
-use Rattle.images.proofs.laws.Tests.{form-known}
+use Rattle.basics.proofs.Prelude.{_≡_, sym, ap, subst, _∙_, List, ℕ, zero, suc, length, Bytes}
+use Rattle.rules.specs.{Device.reset, Numbering.fromZero}
+use Rattle.images.{specs.Form.Form, specs.Form.forms, specs.Form.known, specs.Form.formOf, specs.Image.accepted, specs.Image.imageTest, proofs.laws.Tests.form-known}
 use Rattle.images.proofs.laws.Saved.{bytes-encode, length-encode}
 use Rattle.laws.proofs.laws.Images.{encode-as, accepted-encode, reset-well-formed, reset-numbered}
-use Rattle.traces.specs.Trace.{nth}
-use Rattle.traces.specs.Played.{Played, afresh}
-use Rattle.traces.proofs.demands.Play.{plays-from-reset}
-use Rattle.traces.specs.plays.Playing.{playedTo}
-use Rattle.traces.proofs.plays.laws.Prefixes.{played-more}
-use Rattle.traces.proofs.plays.laws.Keeps.{keeps-accepted}
-use Rattle.traces.proofs.plays.demands.AfterEach.{none-played}
+use Rattle.traces.specs.{Trace.nth, Played.Played, Played.afresh, plays.Playing.playedTo}
+use Rattle.traces.proofs.{demands.Play.plays-from-reset, plays.laws.Prefixes.played-more, plays.laws.Keeps.keeps-accepted, plays.demands.AfterEach.none-played}
 
 -- an accepted image, as long as another
 pub record Fit (i j : List ℕ) : Type 0 where

@@ -1,17 +1,8 @@
 -- After each record (02, C-11): a play of the first records is the beginning of the whole, and the next record is the exported call made on what they left.
-use mathlib.Core.Path.{_≡_, refl, sym, ap, _∙_}
-use mathlib.Core.List.{List, [], _++_, append-nil, append-assoc}
-use Prim.Native.Nat.{ℕ, zero, suc, _+_, _-_, _*_, _<_, _≤_}
-use native.Mathlib.Omega.{arith}
-use lib.ListN.{length, take}
-use lib.Seq.{take-at, drop-at}
-use Rattle.basics.specs.Numbers.{part}
-use Rattle.traces.specs.Trace.{recordCount, nth}
-use Rattle.traces.specs.Played.{requestOf, playedOn, drainedIn, Played, afresh, played}
-use Rattle.traces.proofs.laws.Plays.{played-none}
-use Rattle.traces.proofs.demands.Play.{sixteen-bytes, answers-from}
+use Rattle.basics.proofs.Prelude.{_≡_, refl, sym, ap, _∙_, List, [], _++_, append-nil, append-assoc, ℕ, zero, suc, _+_, _-_, _*_, _<_, _≤_, arith, length, take, take-at, drop-at, part}
+use Rattle.traces.specs.{Trace.recordCount, Trace.nth, Played.requestOf, Played.playedOn, Played.drainedIn, Played.Played, Played.afresh, Played.played}
 use Rattle.traces.specs.plays.Playing.{playedTo, behind}
-use Rattle.traces.proofs.plays.laws.Prefixes.{played-more}
+use Rattle.traces.proofs.{laws.Plays.played-none, demands.Play.sixteen-bytes, demands.Play.answers-from, plays.laws.Prefixes.played-more}
 
 -- what more records add to a play: answers and events behind those that are there
 record Adds (p q : Played) : Type 0 where

@@ -1,24 +1,12 @@
 -- What the exported call leaves (02, C-11): refused, not a byte of image, answers and events changes, and 7 writes none at all; done, all is as the calls one after another leave it.
-use mathlib.Core.Path.{_≡_, refl, sym, ap, _∙_}
-use mathlib.Core.Bool.{Bool, true, false, cond}
-use mathlib.Core.List.{List}
-use Prim.Native.Nat.{ℕ, _*_, _<_, _≤_}
-use native.Mathlib.Omega.{arith}
-use lib.Dec.{leb}
-use lib.ListN.{length, take, length-take}
-use borrow.Author.Tests.{eq-eqb}
+use Rattle.basics.proofs.Prelude.{_≡_, refl, sym, ap, _∙_, Bool, true, false, cond, List, ℕ, _*_, _<_, _≤_, arith, leb, length, take, length-take, eq-eqb, test, part}
 use Rattle.rules.specs.Device.{some}
 use Rattle.calls.specs.Calls.{answerLength, answered}
-use Rattle.basics.proofs.laws.Bits.{test}
-use Rattle.basics.specs.Numbers.{part}
 use Rattle.images.specs.Form.{Known, unknown, known, formOf}
-use Rattle.traces.specs.Trace.{recordCount, nth, TraceTest, good, wrongContents, badRecord, traceTest}
-use Rattle.traces.specs.Played.{playedOn, played}
-use Rattle.traces.proofs.demands.Play.{answers-in-all}
-use Rattle.traces.proofs.plays.laws.InFront.{part-front}
-use Rattle.traces.proofs.plays.demands.AfterEach.{its-answer, first-events}
-use Rattle.traces.proofs.plays.laws.Computed as computed
+use Rattle.traces.specs.{Trace.recordCount, Trace.nth, Trace.TraceTest, Trace.good, Trace.wrongContents, Trace.badRecord, Trace.traceTest, Played.playedOn, Played.played}
 use Rattle.traces.specs.plays.Playing.{playedTo, playRoom, PlayTest, refused, plays, traceLeft, lengthLeft, playTest, PlayLeft, playLeaves, playEnds, playSettled, inFront, playing}
+use Rattle.traces.proofs.{demands.Play.answers-in-all, plays.laws.InFront.part-front, plays.demands.AfterEach.its-answer, plays.demands.AfterEach.first-events}
+use Rattle.traces.proofs.plays.laws.Computed as computed
 
 module _ (l i bs es a : List ℕ) where
   abbrev left : PlayLeft

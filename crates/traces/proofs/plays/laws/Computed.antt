@@ -1,12 +1,8 @@
 -- The tests of the exported call on closed bytes, in their order: so it is seen what comes first.
-use mathlib.Core.Path.{_≡_, refl}
-use mathlib.Core.List.{List, [], _∷_, _++_}
-use Prim.Native.Nat.{ℕ}
-use lib.ListN.{set, replicate}
+use Rattle.basics.proofs.Prelude.{_≡_, refl, List, [], _∷_, _++_, ℕ, set, replicate}
 use Rattle.rules.specs.Device.{none, some}
 use Rattle.calls.specs.Calls.{answered}
-use Rattle.traces.specs.Trace.{blocksFrom, recordsIn, backToBack, contentsGood, isGood, firstBad, traceTest}
-use Rattle.traces.specs.Played.{recordsFrom}
+use Rattle.traces.specs.{Trace.blocksFrom, Trace.recordsIn, Trace.backToBack, Trace.contentsGood, Trace.isGood, Trace.firstBad, Trace.traceTest, Played.recordsFrom}
 use Rattle.traces.specs.plays.Playing.{drainsIn, PlayTest, refused, plays, playTest, playing}
 
 -- one name that opens what has to compute

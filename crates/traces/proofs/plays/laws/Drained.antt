@@ -1,26 +1,15 @@
 -- What a drain of all leaves of an accepted image, whatever the bytes were that it was lent; and what any call leaves in an answer area of its own.
-use mathlib.Core.Path.{_≡_, refl, sym, ap, _∙_}
-use mathlib.Core.List.{List, _++_}
-use Prim.Native.Nat.{ℕ, _+_, _-_, _*_, _/_, _≤_, zero-le}
-use native.Mathlib.Nat.{zero-add}
-use native.Mathlib.Omega.{arith}
-use lib.ListN.{length, take, drop, replicate, drop-of-length-le}
-use lib.Seq.{take-at}
-use borrow.Author.Tests.{le-leb}
-use Rattle.basics.specs.Numbers.{Bytes}
-use Rattle.rules.specs.Ring.{capacity}
-use Rattle.rules.specs.Device.{Device, WellFormed, Value, value, step}
-use Rattle.rules.specs.Device as device
+use Rattle.basics.proofs.Prelude.{_≡_, refl, sym, ap, _∙_, List, _++_, ℕ, _+_, _-_, _*_, _/_, _≤_, zero-le, zero-add, arith, length, take, drop, replicate, drop-of-length-le, take-at, le-leb, Bytes}
+use Rattle.rules.specs.{Ring.capacity, Device.WellFormed, Device.Value, Device.value, Device.step, Device.amount}
 use Rattle.rules.specs.Numbering.{WellNumbered, Numbered, drainedLength, quadsOf, numbersAfter, drainedWith, valueWith}
 use Rattle.images.specs.Image.{accepted, imageTest, encodeLike, decode, numbersIn}
 use Rattle.calls.specs.Calls.{pass, Request, answerLength, answered, bufferOf, placeOf, written, Ending, ending, settled, Outcome, outcome}
-use Rattle.rules.specs.Device.{amount}
-use Rattle.calls.specs.Calls as request
+use Rattle.calls.proofs.laws.{Outcomes.call-done, Answers.length-quadsOf}
 use Rattle.laws.proofs.laws.Images.{decode-well-formed, numbers-well}
-use Rattle.calls.proofs.laws.Outcomes.{call-done}
-use Rattle.calls.proofs.laws.Answers.{length-quadsOf}
 use Rattle.histories.proofs.exported.laws.Readings.{drained-below, drained-length, drained-told}
 use Rattle.traces.specs.Played.{drainRoom, asked, drainedIn}
+use Rattle.rules.specs.Device as device
+use Rattle.calls.specs.Calls as request
 
 -- ---- any call, with an answer area of its own
 

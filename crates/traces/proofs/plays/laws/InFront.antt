@@ -1,12 +1,5 @@
 -- Bytes put in front of a buffer, part by part.
-use mathlib.Core.Path.{_≡_, refl, sym, ap, _∙_}
-use mathlib.Core.List.{List, _++_, append-nil, append-assoc}
-use Prim.Native.Nat.{ℕ, _+_, _-_, _≤_}
-use native.Mathlib.Omega.{arith}
-use lib.ListN.{length, take, drop, length-append, length-drop, take-append-drop, drop-of-length-le}
-use lib.Seq.{take-at, drop-at, drop-drop, take-append-le, drop-append-le, take-all, length-take-le}
-use borrow.Rule.Slice.PartMut.{putMid}
-use Rattle.basics.specs.Numbers.{part}
+use Rattle.basics.proofs.Prelude.{_≡_, refl, sym, ap, _∙_, List, _++_, append-nil, append-assoc, ℕ, _+_, _-_, _≤_, arith, length, take, drop, length-append, length-drop, take-append-drop, drop-of-length-le, take-at, drop-at, drop-drop, take-append-le, drop-append-le, take-all, length-take-le, putMid, part}
 use Rattle.traces.specs.plays.Playing.{inFront}
 
 -- with room the buffer keeps its length

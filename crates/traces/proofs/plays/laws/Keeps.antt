@@ -1,18 +1,9 @@
 -- The call that a record is resets nothing and drains from the front; so of an accepted image it leaves an accepted one.
-use mathlib.Core.Path.{_≡_, refl}
-use mathlib.Core.Bool.{Bool, true, false, cond}
-use mathlib.Core.List.{List}
-use Prim.Native.Nat.{ℕ, _≤_, zero-le}
-use lib.Dec.{eqb}
-use lib.ListN.{length, replicate}
-use Rattle.basics.specs.Numbers.{Bytes}
+use Rattle.basics.proofs.Prelude.{_≡_, refl, Bool, true, false, cond, List, ℕ, _≤_, zero-le, eqb, length, replicate, Bytes}
 use Rattle.images.specs.Image.{accepted, imageTest}
 use Rattle.calls.specs.Calls.{Request, askedBy, answerLength, bufferOf, placeOf}
-use Rattle.calls.specs.Calls as request
-use Rattle.histories.specs.exported.Exported.{isReset}
-use Rattle.histories.proofs.exported.demands.LeavesAccepted.{leaves-accepted}
-use Rattle.traces.specs.Trace.{Record}
-use Rattle.traces.specs.Played.{requestOf, playedOn}
+use Rattle.histories.{specs.exported.Exported.isReset, proofs.exported.demands.LeavesAccepted.leaves-accepted}
+use Rattle.traces.specs.{Trace.Record, Played.requestOf, Played.playedOn}
 
 -- a call of a record: no reset, and a drain begins at the front
 record Made (q : Request) : Type 0 where

@@ -1,8 +1,5 @@
 -- What is told of a call that may find at its end that it has no room: 7 writes no byte, and all else stands in the answer area.
-use mathlib.Core.Path.{_≡_, sym, ap, _∙_}
-use mathlib.Core.List.{List}
-use Prim.Native.Nat.{ℕ}
-use borrow.Author.Tests.{eq-eqb, ne-eqb}
+use Rattle.basics.proofs.Prelude.{_≡_, sym, ap, _∙_, List, ℕ, eq-eqb, ne-eqb}
 use Rattle.rules.specs.Device.{Value}
 use Rattle.calls.specs.Calls.{answered}
 use Rattle.traces.specs.plays.Playing.{toldIn}

@@ -1,14 +1,8 @@
 -- The first records of a play, and one more behind them.
-use mathlib.Core.Path.{_≡_, sym, ap, _∙_}
-use mathlib.Core.List.{List, [], _++_, append-nil, append-assoc}
-use Prim.Native.Nat.{ℕ, zero, suc, _+_}
-use native.Mathlib.Nat.{zero-add}
-use native.Mathlib.Omega.{arith}
+use Rattle.basics.proofs.Prelude.{_≡_, sym, ap, _∙_, List, [], _++_, append-nil, append-assoc, ℕ, zero, suc, _+_, zero-add, arith}
 use Rattle.calls.specs.Calls.{Outcome}
-use Rattle.traces.specs.Trace.{nth}
-use Rattle.traces.specs.Played.{playedOn, drainedIn, Played, playedFrom, afresh}
+use Rattle.traces.specs.{Trace.nth, Played.playedOn, Played.drainedIn, Played.Played, Played.playedFrom, Played.afresh, plays.Playing.playedTo, plays.Playing.behind}
 use Rattle.traces.proofs.laws.Plays.{played-none, played-next}
-use Rattle.traces.specs.plays.Playing.{playedTo, behind}
 
 -- an outcome in front of a play
 abbrev before : Outcome → Played → Played

@@ -1,11 +1,6 @@
 -- How many of the first records drain: one record more, and no fewer in all.
-use mathlib.Core.Path.{_≡_, ap}
-use mathlib.Core.List.{List}
-use Prim.Native.Nat.{ℕ, zero, suc, _+_, _≤_}
-use native.Mathlib.Omega.{arith}
-use Rattle.traces.specs.Trace.{nth}
-use Rattle.traces.specs.Played.{recordsFrom}
-use Rattle.traces.specs.plays.Playing.{drains, drainsIn}
+use Rattle.basics.proofs.Prelude.{_≡_, ap, List, ℕ, zero, suc, _+_, _≤_, arith}
+use Rattle.traces.specs.{Trace.nth, Played.recordsFrom, plays.Playing.drains, plays.Playing.drainsIn}
 
 pub drains-last : (l : List ℕ) (n k : ℕ) → drainsIn (recordsFrom l (suc n) k) ≡ drainsIn (recordsFrom l n k) + drains (nth l (k + n))
 unfolding drainsIn recordsFrom

@@ -1,20 +1,8 @@
 -- What is kept (02, C-23): the blocks that are all good, byte for byte in the old order, in a trace that is good; a good trace comes out unchanged, and so does the outcome.
-use mathlib.Core.Path.{_≡_, sym, ap, subst, _∙_}
-use mathlib.Core.Bool.{true, false, cond, false≢true}
-use mathlib.Core.List.{List, []}
-use Prim.Native.Nat.{ℕ, _+_, _*_, _≤_}
-use native.Mathlib.Omega.{arith}
-use lib.Dec.{ltb}
-use lib.ListN.{length}
-use borrow.Author.Tests.{ltb-true, not-true}
-use Rattle.basics.specs.Numbers.{Bytes}
-use Rattle.basics.proofs.laws.Bits.{test}
-use Rattle.basics.proofs.laws.Lists.{Each, length-part}
+use Rattle.basics.proofs.Prelude.{_≡_, sym, ap, subst, _∙_, true, false, cond, false≢true, List, [], ℕ, _+_, _*_, _≤_, arith, ltb, length, ltb-true, not-true, Bytes, test, Each, length-part}
 use Rattle.traces.specs.Trace.{recordLength, blockCount, firstPlace, recordCount, contentsGood, nth, isGood, isBad, firstBad, TraceTest, good, wrongContents, foundBad, traceTest}
-use Rattle.traces.proofs.laws.Contents.{contents-have}
-use Rattle.traces.proofs.laws.Firsts.{first-found}
-use Rattle.traces.proofs.demands.Told.{AllGood, Means, test-told}
 use Rattle.traces.specs.salvages.Kept.{bodies, allGood, kept, droppedFrom, joined, entries, traceOf, newTrace, dropList}
+use Rattle.traces.proofs.{laws.Contents.contents-have, laws.Firsts.first-found, demands.Told.AllGood, demands.Told.Means, demands.Told.test-told}
 use Rattle.traces.proofs.salvages.laws.Chosen.{kept-each, kept-all-good, good-kept, good-none-dropped, kept-twice, kept-or-dropped, kept-shorter, length-entries}
 use Rattle.traces.proofs.salvages.laws.Built.{Fit, length-trace, bodies-are, contents-good}
 use Rattle.traces.proofs.salvages.laws.Taken.{length-bodies, all-standing, joined-all, bodies-good, records-good, bodies-fit, trace-again}

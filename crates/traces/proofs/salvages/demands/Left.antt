@@ -1,31 +1,15 @@
 -- What the exported call leaves (02, C-23): refused, not a byte of the two buffers changes, and 7 writes none at all; done, the new trace and the list stand in front of what was lent.
-use mathlib.Core.Path.{_≡_, refl, sym, ap, subst, _∙_}
-use mathlib.Core.Bool.{Bool, true, false, cond, _&&_, and-eq-true-iff}
-use mathlib.Core.List.{List, [], _∷_}
-use Prim.Native.Nat.{ℕ, _+_, _-_, _≤_}
-use native.Mathlib.Omega.{arith}
-use lib.Dec.{leb}
-use lib.ListN.{length, take, drop}
-use lib.Seq.{take-at, drop-at}
-use borrow.Author.Tests.{eq-eqb, ne-eqb, eqb-true, eqb-false, le-leb, leb-true}
+use Rattle.basics.proofs.Prelude.{_≡_, refl, sym, ap, subst, _∙_, Bool, true, false, cond, _&&_, and-eq-true-iff, List, [], _∷_, ℕ, _+_, _-_, _≤_, arith, leb, length, take, drop, take-at, drop-at, eq-eqb, ne-eqb, eqb-true, eqb-false, le-leb, leb-true, Bytes, test, numberOf-bytesOf, Each}
 use Rattle.rules.specs.Device.{none, some}
-use Rattle.basics.specs.Numbers.{Bytes}
-use Rattle.calls.specs.Calls.{answerLength, answered, valueIn}
-use Rattle.calls.proofs.laws.Answers.{value-read}
-use Rattle.basics.proofs.laws.Bits.{test}
-use Rattle.basics.proofs.laws.Bytes.{numberOf-bytesOf}
-use Rattle.basics.proofs.laws.Lists.{Each}
-use Rattle.traces.specs.Trace.{blockCount, contentsGood, good, traceTest}
-use Rattle.traces.proofs.laws.Contents.{contents-have}
-use Rattle.traces.proofs.demands.Told.{AllGood, Means, test-told}
-use Rattle.traces.specs.plays.Playing.{inFront}
+use Rattle.calls.{specs.Calls.answerLength, specs.Calls.answered, specs.Calls.valueIn, proofs.laws.Answers.value-read}
+use Rattle.traces.specs.{Trace.blockCount, Trace.contentsGood, Trace.good, Trace.traceTest, plays.Playing.inFront}
 use Rattle.traces.specs.salvages.Kept.{bodies, allGood, kept, droppedFrom, entriesIn, newTrace, dropList}
 use Rattle.traces.specs.salvages.Salvaging.{SalvageTest, refused, salvages, isEmpty, salvageRoom, salvageTest, SalvageLeft, salvageLeaves, salvageEnds, salvageSettled, salvaging}
-use Rattle.traces.proofs.salvages.laws.Computed as computed
-use Rattle.traces.proofs.salvages.laws.Chosen.{kept-none, kept-good, kept-torn, good-kept}
-use Rattle.traces.proofs.salvages.laws.Taken.{length-bodies}
+use Rattle.traces.proofs.{laws.Contents.contents-have, demands.Told.AllGood, demands.Told.Means, demands.Told.test-told}
+use Rattle.traces.proofs.salvages.laws.{Chosen.kept-none, Chosen.kept-good, Chosen.kept-torn, Chosen.good-kept, Taken.length-bodies}
 use Rattle.traces.proofs.salvages.demands.Listed.{list-read-back, all-accounted}
 use Rattle.traces.proofs.salvages.demands.Blocks.{good-blocks, new-fits, comes-out-good, again-the-same, good-unchanged, good-unlisted}
+use Rattle.traces.proofs.salvages.laws.Computed as computed
 
 -- ---- no block is left exactly where each has a bad record
 

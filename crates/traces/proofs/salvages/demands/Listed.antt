@@ -1,19 +1,8 @@
 -- What is listed (02, C-23): in rising order the blocks that have a bad record, each with the first bad one in it; and every block is kept or listed.
-use mathlib.Core.Path.{_≡_, refl, sym, ap, _∙_}
-use mathlib.Core.Bool.{Bool, true, false, not}
-use mathlib.Core.List.{List, [], _∷_, _++_}
-use Prim.Native.Nat.{ℕ, zero, suc, _+_, _*_, _<_, _≤_}
-use native.Mathlib.Omega.{arith}
-use lib.ListN.{length}
-use borrow.Author.Tests.{eqb-false, not-true, not-false}
-use Rattle.basics.proofs.laws.Bytes.{numberOf-bytesOf}
-use Rattle.basics.proofs.laws.Lists.{Each}
-use Rattle.traces.specs.Trace.{recordLength, blockCount, blockAt, firstPlace, contentsGood, recordAt, isGood, isBad}
-use Rattle.traces.specs.Blocks.{placeInBlock}
-use Rattle.traces.proofs.laws.Contents.{contents-have}
-use Rattle.traces.proofs.laws.Firsts.{first-found}
+use Rattle.basics.proofs.Prelude.{_≡_, refl, sym, ap, _∙_, Bool, true, false, not, List, [], _∷_, _++_, ℕ, zero, suc, _+_, _*_, _<_, _≤_, arith, length, eqb-false, not-true, not-false, numberOf-bytesOf, Each}
+use Rattle.traces.specs.{Trace.recordLength, Trace.blockCount, Trace.blockAt, Trace.firstPlace, Trace.contentsGood, Trace.recordAt, Trace.isGood, Trace.isBad, Blocks.placeInBlock}
 use Rattle.traces.specs.salvages.Kept.{bodyOf, bodiesFrom, bodies, recordsOf, badIn, allGood, frontIf, kept, Dropped, droppedFrom, entries, entriesIn, dropList}
-use Rattle.traces.proofs.salvages.laws.Chosen.{kept-or-dropped}
+use Rattle.traces.proofs.{laws.Contents.contents-have, laws.Firsts.first-found, salvages.laws.Chosen.kept-or-dropped}
 use Rattle.traces.proofs.salvages.laws.Taken.{Standing, record-in, records-body, others, all-standing, length-bodies, within}
 
 -- ---- rising

@@ -1,21 +1,10 @@
 -- The trace of some blocks, read again: the contents are good, and its blocks are these.
-use mathlib.Core.Path.{_≡_, refl, sym, ap, _∙_}
-use mathlib.Core.Bool.{true, _&&_}
-use mathlib.Core.List.{List, [], _∷_, _++_}
-use Prim.Native.Nat.{ℕ, suc, _+_, _*_, _<_, _≤_}
-use native.Mathlib.Omega.{arith}
-use lib.ListN.{length, take, drop, length-append}
-use lib.Seq.{take-at, drop-at, drop-drop}
-use borrow.Author.Tests.{eq-eqb, le-leb}
-use Rattle.basics.specs.Numbers.{numberOf, part}
-use Rattle.basics.proofs.laws.Bytes.{numberOf-bytesOf}
-use Rattle.basics.proofs.laws.Lists.{Each}
+use Rattle.basics.proofs.Prelude.{_≡_, refl, sym, ap, _∙_, true, _&&_, List, [], _∷_, _++_, ℕ, suc, _+_, _*_, _<_, _≤_, arith, length, take, drop, length-append, take-at, drop-at, drop-drop, eq-eqb, le-leb, numberOf, part, numberOf-bytesOf, Each}
 use Rattle.traces.specs.Trace.{mostBlocks, mostRecords, recordLength, blockCount, listedAt, blockAt, blocksFrom, recordsIn, backToBack, recordCount, contentsGood}
-use Rattle.traces.proofs.laws.Blocks.{records-none, records-front, stand-none, stand-next}
-use Rattle.traces.proofs.laws.Contents.{contents-are}
-use Rattle.traces.proofs.salvages.laws.Computed as computed
 use Rattle.traces.specs.salvages.Kept.{bodyOf, bodiesFrom, bodies, recordsOf, listing, joined, contentsFor, traceOf}
+use Rattle.traces.proofs.laws.{Blocks.records-none, Blocks.records-front, Blocks.stand-none, Blocks.stand-next, Contents.contents-are}
 use Rattle.traces.proofs.salvages.laws.Chosen.{joined-front, length-joined, length-listing}
+use Rattle.traces.proofs.salvages.laws.Computed as computed
 
 -- a block has whole records, and at least one
 pub record Whole (x : List ℕ) : Type 0 where

@@ -1,14 +1,7 @@
 -- The blocks that are kept and those that are dropped, of any list of blocks.
-use mathlib.Core.Path.{_≡_, refl, ap, _∙_}
-use mathlib.Core.Bool.{Bool, true, false, not}
-use mathlib.Core.List.{List, [], _∷_, _++_}
-use Prim.Native.Nat.{ℕ, suc, _+_, _*_, _≤_}
-use native.Mathlib.Omega.{arith}
-use lib.ListN.{length, length-append}
-use Rattle.basics.proofs.laws.Bits.{test}
-use Rattle.basics.proofs.laws.Lists.{Each}
-use Rattle.traces.proofs.salvages.laws.Computed as computed
+use Rattle.basics.proofs.Prelude.{_≡_, refl, ap, _∙_, Bool, true, false, not, List, [], _∷_, _++_, ℕ, suc, _+_, _*_, _≤_, arith, length, length-append, test, Each}
 use Rattle.traces.specs.salvages.Kept.{badIn, allGood, frontIf, kept, Dropped, droppedFrom, listing, joined, entries}
+use Rattle.traces.proofs.salvages.laws.Computed as computed
 
 -- ---- one block more
 

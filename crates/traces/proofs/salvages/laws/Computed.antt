@@ -1,8 +1,5 @@
 -- Salvaging on closed bytes: so it is seen what is kept, what is listed, and which test comes first.
-use mathlib.Core.Path.{_≡_, refl}
-use mathlib.Core.List.{List, [], _∷_, _++_}
-use Prim.Native.Nat.{ℕ}
-use lib.ListN.{set, replicate}
+use Rattle.basics.proofs.Prelude.{_≡_, refl, List, [], _∷_, _++_, ℕ, set, replicate}
 use Rattle.rules.specs.Device.{none}
 use Rattle.calls.specs.Calls.{answered}
 use Rattle.traces.specs.Trace.{blocksFrom, recordsIn, backToBack, contentsGood, isGood, firstBad}

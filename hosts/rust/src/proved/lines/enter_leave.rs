@@ -1,5 +1,5 @@
 // Made from crates/lines/src/enter_leave.rt by tools/portable: do not change it here.
-//! An input goes into service or leaves it, in place on an image, as the rules say it. Of a set the lowest that waits enters. Crate decide says which they are.
+//! An input goes into service or leaves it, in place on an image, as the rules say it. Of a set the lowest that waits enters. Module `decide` of crate `device` says which they are.
 
 use super::super::device::decide;
 use super::super::device::state::Answer;

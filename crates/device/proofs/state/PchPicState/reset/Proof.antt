@@ -1,15 +1,9 @@
 -- `PchPicState::reset` is the rules' reset. The loop writes n to vector n from the front: what is written and then irq, irq + 1, .. is all of 0 to 63.
-use mathlib.Core.Path.{_≡_, refl, ap, _∙_}
-use mathlib.Core.List.{List, [], _∷_, _++_}
-use Prim.Native.Nat.{ℕ, suc, _+_, _-_, _≤_}
-use native.Mathlib.Omega.{arith}
-use native.Mathlib.Numerals.{add-one}
-use lib.ListN.{length, take, length-set}
+use Rattle.basics.proofs.Prelude.{_≡_, refl, ap, _∙_, List, [], _∷_, _++_, ℕ, suc, _+_, _-_, _≤_, arith, add-one, length, take, length-set, turn, done}
 use Rattle.rules.specs.Device.{upFrom}
-use Rattle.rules.specs.Device as device
-use Rattle.basics.proofs.laws.Lists.{turn, done}
 use Rattle.device.specs.state.View.{slots}
 use Rattle.device.proofs.state.PchPicState.reset.Statement.{statement}
+use Rattle.rules.specs.Device as device
 use Rattle.device.proofs.state.PchPicState.reset.Tie as tie
 
 abbrev Inv-loop : tie.InvT-loop
@@ -29,38 +23,17 @@ none-left : (n : ℕ) → 64 ≤ n → upFrom n (64 - n) ≡ []
 unfolding upFrom
 none-left n h = let z : 64 - n ≡ 0 = omega arith in rw z
 
-loop-holds : tie.Need-loop-holds Inv-loop μ-loop
-loop-holds c = (omega arith, refl, refl)
-
-cast-vectors : tie.Need-cast-vectors Inv-loop μ-loop
-cast-vectors c = omega arith
-
-array-write-vectors : tie.Need-array-write-vectors Inv-loop μ-loop
-array-write-vectors c = omega arith
-
-add-irq : tie.Need-add-irq Inv-loop μ-loop
-add-irq c = omega arith
-
-loop-less : tie.Need-loop-less Inv-loop μ-loop
-loop-less c = omega arith
-
-loop-again : tie.Need-loop-again Inv-loop μ-loop
-loop-again c =
-    let l = c .before .loop in
-    let n = l .irq in
-    (omega arith, length-set (l .vectors) n n ∙ l .inv .1, turn (l .vectors) (upFrom n (64 - n)) n n (omega arith) (l .inv .2) (next-up n (omega arith)))
-
 abbrev withVectors : List ℕ → device.Device
 withVectors vs = record { core = record { lines = device.reset .core .lines; vectors = vs; stored = device.reset .core .stored }; ring = device.reset .ring }
 
-returns : tie.Need-returns Inv-loop μ-loop
-unfolding slots
-returns c =
-    let l = c .before .loop in
+pub reset-spec : {M : Type 1} → statement M
+reset-spec = tie.close (tie.spec Inv-loop μ-loop (λ c. (omega arith, refl, refl)) (λ c. omega arith) (λ c. omega arith) (λ c. omega arith)
+    (λ c. omega arith)
+    (λ c. let l = c .before .loop in
+    let n = l .irq in
+    (omega arith, length-set (l .vectors) n n ∙ l .inv .1, turn (l .vectors) (upFrom n (64 - n)) n n (omega arith) (l .inv .2) (next-up n (omega arith))))
+    (λ c. unfold slots in let l = c .before .loop in
     record {
       well = record { ring = record { head = omega arith; len = omega arith } };
       shows = ap withVectors (done (l .vectors) (upFrom (l .irq) (64 - l .irq)) (l .irq) (omega arith) (none-left (l .irq) (omega arith)) (l .inv .2));
-    }
-
-pub reset-spec : {M : Type 1} → statement M
-reset-spec = tie.close (tie.spec Inv-loop μ-loop loop-holds cast-vectors array-write-vectors add-irq loop-less loop-again returns)
+    }))
