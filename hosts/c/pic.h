@@ -147,8 +147,10 @@ int pic_load_with(struct pic *pic, uint8_t *kept, size_t kept_len, const char *p
 
 /* Makes a file of these bytes, or replaces one, whole or not at all: they go to a file of their own beside it, which takes
  * its name only when it is on the disk. Several may save at once, and the last one wins. Owner and mode of the old file stay, a symbolic link is followed, and
- * what is no plain file is not replaced. Who is killed on the way leaves a file .pch-pic-*.new there, which nobody needs. 0 or PIC_FILE. */
+ * what is no plain file is not replaced. Who is killed on the way leaves a file .pch-pic-*.new there, which nobody needs. 0 or PIC_FILE. pic_replace_open hands
+ * back the new file itself, open for writing, or -1: who writes on in it writes in no other's, whoever takes the name next. */
 int pic_replace(const char *path, const uint8_t *bytes, size_t len);
+int pic_replace_open(const char *path, const uint8_t *bytes, size_t len);
 
 const char *pic_why(int number);
 

@@ -101,22 +101,17 @@ static bool dress(int file, const struct stat *old)
     return fchmod(file, old->st_mode & 0777) == 0;
 }
 
-/* These bytes, on the disk. The file is closed either way. */
+/* These bytes, on the disk. */
 static bool write_and_sync(int file, const uint8_t *bytes, size_t len, const struct stat *old)
 {
-    bool written = true;
-    for (size_t done = 0; done < len && written;) {
+    for (size_t done = 0; done < len;) {
         ssize_t more = write(file, bytes + done, len - done);
-        written = more > 0 || (more < 0 && errno == EINTR);
+        if (more == 0 || (more < 0 && errno != EINTR)) {
+            return false;
+        }
         done += more > 0 ? (size_t)more : 0;
     }
-    written = written && (!old || dress(file, old)) && fsync(file) == 0;
-    int why = errno;
-    bool closed = close(file) == 0;
-    if (!written) {
-        errno = why;
-    }
-    return written && closed;
+    return (!old || dress(file, old)) && fsync(file) == 0;
 }
 
 /* The new name is on the disk only when the folder is. Some file systems cannot sync a folder, and say so. */
@@ -139,31 +134,50 @@ static bool sync_folder(const char *path)
     return synced;
 }
 
+/* What failed is taken away; errno stays. */
+static int undone(int file, const char *beside)
+{
+    int why = errno;
+    close(file);
+    unlink(beside);
+    errno = why;
+    return -1;
+}
+
 /* The bytes go to a file beside the old one, which takes its name only when it is whole and on the disk. Of several saves the last one wins. */
-int pic_replace(const char *path, const uint8_t *bytes, size_t len)
+int pic_replace_open(const char *path, const uint8_t *bytes, size_t len)
 {
     char whole[PATH_LEN], beside[PATH_LEN];
     struct stat old;
     if (!follow(path, whole)) {
-        return PIC_FILE;
+        return -1;
     }
     bool there = stat(whole, &old) == 0;
     /* A device file or a folder is not to be replaced. */
     if (there && !S_ISREG(old.st_mode)) {
         errno = S_ISDIR(old.st_mode) ? EISDIR : EINVAL;
-        return PIC_FILE;
+        return -1;
     }
     int file = open_beside(whole, there ? 0600 : 0666, beside);
     if (file < 0) {
-        return PIC_FILE;
+        return -1;
     }
     if (!write_and_sync(file, bytes, len, there ? &old : NULL) || rename(beside, whole) != 0) {
-        int why = errno;
-        unlink(beside);
-        errno = why;
-        return PIC_FILE;
+        return undone(file, beside);
     }
-    return sync_folder(whole) ? PCH_PIC_DONE : PIC_FILE;
+    if (!sync_folder(whole)) {
+        int why = errno;
+        close(file);
+        errno = why;
+        return -1;
+    }
+    return file;
+}
+
+int pic_replace(const char *path, const uint8_t *bytes, size_t len)
+{
+    int file = pic_replace_open(path, bytes, len);
+    return file >= 0 && close(file) == 0 ? PCH_PIC_DONE : PIC_FILE;
 }
 
 int pic_save_with(const struct pic *pic, enum pic_form form, const uint8_t *kept, size_t kept_len, const char *path)

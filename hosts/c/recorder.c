@@ -4,7 +4,6 @@
 #include "recorder.h"
 
 #include <errno.h>
-#include <fcntl.h>
 #include <stdio.h>
 #include <string.h>
 #include <unistd.h>
@@ -83,12 +82,12 @@ int pic_recorder_keep(struct pic_recorder *recorder, const char *path)
         return PIC_STARTED;
     }
     size_t len = put_contents(trace, recorder->plan, recorder->planned) + PCH_PIC_RECORD_LEN * recorder->most;
-    int number = pic_replace(path, trace, len);
-    if (number == PCH_PIC_DONE) {
-        recorder->file = open(path, O_WRONLY | O_CLOEXEC);
-        number = recorder->file < 0 ? PIC_FILE : PCH_PIC_DONE;
+    int file = pic_replace_open(path, trace, len);
+    if (file < 0) {
+        return PIC_FILE;
     }
-    return number;
+    recorder->file = file;
+    return PCH_PIC_DONE;
 }
 
 /* Writes a record at its place in the file; a full block goes to the disk, so that it outlasts a lost power. */

@@ -6,6 +6,7 @@
  *     savers --threads FOLDER     32 threads that load one file while two save it */
 #define _XOPEN_SOURCE 700
 #include "hoist.h"
+#include "recorder.h"
 
 #include <dirent.h>
 #include <errno.h>
@@ -217,6 +218,42 @@ static void side_by_side(void)
     expect("and nothing is left beside it", unlink(path) == 0 && left_over(false) == 0);
 }
 
+/* Two that keep a day of two records under one name, each with an input of its own: no file ever has a record of both. */
+static void keepers(void)
+{
+    const char *path = in_folder("day");
+    static uint8_t trace[PCH_PIC_TRACE_MAX];
+    bool right = true, apart = true;
+    unsigned running = 2;
+    for (unsigned who = 1; who <= 2; who++) {
+        if (fork() == 0) {
+            static struct pic_recorder recorder;
+            const uint16_t plan[1] = {2};
+            for (unsigned day = 0; day < 4 * SAVES; day++) {
+                pic_recorder_begin(&recorder);
+                right = pic_recorder_plan(&recorder, plan, 1) == PCH_PIC_DONE && pic_recorder_keep(&recorder, path) == PCH_PIC_DONE && right;
+                right = pic_recorder_raise(&recorder, who) == PCH_PIC_DONE && pic_recorder_raise(&recorder, who) == PCH_PIC_DONE && right;
+                right = pic_recorder_end(&recorder) == PCH_PIC_DONE && right;
+            }
+            _exit(!right);
+        }
+    }
+    while (running > 0) {
+        int status = 0;
+        size_t len = 0;
+        if (pic_trace_load(path, trace, &len) == PCH_PIC_DONE && len == 6 + 2 * PCH_PIC_RECORD_LEN) {
+            unsigned first = trace[6 + PCH_PIC_RECORD_BYTE], second = trace[6 + PCH_PIC_RECORD_LEN + PCH_PIC_RECORD_BYTE];
+            apart = apart && (first == second || second == 0);
+        }
+        if (waitpid(-1, &status, WNOHANG) > 0) {
+            running--;
+            right = right && WIFEXITED(status) && WEXITSTATUS(status) == 0;
+        }
+    }
+    expect("of two recorders that keep one file, each keeps its day", right);
+    expect("and writes in no other's", apart && unlink(path) == 0 && left_over(false) == 0);
+}
+
 /* One that saves for ever, or a program that saves once what another file holds. */
 static pid_t begin_any(const char *path, unsigned who, const char *from, const char *program)
 {
@@ -351,6 +388,7 @@ int main(int argc, char **argv)
         phases();
         no_plain_file();
         side_by_side();
+        keepers();
         killed(20, NULL);
     } else if ((argc == 4 || argc == 5) && strcmp(argv[1], "--kill") == 0) {
         killed((unsigned)strtoul(argv[2], NULL, 10), argc == 5 ? argv[4] : NULL);

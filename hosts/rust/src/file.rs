@@ -126,7 +126,7 @@ fn opened(bytes: &[u8]) -> Result<&[u8], LoadError> {
 ///
 /// Those of the file system; and what is there and no plain file is not replaced.
 pub fn save(pic: &PchPic, form: Form, path: impl AsRef<Path>) -> io::Result<()> {
-    replace(path.as_ref(), &sealed(&pic.save(form)))
+    replace(path.as_ref(), &sealed(&pic.save(form))).map(drop)
 }
 
 /// Loads a device from a file of any form. What comes next is [`Wires::resume`](crate::Wires::resume).
@@ -159,7 +159,7 @@ pub fn load(path: impl AsRef<Path>) -> Result<PchPic, LoadError> {
 /// As [`save`].
 pub fn save_hoist(hoist: &Hoist, form: Form, path: impl AsRef<Path>) -> io::Result<()> {
     let phase = u8::from(hoist.phase() == Phase::Running);
-    replace(path.as_ref(), &sealed(&[&hoist.pic().save(form)[..], &[phase]].concat()))
+    replace(path.as_ref(), &sealed(&[&hoist.pic().save(form)[..], &[phase]].concat())).map(drop)
 }
 
 /// Loads a hoist's device with its phase. A file that [`save`] made has none, and is refused; so does [`load`] refuse a hoist's.

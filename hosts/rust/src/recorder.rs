@@ -6,7 +6,7 @@ use crate::{
     TRACE_MAX,
 };
 use core::fmt;
-use std::fs::{File, OpenOptions};
+use std::fs::File;
 use std::io::{self, Seek, SeekFrom, Write};
 use std::path::Path;
 
@@ -152,8 +152,7 @@ impl Recorder {
         let recorder = Recorder::planned(plan)?;
         let mut bytes = contents_of(plan);
         bytes.resize(bytes.len() + RECORD_LEN * recorder.most(), 0);
-        replace::replace(path.as_ref(), &bytes)?;
-        let file = OpenOptions::new().write(true).open(path)?;
+        let file = replace::replace(path.as_ref(), &bytes)?;
         Ok(Recorder { file: Some(file), ..recorder })
     }
 

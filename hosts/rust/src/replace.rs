@@ -71,10 +71,10 @@ fn dress(_: &File, _: &Metadata) -> io::Result<()> {
 }
 
 /// These bytes, on the disk.
-fn write_and_sync(mut file: File, bytes: &[u8], old: Option<&Metadata>) -> io::Result<()> {
+fn write_and_sync(mut file: &File, bytes: &[u8], old: Option<&Metadata>) -> io::Result<()> {
     file.write_all(bytes)?;
     if let Some(old) = old {
-        dress(&file, old)?;
+        dress(file, old)?;
     }
     file.sync_all()
 }
@@ -94,8 +94,9 @@ fn sync_folder(_: &Path) -> io::Result<()> {
     Ok(())
 }
 
-/// The bytes go to a file beside the old one, which takes its name only when it is whole and on the disk. Of several saves the last one wins.
-pub(crate) fn replace(path: &Path, bytes: &[u8]) -> io::Result<()> {
+/// The bytes go to a file beside the old one, which takes its name only when it is whole and on the disk. Of several saves the last one wins. The new file is
+/// handed back open: who writes on in it writes in no other's, whoever takes the name next.
+pub(crate) fn replace(path: &Path, bytes: &[u8]) -> io::Result<File> {
     let whole = followed(path)?;
     let old = fs::metadata(&whole).ok();
     if old.as_ref().is_some_and(|old| !old.is_file()) {
@@ -103,11 +104,11 @@ pub(crate) fn replace(path: &Path, bytes: &[u8]) -> io::Result<()> {
     }
     let folder = folder(&whole);
     let (file, beside) = create(folder, old.as_ref())?;
-    let written = write_and_sync(file, bytes, old.as_ref()).and_then(|()| fs::rename(&beside, &whole));
+    let written = write_and_sync(&file, bytes, old.as_ref()).and_then(|()| fs::rename(&beside, &whole));
     if written.is_err() {
         let _ = fs::remove_file(&beside);
     }
-    written.and_then(|()| sync_folder(folder))
+    written.and_then(|()| sync_folder(folder)).map(|()| file)
 }
 
 /// A plain file that is to be read: nothing else is waited for.

@@ -278,7 +278,7 @@ impl Trace {
     ///
     /// Those of the file system; and what is there and no plain file is not replaced.
     pub fn save(&self, path: impl AsRef<Path>) -> io::Result<()> {
-        replace::replace(path.as_ref(), &self.bytes)
+        replace::replace(path.as_ref(), &self.bytes).map(drop)
     }
 
     /// The bytes.
