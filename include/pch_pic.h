@@ -7,7 +7,7 @@
  *     - those that rustc makes of the proved text, which tools/archive --target writes to a folder of target/archive each: for LoongArch, AArch64 and
  *       RISC-V of 64 bits, and for x86-64 kernels. docs/BOARD.md says what is assumed of these. A kernel on x86-64 defines PCH_PIC_BARE
  *       before it includes this header, and so says that it links the one for x86_64-unknown-none.
- * The constant pch_pic_built says which kind is linked. In all else they are alike, byte for byte.
+ * The constant pch_pic_built says which kind is linked. They are tested to leave the same bytes (docs/BOARD.md).
  *
  * THE IMAGE. The device is an image of 290, 259 or 251 bytes, which the host owns and lends to each call. Nothing is allocated, and nothing is kept
  * from one call to the next. So to save a device is to copy its image, and to load it is to lend the copy. pch_pic_reset makes an image of any bytes of

@@ -1,7 +1,7 @@
 //! The C boundary of include/pch_pic.h over the proved text as Rust. `tools/archive --target` builds it for machines that the proved archive is not for.
 //!
 //! Each call hands what it is lent on to the text's function of the same name, and does nothing else. C has a pointer and a length where Rust has a
-//! slice; so this is the only place with unsafe code. What makes it sound is what the header asks of every host, under THE HOST'S DUTIES.
+//! slice; so unsafe code stands here, and in memory.rs. What makes it sound is what the header asks of every host, under THE HOST'S DUTIES.
 #![no_std]
 #![deny(unsafe_op_in_unsafe_fn)]
 
