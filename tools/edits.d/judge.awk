@@ -27,7 +27,7 @@ function owners(place, names,    path, last, n, i) {
     for (i = owners(path, names); i > 0; i--) {
         if (names[i] in error) continue
         error[names[i]] = place
-        shape[names[i]] = /that can be named from here|: record `[^`]*` has no field/
+        shape[names[i]] = /that can be named from here|: record `[^`]*` has no field|: this λ has [0-9]+ binders/
     }
 }
 /^fn .*: not proved/ {

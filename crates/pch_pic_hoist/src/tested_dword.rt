@@ -1,5 +1,5 @@
 // The hoist profile's reads and writes, and the end of start-up, on the image alone: what they tell is handed back. The image is tested here, 4, 5, 8 to 11; what
-// comes after is `hoist_access`.
+// comes after is `accepted_dword`.
 use crate::accepted_dword;
 use crate::judge::Fit;
 use crate::judge::judge_end;

@@ -1,5 +1,5 @@
 // A view over a lent trace: it holds the trace's bytes and a place, and shows the record there as a part of them.
-// Its functions are thin: what is to be worked out stands in `view`, over plain parameters. Callers reach a record by `record_at`, whose parameters are plain too.
+// Its functions are thin: what is to be worked out stands in `record_bytes`, over plain parameters. Callers reach a record by `record_at`, whose parameters are plain too.
 use crate::record_bytes::LENGTH;
 use crate::record_bytes::Record;
 use crate::record_bytes::fields;

@@ -1,13 +1,20 @@
 -- `convert`: each refusal leaves where the order of the tests puts it; done, the target is the image of the device that was loaded, with its numbers.
-use Rattle.basics.proofs.Prelude.{_≡_, refl, sym, ap, _∙_, List, ℕ, length, needs}
-use Rattle.images.specs.{Form.forms, Form.known, Form.formOf, Form.formLength, Image.encodeAs, Image.imageTest, Image.numbersIn, Image.numberBody}
-use Rattle.images.proofs.laws.Tests.{form-known}
+use mathlib.Core.Path.{_≡_, refl, sym, ap, _∙_}
+use mathlib.Core.List.{List}
+use Prim.Native.Nat.{ℕ}
+use lib.ListN.{length}
+use Rattle.images.specs.Form.{forms, known, formOf, formLength}
 use Rattle.rules.specs.Device.{Device}
+use Rattle.images.specs.Image.{encodeAs, imageTest, numbersIn, numberBody}
+use Rattle.images.proofs.laws.Tests.{form-known}
 use Rattle.laws.proofs.laws.Images.{decode-as, numbers-as}
 use Rattle.calls.proofs.laws.Conversions.{no-image, no-target, not-accepted, convert-done}
-use Rattle.image.{specs.Shown.formView, specs.Shown.formKnown, proofs.head.Orders.head-refuses}
-use Rattle.fields.{specs.inplace.Passed.Passed, proofs.inplace.Passing.long, proofs.inplace.Passing.few}
+use Rattle.image.specs.Shown.{formView, formKnown}
+use Rattle.image.proofs.head.Orders.{head-refuses}
+use Rattle.fields.specs.inplace.Passed.{Passed}
+use Rattle.fields.proofs.inplace.Passing.{long, few}
 use Rattle.answer.proofs.refusals.Ends.{fitting, goes-on, tells, head-told, broken-refused, bodies-told}
+use borrow.Author.Needs.{needs}
 use Rattle.pch_pic_convert.proofs.convert.convert.Statement.{statement}
 use Rattle.pch_pic_convert.proofs.convert.convert.Tie as tie
 
@@ -39,29 +46,34 @@ on t =
     goes-on (imageOf (knownAt t)) (λ n. h .before .before .before .before .before .before .before .before .before .shared-slice-known .given n .fits)
     (h .test-head .result) (e .told .given .0 .0) (e .told .given .1) (h .test-head .ensures) (b .test-bodies .result) (t .enum-told4 .given .1) (b .test-bodies .ensures)
 
-pub convert-spec : {M : Type 1} → statement M
-unfolding on
-convert-spec = tie.close (tie.spec (λ c κs. search needs) (λ c. search needs) (λ c. search needs) (λ c κs. search needs)
-    (λ c. let u = c .before in
+returns : tie.Need-returns
+returns c =
+    let u = c .before in
     let f = u .before .before in
     let a = f .before .before .before .args in
-    tells (c .wrong-length .result) (c .wrong-length .ensures) (sym (no-image (a .image .now) (a .target .now) (sym (f .form-of .ensures) ∙ ap formKnown (u .enum-told2 .given .1)))))
-    (λ c κs. search needs) (λ c. search needs) (λ c. search needs) (λ c κs. search needs)
-    (λ c. let u = c .before in
+    tells (c .wrong-length .result) (c .wrong-length .ensures) (sym (no-image (a .image .now) (a .target .now) (sym (f .form-of .ensures) ∙ ap formKnown (u .enum-told2 .given .1))))
+
+returns-2 : tie.Need-returns-2
+returns-2 c =
+    let u = c .before in
     let f = u .before .before in
     let t = f .before in
     let a = t .before .before .before .before .before .args in
-    tells (c .wrong-length2 .result) (c .wrong-length2 .ensures) (sym (no-target (a .image .now) (a .target .now) (own t) (sym (f .form-of2 .ensures) ∙ ap formKnown (u .enum-told3 .given .1)))))
-    (λ c κs. search needs) (λ c. search needs) (λ c κs. search needs)
-    (λ c. let m = c .before in
+    tells (c .wrong-length2 .result) (c .wrong-length2 .ensures) (sym (no-target (a .image .now) (a .target .now) (own t) (sym (f .form-of2 .ensures) ∙ ap formKnown (u .enum-told3 .given .1))))
+
+returns-3 : tie.Need-returns-3
+returns-3 c =
+    let m = c .before in
     let h = m .before in
     let t = h .before in
     let a = t .before .before .before .before .before .before .before .before .before .args in
     let i = a .image .now in
     tells (c .of-head .result) (head-told i (h .test-head .result) (m .match3 .keys2) (h .test-head .ensures) (c .of-head .result) (c .of-head .ensures))
-    (sym (not-accepted i (a .target .now) (own (t .before .before .before .before)) (other t) (imageTest i) refl (head-refuses i (h .test-head .result) (m .match3 .keys2) (h .test-head .ensures)))))
-    (λ c κs. fit c) (λ c. search needs) (λ c. search needs) (λ c κs. fit (c .before .before .before))
-    (λ c. let u = c .before in
+    (sym (not-accepted i (a .target .now) (own (t .before .before .before .before)) (other t) (imageTest i) refl (head-refuses i (h .test-head .result) (m .match3 .keys2) (h .test-head .ensures))))
+
+returns-4 : tie.Need-returns-4
+returns-4 c =
+    let u = c .before in
     let b = u .before .before in
     let e = b .before .before in
     let h = e .before .before in
@@ -71,11 +83,11 @@ convert-spec = tie.close (tie.spec (λ c κs. search needs) (λ c. search needs)
     tells (c .of-bodies .result)
     (bodies-told i (h .test-head .result) (e .told .given .0 .0) (e .told .given .1) (h .test-head .ensures) (b .test-bodies .result) (b .test-bodies .ensures) (c .of-bodies .result) (c .of-bodies .ensures))
     (sym (not-accepted i (a .target .now) (own (t .before .before .before .before)) (other t) (imageTest i) refl
-    (broken-refused i (h .test-head .result) (e .told .given .0 .0) (e .told .given .1) (h .test-head .ensures) (b .test-bodies .result) (b .test-bodies .ensures) (u .enum-told5 .given .1)))))
-    (λ c κs. let p = on c in (long p, few p)) (λ c κs. let p = on (c .before .before) in (long p, few p))
-    (λ c κs. (form-known forms _ _ (other (c .before .before .before .before .before .before .before .before .before .before .before)), c .before .load .ensures .well))
-    (λ c κs. search needs) (λ c. search needs)
-    (λ c. let s = c .before .before .before in
+    (broken-refused i (h .test-head .result) (e .told .given .0 .0) (e .told .given .1) (h .test-head .ensures) (b .test-bodies .result) (b .test-bodies .ensures) (u .enum-told5 .given .1))))
+
+returns-5 : tie.Need-returns-5
+returns-5 c =
+    let s = c .before .before .before in
     let l = s .before .before in
     let n = l .before .before in
     let p = n .before in
@@ -86,4 +98,25 @@ convert-spec = tie.close (tie.spec (λ c κs. search needs) (λ c. search needs)
     tells (c .done .result) (c .done .ensures)
     (convert-done i (a .target .now) (own (t .before .before .before .before)) (other t) (on p .good)
     (s .save .ensures (numbersIn i) (ap numberBody (numbers-as f i (long (on p))) ∙ sym (n .load-numbers .ensures (on p .good)))
-    ∙ ap (λ (d : Device). encodeAs (formView (t .before .form .given .0 .0)) d (numbersIn i)) (l .load .ensures .shows ∙ sym (decode-as f i (long (on p))))))))
+    ∙ ap (λ (d : Device). encodeAs (formView (t .before .form .given .0 .0)) d (numbersIn i)) (l .load .ensures .shows ∙ sym (decode-as f i (long (on p))))))
+
+pub convert-spec : {M : Type 1} → statement M
+unfolding on
+convert-spec =
+    tie.close
+    (tie.spec
+    (λ c κs. search needs) (λ c. search needs) (λ c. search needs) (λ c κs. search needs)
+    returns
+    (λ c κs. search needs) (λ c. search needs) (λ c. search needs) (λ c κs. search needs)
+    returns-2
+    (λ c κs. search needs) (λ c. search needs) (λ c κs. search needs)
+    returns-3
+    (λ c κs. fit c) (λ c. search needs) (λ c. search needs)
+    (λ c κs. fit (c .before .before .before))
+    returns-4
+    (λ c κs. let p = on c in (long p, few p))
+    (λ c κs. let p = on (c .before .before) in (long p, few p))
+    (λ c κs. (form-known forms _ _ (other (c .before .before .before .before .before .before .before .before .before .before .before)), c .before .load .ensures .well))
+    (λ c κs. search needs)
+    (λ c. search needs)
+    returns-5)

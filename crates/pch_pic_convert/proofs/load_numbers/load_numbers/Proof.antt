@@ -1,10 +1,23 @@
 -- `load_numbers`: a form without numbers has those from 0 on; else the body is handed back, whose unused numbers are zero.
-use Rattle.basics.proofs.Prelude.{_≡_, refl, sym, ap, _∙_, subst, false, List, ℕ, _+_, _-_, _≤_, arith, length, getD, needs, part, Bytes}
-use Rattle.rules.specs.{Ring.capacity, Numbering.fromZero}
+use mathlib.Core.Path.{_≡_, refl, sym, ap, _∙_, subst}
+use mathlib.Core.Bool.{false}
+use mathlib.Core.List.{List}
+use Prim.Native.Nat.{ℕ, _+_, _-_, _≤_}
+use native.Mathlib.Omega.{arith}
+use lib.ListN.{length, getD}
+use borrow.Author.Needs.{needs}
+use Rattle.basics.specs.Numbers.{part, Bytes}
+use Rattle.rules.specs.Ring.{capacity}
+use Rattle.rules.specs.Numbering.{fromZero}
 use Rattle.images.specs.Form.{count, next, numbers, numbered, has, place, formLength}
 use Rattle.images.specs.Image.{fieldOf, decodeAs, numbersAs, accepted, imageTest, testAs, numberBody, numberBodyLength}
-use Rattle.images.proofs.laws.{Layout.read-run, Tests.accepted-has, Tests.known-length, Saved.numbers-not-there, Saved.encode-decode, Saved.decode-well, Saved.numbers-well, Saved.fields-sized}
-use Rattle.image.specs.{Shown.formView, Shown.PlacesOf, declared.form.Form.Form, declared.form.Form.the-variants.Numbered, declared.form.Places.Places}
+use Rattle.images.proofs.laws.Layout.{read-run}
+use Rattle.images.proofs.laws.Tests.{accepted-has, known-length}
+use Rattle.images.proofs.laws.Saved.{numbers-not-there, encode-decode, decode-well, numbers-well, fields-sized}
+use Rattle.image.specs.Shown.{formView, PlacesOf}
+use Rattle.image.specs.declared.form.Form.{Form}
+use Rattle.image.specs.declared.form.Form.the-variants.{Numbered}
+use Rattle.image.specs.declared.form.Places.{Places}
 use Rattle.image.proofs.Forms.{placed, always-within, has-numbers, has-next, no-numbers, body-within}
 use Rattle.pch_pic_convert.proofs.load_numbers.load_numbers.Statement.{statement}
 use Rattle.pch_pic_convert.proofs.load_numbers.load_numbers.Tie as tie
@@ -33,6 +46,25 @@ module _ (l : List ℕ) (b : Bytes l) (x : Form) (s : length l ≡ formLength (f
       let f = formView x in
       q ∙ ap (λ a. numberBody (fromZero (getD l a 0))) (placed o count refl) ∙ ap numberBody (sym (numbers-not-there f l h))
 
+returns : tie.Need-returns
+returns c t =
+    let m = c .before .before in
+    let p = m .before in
+    let k = p .before in
+    let s = k .before in
+    lacks (s .args .image .now) (λ j. omega (arith, k .shared-slice-known .given j)) (s .args .form) (s .pre .0) (p .places-of .result) (p .places-of .ensures) t
+    (no-numbers (s .args .form) (m .match .keys2)) (c .counted .result) (c .counted .ensures)
+
+returns-2 : tie.Need-returns-2
+returns-2 c t =
+    let copied = c .before in
+    let told = copied .before .before .before in
+    let p = told .before .before in
+    let k = p .before in
+    let s = k .before in
+    there (s .args .image .now) (λ j. omega (arith, k .shared-slice-known .given j)) (s .args .form) (s .pre .0) (p .places-of .result) (p .places-of .ensures) t
+    (told .enum-told .given .1) (copied .copy .last .0) (copied .copy .ensures)
+
 counts : (c : tie.After-places-of) → c .places-of .result .count + 1 ≤ length (c .before .before .args .image .now)
 counts c = let s = c .before .before in always-within (formView (s .args .form)) (s .args .image .now) (s .pre .0) (c .places-of .result) (c .places-of .ensures) count refl
 
@@ -43,24 +75,24 @@ within c =
     let told = c .enum-told .given .1 in
     body-within (formView (s .args .form)) (s .args .image .now) (s .pre .0) (p .places-of .result) (p .places-of .ensures) (has-next (s .args .form) told) (has-numbers (s .args .form) told)
 
-pub load-numbers-spec : {M : Type 1} → statement M
-load-numbers-spec = tie.close (tie.spec (λ c κs. search needs) (λ c. search needs) (λ c. omega (arith, counts (c .before .before)))
-    (λ c. omega (arith, c .shared-slice-known2 .given (c .before .before .places-of .result .count)))
-    (λ c κs. let p = c .before .before in
+few : tie.Need-counted-requires
+few c κs =
+    let p = c .before .before in
     let s = p .before .before in
-    subst (λ n. n ≤ capacity) (ap (λ a. getD (s .args .image .now) a 0) (sym (placed (p .places-of .ensures) count refl))) (s .pre .1))
-    (λ c t. let m = c .before .before in
-    let p = m .before in
-    let k = p .before in
-    let s = k .before in
-    lacks (s .args .image .now) (λ j. omega (arith, k .shared-slice-known .given j)) (s .args .form) (s .pre .0) (p .places-of .result) (p .places-of .ensures) t
-    (no-numbers (s .args .form) (m .match .keys2)) (c .counted .result) (c .counted .ensures))
-    (λ c. omega (arith, within c)) (λ c. search needs) (λ c. search needs) (λ c. search needs) (λ c. omega (arith, within (c .before)))
+    subst (λ n. n ≤ capacity) (ap (λ a. getD (s .args .image .now) a 0) (sym (placed (p .places-of .ensures) count refl))) (s .pre .1)
+
+pub load-numbers-spec : {M : Type 1} → statement M
+load-numbers-spec =
+    tie.close
+    (tie.spec
     (λ c κs. search needs)
-    (λ c t. let copied = c .before in
-    let told = copied .before .before .before in
-    let p = told .before .before in
-    let k = p .before in
-    let s = k .before in
-    there (s .args .image .now) (λ j. omega (arith, k .shared-slice-known .given j)) (s .args .form) (s .pre .0) (p .places-of .result) (p .places-of .ensures) t
-    (told .enum-told .given .1) (copied .copy .last .0) (copied .copy .ensures)))
+    (λ c. search needs)
+    (λ c. omega (arith, counts (c .before .before)))
+    (λ c. omega (arith, c .shared-slice-known2 .given (c .before .before .places-of .result .count)))
+    few
+    returns
+    (λ c. omega (arith, within c))
+    (λ c. search needs) (λ c. search needs) (λ c. search needs)
+    (λ c. omega (arith, within (c .before)))
+    (λ c κs. search needs)
+    returns-2)

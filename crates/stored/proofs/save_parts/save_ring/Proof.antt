@@ -1,24 +1,32 @@
 -- `save_ring`: the count, the drops and the pairs are put into their fields, and all else stays.
-use Rattle.basics.proofs.Prelude.{true, _≡_, refl, sym, ap, _∙_, [], _∷_, _+_, _%_, _≤_, mod-eq-of-lt, arith, length, needs, bytesOf}
+use mathlib.Core.Bool.{true}
+use mathlib.Core.Path.{_≡_, refl, sym, ap, _∙_}
+use mathlib.Core.List.{[], _∷_}
+use Prim.Native.Nat.{_+_, _%_, _≤_}
+use native.Mathlib.Nat.{mod-eq-of-lt}
+use native.Mathlib.Omega.{arith}
+use lib.ListN.{length}
+use borrow.Author.Needs.{needs}
+use Rattle.basics.specs.Numbers.{bytesOf}
 use Rattle.rules.specs.Ring.{capacity, eventTwos}
-use Rattle.images.{specs.Form.Field, specs.Form.count, specs.Form.drops, specs.Form.pairs, specs.Form.size, specs.Image.sixteen, proofs.laws.Layout.always, proofs.laws.Twos.length-sixteen}
-use Rattle.image.{specs.Shown.formView, specs.Shown.placeIn, proofs.Forms.always-within}
+use Rattle.images.specs.Form.{Field, count, drops, pairs, size}
+use Rattle.images.proofs.laws.Layout.{always}
+use Rattle.image.specs.Shown.{formView, placeIn}
+use Rattle.images.specs.Image.{sixteen}
+use Rattle.images.proofs.laws.Twos.{length-sixteen}
 use Rattle.device.proofs.state.Slots.{slots-length}
-use Rattle.stored.proofs.{saves.Putting.puts-then, saves.Putting.puts-number, saves.Putting.puts-part, save_parts.save_ring.Statement.statement}
+use Rattle.image.proofs.Forms.{always-within}
+use Rattle.stored.proofs.saves.Putting.{puts-then, puts-number, puts-part}
+use Rattle.stored.proofs.save_parts.save_ring.Statement.{statement}
 use Rattle.stored.proofs.save_parts.save_ring.Tie as tie
 
 -- a field ends within the image
 within : (c : tie.After-places-of) (q : Field) → always q ≡ true → placeIn (c .places-of .result) q + size q ≤ length (c .before .before .args .image .now)
 within c = let s = c .before .before in always-within (formView (s .args .form)) (s .args .image .now) (s .pre .0) (c .places-of .result) (c .places-of .ensures)
 
-pub save-ring-spec : {M : Type 1} → statement M
-save-ring-spec = tie.close (tie.spec (λ c κs. search needs) (λ c κs. within (c .before) count refl) (λ c. search needs)
-    (λ c κs. let h = within (c .before .before .before .before .before .before) drops refl in search needs)
-    (λ c. record { fits = omega (arith, within (c .before .before .before .before .before .before .before .before .before) pairs refl) })
-    (λ c. search needs) (λ c. search needs)
-    (λ c. let h = within (c .before .before .before .before .before .before .before .before .before) pairs refl in search needs)
-    (λ c κs. search needs) (λ c. search needs)
-    (λ c d ns e. let three = c .before .before in
+returns : tie.Need-returns
+returns c d ns e =
+    let three = c .before .before in
     let two = three .before .before .before .before in
     let one = two .before .before .before .before .before in
     let k = one .before .before in
@@ -33,4 +41,28 @@ save-ring-spec = tie.close (tie.spec (λ c κs. search needs) (λ c κs. within 
     let spelled = three .put-pairs .ensures ∙ ap (λ x. sixteen eventTwos (x .waiting)) (sym e) in
     let first = puts-number f d ns p o count refl (r .«output_len») (s .pre .0) (ap (λ n. n ∷ []) small) (one .put-bytes .ensures) in
     let both = puts-then f d ns first (puts-number f d ns p o drops refl (r .«output_drops») (first .size ∙ s .pre .0) (ap (λ x. bytesOf 4 (x .drops)) (sym e)) (two .put-bytes2 .ensures)) in
-    puts-then f d ns both (puts-part f d ns p o pairs refl (both .size ∙ s .pre .0) spelled (ap length spelled ∙ length-sixteen eventTwos (d .ring .waiting) few) refl)))
+    puts-then f d ns both (puts-part f d ns p o pairs refl (both .size ∙ s .pre .0) spelled (ap length spelled ∙ length-sixteen eventTwos (d .ring .waiting) few) refl)
+
+put-bytes-requires-2 : tie.Need-put-bytes-requires-2
+put-bytes-requires-2 c κs = let h = within (c .before .before .before .before .before .before) drops refl in search needs
+
+add-end : tie.Need-add-end
+add-end c = record { fits = omega (arith, within (c .before .before .before .before .before .before .before .before .before) pairs refl) }
+
+part-put-pairs-end : tie.Need-part-put-pairs-end
+part-put-pairs-end c = let h = within (c .before .before .before .before .before .before .before .before .before) pairs refl in search needs
+
+pub save-ring-spec : {M : Type 1} → statement M
+save-ring-spec =
+    tie.close
+    (tie.spec
+    (λ c κs. search needs)
+    (λ c κs. within (c .before) count refl)
+    (λ c. search needs)
+    put-bytes-requires-2
+    add-end
+    (λ c. search needs) (λ c. search needs)
+    part-put-pairs-end
+    (λ c κs. search needs)
+    (λ c. search needs)
+    returns)

@@ -1,25 +1,25 @@
 -- `save_lines`: four words are put into their fields, and all else stays.
-use Rattle.basics.proofs.Prelude.{true, _≡_, refl, sym, ap, _∙_, _+_, _≤_, length, needs, bytesOf}
-use Rattle.images.{specs.Form.mask, specs.Form.irr, specs.Form.isr, specs.Form.Field, specs.Form.word, specs.Form.size, proofs.laws.Layout.always}
-use Rattle.image.{specs.Shown.formView, specs.Shown.placeIn, proofs.Forms.always-within, proofs.Forms.copy-within}
-use Rattle.stored.proofs.{saves.Putting.puts-then, saves.Putting.puts-number, saves.Putting.puts-latched, save_words.save_lines.Statement.statement}
+use mathlib.Core.Bool.{true}
+use mathlib.Core.Path.{_≡_, refl, sym, ap, _∙_}
+use Prim.Native.Nat.{_+_, _≤_}
+use lib.ListN.{length}
+use borrow.Author.Needs.{needs}
+use Rattle.basics.specs.Numbers.{bytesOf}
+use Rattle.images.specs.Form.{mask, irr, isr, Field, word, size}
+use Rattle.images.proofs.laws.Layout.{always}
+use Rattle.image.specs.Shown.{formView, placeIn}
+use Rattle.image.proofs.Forms.{always-within, copy-within}
+use Rattle.stored.proofs.saves.Putting.{puts-then, puts-number, puts-latched}
+use Rattle.stored.proofs.save_words.save_lines.Statement.{statement}
 use Rattle.stored.proofs.save_words.save_lines.Tie as tie
 
 -- a field ends within the image
 within : (c : tie.After-places-of) (q : Field) → always q ≡ true → placeIn (c .places-of .result) q + size q ≤ length (c .before .before .args .image .now)
 within c = let s = c .before .before in always-within (formView (s .args .form)) (s .args .image .now) (s .pre) (c .places-of .result) (c .places-of .ensures)
 
-pub save-lines-spec : {M : Type 1} → statement M
-save-lines-spec = tie.close (tie.spec (λ c κs. search needs) (λ c κs. within (c .before) (word mask) refl)
-    (λ c κs.
-    let k = c .before .before .before .before .before in
-    let s = k .before .before in
-    let h = copy-within (formView (s .args .form)) (s .args .image .now) (s .pre) (k .places-of .result) (k .places-of .ensures) in
-    search needs)
-    (λ c κs. let h = within (c .before .before .before .before .before .before .before .before .before) (word irr) refl in search needs)
-    (λ c κs. let h = within (c .before .before .before .before .before .before .before .before .before .before .before .before .before) (word isr) refl in search needs)
-    (λ c. search needs)
-    (λ c d ns e. let four = c .before .before in
+returns : tie.Need-returns
+returns c d ns e =
+    let four = c .before .before in
     let three = four .before .before .before .before in
     let two = three .before .before .before .before in
     let one = two .before .before .before .before in
@@ -31,4 +31,20 @@ save-lines-spec = tie.close (tie.spec (λ c κs. search needs) (λ c κs. within
     let first = puts-number f d ns (k .places-of .result) (k .places-of .ensures) (word mask) refl (n .«int_mask») (s .pre) (ap (bytesOf 8) (sym (ap (λ l. l .mask) e))) (one .put-word .ensures) in
     let latched = puts-latched f d ns (k .places-of .result) (k .places-of .ensures) (n .intirr) (first .size ∙ s .pre) line (two .put-word2 .ensures) (three .put-word3 .ensures) in
     let both = puts-then f d ns first latched in
-    puts-then f d ns both (puts-number f d ns (k .places-of .result) (k .places-of .ensures) (word isr) refl (n .intisr) (both .size ∙ s .pre) (ap (bytesOf 8) (sym (ap (λ l. l .isr) e))) (four .put-word4 .ensures))))
+    puts-then f d ns both (puts-number f d ns (k .places-of .result) (k .places-of .ensures) (word isr) refl (n .intisr) (both .size ∙ s .pre) (ap (bytesOf 8) (sym (ap (λ l. l .isr) e))) (four .put-word4 .ensures))
+
+pub save-lines-spec : {M : Type 1} → statement M
+save-lines-spec =
+    tie.close
+    (tie.spec
+    (λ c κs. search needs)
+    (λ c κs. within (c .before) (word mask) refl)
+    (λ c κs.
+    let k = c .before .before .before .before .before in
+    let s = k .before .before in
+    let h = copy-within (formView (s .args .form)) (s .args .image .now) (s .pre) (k .places-of .result) (k .places-of .ensures) in
+    search needs)
+    (λ c κs. let h = within (c .before .before .before .before .before .before .before .before .before) (word irr) refl in search needs)
+    (λ c κs. let h = within (c .before .before .before .before .before .before .before .before .before .before .before .before .before) (word isr) refl in search needs)
+    (λ c. search needs)
+    returns)

@@ -1,6 +1,6 @@
 // Made from crates/pch_pic_hoist/src/tested_dword.rt by tools/portable: do not change it here.
 //! The hoist profile's reads and writes, and the end of start-up, on the image alone: what they tell is handed back. The image is tested here, 4, 5, 8 to 11; what
-//! comes after is `hoist_access`.
+//! comes after is `accepted_dword`.
 
 use super::super::answer::done;
 use super::super::answer::refusals::of_bodies;
