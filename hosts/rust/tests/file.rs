@@ -155,6 +155,10 @@ fn a_hoist_keeps_its_phase() {
 mod unix {
     use super::*;
     use std::os::unix::fs::{symlink, MetadataExt, PermissionsExt};
+    use std::os::unix::net::UnixListener;
+    use std::sync::mpsc;
+    use std::thread;
+    use std::time::Duration;
 
     #[test]
     fn the_mode_stays() {
@@ -186,15 +190,28 @@ mod unix {
         assert_eq!(fs::read_dir(&apart).unwrap().count(), 1);
     }
 
+    /// What a load says; nothing where it does not come back, so that the test ends.
+    fn loaded_in_time(path: &Path) -> Option<Result<PchPic, LoadError>> {
+        let (told, heard) = mpsc::channel();
+        let path = path.to_path_buf();
+        thread::spawn(move || drop(told.send(file::load(path))));
+        heard.recv_timeout(Duration::from_secs(20)).ok()
+    }
+
     #[test]
     fn what_is_no_plain_file_is_not_waited_for() {
         let folder = Folder::new("pipe");
         let path = folder.0.join("pipe");
         let made = std::process::Command::new("mkfifo").arg(&path).status();
-        let devices = ["/dev/null", "/dev/zero"].map(PathBuf::from);
-        for path in devices.iter().chain(made.is_ok_and(|status| status.success()).then_some(&path)).chain([&folder.0]) {
-            assert!(matches!(file::load(path), Err(LoadError::Io(_))));
+        let socket = folder.0.join("socket");
+        let _listener = UnixListener::bind(&socket).unwrap();
+        for path in [&socket, &folder.0].into_iter().chain(made.is_ok_and(|status| status.success()).then_some(&path)) {
+            assert!(matches!(loaded_in_time(path), Some(Err(LoadError::Io(_)))));
             assert!(file::save(&signed(1), Form::Two, path).is_err());
+        }
+        // Not saved over: where that is broken, root would lose them.
+        for device in ["/dev/null", "/dev/zero"] {
+            assert!(matches!(loaded_in_time(Path::new(device)), Some(Err(LoadError::Io(_)))));
         }
     }
 }
