@@ -154,21 +154,30 @@ fn a_hoist_keeps_its_phase() {
 #[cfg(unix)]
 mod unix {
     use super::*;
-    use std::os::unix::fs::{symlink, MetadataExt, PermissionsExt};
+    use std::os::unix::fs::{chown, symlink, MetadataExt, PermissionsExt};
     use std::os::unix::net::UnixListener;
     use std::sync::mpsc;
     use std::thread;
     use std::time::Duration;
 
     #[test]
-    fn the_mode_stays() {
+    fn mode_and_owner_stay() {
         let folder = Folder::new("mode");
-        let path = folder.0.join("device");
+        let (path, usual) = (folder.0.join("device"), folder.0.join("usual"));
+        let found = |path: &Path| fs::metadata(path).unwrap();
         file::save(&signed(1), Form::One, &path).unwrap();
+        fs::write(&usual, "").unwrap();
+        assert_eq!(found(&path).mode(), found(&usual).mode(), "a new file has the mode that is usual here");
         for mode in [0o604, 0o400] {
             fs::set_permissions(&path, fs::Permissions::from_mode(mode)).unwrap();
             file::save(&signed(2), Form::One, &path).unwrap();
-            assert_eq!((saver(&path), fs::metadata(&path).unwrap().mode() & 0o7777), (Some(2), mode));
+            assert_eq!((saver(&path), found(&path).mode() & 0o7777), (Some(2), mode));
+        }
+        // Only root may give a file away.
+        if found(&path).uid() == 0 {
+            chown(&path, Some(7), Some(8)).unwrap();
+            file::save(&signed(3), Form::One, &path).unwrap();
+            assert_eq!((found(&path).uid(), found(&path).gid()), (7, 8));
         }
     }
 
