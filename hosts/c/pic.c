@@ -325,8 +325,8 @@ static int sweep(struct pic *pic, struct pic_wires *wires)
     struct pic_event event;
     uint64_t waiting;
     int number = pic_waiting_inputs(pic, &waiting);
-    for (unsigned input = 0; input < PCH_PIC_INPUTS && number == PCH_PIC_DONE; input++) {
-        if (waiting >> input & 1) {
+    for (unsigned input = 0; waiting != 0 && number == PCH_PIC_DONE; input++, waiting >>= 1) {
+        if (waiting & 1) {
             number = pic_poll(pic, input, &event);
             pass_on(pic, wires, event);
         }
@@ -337,8 +337,8 @@ static int sweep(struct pic *pic, struct pic_wires *wires)
 static int move_all(struct pic *pic, struct pic_wires *wires, uint64_t inputs, bool high)
 {
     int number = PCH_PIC_DONE;
-    for (unsigned input = 0; input < PCH_PIC_INPUTS && number == PCH_PIC_DONE; input++) {
-        if (inputs >> input & 1) {
+    for (unsigned input = 0; inputs != 0 && number == PCH_PIC_DONE; input++, inputs >>= 1) {
+        if (inputs & 1) {
             number = move(pic, wires, input, high);
         }
     }

@@ -283,6 +283,10 @@ fn edge_inputs(pic: &PchPic) -> u64 {
 }
 
 /// The inputs of a set, lowest first.
-fn inputs(set: u64) -> impl Iterator<Item = u64> {
-    (0..INPUTS as u64).filter(move |input| set >> input & 1 == 1)
+fn inputs(mut set: u64) -> impl Iterator<Item = u64> {
+    core::iter::from_fn(move || {
+        let lowest = (set != 0).then(|| u64::from(set.trailing_zeros()))?;
+        set &= set - 1;
+        Some(lowest)
+    })
 }
