@@ -89,7 +89,9 @@ pub fn front_line(case: &Case, failure: u64) -> String {
 pub fn parse_front(words: &[String]) -> Option<Result<Case, String>> {
     let (name, words) = words.split_first()?;
     let known = match name.as_str() {
-        "salvage" | "sheet" | "waiting" | "hoist-end" | "board-event" | "front-convert" | "front-difference" | "front-play" => name.as_str(),
+        "salvage" | "sheet" | "waiting" | "hoist-end" | "board-event" | "front-convert" | "front-difference" | "front-play" => {
+            name.as_str()
+        }
         name => name.split_once('-').filter(|(front, _)| ["plain", "board", "hoist"].contains(front))?.1,
     };
     Some(case_of(name, known, words))
