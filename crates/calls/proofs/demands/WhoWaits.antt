@@ -8,6 +8,7 @@ use Rattle.calls.specs.Waiting.{waitingIn, waitingTold, waiting}
 use Rattle.calls.proofs.laws.Answers.{value-read}
 use Rattle.images.specs.Image as image
 use Rattle.calls.specs.Calls as request
+use Rattle.calls.proofs.laws.Waits as computed
 
 module _ (i a : List ℕ) where
   -- No byte of the image changes, nor one of the answer area past its 16; there is no event buffer.

@@ -99,7 +99,8 @@ pub fn pch_pic_drain(image: &mut [u8], events: &mut [u8], place: usize, answer: 
 /// ensures { λ r. ⌜ leaves r (now (image .entry)) (now (answer .exit)) [] ≡ waiting (now (image .entry)) (now (answer .entry)) ⌝ }
 /// ```
 pub fn pch_pic_waiting(image: &[u8], answer: &mut [u8]) -> u8 {
-    if answer.len() < 16 {
+    let room = answer.len();
+    if room < 16 {
         return 7;
     }
     let told = who_waits::waiting(image);

@@ -208,9 +208,6 @@ fn pch_pic_drain_of<const N: usize>(
 /// ensures { λ r. ⌜ leaves r (now (image .entry)) (now (answer .exit)) [] ≡ waiting (now (image .entry)) (now (answer .entry)) ⌝ }
 /// ```
 pub fn pch_pic_waiting(image: &[u8], answer: &mut [u8]) -> u8 {
-    if answer.len() < 16 {
-        return 7;
-    }
     if let Ok(image) = <&[u8; 259]>::try_from(image) {
         return pch_pic_waiting_of(image, answer);
     }
@@ -225,6 +222,10 @@ pub fn pch_pic_waiting(image: &[u8], answer: &mut [u8]) -> u8 {
 
 #[inline]
 fn pch_pic_waiting_of<const N: usize>(image: &[u8; N], answer: &mut [u8]) -> u8 {
+    let room = answer.len();
+    if room < 16 {
+        return 7;
+    }
     let told = who_waits::waiting(image);
     answer::tell(answer, told)
 }
