@@ -116,7 +116,8 @@ struct pic_salvaged {
     size_t dropped;                    /* how many these are */
 };
 
-/* Salvages a trace whose contents are right: 0, 12 where they are not, or 16 where no block is left. A refusal leaves salvaged. */
+/* Salvages a trace whose contents are right: 0, 12 where they are not, or 16 where no block is left. A refusal leaves salvaged. Behind a block that was dropped it
+ * plays on another state than the day had, and no number there is the day's; holes.h keeps what comes before the first one. */
 int pic_trace_salvage(const uint8_t *trace, size_t len, struct pic_salvaged *salvaged);
 
 /* A dropped block and the first bad record in it, both counted from 0, the record within its block. */

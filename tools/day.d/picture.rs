@@ -41,14 +41,16 @@ const LATCH: (usize, usize) = (20, 5);
 fn write_lane(out: &mut String, asked: &Asked, day: &Day, lane: &Lane, top: usize) {
     let run = |wait: &Wait| Run { first: wait.raised, len: ends(wait, day.records) - wait.raised };
     let of = |keep: &dyn Fn(&Wait) -> bool| lane.waits.iter().filter(|wait| keep(wait)).map(run).collect::<Vec<_>>();
-    let over = of(&|wait| asked.too_long(wait));
-    let waits = of(&|wait| wait.length().is_some() && !asked.too_long(wait));
+    let over = of(&|wait| wait.length().is_some() && day.too_long(asked, wait));
+    let waits = of(&|wait| wait.length().is_some() && !day.too_long(asked, wait));
+    let edge = of(&|wait| wait.length().is_none() && day.too_long(asked, wait));
     let (gone, open) = (of(&|wait| matches!(wait.end, End::Withdrawn(_))), of(&|wait| wait.end == End::Open));
     let _ = writeln!(out, "<g class=\"lane\" data-input=\"{}\" transform=\"translate(0 {top})\">", lane.input);
     path(out, "masked", &boxes(lane.masked.iter().copied(), 0, LANE));
     path(out, "latched", &boxes(lane.latched.iter().copied(), LATCH.0, LATCH.1));
     path(out, "served", &boxes(lane.served.iter().copied(), BAND.0, BAND.1));
-    for (class, runs) in [("wait", &waits), ("over", &over), ("gone", &gone), ("open", &open)] {
+    // What was withdrawn or is open is over the limit by its edge alone.
+    for (class, runs) in [("wait", &waits), ("over", &over), ("gone", &gone), ("open", &open), ("edge", &edge)] {
         path(out, class, &boxes(runs.iter().copied(), BAND.0, BAND.1));
     }
     path(out, "stripes", &lines(waits.iter().chain(&over).copied(), BAND.0 + BAND.1 / 2));
@@ -85,9 +87,11 @@ fn write_axis(out: &mut String, day: &Day) {
     let step = step(day.records);
     for record in (0..day.records).step_by(step) {
         let x = percent(record as f64, day);
+        // At the day's end a number stands left of its tick, so that it is not cut.
+        let side = if record * 20 > day.records * 19 { " end" } else { "" };
         let _ = writeln!(
             out,
-            "<line class=\"tick\" x1=\"{x}\" x2=\"{x}\" y1=\"{}\" y2=\"{AXIS}\"/><text class=\"at\" x=\"{x}\" y=\"14\">{}</text>",
+            "<line class=\"tick\" x1=\"{x}\" x2=\"{x}\" y1=\"{}\" y2=\"{AXIS}\"/><text class=\"at{side}\" x=\"{x}\" y=\"14\">{}</text>",
             AXIS - 7,
             counted(record)
         );
@@ -112,13 +116,41 @@ fn write_ring(out: &mut String, day: &Day) {
     path(out, "full", &format!("M0 {}H{}", high(EVENTS), day.records));
 }
 
-/// Dropped events: a piece of no length with round ends is a dot, whatever the width of the day.
+/// Dropped events: a piece of no length with round ends is a dot, whatever the width of the day. Of a deassert it is a ring, with the ground in its middle.
 fn write_dots(out: &mut String, lane: &Lane, top: usize) {
     let middle = top + BAND.0 + BAND.1 / 2;
-    let dots: String = lane.dropped.iter().map(|record| format!("M{record}.5 {middle}h0")).collect();
-    path(out, "halo", &dots);
-    if !dots.is_empty() {
-        let _ = writeln!(out, "<path class=\"drop\" data-input=\"{}\" d=\"{dots}\"/>", lane.input);
+    let dots = |records: &[usize]| records.iter().map(|record| format!("M{record}.5 {middle}h0")).collect::<String>();
+    let (asserts, deasserts) = (dots(&lane.unannounced), dots(&lane.left_on));
+    path(out, "halo", &format!("{asserts}{deasserts}"));
+    for (class, dots) in [("drop", &asserts), ("left", &deasserts)] {
+        if !dots.is_empty() {
+            let _ = writeln!(out, "<path class=\"{class}\" data-input=\"{}\" d=\"{dots}\"/>", lane.input);
+        }
+    }
+    path(out, "core", &deasserts);
+}
+
+/// A hole is a heavy line, with what is lost above it; what comes behind the first one is washed out, as far as there is something.
+fn write_holes(out: &mut String, day: &Day, height: usize) {
+    if let Some(from) = day.wrong_from() {
+        let (x, middle) = (percent(from as f64, day), (AXIS + height) / 2);
+        let high = height - AXIS;
+        let _ = writeln!(
+            out,
+            "<rect class=\"wash\" x=\"{x}\" y=\"{AXIS}\" width=\"{}\" height=\"{high}\"/>",
+            percent((day.records - from) as f64, day)
+        );
+        let _ = writeln!(out, "<line class=\"behind\" x1=\"{x}\" x2=\"100%\" y1=\"{middle}\" y2=\"{middle}\" stroke-width=\"{high}\"/>");
+    }
+    for hole in &day.holes {
+        let (x, late) = (percent(hole.at as f64, day), hole.at * 2 > day.records);
+        let (side, lost) = (if late { " end" } else { "" }, counted(hole.lost()));
+        let _ = writeln!(
+            out,
+            "<line class=\"hole\" data-at=\"{}\" x1=\"{x}\" x2=\"{x}\" y1=\"{AXIS}\" y2=\"{height}\"/><text class=\"hole{side}\" x=\"{x}\" y=\"{}\">hole: {lost} missing</text>",
+            hole.at,
+            AXIS + 12
+        );
     }
 }
 
@@ -149,6 +181,7 @@ pub fn picture(asked: &Asked, day: &Day) -> String {
     for (at, lane) in day.lanes.iter().enumerate() {
         write_marks(&mut out, day, lane, top(at));
     }
+    write_holes(&mut out, day, height);
     let _ = writeln!(out, "<line id=\"hair\" x1=\"0\" x2=\"0\" y1=\"{AXIS}\" y2=\"{height}\"/>\n</svg>");
     out
 }
