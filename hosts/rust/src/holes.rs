@@ -219,7 +219,7 @@ fn said(bytes: &[u8]) -> Result<Said, String> {
         return wrong(format!("it has only {} bytes", bytes.len()));
     }
     let count = contents::number(&bytes[..2]) as usize;
-    if count < 1 || count > BLOCKS_MAX {
+    if !(1..=BLOCKS_MAX).contains(&count) {
         return wrong(format!("they say {count} blocks, and a trace has 1 to {BLOCKS_MAX}"));
     }
     if bytes.len() < contents_len(count) {

@@ -146,7 +146,7 @@ pub use event::{difference, Event, Events, Returned};
 pub use form::{Form, Image};
 pub use hoist::{Hoist, Phase};
 #[cfg(feature = "std")]
-pub use recorder::{RecordError, Recorded, Recorder};
+pub use recorder::{monotonic, RecordError, Recorded, Recorder};
 #[cfg(feature = "std")]
 pub use sheet::Sheet;
 #[cfg(feature = "std")]
