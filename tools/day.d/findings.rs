@@ -182,7 +182,7 @@ fn item(day: &Day, finding: &Finding) -> String {
 }
 
 /// How many waits a page lists at most; how many more there are is told.
-const LISTED: usize = 5000;
+const LISTED: usize = 2000;
 
 /// Every wait over the limit, however it ended, longest first.
 fn over_limit(asked: &Asked, day: &Day) -> String {
@@ -219,6 +219,15 @@ fn over_row(asked: &Asked, day: &Day, wait: &Wait) -> String {
     let clock = day.took(wait).map_or(String::new(), |time| format!("<td>{}</td>", milliseconds(time)));
     let (place, records) = (link(Some(wait.input), wait.raised, &name), end - wait.raised);
     format!("<tr><th scope=\"row\">{place}</th><td>{}</td><td>{to}</td><td>{records}</td>{clock}<td>{how}{wrong}</td></tr>\n", wait.raised)
+}
+
+/// The records that the findings and the listed waits lead to, for the records that a long day's page has as text.
+pub fn places(asked: &Asked, day: &Day) -> Vec<usize> {
+    let (shown, folded) = findings(asked, day);
+    let found = shown.iter().chain(&folded).flat_map(|finding| [finding.record, finding.last]);
+    let lost = day.lanes.iter().flat_map(|lane| lane.unannounced.iter().chain(&lane.left_on)).copied();
+    let waits = day.lanes.iter().flat_map(|lane| &lane.waits).filter(|wait| day.too_long(asked, wait));
+    found.chain(lost).chain(waits.flat_map(|wait| [wait.raised, ends(wait, day.records)])).collect()
 }
 
 /// The section of the page.

@@ -37,6 +37,8 @@ pub struct Day {
     pub times: Option<Vec<u64>>,
     /// The SHA-256 of the trace.
     pub digest: String,
+    /// How many records a step of the picture has: 1, or more on a day that is too long to draw each.
+    pub unit: usize,
 }
 
 /// Where a wait ends in the picture: before the record that asserted it or took it back, or at the end of the day.
@@ -100,7 +102,28 @@ impl Day {
         let at_work = (0..INPUTS).filter(|input| moved >> input & 1 == 1 || !sheet.inputs()[*input].is_idle());
         let lanes = at_work.map(|input| Lane::new(&history, input)).collect();
         let digest = holes::digest(trace.as_bytes());
-        Day { records: trace.records().len(), blocks: trace.blocks().collect(), history, sheet, lanes, holes, times, digest }
+        Day { records: trace.records().len(), blocks: trace.blocks().collect(), history, sheet, lanes, holes, times, digest, unit: 1 }
+    }
+
+    /// Runs as they are drawn: in whole steps of the picture, so that none is lost, and those that then meet as one.
+    pub fn drawn(&self, runs: &[Run]) -> Vec<Run> {
+        let mut drawn: Vec<Run> = Vec::new();
+        for run in runs {
+            let first = run.first / self.unit * self.unit;
+            let end = (run.first + run.len).next_multiple_of(self.unit).min(self.records);
+            match drawn.last_mut().filter(|last| self.unit > 1 && last.first + last.len >= first) {
+                Some(last) => last.len = end.max(last.first + last.len) - last.first,
+                None => drawn.push(Run { first, len: end - first }),
+            }
+        }
+        drawn
+    }
+
+    /// The steps that have one of these records, each told by its first record.
+    pub fn steps(&self, records: &[usize]) -> Vec<usize> {
+        let mut steps: Vec<usize> = records.iter().map(|record| record / self.unit * self.unit).collect();
+        steps.dedup();
+        steps
     }
 
     /// How long a wait took by the clock: to the end of the day where it is open.

@@ -87,7 +87,7 @@ fn times(path: &Path, records: usize) -> Result<Option<Vec<u64>>, String> {
     }
 }
 
-/// The words, which tools/day has tested: `[--limit N] [--limit-ms N] [--names FILE] [--title TEXT] [--date TEXT] [--version TEXT] TRACE`.
+/// The words, which tools/day has tested: `[--limit N] [--limit-ms N] [--coarse N] [--names FILE] [--title TEXT] [--date TEXT] [--version TEXT] TRACE`.
 fn asked(words: &[OsString]) -> Result<(Asked, &Path), String> {
     let mut asked = Asked {
         title: String::new(),
@@ -97,6 +97,7 @@ fn asked(words: &[OsString]) -> Result<(Asked, &Path), String> {
         names: BTreeMap::new(),
         limit: None,
         limit_ms: None,
+        coarse: 1,
     };
     let (mut file, mut words) = (None, words.iter());
     while let Some(word) = words.next() {
@@ -105,6 +106,7 @@ fn asked(words: &[OsString]) -> Result<(Asked, &Path), String> {
         match word.to_str() {
             Some("--limit") => asked.limit = Some(number(value()?)? as usize),
             Some("--limit-ms") => asked.limit_ms = Some(number(value()?)?),
+            Some("--coarse") => asked.coarse = number(value()?)? as usize,
             Some("--names") => asked.names = names(Path::new(value()?))?,
             Some("--title") => asked.title = shown(Path::new(value()?)),
             Some("--date") => asked.date = Some(shown(Path::new(value()?))),
@@ -127,9 +129,9 @@ fn page(words: &[OsString]) -> Result<String, String> {
     if asked.limit_ms.is_some() && times.is_none() {
         return Err(format!("--limit-ms wants the times of the records, and there is no {}.times", opened(file).1));
     }
-    let day = Day::new(&trace, holes, times);
+    let mut day = Day::new(&trace, holes, times);
     day.holds()?;
-    Ok(page::page(&asked, &day))
+    Ok(page::page(&asked, &mut day))
 }
 
 /// A reader that has closed its pipe ends it quietly, as the signal would.

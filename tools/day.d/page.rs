@@ -5,6 +5,7 @@ use crate::picture::{AXIS, LANE, RING, picture};
 use crate::text::{Asked, counted, escaped, milliseconds, plural};
 use crate::{findings, words};
 use pch_pic::sheet::{COLUMNS, Row};
+use std::collections::BTreeSet;
 use std::fmt::Write;
 
 /// A tile. A number that goes over a hole is not the day's, and has a star.
@@ -128,15 +129,34 @@ fn paper(day: &Day) -> String {
     )
 }
 
-pub fn page(asked: &Asked, day: &Day) -> String {
+/// How many bytes a picture has at most: a longer day is drawn in steps of two records, of four, and so on. So a page is bounded, however long the day is.
+const MOST: usize = 1_400_000;
+
+/// The picture, and in the day how many records a step of it has.
+fn drawn(asked: &Asked, day: &mut Day) -> String {
+    day.unit = asked.coarse.clamp(1, day.records);
+    loop {
+        let picture = picture(asked, day);
+        if picture.len() <= MOST || day.unit >= day.records {
+            return picture;
+        }
+        day.unit *= 2;
+    }
+}
+
+pub fn page(asked: &Asked, day: &mut Day) -> String {
+    let picture = drawn(asked, day);
+    let (day, listed) = (&*day, listed(asked, day));
     let (total, records) = (day.sheet.total(), plural(day.records, "record", "records"));
     let work = plural(day.lanes.len(), "input", "inputs");
     let parts = [
         ("style", include_str!("page.css").to_string() + &paper(day)),
-        ("records", day.records.to_string()),
+        // Without a script the day is drawn as wide as it has records, as far as that goes.
+        ("records", day.records.min(20_000).to_string()),
         ("limited", if asked.limits().is_some() { " class=\"limited\"" } else { "" }.to_string()),
         ("told", format!("{records} in {}, {work} of 64 at work", plural(day.blocks.len(), "block", "blocks"))),
-        ("counted", records),
+        ("counted", if listed.len() == day.records { format!("All {records}") } else { format!("{} of {records}", counted(listed.len())) }),
+        ("steps", steps(day, listed.len())),
         ("identity", identity(asked, day)),
         ("warning", warning(day)),
         ("wrong", day.wrong_from().map_or(String::new(), |from| from.to_string())),
@@ -146,19 +166,51 @@ pub fn page(asked: &Asked, day: &Day) -> String {
         ("rows", rows(asked, day)),
         ("tiles", tiles(asked, day)),
         ("names", names(asked, day)),
-        ("picture", picture(asked, day)),
+        ("picture", picture),
         ("findings", findings::section(asked, day)),
         ("title", escaped(&asked.title)),
-        ("all", escaped(&lines(day))),
+        ("all", escaped(&lines(day, &listed))),
         ("script", include_str!("page.js").to_string()),
     ];
     filled(include_str!("page.html"), &parts)
 }
 
-/// All records as text.
-fn lines(day: &Day) -> String {
+/// How many records a page has as text at most, where it cannot have all.
+const LINES: usize = 4000;
+/// How far around a place.
+const AROUND: usize = 12;
+
+/// The records that the page has as text: all, or on a long day the first and the last ones, and those around what stands out.
+fn listed(asked: &Asked, day: &Day) -> Vec<usize> {
+    if day.unit == 1 && day.records <= 4 * LINES {
+        return (0..day.records).collect();
+    }
+    let most = LINES.min((day.records / day.unit).max(200));
+    let ends = [0, day.records - 1];
+    let around = |record: usize| record.saturating_sub(AROUND)..(record + AROUND + 1).min(day.records);
+    let mut listed = BTreeSet::new();
+    for record in ends.into_iter().chain(findings::places(asked, day)).flat_map(around) {
+        if listed.len() < most {
+            listed.insert(record);
+        }
+    }
+    listed.into_iter().collect()
+}
+
+fn lines(day: &Day, listed: &[usize]) -> String {
     let time = |number: usize| day.times.as_ref().map(|times| times[number]);
-    day.history.moments().iter().map(|moment| words::line(moment, time(moment.number)) + "\n").collect()
+    listed.iter().map(|record| words::line(&day.history.moments()[*record], time(*record)) + "\n").collect()
+}
+
+/// What a long day's page leaves out.
+fn steps(day: &Day, listed: usize) -> String {
+    let step = if day.unit == 1 {
+        String::new()
+    } else {
+        format!(" A step of the picture is {} records: what was in one of them is drawn in all of the step.", counted(day.unit))
+    };
+    let left = if listed == day.records { "" } else { " As text it has the records around what stands out; ./run --play prints all." };
+    step + left
 }
 
 /// A text with each `[name]` replaced by its part. What the parts themselves have in brackets stays.

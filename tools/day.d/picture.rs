@@ -1,7 +1,8 @@
 //! The picture: one SVG, with a lane for each input and records from left to right.
 //!
 //! What belongs to records is drawn in an inner SVG whose unit is a record, so that it may be drawn as wide as is wished; widths of lines, marks and letters
-//! do not grow with it. A run of records is a piece of a path, so a lane has a handful of elements, however long the day is.
+//! do not grow with it. A run of records is a piece of a path, so a lane has a handful of elements, however long the day is. Where even the pieces are too many, a step
+//! of the picture is several records, and what was in one of them is drawn in all of the step.
 
 use crate::lanes::{Day, Lane, Run, ends};
 use crate::text::{Asked, counted};
@@ -19,12 +20,12 @@ fn percent(record: f64, day: &Day) -> String {
     format!("{:.3}%", 100.0 * record / day.records as f64)
 }
 
-fn boxes(runs: impl Iterator<Item = Run>, top: usize, height: usize) -> String {
-    runs.map(|run| format!("M{} {top}h{}v{height}h-{}z", run.first, run.len, run.len)).collect()
+fn boxes(runs: &[Run], top: usize, height: usize) -> String {
+    runs.iter().map(|run| format!("M{} {top}h{}v{height}h-{}z", run.first, run.len, run.len)).collect()
 }
 
-fn lines(runs: impl Iterator<Item = Run>, middle: usize) -> String {
-    runs.map(|run| format!("M{} {middle}h{}", run.first, run.len)).collect()
+fn lines(runs: &[Run], middle: usize) -> String {
+    runs.iter().map(|run| format!("M{} {middle}h{}", run.first, run.len)).collect()
 }
 
 /// A path of that class, if there is something to draw.
@@ -46,22 +47,24 @@ fn write_lane(out: &mut String, asked: &Asked, day: &Day, lane: &Lane, top: usiz
     let edge = of(&|wait| wait.length().is_none() && day.too_long(asked, wait));
     let (gone, open) = (of(&|wait| matches!(wait.end, End::Withdrawn(_))), of(&|wait| wait.end == End::Open));
     let _ = writeln!(out, "<g class=\"lane\" data-input=\"{}\" transform=\"translate(0 {top})\">", lane.input);
-    path(out, "masked", &boxes(lane.masked.iter().copied(), 0, LANE));
-    path(out, "latched", &boxes(lane.latched.iter().copied(), LATCH.0, LATCH.1));
-    path(out, "served", &boxes(lane.served.iter().copied(), BAND.0, BAND.1));
+    path(out, "masked", &boxes(&day.drawn(&lane.masked), 0, LANE));
+    path(out, "latched", &boxes(&day.drawn(&lane.latched), LATCH.0, LATCH.1));
+    path(out, "served", &boxes(&day.drawn(&lane.served), BAND.0, BAND.1));
     // What was withdrawn or is open is over the limit by its edge alone.
     for (class, runs) in [("wait", &waits), ("over", &over), ("gone", &gone), ("open", &open), ("edge", &edge)] {
-        path(out, class, &boxes(runs.iter().copied(), BAND.0, BAND.1));
+        path(out, class, &boxes(&day.drawn(runs), BAND.0, BAND.1));
     }
-    path(out, "stripes", &lines(waits.iter().chain(&over).copied(), BAND.0 + BAND.1 / 2));
+    let middle = BAND.0 + BAND.1 / 2;
+    path(out, "stripes", &(lines(&day.drawn(&waits), middle) + &lines(&day.drawn(&over), middle)));
     out.push_str("</g>\n");
 }
 
 /// What keeps its size: the numbers and marks of waits.
 fn write_marks(out: &mut String, day: &Day, lane: &Lane, top: usize) {
     let middle = top + BAND.0 + BAND.1 / 2;
-    for wait in lane.withdrawn() {
-        let _ = writeln!(out, "<use href=\"#gone\" x=\"{}\" y=\"{middle}\"/>", percent(ends(wait, day.records) as f64, day));
+    let gone: Vec<usize> = lane.withdrawn().map(|wait| ends(wait, day.records)).collect();
+    for record in day.steps(&gone) {
+        let _ = writeln!(out, "<use href=\"#gone\" x=\"{}\" y=\"{middle}\"/>", percent(record as f64, day));
     }
     if lane.open().is_some() {
         let _ = writeln!(out, "<use href=\"#open\" x=\"100%\" y=\"{middle}\"/>");
@@ -106,10 +109,11 @@ const UNIT: f64 = 2.5;
 fn write_ring(out: &mut String, day: &Day) {
     let high = |waiting: usize| FOOT as f64 - UNIT * waiting as f64;
     let (mut d, mut last) = (format!("M0 {FOOT}"), 0);
-    for moment in day.history.moments().iter() {
-        if moment.waiting != last {
-            last = moment.waiting;
-            let _ = write!(d, "H{}V{}", moment.number, high(last));
+    for step in day.history.moments().chunks(day.unit) {
+        let most = step.iter().map(|moment| moment.waiting).max().unwrap_or(0);
+        if most != last {
+            last = most;
+            let _ = write!(d, "H{}V{}", step[0].number, high(last));
         }
     }
     let _ = writeln!(out, "<path class=\"ring\" data-foot=\"{FOOT}\" data-unit=\"{UNIT}\" d=\"{d}H{}V{FOOT}z\"/>", day.records);
@@ -117,9 +121,9 @@ fn write_ring(out: &mut String, day: &Day) {
 }
 
 /// Dropped events: a piece of no length with round ends is a dot, whatever the width of the day. Of a deassert it is a ring, with the ground in its middle.
-fn write_dots(out: &mut String, lane: &Lane, top: usize) {
+fn write_dots(out: &mut String, day: &Day, lane: &Lane, top: usize) {
     let middle = top + BAND.0 + BAND.1 / 2;
-    let dots = |records: &[usize]| records.iter().map(|record| format!("M{record}.5 {middle}h0")).collect::<String>();
+    let dots = |records: &[usize]| day.steps(records).iter().map(|record| format!("M{record}.5 {middle}h0")).collect::<String>();
     let (asserts, deasserts) = (dots(&lane.unannounced), dots(&lane.left_on));
     path(out, "halo", &format!("{asserts}{deasserts}"));
     for (class, dots) in [("drop", &asserts), ("left", &deasserts)] {
@@ -160,9 +164,10 @@ pub fn picture(asked: &Asked, day: &Day) -> String {
     let height = top(day.lanes.len());
     let _ = writeln!(
         out,
-        "<svg id=\"picture\" width=\"100%\" height=\"{height}\" data-records=\"{}\" data-top=\"{}\" data-lane=\"{LANE}\" role=\"img\" \
+        "<svg id=\"picture\" width=\"100%\" height=\"{height}\" data-records=\"{}\" data-unit=\"{}\" data-top=\"{}\" data-lane=\"{LANE}\" role=\"img\" \
          aria-label=\"The day, a lane for each input, records from left to right\">",
         day.records,
+        day.unit,
         top(0)
     );
     let _ = writeln!(out, "<svg width=\"100%\" height=\"{height}\" viewBox=\"0 0 {} {height}\" preserveAspectRatio=\"none\">", day.records);
@@ -174,7 +179,7 @@ pub fn picture(asked: &Asked, day: &Day) -> String {
     let rules: String = (0..=day.lanes.len()).map(|at| format!("M0 {}H{}", top(at), day.records)).collect();
     path(&mut out, "rule", &rules);
     for (at, lane) in day.lanes.iter().enumerate() {
-        write_dots(&mut out, lane, top(at));
+        write_dots(&mut out, day, lane, top(at));
     }
     out.push_str("</svg>\n");
     write_axis(&mut out, day);

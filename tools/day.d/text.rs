@@ -13,6 +13,8 @@ pub struct Asked {
     pub limit: Option<usize>,
     /// In milliseconds.
     pub limit_ms: Option<u64>,
+    /// How many records a step of the picture has at least.
+    pub coarse: usize,
 }
 
 /// Text as it may stand in a page.
