@@ -6,6 +6,9 @@
   const lanes = all("g.lane"), top = Number(picture.dataset.top), height = Number(picture.dataset.lane);
   const near = (one, other) => Math.abs(one - other) <= 1.5;
 
+  // Whether all that can be folded is seen; try-day asks for it of a page that is drawn as on paper. Before a key opens a fold.
+  say("folds", all("details").every((fold) => Array.from(fold.children).slice(1).every((child) => child.checkVisibility())));
+
   // The runs of a path: where each begins, and how long it is.
   function runs(lane, name) {
     const path = lane.querySelector("path." + name);
@@ -155,7 +158,6 @@
   const size = (element) => parseFloat(getComputedStyle(element).fontSize) * (element.currentCSSZoom || 1);
   const smallest = Math.min(...texts.map(size));
   say("points", smallest >= 28 / 3 - 0.01);
-  say("folds", all("details").every((fold) => fold.open || Array.from(fold.children).slice(1).every((child) => child.getClientRects().length > 0)));
   say("loaded", performance.getEntriesByType("resource").length);
   const out = document.createElement("pre");
   out.id = "tried";
