@@ -103,7 +103,10 @@
  * A record is bad where its kind is another or a byte is not 0 that has to be. An input of 64 or a width of 3 is not bad: that call is refused, and its
  * answer says so. So 16 zeros are a bad record, and a recorder that lost power can be seen in its file: hosts/c/recorder.c and module trace of hosts/rust
  * record, keep a planned day in a file, load and play. A trace whose contents are right and some of whose records are bad is damaged: pch_pic_salvage makes
- * a good trace of its blocks that have no bad record, and lists the others.
+ * a good trace of its blocks that have no bad record, and lists the others. Each block that is missing is a hole. Up to the first hole such a trace is the
+ * day. Behind it the calls are played on another state than the day had, and nothing that comes of them is the day's: a day with no assert and three waits
+ * withdrawn may come out with three asserts and none withdrawn. hosts/c/holes.h and module holes of hosts/rust keep what comes before the first hole, and
+ * keep a list of the holes beside a trace.
  *
  * THE HOIST PROFILE. A guest whose driver uses aligned Dwords alone, and touches neither ISR nor the vectors once it runs, can be held to that: the host
  * makes its accesses by pch_pic_hoist_read and pch_pic_hoist_write, and all else, lines, polls and drains, by the plain calls on the same image. There are
@@ -493,7 +496,8 @@ uint8_t pch_pic_play(const uint8_t *trace, size_t trace_len, uint8_t *image, siz
  * a good trace comes out as it is, with an empty list. The value is the new trace's length. How many blocks were dropped is the number of blocks in the
  * old contents less that in the new. Refusals: 7 (the answer area), 12 as of a play, 16 where no block is left, and then 7 where kept is too short for the
  * new trace or list for its entries; none of them writes a byte of kept and list. As many bytes as the trace has are enough for kept, and
- * PCH_PIC_DROPPED_MAX for every list. */
+ * PCH_PIC_DROPPED_MAX for every list. What comes behind a block that was dropped plays on another state than the day had: only the blocks before the first
+ * one in the list are the day's. */
 uint8_t pch_pic_salvage(const uint8_t *trace, size_t trace_len, uint8_t *kept, size_t kept_len, uint8_t *list, size_t list_len, uint8_t *answer,
                         size_t answer_len);
 

@@ -238,6 +238,9 @@ impl Trace {
     /// Of a damaged trace, whose contents are right, the blocks that have no bad record, byte for byte and in their order, and which others there were. A
     /// good trace comes out as it is, with nothing dropped.
     ///
+    /// A block that is missing is a hole. Behind it the calls are played on another state than the day had, so no number there is the day's: a day with no
+    /// assert and three waits withdrawn may come out with three asserts and none withdrawn. [`holes::lead`](crate::holes::lead) keeps what comes before it.
+    ///
     /// ```
     /// use pch_pic::{Dropped, Record, Trace};
     ///
@@ -322,7 +325,7 @@ impl Trace {
 }
 
 /// The bytes of a file. More is asked for than a trace has, so that a longer file is seen.
-fn bytes_of(path: &Path) -> io::Result<Vec<u8>> {
+pub(crate) fn bytes_of(path: &Path) -> io::Result<Vec<u8>> {
     let mut bytes = Vec::new();
     File::open(path)?.take(TRACE_MAX as u64 + 1).read_to_end(&mut bytes)?;
     Ok(bytes)

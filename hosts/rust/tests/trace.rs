@@ -448,3 +448,27 @@ fn there_and_back() {
     assert!(matches!(Trace::load("/dev/zero"), Err(LoadError::Trace(Error::Trace))));
     assert_eq!(fs::read_dir(&folder.0).unwrap().count(), 1);
 }
+
+/// Each record has the time that the clock told as it was taken, and a file of them stands beside the trace.
+#[test]
+fn times_stand_beside_a_trace() {
+    use std::sync::atomic::{AtomicU64, Ordering};
+    static NOW: AtomicU64 = AtomicU64::new(0xff_ffff_fff0);
+    let clock = || NOW.fetch_add(1_000_000_007, Ordering::Relaxed);
+    let path = std::env::temp_dir().join(format!("pch-pic-times-{}", std::process::id()));
+    let mut untimed = Recorder::new();
+    untimed.drain(16).unwrap();
+    assert!(untimed.times().is_none() && matches!(untimed.save_times(&path), Err(RecordError::Empty)));
+    assert!(matches!(untimed.with_clock(clock), Err(RecordError::Started)));
+    let mut recorder = Recorder::new().with_clock(clock).unwrap();
+    assert!(matches!(recorder.save_times(&path), Err(RecordError::Empty)));
+    recorder.raise(5).unwrap();
+    recorder.drain(16).unwrap();
+    assert!(recorder.raise(256).is_err());
+    assert_eq!(recorder.times().unwrap(), [0xff_ffff_fff0, 0xff_ffff_fff0 + 1_000_000_007]);
+    recorder.save_times(&path).unwrap();
+    let name = path.with_extension("times");
+    let bytes = std::fs::read(&name).unwrap();
+    assert_eq!(bytes, recorder.times().unwrap().iter().flat_map(|time| time.to_le_bytes()).collect::<Vec<_>>());
+    std::fs::remove_file(name).unwrap();
+}
