@@ -4,3 +4,4 @@ pub mod AfterEach
 pub mod Accepted
 pub mod Ended
 pub mod EndedOn
+pub mod OneAfterAnother

@@ -1,12 +1,12 @@
 -- What the exported call leaves that plays a trace on from an image: refused, not a byte of image, answers and events changes, and 7 writes none at all; done, all is as the
 -- calls one after another leave it, made on that image.
-use Rattle.basics.proofs.Prelude.{_≡_, refl, sym, ap, _∙_, Bool, true, List, ℕ, _*_, _<_, _≤_, arith, leb, length, take, le-leb, part, Bytes}
-use Rattle.rules.specs.Device.{some}
-use Rattle.calls.specs.Calls.{answerLength, answered}
+use Rattle.basics.proofs.Prelude.{_≡_, refl, sym, ap, subst, _∙_, Bool, true, List, ℕ, _*_, _<_, _≤_, arith, leb, length, take, le-leb, part, Bytes}
+use Rattle.rules.specs.Device.{none, some}
+use Rattle.calls.specs.Calls.{faultNumber, answerLength, answered}
 use Rattle.images.specs.Image.{Fault, copyDiffers, manyWait, badFlag, unusedSet, ImageTest, accepted, imageTest}
 use Rattle.traces.specs.{Trace.recordCount, Trace.nth, Trace.TraceTest, Trace.good, Trace.traceTest, Played.playedOn, Played.playedThrough}
 use Rattle.traces.specs.plays.Playing.{playedOnTo, playRoom, plays, traceLeft, imageLeft, playOnTest, PlayLeft, playLeaves, inFront, playingOn}
-use Rattle.traces.proofs.plays.{laws.Ways.Untouched, laws.Ways.namedBy, laws.Ways.trace-named, laws.Ways.untouched-way, laws.Ways.seven-way, laws.Ways.done-way, laws.Ways.played-way, laws.Ways.record-way, laws.Ways.events-way, demands.Accepted.Fit, demands.Accepted.each-fits-on}
+use Rattle.traces.proofs.plays.{laws.Ways.Untouched, laws.Ways.namedBy, laws.Ways.trace-named, laws.Ways.leftIf, laws.Ways.refused-way, laws.Ways.untouched-way, laws.Ways.seven-way, laws.Ways.done-way, laws.Ways.played-way, laws.Ways.record-way, laws.Ways.events-way, demands.Accepted.Fit, demands.Accepted.each-fits-on}
 use Rattle.images.specs.Image as image
 use Rattle.traces.proofs.plays.laws.Computed as computed
 
@@ -52,10 +52,27 @@ module _ (l i bs es a : List ℕ) (done : playingOn l i bs es a .number ≡ 0) w
   unfolding playOnTest
   not-zero e = never-zero (imageTest i) (traceTest l) (playRoom l bs es) e
 
+  by-found : {x : ImageTest} → imageTest i ≡ x → leftIf l i i bs es a (imageLeft x (traceLeft (traceTest l) (playRoom l bs es))) .number ≡ 0
+  unfolding playingOn playOnTest
+  by-found e = ap (λ (x : ImageTest). leftIf l i i bs es a (imageLeft x (traceLeft (traceTest l) (playRoom l bs es))) .number) (sym e) ∙ done
+
   -- so a call that handed back 0 has played
   pub has-played-on : bytes ≡ wholeOn l i bs es a
   unfolding playingOn
   has-played-on = played-way l i i bs es a (playOnTest l i bs es) not-zero done
+
+  -- the image was accepted, and so is the one that is left
+  pub was-accepted : imageTest i ≡ accepted
+  was-accepted = go (imageTest i) refl
+    where
+      go : (x : ImageTest) → imageTest i ≡ x → imageTest i ≡ accepted
+      go image.accepted e = e
+      go image.wrongLength e = absurd (refused-way l i i bs es a 4 none (λ z. omega (arith, z)) (by-found e))
+      go image.wrongContents e = absurd (refused-way l i i bs es a 5 none (λ z. omega (arith, z)) (by-found e))
+      go (image.broken k n) e = absurd (refused-way l i i bs es a (faultNumber k) (some n) (λ z. fault-named k n (traceTest l) true z) (by-found e))
+
+  pub left-accepted : Bytes i → Fit i (bytes .image)
+  left-accepted b = subst (Fit i) (sym (ap (λ (p : PlayLeft). p .image) has-played-on)) (each-fits-on i i (record { bytes = b; good = was-accepted; size = refl }) l (recordCount l))
 
   -- record k has its sixteen bytes among the answers: those of the call that it is, on the image that the records before it left
   pub answer-of-record-on : (k : ℕ) → k < recordCount l → part (16 * k) 16 (bytes .answers) ≡ playedOn (playedOnTo l k i .image) (nth l k) .answer

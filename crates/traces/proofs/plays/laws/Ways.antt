@@ -1,8 +1,9 @@
 -- The ways that a play ends, whatever it tests of the image, and whatever image its first record is played on.
-use Rattle.basics.proofs.Prelude.{_≡_, sym, ap, _∙_, Bool, true, false, cond, List, ℕ, _*_, _<_, _≤_, arith, leb, length, take, length-take, eq-eqb, test, part}
-use Rattle.rules.specs.Device.{some}
+use Rattle.basics.proofs.Prelude.{_≡_, refl, sym, ap, _∙_, Bool, true, false, cond, List, ℕ, _*_, _<_, _≤_, arith, leb, length, take, length-take, eq-eqb, test, part}
+use Rattle.rules.specs.Device.{Value, some}
 use Rattle.calls.specs.Calls.{answerLength, answered}
 use Rattle.traces.specs.{Trace.recordCount, Trace.nth, Trace.TraceTest, Trace.good, Trace.wrongContents, Trace.badRecord, Played.playedOn, Played.playedThrough}
+use Rattle.traces.specs.plays.InTurn.{SameIfDone}
 use Rattle.traces.specs.plays.Playing.{playedOnTo, PlayTest, refused, plays, traceLeft, PlayLeft, playLeaves, playEnds, playSettled, playTold, inFront}
 use Rattle.traces.proofs.{demands.Play.answers-from, plays.laws.InFront.part-front, plays.demands.AfterEachOn.its-answer-on, plays.demands.AfterEachOn.first-events-on}
 
@@ -33,7 +34,7 @@ module _ (l b i bs es a : List ℕ) where
   abbrev pub leftIf : PlayTest → PlayLeft
   leftIf t = playTold (playEnds t l b i bs es) i bs es a
 
-  by-room : (t : PlayTest) {r : Bool} → leb answerLength (length a) ≡ r → leftIf t ≡ cond r (playSettled a (playEnds t l b i bs es)) (playLeaves 7 i bs es a)
+  pub by-room : (t : PlayTest) {r : Bool} → leb answerLength (length a) ≡ r → leftIf t ≡ cond r (playSettled a (playEnds t l b i bs es)) (playLeaves 7 i bs es a)
   by-room t e = (λ s. cond (e s) (playSettled a (playEnds t l b i bs es)) (playLeaves 7 i bs es a))
 
   pub untouched-way : (t : PlayTest) → (leftIf t .number ≡ 0 → ⊥) → Untouched i bs es (leftIf t)
@@ -58,11 +59,15 @@ module _ (l b i bs es a : List ℕ) where
   pub done-way : leb answerLength (length a) ≡ true → leftIf plays ≡ whole
   done-way e = by-room plays e
 
+  -- refused with another number, it does not hand back 0
+  pub refused-way : (m : ℕ) (v : Value) → (m ≡ 0 → ⊥) → leftIf (refused m v) .number ≡ 0 → ⊥
+  refused-way m v n d =
+      test (leb answerLength (length a)) (λ e. n (sym (ap (λ (p : PlayLeft). p .number) (by-room (refused m v) e)) ∙ d))
+      (λ e. let z : 7 ≡ 0 = sym (ap (λ (p : PlayLeft). p .number) (by-room (refused m v) e)) ∙ d in omega arith)
+
   -- so a call that handed back 0 has played
   pub played-way : (t : PlayTest) → (namedBy t ≡ 0 → ⊥) → leftIf t .number ≡ 0 → leftIf t ≡ whole
-  played-way (refused m v) n d =
-      absurd (test (leb answerLength (length a)) (λ e. n (sym (ap (λ (p : PlayLeft). p .number) (by-room (refused m v) e)) ∙ d))
-      (λ e. let z : 7 ≡ 0 = sym (ap (λ (p : PlayLeft). p .number) (by-room (refused m v) e)) ∙ d in omega arith))
+  played-way (refused m v) n d = absurd (refused-way m v n d)
   played-way plays n d =
       test (leb answerLength (length a)) (λ e. by-room plays e) (λ e. absurd (let z : 7 ≡ 0 = sym (ap (λ (p : PlayLeft). p .number) (by-room plays e)) ∙ d in omega arith))
 
@@ -81,3 +86,23 @@ module _ (l b i bs es a : List ℕ) where
         let all = playedThrough l b .events in
         let few : length xs ≤ length all = rw (sym (first-events-on l b k h)) (simp length-take (omega arith)) in
         ap (λ (p : PlayLeft). take (length xs) (p .events)) d ∙ part-front all es 0 (length xs) (omega (arith, few)) ∙ first-events-on l b k h
+
+-- ---- of another image that is lent
+
+-- where both are played from the same image on, what is lent for the image matters to no byte but the image's, and not there where they are done
+both : {x y : PlayLeft} {n : ℕ} {i j bs es c : List ℕ} → x ≡ playLeaves n i bs es c → y ≡ playLeaves n j bs es c → (n ≡ 0 → i ≡ j) → SameIfDone x y
+both p q h = record {
+  number = ap (λ (z : PlayLeft). z .number) p ∙ sym (ap (λ (z : PlayLeft). z .number) q);
+  answers = ap (λ (z : PlayLeft). z .answers) p ∙ sym (ap (λ (z : PlayLeft). z .answers) q);
+  events = ap (λ (z : PlayLeft). z .events) p ∙ sym (ap (λ (z : PlayLeft). z .events) q);
+  answer = ap (λ (z : PlayLeft). z .answer) p ∙ sym (ap (λ (z : PlayLeft). z .answer) q);
+  image = λ d. ap (λ (z : PlayLeft). z .image) p ∙ h (sym (ap (λ (z : PlayLeft). z .number) p) ∙ d) ∙ sym (ap (λ (z : PlayLeft). z .image) q);
+}
+
+pub lent-way : (l b i j bs es a : List ℕ) (t : PlayTest) → (namedBy t ≡ 0 → ⊥) → SameIfDone (leftIf l b i bs es a t) (leftIf l b j bs es a t)
+lent-way l b i j bs es a (refused m v) n =
+    test (leb answerLength (length a)) (λ e. both (by-room l b i bs es a (refused m v) e) (by-room l b j bs es a (refused m v) e) (λ z. absurd (n z)))
+    (λ e. both (by-room l b i bs es a (refused m v) e) (by-room l b j bs es a (refused m v) e) (λ z. absurd (omega (arith, z))))
+lent-way l b i j bs es a plays n =
+    test (leb answerLength (length a)) (λ e. both (by-room l b i bs es a plays e) (by-room l b j bs es a plays e) (λ z. refl))
+    (λ e. both (by-room l b i bs es a plays e) (by-room l b j bs es a plays e) (λ z. absurd (omega (arith, z))))
