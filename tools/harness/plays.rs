@@ -8,7 +8,7 @@ use crate::caught::caught;
 use crate::days::{Day, Play};
 use crate::image::FORMS;
 use crate::lent::{Areas, Five};
-use crate::played;
+use crate::played::{self, From, Lent};
 use crate::trace::{self, DRAIN, LOWER, POLL, RAISE, ROOM, WRITE};
 use crate::under_test;
 
@@ -23,7 +23,9 @@ fn one_by_one(day: &Day) -> OneByOne {
     let mut areas = Areas::new();
     (areas.image.len, areas.answer.len, areas.events.len) = (day.image.len(), 16, ROOM);
     areas.image.slice().copy_from_slice(&day.image);
-    assert_eq!(under_test::call(&Call::Reset, &mut areas), 0, "bytes of a form's length can be reset");
+    if day.from == From::Reset {
+        assert_eq!(under_test::call(&Call::Reset, &mut areas), 0, "bytes of a form's length can be reset");
+    }
     let mut left = OneByOne { answers: Vec::new(), events: Vec::new(), after: Vec::new() };
     for record in &day.records {
         areas.answer.fill(FILL);
@@ -55,10 +57,11 @@ impl Stage {
             return None;
         }
         let (mut got, mut want) = (play.lent(), play.lent());
-        let number = caught(|| under_test::play(&mut got));
+        let number = caught(|| under_test::play(play.from, &mut got));
         let Five { trace, image, answers, events, answer } = &mut want;
         let expected = &mut self.expected;
-        let wanted = caught(|| played::play(expected, trace.bytes(), image.slice(), answers.slice(), events.slice(), answer.slice()));
+        let lent = Lent { trace: trace.bytes(), image: image.slice(), answers: answers.slice(), events: events.slice() };
+        let wanted = caught(|| played::play(expected, play.from, lent, answer.slice()));
         let same = number.is_ok() && number == wanted && got == want;
         let what = match (number, &wanted) {
             (_, Err(words)) => {
@@ -75,7 +78,7 @@ impl Stage {
         if same {
             bench.passed += 1;
             let number = wanted.unwrap_or_default();
-            self.meet(bench, number);
+            self.meet(bench, play, number);
             return Some(number);
         }
         tell_failed(bench, play, what.join("; "));
@@ -128,10 +131,10 @@ impl Stage {
         tell("expected", want);
     }
 
-    fn meet(&self, bench: &mut Bench, number: u8) {
+    fn meet(&self, bench: &mut Bench, play: &Play, number: u8) {
         let Some(want) = &self.want else { return };
         let met = &mut bench.met.traces;
-        met.plays[usize::from(number)] += 1;
+        met.plays[usize::from(play.from == From::Image)][usize::from(number)] += 1;
         if number != 0 {
             return;
         }

@@ -1,8 +1,7 @@
 -- From how a play ends to what the call leaves: 7 writes no byte, and all else is told in the answer area.
 use Rattle.basics.proofs.Prelude.{_≡_, refl, ap, _∙_, List, ℕ, _<_, _≤_, length, le-leb, lt-leb}
-use Rattle.calls.specs.Calls.{answerLength, answered}
-use Rattle.traces.specs.plays.Playing.{PlayEnding, PlayLeft, playEnding, playOnEnding, playLeaves, playSettled, playTold, playing, playingOn}
-use Rattle.traces.proofs.plays.laws.Late.{late-seven, told-late}
+use Rattle.calls.specs.Calls.{answerLength}
+use Rattle.traces.specs.plays.Playing.{PlayEnding, PlayLeft, playEnding, playOnEnding, playLeaves, toldIn, playSettled, playTold, playing, playingOn}
 use Rattle.answer.specs.{Given.valueView, declared.Told.Told}
 use Rattle.pch_pic_trace.specs.play_trace.Plays.{ends}
 
@@ -19,12 +18,6 @@ module _ (x : PlayEnding) (i bs es a : List ℕ) {y : PlayLeft} (is : playTold x
   pub answer-short : length a < answerLength → playLeaves 7 i bs es a ≡ y
   answer-short h = rw (lt-leb answerLength (length a) h) at is
 
-  module _ (roomy : answerLength ≤ length a) (t : Told) {j cs fs : List ℕ} (d : ends t j cs fs ≡ x) where
-    settles : playSettled a (ends t j cs fs) ≡ y
-    settles = ap (playSettled a) d ∙ (rw (le-leb answerLength (length a) roomy) at is)
-
-    pub no-byte : t .number ≡ 7 → playLeaves 7 j cs fs a ≡ y
-    no-byte e = late-seven (λ n b. playLeaves n j cs fs b) (t .number) (valueView (t .value)) a e ∙ settles
-
-    pub told : (t .number ≡ 7 → ⊥) → {r : ℕ} {b : List ℕ} → (r ≡ t .number) × (b ≡ answered (t .number) (valueView (t .value)) a) → playLeaves r j cs fs b ≡ y
-    told n p = told-late (λ n b. playLeaves n j cs fs b) (t .number) (valueView (t .value)) a n p ∙ settles
+  pub told : answerLength ≤ length a → (t : Told) {j cs fs : List ℕ} → ends t j cs fs ≡ x → {r : ℕ} {b : List ℕ} → (r ≡ t .number) × (b ≡ toldIn (t .number) (valueView (t .value)) a)
+      → playLeaves r j cs fs b ≡ y
+  told roomy t {j} {cs} {fs} d p = (λ s. playLeaves (p .0 s) j cs fs (p .1 s)) ∙ ap (playSettled a) d ∙ (rw (le-leb answerLength (length a) roomy) at is)
