@@ -45,6 +45,7 @@ fn names(front: u8) -> Option<&'static [usize]> {
         7 => &[BOARD, ANSWER],
         8 | 9 => &[IMAGE, PHASE, ANSWER],
         10 => &[TRACE, SHEET, ANSWER],
+        11 => &[TRACE, IMAGE, ANSWERS, EVENTS, ANSWER],
         _ => return None,
     })
 }
@@ -101,6 +102,10 @@ impl Case {
             }
             6 | 7 => with_board(self, areas)?,
             8 | 9 => under_profile(self, areas)?,
+            11 => {
+                let [(t, tl), (i, il), (s, sl), (e, el), (a, al)] = areas.lent([TRACE, IMAGE, ANSWERS, EVENTS, ANSWER]);
+                unsafe { pch_pic_play_on(t, tl, i, il, s, sl, e, el, a, al) }
+            }
             _ => {
                 let [(t, tl), (s, sl), (a, al)] = areas.lent([TRACE, SHEET, ANSWER]);
                 unsafe { pch_pic_sheet(t, tl, s, sl, a, al) }

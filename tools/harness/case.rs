@@ -1,8 +1,7 @@
 //! A call of a front as data, with the bytes of all that it is lent.
 
-use crate::call::Call;
+use crate::call::{Call, From};
 use crate::lent::Block;
-use crate::played::From;
 
 /// The fronts' calls with their numbers, and the plain calls beside them. What a difference hands back is put into an area, as if it had been lent one.
 #[derive(Clone, Copy, Debug, PartialEq, Eq)]

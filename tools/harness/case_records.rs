@@ -20,10 +20,9 @@
 //!   6..8    how many runs there are
 //!   8..     the runs: how many bytes from the end of the last run, or from the start, are as they were (2 bytes), how many are others (2 bytes), and these
 
-use crate::call::Call;
+use crate::call::{Call, From};
 use crate::case::{Case, Front, Made};
 use crate::lent::Block;
-use crate::played::From;
 use std::collections::HashMap;
 
 pub const MAGIC: &[u8; 8] = b"PCHPICC1";

@@ -1,10 +1,10 @@
 //! Days of calls and plays of them as data: by hand, at random, and damaged.
 
+use crate::call::From;
 use crate::chance::Chance;
 use crate::generate;
 use crate::image::FORMS;
 use crate::lent::{Block, Five};
-use crate::played::From;
 use crate::trace::{self, BASE, DRAIN, LOWER, POLL, RAISE, READ, ROOM, Record, SIZE, WRITE};
 
 /// A play, from a reset or on: the trace, the image's bytes before it, how long the other areas are, whether empty ones are null, and what they hold before.

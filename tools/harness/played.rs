@@ -2,16 +2,9 @@
 //! device of the published Rust.
 
 use crate::boundary::Boundary;
-use crate::call::Call;
+use crate::call::{Call, From};
 use crate::image::{self, Form};
 use crate::trace::{self, DRAIN, ROOM};
-
-/// Where the image that the first record is played on comes from.
-#[derive(Clone, Copy, Debug, PartialEq, Eq)]
-pub enum From {
-    Reset,
-    Image,
-}
 
 /// What is lent to a play, beside the answer area.
 pub struct Lent<'a> {

@@ -3,12 +3,12 @@
 
 use crate::bench::{Bench, FILL};
 use crate::boundary::Boundary;
-use crate::call::Call;
+use crate::call::{Call, From};
 use crate::caught::caught;
 use crate::days::{Day, Play};
 use crate::image::FORMS;
 use crate::lent::{Areas, Five};
-use crate::played::{self, From, Lent};
+use crate::played::{self, Lent};
 use crate::trace::{self, DRAIN, LOWER, POLL, RAISE, ROOM, WRITE};
 use crate::under_test;
 
@@ -108,6 +108,35 @@ impl Stage {
                 return tell_failed(bench, &play, format!("number {number}; made one by one, the library's own calls leave other bytes"));
             }
             bench.met.traces.one_by_one += records as u64;
+        }
+    }
+
+    /// Plays a day as several traces of so many records, the first as the day says and each other on from the image that the one before left, and holds all of it against the library's own
+    /// calls made one by one.
+    pub fn in_turn(&mut self, bench: &mut Bench, day: &Day, parts: &[usize], fill: u64) {
+        if bench.over() {
+            return;
+        }
+        let left = match caught(|| one_by_one(day)) {
+            Ok(left) => left,
+            Err(words) => return tell_failed(bench, &day.play(day.records.len(), 0, fill), format!("made one by one, the library's calls panicked: {words}")),
+        };
+        let (mut part, mut done, mut used) = (Day { blocks: Vec::new(), ..day.clone() }, 0, 0);
+        for &records in parts {
+            (part.records, part.blocks) = (day.records[done..done + records].to_vec(), vec![records]);
+            let play = part.play(records, 0, fill);
+            let (Some(number), Some(got)) = (self.play(bench, &play), &self.got) else { return };
+            let (answers, (events, image)) = (&left.answers[16 * done..16 * (done + records)], &left.after[done + records - 1]);
+            let same = number == 0
+                && got.image.bytes() == image
+                && got.answers.bytes() == answers
+                && got.events.bytes()[..events - used] == left.events[used..*events];
+            if !same {
+                bench.passed -= 1;
+                return tell_failed(bench, &play, format!("number {number}; a day of traces: made one by one, the library's own calls leave other bytes"));
+            }
+            (part.from, part.image, done, used) = (From::Image, image.clone(), done + records, *events);
+            bench.met.traces.in_turn += records as u64;
         }
     }
 

@@ -17,7 +17,8 @@ mod told;
 mod trace;
 
 use boundary::Boundary;
-use call::Call;
+use call::{Call, From};
+use played::Lent;
 use std::cell::RefCell;
 
 thread_local! {

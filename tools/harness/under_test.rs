@@ -1,9 +1,8 @@
 //! Makes a call of the library under test on lent areas. A read or a write is made a second time by the table, on areas that held the same, and has to leave
 //! the same number and the same bytes.
 
-use crate::call::Call;
+use crate::call::{Call, From};
 use crate::lent::{Areas, Block, Five};
-use crate::played::From;
 use std::sync::atomic::{AtomicBool, Ordering};
 
 static BOXED: AtomicBool = AtomicBool::new(false);

@@ -6,6 +6,7 @@ pub mod SweepMet
 pub mod OrderMet
 pub mod WorkedDay
 pub mod TracePlayed
+pub mod TracePlayedOn
 pub mod TraceSalvaged
 pub mod BoardsMet
 pub mod HoistMet

@@ -1,5 +1,5 @@
 -- `play`: each refusal leaves where the order of the tests puts it, the image's first; else the records are played on the image as it is.
-use Rattle.basics.proofs.Prelude.{_≡_, refl, sym, ap, _∙_, List, ℕ, arith, needs, _*_, _≤_, length}
+use Rattle.basics.proofs.Prelude.{_≡_, refl, sym, ap, _∙_, arith, needs, _*_, _≤_, length}
 use Rattle.images.specs.Form.{formLength}
 use Rattle.traces.specs.{Trace.good, Trace.traceTest, Played.drainRoom, Played.recordsFrom, plays.Playing.drainsIn, plays.Playing.playOnEnding}
 use Rattle.image.{specs.Shown.formView, proofs.head.Orders.head-refuses}

@@ -1,5 +1,5 @@
 -- Every image along a play is accepted: from an accepted image on, and so from reset on, after each record.
-use Rattle.basics.proofs.Prelude.{_≡_, refl, sym, ap, subst, _∙_, List, ℕ, zero, suc, length, Bytes}
+use Rattle.basics.proofs.Prelude.{_≡_, sym, ap, subst, _∙_, List, ℕ, zero, suc, length, Bytes}
 use Rattle.rules.specs.{Device.reset, Numbering.fromZero}
 use Rattle.images.{specs.Form.Form, specs.Form.forms, specs.Form.known, specs.Form.formOf, specs.Image.accepted, specs.Image.imageTest, proofs.laws.Tests.form-known}
 use Rattle.images.proofs.laws.Saved.{bytes-encode, length-encode}

@@ -1,6 +1,6 @@
 -- What the exported call leaves that plays a trace on from an image: refused, not a byte of image, answers and events changes, and 7 writes none at all; done, all is as the
 -- calls one after another leave it, made on that image.
-use Rattle.basics.proofs.Prelude.{_≡_, refl, sym, ap, subst, _∙_, Bool, true, List, ℕ, _*_, _<_, _≤_, arith, leb, length, take, le-leb, part, Bytes}
+use Rattle.basics.proofs.Prelude.{_≡_, refl, sym, ap, subst, _∙_, Bool, true, List, ℕ, _*_, _<_, _≤_, arith, length, take, le-leb, part, Bytes}
 use Rattle.rules.specs.Device.{none, some}
 use Rattle.calls.specs.Calls.{faultNumber, answerLength, answered}
 use Rattle.images.specs.Image.{Fault, copyDiffers, manyWait, badFlag, unusedSet, ImageTest, accepted, imageTest}

@@ -1,12 +1,12 @@
 -- A day longer than a trace: traces played one after another, each on the image that the one before it left, are their records played in order. To play on is to make the records'
 -- calls on that image; and a play from a reset is the reset, and then the trace played on what it left.
 use Rattle.basics.proofs.Prelude.{_≡_, refl, sym, ap, subst, _∙_, List, [], _∷_, _++_, map, append-assoc, ℕ, _*_, _≤_, zero-le, arith, length, take, drop, take-at, le-leb}
-use Rattle.images.specs.{Form.Known, Form.unknown, Form.known, Form.formOf, Image.ImageTest, Image.accepted, Image.wrongLength, Image.imageTest}
+use Rattle.images.specs.{Form.Known, Form.unknown, Form.known, Form.formOf, Image.ImageTest, Image.wrongLength, Image.imageTest}
 use Rattle.calls.{specs.Calls.Outcome, specs.Calls.Ending, specs.Calls.answerLength, specs.Calls.outcome, proofs.laws.Outcomes.reset-refused}
 use Rattle.histories.specs.exported.{Exported.leftBy, Exported.leftAfter, Exported.HandedOn, Alike.madeOn}
 use Rattle.traces.specs.{Trace.Record, Trace.recordCount, Trace.traceTest}
 use Rattle.traces.specs.Played.{playedOn, drainedIn, records, outcomes, Played, gathered, playedAll, playedThrough, afresh, played}
-use Rattle.traces.specs.plays.Playing.{playRoom, refused, traceLeft, lengthLeft, imageLeft, playTest, playOnTest, playEnds, PlayLeft, inFront, playing, playingOn}
+use Rattle.traces.specs.plays.Playing.{playRoom, refused, traceLeft, lengthLeft, imageLeft, playTest, playOnTest, PlayLeft, inFront, playing, playingOn}
 use Rattle.traces.specs.plays.InTurn.{callsOf, followedBy, dayOn, recordsOfAll, wroteOf, SameIfDone}
 use Rattle.traces.proofs.{demands.Play.answers-from, plays.laws.Drained.asked-ends, plays.laws.Keeps.no-reset, plays.laws.Ways.leftIf, plays.laws.Ways.trace-named, plays.laws.Ways.lent-way}
 use Rattle.traces.proofs.plays.demands.{Accepted.afresh-fits, Ended.has-played, EndedOn.has-played-on}
