@@ -119,7 +119,13 @@ impl Stage {
         }
         let left = match caught(|| one_by_one(day)) {
             Ok(left) => left,
-            Err(words) => return tell_failed(bench, &day.play(day.records.len(), 0, fill), format!("made one by one, the library's calls panicked: {words}")),
+            Err(words) => {
+                return tell_failed(
+                    bench,
+                    &day.play(day.records.len(), 0, fill),
+                    format!("made one by one, the library's calls panicked: {words}"),
+                );
+            }
         };
         let (mut part, mut done, mut used) = (Day { blocks: Vec::new(), ..day.clone() }, 0, 0);
         for &records in parts {
@@ -133,7 +139,11 @@ impl Stage {
                 && got.events.bytes()[..events - used] == left.events[used..*events];
             if !same {
                 bench.passed -= 1;
-                return tell_failed(bench, &play, format!("number {number}; a day of traces: made one by one, the library's own calls leave other bytes"));
+                return tell_failed(
+                    bench,
+                    &play,
+                    format!("number {number}; a day of traces: made one by one, the library's own calls leave other bytes"),
+                );
             }
             (part.from, part.image, done, used) = (From::Image, image.clone(), done + records, *events);
             bench.met.traces.in_turn += records as u64;

@@ -18,7 +18,6 @@ mod trace;
 
 use boundary::Boundary;
 use call::{Call, From};
-use played::Lent;
 use std::cell::RefCell;
 
 thread_local! {
@@ -152,7 +151,7 @@ pub unsafe fn pch_pic_play(
 ) -> u8 {
     let (image, answers, events) = unsafe { (area(image, image_len), area(answers, answers_len), area(events, events_len)) };
     let (trace, answer) = unsafe { (area(trace.cast_mut(), trace_len), area(answer, answer_len)) };
-    DEVICE.with_borrow_mut(|device| played::play(device, From::Reset, Lent { trace, image, answers, events }, answer))
+    DEVICE.with_borrow_mut(|device| played::play(device, From::Reset, played::Lent { trace, image, answers, events }, answer))
 }
 
 #[allow(clippy::too_many_arguments)]
@@ -170,7 +169,7 @@ pub unsafe fn pch_pic_play_on(
 ) -> u8 {
     let (image, answers, events) = unsafe { (area(image, image_len), area(answers, answers_len), area(events, events_len)) };
     let (trace, answer) = unsafe { (area(trace.cast_mut(), trace_len), area(answer, answer_len)) };
-    DEVICE.with_borrow_mut(|device| played::play(device, From::Image, Lent { trace, image, answers, events }, answer))
+    DEVICE.with_borrow_mut(|device| played::play(device, From::Image, played::Lent { trace, image, answers, events }, answer))
 }
 
 type Lent = (*mut u8, usize);

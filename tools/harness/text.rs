@@ -47,7 +47,10 @@ pub fn play_line(play: &Play, file: &str) -> String {
     let Play { ref image, answers, events, answer, null, fill, .. } = *play;
     let bytes: String = image.iter().map(|byte| format!("{byte:02x}")).collect();
     let name = if play.from == From::Image { "play-on" } else { "play" };
-    format!("{name} trace={file} answers={answers:#x} events={events:#x} answer={answer:#x} null={} fill={fill:#x} image={bytes}", null as u8)
+    format!(
+        "{name} trace={file} answers={answers:#x} events={events:#x} answer={answer:#x} null={} fill={fill:#x} image={bytes}",
+        null as u8
+    )
 }
 
 /// The name of a front's call.

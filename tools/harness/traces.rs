@@ -287,7 +287,8 @@ fn papers_on(bench: &mut Bench, chance: &mut Chance, stage: &mut Stage) {
     for form in FORMS {
         for history in fixed::histories(form) {
             let records: Vec<Record> = history.steps.iter().filter_map(|(call, _)| trace::record(call)).collect();
-            let (blocks, all, parts) = (cut(chance, records.len()), (1..=records.len()).collect::<Vec<usize>>(), cut(chance, records.len()));
+            let (blocks, all, parts) =
+                (cut(chance, records.len()), (1..=records.len()).collect::<Vec<usize>>(), cut(chance, records.len()));
             let day = Day { from: From::Image, records, blocks, image: generate::accepted(chance, form) };
             stage.day(bench, &day, &all, 0, FILL);
             stage.in_turn(bench, &day, &parts, chance.number());
