@@ -562,22 +562,27 @@ fn saved<F: Form<N>, const N: usize>(image: &mut [u8; N], state: &State) -> Outc
     Ok(None)
 }
 
-/// Refusals 12 and 13, and 7 where answers or events have no room. Then all is played on one state, which is saved at the end: that after reset, or the one that the image holds.
+/// Refusals 12 and 13, and 7 where answers or events have no room.
 #[inline(always)]
-fn played_from<F: Form<N>, const N: usize>(
-    image: &mut [u8; N],
-    begun: impl FnOnce(&[u8; N]) -> State,
-    trace: &[u8],
-    answers: &mut [u8],
-    events: &mut [u8],
-) -> Outcome {
+fn fitting<'a>(trace: &'a [u8], answers: &[[u8; 16]], events: &[u8]) -> Result<&'a [[u8; 16]], Refusal> {
     let records = records_of(trace)?;
     let drains = records.iter().filter(|record| record[0] == 6).count();
-    let (answers, _) = answers.as_chunks_mut();
     if answers.len() < records.len() || events.len() < 64 * drains {
         return Err(refusal(7));
     }
-    let (mut state, mut used) = (begun(image), 0);
+    Ok(records)
+}
+
+/// All is played on one state, that after reset or the one that the image holds, which is saved at the end.
+#[inline(always)]
+fn through<F: Form<N>, const N: usize>(
+    mut state: State,
+    image: &mut [u8; N],
+    records: &[[u8; 16]],
+    answers: &mut [[u8; 16]],
+    events: &mut [u8],
+) -> Outcome {
+    let mut used = 0;
     for (record, answer) in records.iter().zip(answers) {
         // Without the body of numbers they hold within one call; what waits has its place as its number by itself.
         if F::NUMBERS.is_none() {
@@ -590,12 +595,16 @@ fn played_from<F: Form<N>, const N: usize>(
 }
 
 fn played<F: Form<N>, const N: usize>(image: &mut [u8; N], trace: &[u8], answers: &mut [u8], events: &mut [u8]) -> Outcome {
-    played_from::<F, N>(image, |_| State::reset(), trace, answers, events)
+    let (answers, _) = answers.as_chunks_mut();
+    let records = fitting(trace, answers, events)?;
+    through::<F, N>(State::reset(), image, records, answers, events)
 }
 
 fn played_on<F: Form<N>, const N: usize>(image: &mut [u8; N], trace: &[u8], answers: &mut [u8], events: &mut [u8]) -> Outcome {
     check::<F, N>(image)?;
-    played_from::<F, N>(image, |image| State::load::<F, N>(image), trace, answers, events)
+    let (answers, _) = answers.as_chunks_mut();
+    let records = fitting(trace, answers, events)?;
+    through::<F, N>(State::load::<F, N>(image), image, records, answers, events)
 }
 
 // The calls. They stay calls of their own in the measured program, as those of a library do.
