@@ -29,6 +29,9 @@ use std::fs::File;
 use std::io::{self, Read};
 use std::path::Path;
 
+/// A call that plays: trace, image, answers, events.
+type Play = fn(&[u8], &mut [u8], &mut [u8], &mut [u8]) -> outcome::Outcome;
+
 /// Before the blocks stand their number, and an entry for each.
 const ENTRIES: usize = 2;
 const ENTRY_LEN: usize = 4;
@@ -331,7 +334,7 @@ impl Trace {
     }
 
     /// Plays it by one of the two calls, on bytes of this form.
-    fn played(&self, play: fn(&[u8], &mut [u8], &mut [u8], &mut [u8]) -> outcome::Outcome, mut image: Vec<u8>, form: Form) -> Played<'_> {
+    fn played(&self, play: Play, mut image: Vec<u8>, form: Form) -> Played<'_> {
         let drains = self.records().filter(|record| *record == Record::Drain).count();
         let mut answers = vec![0; outcome::ANSWER_LEN * self.records().len()];
         let mut events = vec![0; DRAIN_ROOM * drains];
