@@ -87,7 +87,8 @@
  * at 32768.
  *
  * TRACES. A trace is a day of calls as bytes, from a reset on: what was asked, and not what was answered, which pch_pic_play works out again. It has at
- * most 4000 records in 1 to 64 blocks, and so at most 64258 bytes, which fit into 64 KiB. All numbers have their little end first. First come its contents:
+ * most 4000 records in 1 to 64 blocks, and so at most 64258 bytes, which fit into 64 KiB. A longer day is several traces, each played by pch_pic_play_on on the
+ * image that the one before left. All numbers have their little end first. First come its contents:
  *
  *     bytes 0..1    the number of blocks, 1 to 64
  *     then          for each block four bytes: where in the trace it begins (two bytes), and how many records it has (two bytes), none 0
@@ -149,7 +150,7 @@
  * THE STACK. Nothing is on the heap. Below its caller a call of the proved archive uses so many bytes of stack, the return address included, as tools/bench
  * --stack measured them (docs/PERFORMANCE.md says on what); a difference uses the return address alone:
  *     pch_pic_reset 16, pch_pic_read 104, pch_pic_write 144, pch_pic_level 80, pch_pic_poll 64, pch_pic_drain 105, pch_pic_waiting 56,
- *     pch_pic_convert 500, pch_pic_play 288, pch_pic_salvage 192, pch_pic_sheet 120,
+ *     pch_pic_convert 500, pch_pic_play 400, pch_pic_play_on 400, pch_pic_salvage 192, pch_pic_sheet 120,
  *     pch_pic_board_reset 32, pch_pic_board_read 120, pch_pic_board_write 160, pch_pic_board_level 104, pch_pic_board_poll 88, pch_pic_board_drain 129,
  *     pch_pic_board_event 8,
  *     pch_pic_hoist_reset 24, pch_pic_hoist_read 88, pch_pic_hoist_write 144, pch_pic_hoist_end_startup 57,
@@ -341,8 +342,8 @@ enum {
 };
 
 /* The numbers handed back. A call tests for them in the order 7, 4, 5, 8, 9, 10, 11, then 3, or 2 before 1, and hands back the first
- * that holds; pch_pic_play in the order 7, 4, 12, 13, 7, pch_pic_salvage 7, 12, 16, 7, and pch_pic_sheet 7, 12, 13; the calls of the hoist profile end
- * with 14 before 15. There is no 6 any more. */
+ * that holds; pch_pic_play in the order 7, 4, 12, 13, 7, pch_pic_play_on 7, 4, 5, 8 to 11, 12, 13, 7, pch_pic_salvage 7, 12, 16, 7, and pch_pic_sheet
+ * 7, 12, 13; the calls of the hoist profile end with 14 before 15. There is no 6 any more. */
 enum pch_pic_number {
     PCH_PIC_DONE = 0,     /* the call was done */
     PCH_PIC_OUTSIDE = 1,  /* not all bytes of the access are inside the window; the value is the address */
@@ -489,6 +490,14 @@ uint8_t pch_pic_board_event(uint8_t *board, size_t board_len, uint8_t vector, ui
  * it is good. */
 uint8_t pch_pic_play(const uint8_t *trace, size_t trace_len, uint8_t *image, size_t image_len, uint8_t *answers, size_t answers_len,
                      uint8_t *events, size_t events_len, uint8_t *answer, size_t answer_len);
+
+/* Plays a trace on from image as it is, with no reset: in all else as pch_pic_play. Every byte is what the calls of its records leave, made one by one on that
+ * image, which stays in its form. So a day longer than a trace is played trace by trace, the first by pch_pic_play and each other by this on the image that the one
+ * before left: that is all their records played in order. Numbers of events run on in an image of 290 bytes.
+ * Refusals: 7 (the answer area), 4, 5 and 8 to 11 with the place, as the other calls test an image, and then 12, 13 and 7 as of pch_pic_play. All come before
+ * anything is played, and leave image, answers and events. */
+uint8_t pch_pic_play_on(const uint8_t *trace, size_t trace_len, uint8_t *image, size_t image_len, uint8_t *answers, size_t answers_len,
+                        uint8_t *events, size_t events_len, uint8_t *answer, size_t answer_len);
 
 /* Salvages a damaged trace, whose contents are right: kept gets the trace of the blocks whose records are all good, byte for byte and in their order, with
  * contents of their own; list gets for each block that is dropped its number and that of the first bad record in it, both counted from 0, the record

@@ -367,15 +367,28 @@ int pic_trace_test(const uint8_t *trace, size_t len, uint64_t *bad)
     return number == PCH_PIC_ROOM ? PCH_PIC_DONE : refused(number, answer, bad);
 }
 
+static int records_played(int number, const uint8_t answer[PCH_PIC_ANSWER_LEN], struct pic_played *played, uint64_t *bad)
+{
+    if (number == PCH_PIC_DONE) {
+        played->records = (size_t)get(answer + PCH_PIC_ANSWER_VALUE, 8);
+    }
+    return refused(number, answer, bad);
+}
+
 int pic_trace_play(const uint8_t *trace, size_t len, struct pic_played *played, uint64_t *bad)
 {
     uint8_t answer[PCH_PIC_ANSWER_LEN];
     int number = pch_pic_play(trace, len, played->image, sizeof played->image, played->answers, sizeof played->answers, played->events,
                               sizeof played->events, answer, sizeof answer);
-    if (number == PCH_PIC_DONE) {
-        played->records = (size_t)get(answer + PCH_PIC_ANSWER_VALUE, 8);
-    }
-    return refused(number, answer, bad);
+    return records_played(number, answer, played, bad);
+}
+
+int pic_trace_play_on(const uint8_t *trace, size_t len, struct pic_played *played, uint64_t *bad)
+{
+    uint8_t answer[PCH_PIC_ANSWER_LEN];
+    int number = pch_pic_play_on(trace, len, played->image, sizeof played->image, played->answers, sizeof played->answers, played->events,
+                                 sizeof played->events, answer, sizeof answer);
+    return records_played(number, answer, played, bad);
 }
 
 bool pic_trace_step(const uint8_t *trace, const struct pic_played *played, struct pic_step *step)

@@ -108,6 +108,11 @@ struct pic_played {
 /* Plays a trace from a reset. A refusal is as of pic_trace_test, and leaves played. */
 int pic_trace_play(const uint8_t *trace, size_t len, struct pic_played *played, uint64_t *bad);
 
+/* Plays a trace on from played->image, with no reset: that is the image that the last play left, or one that a host put there. So a day that is longer than a
+ * trace is played trace by trace. Answers and events are those of this trace alone. A refusal is as of pic_trace_test, or 5 or 8 to 11 where the image is none,
+ * and leaves played. */
+int pic_trace_play_on(const uint8_t *trace, size_t len, struct pic_played *played, uint64_t *bad);
+
 /* One record of a played trace, and what it gave. */
 struct pic_step {
     size_t number;         /* counted from 0 over the trace */

@@ -93,6 +93,34 @@ static bool plays_alike(size_t len)
     return alike && (live.drained == sizeof played.events || played.events[live.drained] == 0xa5);
 }
 
+/* The records of the trace from one on, as a trace of one block; its length. */
+static size_t part_of(size_t from, size_t count, uint8_t *part)
+{
+    const uint8_t *records = trace + 2 + 4 * (size_t)trace[0];
+    memcpy(part, (const uint8_t[]){1, 0, 6, 0, (uint8_t)count, (uint8_t)(count >> 8)}, 6);
+    memcpy(part + 6, records + PCH_PIC_RECORD_LEN * from, PCH_PIC_RECORD_LEN * count);
+    return 6 + PCH_PIC_RECORD_LEN * count;
+}
+
+/* Whether the day, cut in two behind so many records, plays to every byte that the live calls gave: the second on the image that the first left. */
+static bool plays_in_two(size_t first)
+{
+    static uint8_t part[PCH_PIC_TRACE_MAX];
+    size_t events = 0;
+    size_t len = part_of(0, first, part);
+    if (pic_trace_play(part, len, &played, NULL) != PCH_PIC_DONE) {
+        return false;
+    }
+    for (struct pic_step step = {0}; pic_trace_step(part, &played, &step);) {
+        events += PCH_PIC_EVENT_LEN * step.drained;
+    }
+    bool alike = memcmp(played.answers, live.answers, ANSWER_LEN * first) == 0 && memcmp(played.events, live.events, events) == 0;
+    len = part_of(first, live.calls - first, part);
+    alike = alike && pic_trace_play_on(part, len, &played, NULL) == PCH_PIC_DONE && played.records == live.calls - first;
+    alike = alike && memcmp(played.answers, live.answers + ANSWER_LEN * first, ANSWER_LEN * (live.calls - first)) == 0;
+    return alike && memcmp(played.events, live.events + events, live.drained - events) == 0 && memcmp(played.image, live.image, IMAGE_LEN) == 0;
+}
+
 /* Whether the records of a played trace are met one by one, each with its own answer and events. */
 static bool steps_through(void)
 {
@@ -166,6 +194,9 @@ static void a_day(void)
     expect("67 records in the first, right behind the contents", trace[2] == 14 && trace[3] == 0 && trace[4] == 67 && trace[5] == 0);
     expect("a day plays to the same bytes", plays_alike(len));
     expect("and is gone through record by record", steps_through());
+    for (size_t first = 1; first < live.calls; first += 16) {
+        expect("cut in two it plays to the same bytes", plays_in_two(first));
+    }
     trace[14 + 16 * 70 + 4] = 1;
     uint64_t bad = 0;
     expect("a changed byte is found, with its record", pic_trace_test(trace, len, &bad) == PCH_PIC_RECORD && bad == 70);

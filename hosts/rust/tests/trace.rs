@@ -202,6 +202,42 @@ fn forms_without_numbers_play_too() {
     }
 }
 
+/// Records as a trace of one block.
+fn one_block(records: &[Record]) -> Trace {
+    let count = (records.len() as u16).to_le_bytes();
+    let contents = [1, 0, 6, 0, count[0], count[1]];
+    Trace::try_from([&contents[..], &records.iter().flat_map(|record| record.to_bytes()).collect::<Vec<_>>()].concat()).unwrap()
+}
+
+/// A day cut into traces, each played on what the one before left, is the day in one trace; and played from a reset instead, it is not.
+#[test]
+fn a_day_of_several_traces_plays_to_the_same_bytes() {
+    let mut live = Live::default();
+    start_up(&mut live);
+    seventeen(&mut live);
+    live.level(3, false);
+    live.write(reg::MASK, 4, 0xffff_fff0);
+    live.poll(1);
+    live.drain();
+    let day = live.played();
+    let records: Vec<Record> = day.records().collect();
+    for form in [Form::One, Form::Two, Form::Numbered] {
+        let whole = day.play_in(form);
+        for length in [1, 7, 40] {
+            let (mut image, mut answers, mut events) = (PchPic::new().save(form), Vec::new(), Vec::new());
+            for part in records.chunks(length).map(one_block) {
+                let played = part.play_on(&image);
+                answers.extend_from_slice(played.answers());
+                events.extend_from_slice(played.events());
+                image = played.image().clone();
+            }
+            assert!((&image, &answers[..], &events[..]) == (whole.image(), whole.answers(), whole.events()), "{form} by {length}");
+        }
+    }
+    let last = one_block(&records[records.len() - 3..]);
+    assert_ne!(last.play().answers(), &day.play().answers()[16 * (records.len() - 3)..]);
+}
+
 #[test]
 fn a_host_with_wires_is_recorded() {
     let (mut day, mut wires) = (Recorded::new(), Wires::new());
