@@ -87,8 +87,8 @@
  * at 32768.
  *
  * TRACES. A trace is a day of calls as bytes, from a reset on: what was asked, and not what was answered, which pch_pic_play works out again. It has at
- * most 4000 records in 1 to 64 blocks, and so at most 64258 bytes, which fit into 64 KiB. A longer day is several traces, each played by pch_pic_play_on on the
- * image that the one before left. All numbers have their little end first. First come its contents:
+ * most 4000 records in 1 to 64 blocks, and so at most 64258 bytes, which fit into 64 KiB. A longer day is several traces, each but the first played by
+ * pch_pic_play_on on the image that the one before left. All numbers have their little end first. First come its contents:
  *
  *     bytes 0..1    the number of blocks, 1 to 64
  *     then          for each block four bytes: where in the trace it begins (two bytes), and how many records it has (two bytes), none 0

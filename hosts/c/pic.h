@@ -118,7 +118,7 @@ int pic_hear(uint8_t board[PCH_PIC_BOARD_LEN], struct pic_event event);
 
 /* Brings the wires in line with the device, whatever the guest did: drains and passes on, counts afresh which vectors are on and passes on what no
  * event told, polls each input that waits, and raises each line again that is still high, no edge, and no longer latched. Then every latched and unmasked input
- * is in service. Where nobody waits it is a drain and a look at who waits. Call it after each write and each reset. Once it has been called a level is latched while its line is high, and an edge from its rise until the guest clears it; an edge
+ * is in service. Where nobody waits and no line lacks its latch it is a drain, a look at who waits and a read of EDGE, of which the drain alone is a record of a day. Call it after each write and each reset. Once it has been called a level is latched while its line is high, and an edge from its rise until the guest clears it; an edge
  * that the guest makes a level follows its line from then on. */
 int pic_settle(struct pic *pic, struct pic_wires *wires);
 

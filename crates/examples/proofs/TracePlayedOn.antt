@@ -6,8 +6,8 @@ use Rattle.calls.{specs.Calls.answered, proofs.laws.Computing.computing}
 use Rattle.rules.specs.Device.{none, some}
 use Rattle.traces.{proofs.laws.Computed.bytesAs, proofs.laws.Computed.tracing}
 use Rattle.traces.specs.Played.{recordsFrom, records, outcomes, gathered, playedAll}
-use Rattle.traces.specs.plays.{Playing.drainsIn, Playing.playOnTest, Playing.playTest, Playing.PlayLeft, Playing.playing, Playing.playingOn, InTurn.followedBy, InTurn.wroteOf, InTurn.SameIfDone}
-use Rattle.traces.proofs.plays.demands.{OneAfterAnother.in-turn, OneAfterAnother.as-one-trace, OneAfterAnother.reset-then-on}
+use Rattle.traces.specs.plays.{Playing.drainsIn, Playing.playOnTest, Playing.playTest, Playing.PlayLeft, Playing.playing, Playing.playingOn, InTurn.followedBy, InTurn.wroteOf}
+use Rattle.traces.proofs.plays.demands.{OneAfterAnother.in-turn, OneAfterAnother.as-one-trace}
 
 -- the device after reset with inputs 0 to 3 unmasked
 abbrev begun : List ℕ
@@ -65,7 +65,7 @@ as-one =
     as-one-trace morning begun (replicate 16 0) [] (replicate 16 0) evening (replicate 49 0xee) (replicate 65 0xdd) (replicate 17 0xcc) both (replicate 64 0) (replicate 64 0) (replicate 16 0)
     same-records first-done second-done both-done
 
--- from a reset: whatever the bytes were, the play is the reset and the trace played on
+-- a play from a reset, of any bytes, is done
 abbrev bytes : List ℕ
 bytes = replicate 251 0xee
 

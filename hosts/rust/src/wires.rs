@@ -167,7 +167,8 @@ impl Wires {
 
     /// Brings the wires in line with the device, whatever the guest did: drains and passes on, counts afresh which vectors are on and passes
     /// on what no event told, polls each input that waits, and raises each line again that is still high, no edge, and no longer latched. Then every
-    /// latched and unmasked input is in service. To be called after each write and each reset. Where nobody waits it is a drain and a look at who waits.
+    /// latched and unmasked input is in service. To be called after each write and each reset. Where nobody waits and no line
+    /// lacks its latch it is a drain, a look at who waits and a read of EDGE, of which the drain alone is a record of a day.
     ///
     /// ```
     /// use pch_pic::{reg, PchPic, Width, Window, Wires};
