@@ -1,16 +1,13 @@
 -- The grid before the first record, and after the last: which number stands where.
-use Rattle.basics.proofs.Prelude.{max, _^_, _<_, _≡_, ℕ, arith, suc, refl, sym, ap, _∙_, Bool, true, cond, not, List, [], _∷_, _++_, zero, _+_, _%_, _≤_, eqb, eqb-true, eqb-false, eq-eqb, ne-eqb, on, from, test, on-not, on-none}
+use Rattle.basics.proofs.Prelude.{_<_, _≡_, ℕ, arith, suc, refl, sym, ap, _∙_, Bool, true, cond, not, List, [], _∷_, _++_, zero, _+_, _≤_, eqb, eqb-true, eqb-false, eq-eqb, ne-eqb, on, from, test, on-not, on-none}
 use Rattle.passes.specs.{tallies.Grid.Grid, tallies.Grid.put, Finish.rowCleared, Finish.cleared, Finish.allInputs, Finish.isOn, Finish.shut, Finish.joined, Finish.rowJoined, Finish.finished}
 
 pub nearer : (n k : ℕ) → (n ≡ k → ⊥) → n < suc k → n < k
 nearer n k d h = omega (arith, d, h)
 
-pub max-small : (a b : ℕ) → a < 2 ^ 32 → b < 2 ^ 32 → max a b < 2 ^ 32
-max-small a b p q = omega arith
-
 -- ---- one number put
 
-put-here : (f : Grid) (n c v : ℕ) → put f n c v n c ≡ v % 2 ^ 32
+put-here : (f : Grid) (n c v : ℕ) → put f n c v n c ≡ v
 put-here f n c v = rw (eq-eqb c c refl, eq-eqb n n refl)
 
 put-row : (f : Grid) (n c v m b : ℕ) → (m ≡ n → ⊥) → put f n c v m b ≡ f m b
@@ -77,14 +74,14 @@ unfolding rowJoined
 joined-later f n zero c h = refl
 joined-later f n (suc k) c h = put-column (rowJoined f n k) 64 k _ 64 c (λ e. omega (arith, e)) ∙ joined-later f n k c (omega arith)
 
-joined-total : (f : Grid) (n k c : ℕ) → n < 64 → c < k → rowJoined f n k 64 c ≡ joined c (f 64 c) (f n c) % 2 ^ 32
+joined-total : (f : Grid) (n k c : ℕ) → n < 64 → c < k → rowJoined f n k 64 c ≡ joined c (f 64 c) (f n c)
 unfolding rowJoined
 joined-total f n zero c p h = omega arith
 joined-total f n (suc k) c p h =
     test (eqb c k)
     (λ t. let e = eqb-true c k t in
     ap (λ b. put (rowJoined f n k) 64 k (joined k (rowJoined f n k 64 k) (rowJoined f n k n k)) 64 b) e ∙ put-here (rowJoined f n k) 64 k _
-    ∙ (λ i. joined k (joined-later f n k k (omega arith) i) (joined-row f n k n k p i) % 2 ^ 32) ∙ ap (λ b. joined b (f 64 b) (f n b) % 2 ^ 32) (sym e))
+    ∙ (λ i. joined k (joined-later f n k k (omega arith) i) (joined-row f n k n k p i)) ∙ ap (λ b. joined b (f 64 b) (f n b)) (sym e))
     (λ t. let d = eqb-false c k t in put-column (rowJoined f n k) 64 k _ 64 c d ∙ joined-total f n k c p (nearer c k d h))
 
 -- ---- all rows
@@ -93,16 +90,13 @@ joined-total f n (suc k) c p h =
 abbrev pub shutRow : Grid → ℕ → ℕ → ℕ
 shutRow f n c = cond (eqb c 9) (isOn (f n 9)) (f n c)
 
--- the total of the first k rows, as four bytes hold it
+-- the total of the first k rows
 unfoldable pub totalOf : Grid → ℕ → ℕ → ℕ
 totalOf f zero c = 0
-totalOf f (suc k) c = joined c (totalOf f k c) (shutRow f k c) % 2 ^ 32
-
-isOn-small : (x : ℕ) → isOn x % 2 ^ 32 ≡ isOn x
-isOn-small x = test (eqb x 0) (λ t. rw t) (λ t. rw t)
+totalOf f (suc k) c = joined c (totalOf f k c) (shutRow f k c)
 
 shut-at : (f : Grid) (n c : ℕ) → shut f n n c ≡ shutRow f n c
-shut-at f n c = test (eqb c 9) (λ t. rw (t, eq-eqb n n refl) (isOn-small (f n 9))) (λ t. rw t)
+shut-at f n c = test (eqb c 9) (λ t. rw (t, eq-eqb n n refl)) (λ t. rw t)
 
 module _ (f : Grid) (none : (c : ℕ) → c < 10 → f 64 c ≡ 0) where
   pub record Finished (k : ℕ) : Type 0 where
@@ -125,5 +119,5 @@ module _ (f : Grid) (none : (c : ℕ) → c < 10 → f 64 c ≡ 0) where
         behind = λ n c p q. other n c q (λ e. omega (arith, e, p)) ∙ i .behind n c (omega (arith, p)) q;
         total = λ c q.
             joined-total (shut g k) k 10 c (omega arith) q
-            ∙ (λ t. joined c ((put-row g k 9 (isOn (g k 9)) 64 c (λ e. omega (arith, e)) ∙ i .total c q) t) (row c t) % 2 ^ 32);
+            ∙ (λ t. joined c ((put-row g k 9 (isOn (g k 9)) 64 c (λ e. omega (arith, e)) ∙ i .total c q) t) (row c t));
       }
