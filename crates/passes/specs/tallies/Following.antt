@@ -13,7 +13,7 @@ use Rattle.rules.specs.Map.{Register}
 use Rattle.rules.specs.Access.{valueOf}
 use Rattle.plain.specs.Sequence.{Item, notesOf}
 use Rattle.passes.specs.tallies.Grid.{Becomes}
-use Rattle.passes.specs.tallies.Marks.{Mark, happened, allMarked, marksOf, itemMarks, itemAfter}
+use Rattle.passes.specs.tallies.Marks.{Mark, happened, allMarked, marksOf, itemMarks, itemAfter, dayMarks}
 
 -- a device has these lines, and so many wait
 pub record Stands (l : Lines) (w : ℕ) (d : Device) : Type 0 where
@@ -41,6 +41,10 @@ Follows x l w m u b a k xs = (d : Device) → Stands l w d → Stands m u (acted
 -- the same of a record, of a device that can be saved
 abbrev pub FollowsItem : Bool → (l : Lines) (w : ℕ) (m : Lines) (u : ℕ) (before after : List ℕ) → ℕ → Item → Type 0
 FollowsItem x l w m u b a k i = (d : Device) → WellFormed d → Stands l w d → Stands m u (itemAfter d i) × Takes x b a (itemMarks k d i)
+
+-- the same of records one after another, the first with the number k
+abbrev pub FollowsDay : Bool → (l : Lines) (w : ℕ) (before after : List ℕ) → ℕ → List Item → Type 0
+FollowsDay x l w b a k xs = (d : Device) → WellFormed d → Stands l w d → Takes x b a (dayMarks k d xs)
 
 -- the registers that the pass heeds
 abbrev pub heeded : Register → Bool

@@ -1,5 +1,5 @@
 -- The numbers of a sheet while it grows: 65 rows of ten, and how bytes hold them: each in four bytes, as in a sheet, or wide, in eight, as in a tally.
-use mathlib.Core.Bool.{Bool, cond, _&&_}
+use mathlib.Core.Bool.{Bool, cond, _&&_, _||_}
 use mathlib.Core.List.{List}
 use mathlib.Core.Path.{_≡_}
 use Prim.Native.Nat.{ℕ, _+_, _*_, _%_, _^_, _<_, _≤_}
@@ -56,6 +56,10 @@ Becomes w b a g = (f : Grid) (rest : List ℕ) → Holds w b f rest → Holds w 
 -- what is read of it
 abbrev pub Reads : Bool → List ℕ → ℕ → ℕ → ℕ → Type 0
 Reads w l x n c = (f : Grid) (rest : List ℕ) → Holds w l f rest → x ≡ f n c % limit w
+
+-- the columns of waits: the greatest, and the one that is not over. All others are counted
+abbrev pub isWait : ℕ → Bool
+isWait c = eqb c 7 || eqb c 9
 
 -- a number of a wait fits its bytes
 abbrev pub Fits : Bool → ℕ → ℕ → ℕ → Type 0

@@ -55,6 +55,14 @@ pub soon-u64 : (w : Bool) (k : ℕ) → k < recordLimit w → k + 1 < 2 ^ 64
 soon-u64 true k h = omega (arith, h)
 soon-u64 false k h = omega (arith, h)
 
+pub number-u64 : (w : Bool) (b k n : ℕ) → b + n ≤ recordLimit w → k < n → b + k < 2 ^ 64
+number-u64 true b k n h q = omega (arith, h, q)
+number-u64 false b k n h q = omega (arith, h, q)
+
+pub number-soon : (w : Bool) (b k n : ℕ) → b + n ≤ recordLimit w → k < n → b + k < recordLimit w
+number-soon true b k n h q = omega (arith, h, q)
+number-soon false b k n h q = omega (arith, h, q)
+
 pub next-low : (w : Bool) (v x y : ℕ) → x ≡ v % limit w → y ≡ (x + 1) % 2 ^ 64 → (v + 1) % limit w ≡ y % limit w
 next-low true v x y e f = omega (arith, e, f)
 next-low false v x y e f = omega (arith, e, f)
@@ -71,9 +79,17 @@ sum-low false s t x y z d e f = narrow s t ∙ (λ i. (sym e i + sym d i) % 2 ^ 
 
 -- ---- places
 
-inside : (w : Bool) (n c a : ℕ) → n < 65 → c < 10 → gridLength w ≤ a → cellPlace w n c + cellBytes w ≤ a
+pub inside : (w : Bool) (n c a : ℕ) → n < 65 → c < 10 → gridLength w ≤ a → cellPlace w n c + cellBytes w ≤ a
 inside true n c a p q h = omega arith
 inside false n c a p q h = omega arith
+
+pub within : (w : Bool) (n c : ℕ) → n < 65 → c < 10 → cellPlace w n c + cellBytes w ≤ 5200
+within true n c p q = omega arith
+within false n c p q = omega arith
+
+pub cell-few : (w : Bool) → cellBytes w ≤ 8
+cell-few true = omega arith
+cell-few false = omega arith
 
 -- two places are one, or lie apart
 apart : (w : Bool) (n c m b : ℕ) → c < 10 → b < 10 → (b ≡ c → m ≡ n → ⊥) → cellPlace w n c < cellPlace w m b + cellBytes w → cellPlace w n c + cellBytes w ≤ cellPlace w m b

@@ -1,0 +1,3 @@
+-- The laws that the proofs of this module cite, and those above it.
+pub mod Loops
+pub mod Rounds

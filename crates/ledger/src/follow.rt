@@ -1,0 +1,72 @@
+// Rows of zeros, and the records of a trace, taken one after another.
+// Rows are set to zero for the inputs of a set: of rows counted one after another the compiler makes a call of memset.
+use crate::cells::put_cell;
+use crate::totals::COLUMNS;
+use crate::watch::Watched;
+use crate::watch_record::step;
+use trace::record_bytes::LENGTH;
+use trace::record_view::record_at;
+ghost use mathlib.Core.List.{map};
+ghost use Prim.Native.Nat.{_<_};
+ghost use Rattle.traces.specs.Played.{recordsFrom};
+ghost use Rattle.sheets.specs.Day.{itemOf};
+ghost use Rattle.passes.specs.tallies.Grid.{recordLimit, Roomy, Becomes};
+ghost use Rattle.passes.specs.tallies.Following.{FollowsDay};
+ghost use Rattle.passes.specs.Finish.{rowCleared, cleared, allInputs};
+ghost use Rattle.ledger.specs.watch.Kept.{linesOf};
+ghost use Rattle.ledger.specs.follow.Reached.{Reaches, Numbered};
+
+// The set of all inputs.
+const ALL: u64 = 0xffff_ffff_ffff_ffff;
+
+// ---- zeros
+
+pub fn zero_row(sheet: &mut [u8], wide: bool, n: usize)
+    requires { ⌜ Roomy wide (now sheet) × (n < 65) ⌝ }
+    ensures { λ _. ⌜ Becomes wide (now (sheet .entry)) (now (sheet .exit)) (λ f. rowCleared f n 10) ⌝ }
+{
+    let mut c = 0;
+    while c < COLUMNS {
+        put_cell(sheet, wide, n, c, 0);
+        c += 1;
+    }
+}
+
+// The rows of all inputs.
+pub fn zero(sheet: &mut [u8], wide: bool)
+    requires { ⌜ Roomy wide (now sheet) ⌝ }
+    ensures { λ _. ⌜ Becomes wide (now (sheet .entry)) (now (sheet .exit)) (λ f. cleared f allInputs) ⌝ }
+{
+    let mut left = ALL;
+    while left != 0 {
+        let n = u64::trailing_zeros(left) as usize;
+        zero_row(sheet, wide, n);
+        left &= left - 1;
+    }
+}
+
+// ---- the pass
+
+// The records of a good trace, of which the first has the number `base`, from whatever is kept.
+pub fn follow(
+    trace: &[u8],
+    first: usize,
+    records: usize,
+    sheet: &mut [u8],
+    wide: bool,
+    kept: Watched,
+    base: u64,
+)
+    requires { ⌜ Reaches (now trace) first records × Roomy wide (now sheet) × Numbered wide base records ⌝ }
+    ensures { λ _. ⌜ FollowsDay wide (linesOf kept) (kept .waiting) (now (sheet .entry)) (now (sheet .exit)) base
+        (map itemOf (recordsFrom (now (trace .entry)) records 0)) ⌝ }
+{
+    let mut w = kept;
+    let mut k = 0;
+    while k < records {
+        let place = first + LENGTH * k;
+        let r = record_at(trace, place);
+        w = step(sheet, wide, w, base + k as u64, r);
+        k += 1;
+    }
+}
