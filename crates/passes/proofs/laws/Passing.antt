@@ -1,10 +1,10 @@
 -- The grid that the marks of a day leave, finished, is the day's sheet.
 use Rattle.basics.proofs.Prelude.{_≡_, refl, sym, ap, _∙_, Bool, true, false, cond, List, [], _∷_, _++_, map, ℕ, zero, suc, _+_, _<_, _≤_, arith, eqb, length, zero-add, on, inputs, test}
-use Rattle.passes.proofs.laws.Finishing.{all-cleared, row-zero, row-kept, shutRow, totalOf, finishes}
+use Rattle.passes.proofs.laws.Finishing.{all-from, row-from, row-kept, shutRow, totalOf, finishes}
 use Rattle.passes.proofs.laws.Marking.{addedIn, all-marked-at, AllSoon, rows-marked, Early, early-all}
 use Rattle.passes.proofs.laws.Recording.{Closed, day-closes}
 use Rattle.passes.proofs.laws.Counting.{history-is, levels-added, moments-level, asserts-added, deasserts-added, returned-added, offered-added, dropped-added}
-use Rattle.passes.proofs.laws.Bytes.{sheet-is}
+use Rattle.passes.proofs.laws.Bytes.{below-ten, sheet-is}
 use Rattle.rules.specs.{Lines.Lines, Lines.Made, Ring.Ring, Core.Act, Core.move, Core.raise, Core.lower, Core.poll, Core.clear, Core.setMask, Core.setIsr, Core.store, Core.setVector, Core.turn}
 use Rattle.rules.specs.{Account.tally, Device.Device, Device.reset, Device.actsOf, Device.acted}
 use Rattle.laws.proofs.laws.Images.{reset-well-formed}
@@ -13,7 +13,7 @@ use Rattle.plain.proofs.{laws.Same.Same, laws.Following.loadedRun, laws.Followi
 use Rattle.sheets.specs.{Day.begun, Day.moments, Day.Day, Day.dayFrom, Waits.assertOf, Waits.deassertOf, Waits.waits}
 use Rattle.sheets.specs.Sheet.{columnOf, Row, returnedOf, offeredOf, droppedOf, rowOf, emptyRow, together, totalBelow, sheetBytes}
 use Rattle.passes.specs.tallies.{Grid.Grid, Grid.cellBytes, Grid.Holds, Marks.Mark, Marks.happened, Marks.takenBack, Marks.idleIn, Marks.allMarked, Marks.besides, Marks.actMarks, Marks.marksOf, Marks.dayMarks}
-use Rattle.passes.specs.{Slots.NoLoad, Slots.Slot, Slots.slotAll, Slots.notesIn, Slots.Rows, Finish.rowCleared, Finish.cleared, Finish.allInputs, Finish.isOn, Finish.joined, Finish.finished}
+use Rattle.passes.specs.{Slots.NoLoad, Slots.Slot, Slots.slotAll, Slots.notesIn, Slots.Rows, Finish.zeros, Finish.rowCleared, Finish.cleared, Finish.allInputs, Finish.isOn, Finish.joined, Finish.finished}
 use Rattle.rules.specs.Device as device
 
 -- ---- the numbers of the records in marks
@@ -58,27 +58,43 @@ soon-day b (call c ∷ xs) k d h =
 soon-day b (load f ∷ xs) k d h = soon-day b xs (k + 1) f (omega arith)
 soon-day b (refused ∷ xs) k d h = soon-day b xs (k + 1) d (omega arith)
 
--- ---- ten columns
-
-below-ten : (P : ℕ → Type 0) → P 0 → P 1 → P 2 → P 3 → P 4 → P 5 → P 6 → P 7 → P 8 → P 9 → (c : ℕ) → c < 10 → P c
-below-ten P a b c d e f g h i j zero q = a
-below-ten P a b c d e f g h i j (suc zero) q = b
-below-ten P a b c d e f g h i j (suc (suc zero)) q = c
-below-ten P a b c d e f g h i j (suc (suc (suc zero))) q = d
-below-ten P a b c d e f g h i j (suc (suc (suc (suc zero)))) q = e
-below-ten P a b c d e f g h i j (suc (suc (suc (suc (suc zero))))) q = f
-below-ten P a b c d e f g h i j (suc (suc (suc (suc (suc (suc zero)))))) q = g
-below-ten P a b c d e f g h i j (suc (suc (suc (suc (suc (suc (suc zero))))))) q = h
-below-ten P a b c d e f g h i j (suc (suc (suc (suc (suc (suc (suc (suc zero)))))))) q = i
-below-ten P a b c d e f g h i j (suc (suc (suc (suc (suc (suc (suc (suc (suc zero))))))))) q = j
-below-ten P a b c d e f g h i j (suc (suc (suc (suc (suc (suc (suc (suc (suc (suc k)))))))))) q = absurd (omega (arith, q))
-
 pub no-load-well : (xs : List Item) → NoLoad xs → WellLoaded xs
 unfolding WellLoaded
 no-load-well [] l = tt
 no-load-well (call c ∷ xs) l = no-load-well xs l
 no-load-well (load d ∷ xs) l = absurd l
 no-load-well (refused ∷ xs) l = no-load-well xs l
+
+-- ---- the total
+
+together-column : (x y : Row) (c : ℕ) → c < 10 → columnOf (together x y) c ≡ joined c (columnOf x c) (columnOf y c)
+together-column x y = below-ten (λ c. columnOf (together x y) c ≡ joined c (columnOf x c) (columnOf y c)) refl refl refl refl refl refl refl refl refl refl
+
+empty-column : (c : ℕ) → c < 10 → columnOf emptyRow c ≡ 0
+empty-column = below-ten (λ c. columnOf emptyRow c ≡ 0) refl refl refl refl refl refl refl refl refl refl
+
+-- a grid whose rows, once they are shut, are these
+module _ (g : Grid) (rows : ℕ → Row) (its : (n : ℕ) → n < 64 → (c : ℕ) → c < 10 → shutRow g n c ≡ columnOf (rows n) c) where
+  abbrev last : Grid
+  last = rowCleared g 64 10
+
+  last-row : (n : ℕ) → n < 64 → (c : ℕ) → c < 10 → shutRow last n c ≡ columnOf (rows n) c
+  last-row n p c q = (λ i. cond (eqb c 9) (isOn (kept 9 i)) (kept c i)) ∙ its n p c q
+    where
+      kept : (b : ℕ) → last n b ≡ g n b
+      kept b = row-kept zeros g 64 10 n b (λ e. omega (arith, e, p))
+
+  totals : (k : ℕ) → k ≤ 64 → (c : ℕ) → c < 10 → totalOf last k c ≡ columnOf (totalBelow k rows) c
+  unfolding totalOf totalBelow
+  totals zero h c q = sym (empty-column c q)
+  totals (suc k) h c q =
+      (λ i. joined c (totals k (omega arith) c q i) (last-row k (omega arith) c q i)) ∙ sym (together-column (totalBelow k rows) (rows k) c q)
+
+  -- finished, it is held by the bytes of their sheet
+  pub finished-sheet : (w : Bool) (b rest : List ℕ) → Holds w b (finished last 64) rest → b ≡ sheetBytes (cellBytes w) rows ++ rest
+  finished-sheet w b rest h =
+      let done = finishes last (λ c q. row-from zeros g 64 10 c q) 64 (omega arith) in
+      sheet-is w b rest (finished last 64) rows h (λ n c p q. done .before n c p ∙ last-row n p c q) (λ c q. done .total c q ∙ totals 64 (omega arith) c q)
 
 -- ---- a day from reset
 
@@ -106,7 +122,7 @@ module _ (xs : List Item) (l : NoLoad xs) where
 
     module _ (n : ℕ) (p : n < 64) where
       zero-at : (c : ℕ) → c < 10 → start n c ≡ 0
-      zero-at c q = all-cleared f n c p q
+      zero-at c q = all-from zeros f n c p q
 
       counted : (c : ℕ) → c < 7 → {v : ℕ} → addedIn n c marks ≡ v → after n c ≡ v
       counted c q {v} e =
@@ -150,34 +166,6 @@ module _ (xs : List Item) (l : NoLoad xs) where
           (row-ends .withdrawn ∙ closes .withdrawn ∙ omega arith)
           (ap isOn (row-ends .since) ∙ closes .lasts)
 
-    -- ---- the total
-
-    abbrev rows : ℕ → Row
-    rows n = rowOf day n
-
-    together-column : (x y : Row) (c : ℕ) → c < 10 → columnOf (together x y) c ≡ joined c (columnOf x c) (columnOf y c)
-    together-column x y = below-ten (λ c. columnOf (together x y) c ≡ joined c (columnOf x c) (columnOf y c)) refl refl refl refl refl refl refl refl refl refl
-
-    empty-column : (c : ℕ) → c < 10 → columnOf emptyRow c ≡ 0
-    empty-column = below-ten (λ c. columnOf emptyRow c ≡ 0) refl refl refl refl refl refl refl refl refl refl
-
-    abbrev last : Grid
-    last = rowCleared after 64 10
-
-    last-row : (n : ℕ) → n < 64 → (c : ℕ) → c < 10 → shutRow last n c ≡ columnOf (rows n) c
-    last-row n p c q = (λ i. cond (eqb c 9) (isOn (kept 9 i)) (kept c i)) ∙ cells n p c q
-      where
-        kept : (b : ℕ) → last n b ≡ after n b
-        kept b = row-kept after 64 10 n b (λ e. omega (arith, e, p))
-
-    totals : (k : ℕ) → k ≤ 64 → (c : ℕ) → c < 10 → totalOf last k c ≡ columnOf (totalBelow k rows) c
-    unfolding totalOf totalBelow
-    totals zero h c q = sym (empty-column c q)
-    totals (suc k) h c q =
-        (λ i. joined c (totals k (omega arith) c q i) (last-row k (omega arith) c q i)) ∙ sym (together-column (totalBelow k rows) (rows k) c q)
-
     -- The grid after the pass, finished, is held by the bytes of the day's sheet.
-    pub pass-sheet : (w : Bool) (b rest : List ℕ) → Holds w b (finished last 64) rest → b ≡ sheetBytes (cellBytes w) rows ++ rest
-    pass-sheet w b rest h =
-        let done = finishes last (λ c q. row-zero after 64 10 c q) 64 (omega arith) in
-        sheet-is w b rest (finished last 64) rows h (λ n c p q. done .before n c p ∙ last-row n p c q) (λ c q. done .total c q ∙ totals 64 (omega arith) c q)
+    pub pass-sheet : (w : Bool) (b rest : List ℕ) → Holds w b (finished (rowCleared after 64 10) 64) rest → b ≡ sheetBytes (cellBytes w) (rowOf day) ++ rest
+    pass-sheet = finished-sheet after (rowOf day) cells
