@@ -7,7 +7,8 @@
  *     - those that rustc makes of the proved text, which tools/archive --target writes to a folder of target/archive each: for LoongArch, AArch64 and
  *       RISC-V of 64 bits, and for x86-64 kernels. docs/BOARD.md says what is assumed of these. A kernel on x86-64 defines PCH_PIC_BARE
  *       before it includes this header, and so says that it links the one for x86_64-unknown-none.
- * The constant pch_pic_built says which kind is linked. They are tested to leave the same bytes (docs/BOARD.md).
+ * The constant pch_pic_built says which kind is linked, and pch_pic_version() of which version it is. They are tested to leave the same bytes
+ * (docs/BOARD.md).
  *
  * THE IMAGE. The device is an image of 290, 259 or 251 bytes, which the host owns and lends to each call. Nothing is allocated, and nothing is kept
  * from one call to the next. So to save a device is to copy its image, and to load it is to lend the copy. pch_pic_reset makes an image of any bytes of
@@ -198,11 +199,11 @@
 #include <stddef.h>
 #include <stdint.h>
 
-/* The version of the header and of what it says about the library. */
+/* The version of the header and of what it says about the library. That of the library itself is pch_pic_version(). */
 #define PCH_PIC_VERSION_MAJOR 0
-#define PCH_PIC_VERSION_MINOR 14
+#define PCH_PIC_VERSION_MINOR 15
 #define PCH_PIC_VERSION_PATCH 0
-#define PCH_PIC_VERSION "0.14.0"
+#define PCH_PIC_VERSION "0.15.0"
 
 #ifdef __cplusplus
 extern "C" {
@@ -214,6 +215,18 @@ enum {
     PCH_PIC_BUILT_BY_RUSTC = 2 /* rustc's code of the proved text, from tools/archive --target */
 };
 extern const uint8_t pch_pic_built;
+
+/* The version of what is linked, as that says itself: "pch_pic ", the version, and then zeros. It has the same length in every version, so that a program may
+ * meet another shared library than it was linked with. It can be read from a file too: strings libpch_pic.a | grep '^pch_pic [0-9]'. */
+enum { PCH_PIC_LINKED_LEN = 24, PCH_PIC_LINKED_VERSION = 8 };
+extern const char pch_pic_linked[PCH_PIC_LINKED_LEN];
+
+/* The same without the name. A host compares it with PCH_PIC_VERSION when it starts: where they differ, it was compiled with the header of another version than
+ * the library's. Two versions that differ in the patch alone have the same calls, which leave the same bytes. */
+static inline const char *pch_pic_version(void)
+{
+    return pch_pic_linked + PCH_PIC_LINKED_VERSION;
+}
 
 /* Sizes. */
 enum {

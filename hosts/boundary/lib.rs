@@ -26,6 +26,23 @@ use proved::calls as text;
 #[allow(non_upper_case_globals)]
 pub static pch_pic_built: u8 = 2;
 
+/// The version: `pch_pic `, what the header says, and zeros. tools/archive reads it there and hands it over.
+#[unsafe(no_mangle)]
+#[allow(non_upper_case_globals)]
+pub static pch_pic_linked: [u8; 24] = linked(concat!("pch_pic ", env!("PCH_PIC_VERSION")).as_bytes());
+
+/// The text with zeros behind it. One that does not fit does not compile.
+const fn linked(text: &[u8]) -> [u8; 24] {
+    let mut bytes = [0; 24];
+    assert!(text.len() < bytes.len());
+    let mut place = 0;
+    while place < text.len() {
+        bytes[place] = text[place];
+        place += 1;
+    }
+    bytes
+}
+
 /// A pointer of C, which with its length stands for a slice.
 trait Lent {
     type Slice;

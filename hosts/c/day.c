@@ -322,6 +322,10 @@ static void salvage(const char *name, const char *file)
 
 int main(int argc, char **argv)
 {
+    if (!pic_fits()) {
+        fprintf(stderr, "day: compiled for version %s of pch_pic, and linked with %s\n", PCH_PIC_VERSION, pch_pic_version());
+        return 1;
+    }
     if (argc == 3 && strcmp(argv[1], "--play") == 0) {
         play(argv[2]);
     } else if (argc == 3 && strcmp(argv[1], "--sheet") == 0) {

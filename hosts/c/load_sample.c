@@ -317,6 +317,10 @@ static int form_of(const char *word)
 
 int main(int argc, char **argv)
 {
+    if (!pic_fits()) {
+        fprintf(stderr, "load_sample: compiled for version %s of pch_pic, and linked with %s\n", PCH_PIC_VERSION, pch_pic_version());
+        return 1;
+    }
     if (argc == 2 && argv[1][0] != '-') {
         return written(play(argv[1]));
     }

@@ -398,3 +398,10 @@ const char *pic_why(int number)
     default: return pch_pic_why(number);
     }
 }
+
+/* The version's last dot is compared too, so that 0.1 is not taken for 0.15. */
+bool pic_fits(void)
+{
+    static const char own[] = PCH_PIC_VERSION;
+    return strncmp(pch_pic_version(), own, (size_t)(strrchr(own, '.') + 1 - own)) == 0;
+}

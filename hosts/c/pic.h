@@ -154,6 +154,10 @@ int pic_replace_open(const char *path, const uint8_t *bytes, size_t len);
 
 const char *pic_why(int number);
 
+/* Whether the library that is linked is of the major and minor version of the header that this was compiled with: one of another may have other calls.
+ * Ask it when a host starts; pch_pic_version() says what is linked. */
+bool pic_fits(void);
+
 #ifdef __cplusplus
 }
 #endif

@@ -25,6 +25,32 @@ fn named(dir: &Path) -> Result<PathBuf, String> {
     Ok(whole)
 }
 
+/// The version that an archive says it has, behind a name that stands in it once; nothing for one of before 0.15.0, which does not say it.
+fn version_in(bytes: &[u8]) -> Option<&str> {
+    const NAME: &[u8] = b"pch_pic ";
+    let digit_behind = |place: usize| bytes[place..].starts_with(NAME) && bytes.get(place + NAME.len()).is_some_and(u8::is_ascii_digit);
+    let text = &bytes[(0..bytes.len()).find(|&place| digit_behind(place))? + NAME.len()..];
+    let end = text.iter().position(|&byte| byte != b'.' && !byte.is_ascii_digit())?;
+    std::str::from_utf8(&text[..end]).ok()
+}
+
+/// The major and the minor number: what differs in these may have other calls.
+fn minor(version: &str) -> Option<&str> {
+    version.rsplit_once('.').map(|(minor, _)| minor)
+}
+
+/// The folder, where the library in it is of this crate's minor version.
+fn fitting(dir: PathBuf) -> Result<PathBuf, String> {
+    let own = env::var("CARGO_PKG_VERSION").unwrap_or_default();
+    let bytes = std::fs::read(dir.join(LIBRARY)).map_err(|why| format!("{LIBRARY} in {}: {why}", dir.display()))?;
+    match version_in(&bytes) {
+        Some(version) if minor(version) == minor(&own) => Ok(dir),
+        version => {
+            Err(format!("{LIBRARY} in {} is of version {}, and this crate of {own}", dir.display(), version.unwrap_or("before 0.15.0")))
+        }
+    }
+}
+
 /// What pkg-config answers; none where it is not there, or knows no such library.
 fn pkg_config(word: &str) -> Option<String> {
     let asked = Command::new(env::var_os("PKG_CONFIG").unwrap_or("pkg-config".into())).args([word, "pch_pic"]).output().ok()?;
@@ -32,12 +58,11 @@ fn pkg_config(word: &str) -> Option<String> {
     asked.status.success().then(|| text.trim_end().to_string())
 }
 
-/// The library that is installed. It has to be of this minor version: another may have other calls.
+/// The library that is installed. What pkg-config says of its version has to fit too.
 fn installed() -> Result<PathBuf, String> {
     let dir =
         pkg_config("--variable=libdir").map(PathBuf::from).filter(|dir| dir.join(LIBRARY).is_file()).ok_or("pkg-config knows none")?;
     let (version, own) = (pkg_config("--modversion").unwrap_or_default(), env::var("CARGO_PKG_VERSION").unwrap_or_default());
-    let minor = |version: &str| version.rsplit_once('.').map(|(minor, _)| minor.to_string());
     if minor(&version) != minor(&own) {
         return Err(format!("the one in {} is of version {version}, and this crate of {own}", dir.display()));
     }
@@ -76,7 +101,7 @@ fn main() {
         eprintln!("{LIBRARY} is for x86-64 Linux in user space; the target {name} is not served by feature archive");
         exit(1);
     }
-    match library_dir() {
+    match library_dir().and_then(fitting) {
         Ok(whole) => {
             println!("cargo:rerun-if-changed={}", whole.join(LIBRARY).display());
             println!("cargo:rustc-link-search=native={}", whole.display());

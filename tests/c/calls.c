@@ -19,6 +19,9 @@ enum {
 #define BUILT PCH_PIC_BUILT_PROVED
 #endif
 
+/* What an archive of the header's version says of itself. */
+static const char linked[PCH_PIC_LINKED_LEN] = "pch_pic " PCH_PIC_VERSION;
+
 static int passed, failed;
 
 static void expect(const char *what, int ok)
@@ -1116,6 +1119,8 @@ int main(void)
     boards();
     hoists();
     expect("the archive says which kind it is", pch_pic_built == BUILT);
+    expect("and its version, which is the header's", strcmp(pch_pic_version(), PCH_PIC_VERSION) == 0);
+    expect("with its name before it, and zeros behind", memcmp(pch_pic_linked, linked, sizeof linked) == 0);
 
     printf("%d passed, %d failed\n", passed, failed);
     return failed != 0;

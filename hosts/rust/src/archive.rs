@@ -89,6 +89,16 @@ pub(crate) fn kind() -> u8 {
     unsafe { pch_pic_built }
 }
 
+/// The version of the archive that is linked, as it says itself: `pch_pic ` stands before it, and zeros behind.
+pub(crate) fn version() -> &'static str {
+    extern "C" {
+        static pch_pic_linked: [u8; 24];
+    }
+    // SAFETY: it is a constant of the archive, which nothing writes.
+    let text = unsafe { &pch_pic_linked };
+    core::ffi::CStr::from_bytes_until_nul(text).ok().and_then(|text| text.to_str().ok()?.strip_prefix("pch_pic ")).unwrap_or("")
+}
+
 /// How far a number of an event is ahead of another.
 pub fn pch_pic_difference(later: u16, earlier: u16) -> i16 {
     extern "C" {

@@ -41,6 +41,27 @@ pub fn built() -> Built {
     Built::Rustc
 }
 
+/// The version of this crate, which is that of the C header too.
+///
+/// ```
+/// const VERSION: &str = pch_pic::version();
+/// assert_eq!(VERSION, pch_pic::linked_version());
+/// ```
+#[must_use]
+pub const fn version() -> &'static str {
+    env!("CARGO_PKG_VERSION")
+}
+
+/// The version of what does the work. An archive that is linked says it itself, and is of the crate's minor version, or the crate does not build; what rustc makes
+/// of the text is the crate's own.
+#[must_use]
+pub fn linked_version() -> &'static str {
+    #[cfg(feature = "archive")]
+    return crate::archive::version();
+    #[cfg(not(feature = "archive"))]
+    version()
+}
+
 /// `PCH_PIC_BUILT_PROVED` of the header.
 #[cfg(feature = "archive")]
 const PROVED: u8 = 1;
@@ -53,5 +74,11 @@ mod tests {
     #[test]
     fn the_one_that_is_linked_is_told() {
         assert_eq!(built(), if cfg!(feature = "archive") { Built::Archive } else { Built::Rustc });
+    }
+
+    /// Crate and archive are made of the same repository.
+    #[test]
+    fn its_version_is_the_crates() {
+        assert_eq!(linked_version(), version());
     }
 }

@@ -325,19 +325,20 @@ impl PchPic {
     ///     image[0] = 9; // no such form
     ///     assert_eq!(PchPic::load(form, &image), Err(Error::Contents));
     /// }
-    /// assert_eq!(PchPic::load(Form::One, &pic.save(Form::Two)), Err(Error::Length));
+    /// let other = Error::Form { found: Form::Two, named: Form::One };
+    /// assert_eq!(PchPic::load(Form::One, &pic.save(Form::Two)), Err(other));
     /// # Ok::<(), Error>(())
     /// ```
     ///
     /// # Errors
     ///
-    /// [`Error::Length`], [`Error::Contents`], or, with the place of the byte that breaks a rule of the form, [`Error::Copy`], [`Error::Count`],
-    /// [`Error::Flag`] or [`Error::Unused`].
+    /// [`Error::Length`], [`Error::Form`], [`Error::Contents`], or, with the place of the byte that breaks a rule of the form, [`Error::Copy`],
+    /// [`Error::Count`], [`Error::Flag`] or [`Error::Unused`].
     pub fn load(form: Form, image: &[u8]) -> Result<Self, Error> {
-        if image.len() == form.image_len() {
-            PchPic::try_from(image)
-        } else {
-            Err(Error::Length)
+        match Form::of_len(image.len()) {
+            Some(found) if found == form => PchPic::try_from(image),
+            Some(found) => Err(Error::Form { found, named: form }),
+            None => Err(Error::Length),
         }
     }
 }

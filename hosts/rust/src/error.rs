@@ -1,5 +1,6 @@
 //! Why a call is refused.
 
+use crate::Form;
 use core::fmt;
 
 /// Why a call was refused. A refused call changes neither the device nor a lent buffer.
@@ -12,6 +13,8 @@ use core::fmt;
 /// assert_eq!(PchPic::load(Form::One, &[0; 100]), Err(Error::Length));
 /// assert_eq!(Error::Length.number(), 4);
 /// assert_eq!(Error::Length.to_string(), "an image is not 290, 259 or 251 bytes long");
+/// let other = PchPic::load(Form::One, &PchPic::new().save(Form::Two)).unwrap_err();
+/// assert_eq!(other.to_string(), "the image is as long as one of form 2, and form 1 was named");
 /// ```
 #[derive(Clone, Copy, Debug, PartialEq, Eq, Hash)]
 #[non_exhaustive]
@@ -22,8 +25,15 @@ pub enum Error {
     Width,
     /// 3: the input is 64 or more.
     Input,
-    /// 4: an image is not 290, 259 or 251 bytes long, or is not as long as the form that was named.
+    /// 4: an image is not 290, 259 or 251 bytes long.
     Length,
+    /// 4: the image that is loaded is as long as one of another form than was named. C names no form, and has no such case.
+    Form {
+        /// The form that the image has by its length.
+        found: Form,
+        /// The form that was named.
+        named: Form,
+    },
     /// 5: the image's first bytes, 27 of 290 or else 22, are not those of the form that its length says.
     Contents,
     /// 7: the place of a drain is past the end of its buffer. (A play and a salvage lend room enough.)
@@ -55,7 +65,7 @@ impl Error {
             Error::Outside(_) => 1,
             Error::Width => 2,
             Error::Input => 3,
-            Error::Length => 4,
+            Error::Length | Error::Form { .. } => 4,
             Error::Contents => 5,
             Error::Room => 7,
             Error::Copy(_) => 8,
@@ -113,6 +123,7 @@ impl fmt::Display for Error {
             Error::Width => f.write_str("the width is not 1, 2, 4 or 8"),
             Error::Input => f.write_str("the input is 64 or more"),
             Error::Length => f.write_str("an image is not 290, 259 or 251 bytes long"),
+            Error::Form { found, named } => write!(f, "the image is as long as one of {found}, and {named} was named"),
             Error::Contents => f.write_str("the image does not begin as one of its length does"),
             Error::Room => f.write_str("a buffer is too short"),
             Error::Copy(place) => write!(f, "the image's copy of IRR differs from IRR, at byte {place}"),

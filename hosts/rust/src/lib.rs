@@ -136,7 +136,7 @@ mod wires;
 
 pub use access::{Width, Window};
 pub use board::Board;
-pub use built::{built, Built};
+pub use built::{built, linked_version, version, Built};
 pub use device::PchPic;
 pub use error::Error;
 pub use event::{difference, Event, Events, Returned};

@@ -280,8 +280,12 @@ fn what_is_no_image_is_refused() {
         assert_eq!(PchPic::try_from(&vec![9; len][..]), Err(why));
         assert_eq!(Image::converted(&vec![9; len], Form::One), Err(why));
         for form in FORMS {
-            let why = if len == form.image_len() { Error::Contents } else { Error::Length };
+            let why = match Form::of_len(len) {
+                Some(found) if found != form => Error::Form { found, named: form },
+                _ => why,
+            };
             assert_eq!(PchPic::load(form, &vec![9; len]), Err(why));
+            assert_eq!(why.number(), if why == Error::Contents { 5 } else { 4 });
         }
     }
     for form in FORMS {

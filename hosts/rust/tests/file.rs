@@ -154,17 +154,30 @@ fn a_hoist_keeps_its_phase() {
 #[cfg(unix)]
 mod unix {
     use super::*;
-    use std::os::unix::fs::{symlink, MetadataExt, PermissionsExt};
+    use std::os::unix::fs::{chown, symlink, MetadataExt, PermissionsExt};
+    use std::os::unix::net::UnixListener;
+    use std::sync::mpsc;
+    use std::thread;
+    use std::time::Duration;
 
     #[test]
-    fn the_mode_stays() {
+    fn mode_and_owner_stay() {
         let folder = Folder::new("mode");
-        let path = folder.0.join("device");
+        let (path, usual) = (folder.0.join("device"), folder.0.join("usual"));
+        let found = |path: &Path| fs::metadata(path).unwrap();
         file::save(&signed(1), Form::One, &path).unwrap();
+        fs::write(&usual, "").unwrap();
+        assert_eq!(found(&path).mode(), found(&usual).mode(), "a new file has the mode that is usual here");
         for mode in [0o604, 0o400] {
             fs::set_permissions(&path, fs::Permissions::from_mode(mode)).unwrap();
             file::save(&signed(2), Form::One, &path).unwrap();
-            assert_eq!((saver(&path), fs::metadata(&path).unwrap().mode() & 0o7777), (Some(2), mode));
+            assert_eq!((saver(&path), found(&path).mode() & 0o7777), (Some(2), mode));
+        }
+        // Only root may give a file away.
+        if found(&path).uid() == 0 {
+            chown(&path, Some(7), Some(8)).unwrap();
+            file::save(&signed(3), Form::One, &path).unwrap();
+            assert_eq!((found(&path).uid(), found(&path).gid()), (7, 8));
         }
     }
 
@@ -186,15 +199,28 @@ mod unix {
         assert_eq!(fs::read_dir(&apart).unwrap().count(), 1);
     }
 
+    /// What a load says; nothing where it does not come back, so that the test ends.
+    fn loaded_in_time(path: &Path) -> Option<Result<PchPic, LoadError>> {
+        let (told, heard) = mpsc::channel();
+        let path = path.to_path_buf();
+        thread::spawn(move || drop(told.send(file::load(path))));
+        heard.recv_timeout(Duration::from_secs(20)).ok()
+    }
+
     #[test]
     fn what_is_no_plain_file_is_not_waited_for() {
         let folder = Folder::new("pipe");
         let path = folder.0.join("pipe");
         let made = std::process::Command::new("mkfifo").arg(&path).status();
-        let devices = ["/dev/null", "/dev/zero"].map(PathBuf::from);
-        for path in devices.iter().chain(made.is_ok_and(|status| status.success()).then_some(&path)).chain([&folder.0]) {
-            assert!(matches!(file::load(path), Err(LoadError::Io(_))));
+        let socket = folder.0.join("socket");
+        let _listener = UnixListener::bind(&socket).unwrap();
+        for path in [&socket, &folder.0].into_iter().chain(made.is_ok_and(|status| status.success()).then_some(&path)) {
+            assert!(matches!(loaded_in_time(path), Some(Err(LoadError::Io(_)))));
             assert!(file::save(&signed(1), Form::Two, path).is_err());
+        }
+        // Not saved over: where that is broken, root would lose them.
+        for device in ["/dev/null", "/dev/zero"] {
+            assert!(matches!(loaded_in_time(Path::new(device)), Some(Err(LoadError::Io(_)))));
         }
     }
 }

@@ -172,7 +172,8 @@ fn recorders() {
 #[test]
 fn version() {
     let define = |name: &str| HEADER.lines().find_map(|line| line.strip_prefix(&format!("#define PCH_PIC_VERSION{name} ")));
-    let whole = env!("CARGO_PKG_VERSION");
+    let whole = pch_pic::version();
+    assert_eq!(whole, env!("CARGO_PKG_VERSION"));
     assert_eq!(define(""), Some(format!("\"{whole}\"").as_str()));
     let parts = ["_MAJOR", "_MINOR", "_PATCH"].map(|part| define(part).unwrap());
     assert_eq!(parts.join("."), whole);

@@ -72,7 +72,12 @@ fn any_bytes_as_a_device() {
         };
         let tried = PchPic::try_from(&bytes[..]);
         let named = PchPic::load(form, &bytes);
-        assert_eq!(named, if bytes.len() == form.image_len() { tried.clone() } else { Err(Error::Length) });
+        let wanted = match Form::of_len(bytes.len()) {
+            Some(found) if found == form => tried.clone(),
+            Some(found) => Err(Error::Form { found, named: form }),
+            None => Err(Error::Length),
+        };
+        assert_eq!(named, wanted);
         assert_eq!(Image::converted(&bytes, as_form).is_ok(), tried.is_ok());
         if let Ok(pic) = tried {
             (good, loaded) = (pic, loaded + 1);
