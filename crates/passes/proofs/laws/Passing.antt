@@ -151,7 +151,7 @@ module _ (xs : List Item) (l : NoLoad xs) where
           let e = early-all (length xs) n none marks (soon-day (length xs) xs 0 reset (omega arith)) (record { great = omega arith; late = omega arith }) in
           omega (arith, closes .greatest, e .great)
 
-      cells : (c : ℕ) → c < 10 → shutRow after n c ≡ columnOf (rowOf day n) c
+      pub cells : (c : ℕ) → c < 10 → shutRow after n c ≡ columnOf (rowOf day n) c
       unfolding rowOf
       cells =
           below-ten (λ c. shutRow after n c ≡ columnOf (rowOf day n) c)

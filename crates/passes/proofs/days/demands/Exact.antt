@@ -3,50 +3,17 @@ use Rattle.basics.proofs.Prelude.{false, _≡_, refl, sym, ap, _∙_, List, _++
 use Rattle.traces.specs.Trace.{good, traceTest}
 use Rattle.sheets.specs.{Day.dayOf, Sheet.Row, Sheet.columnOf, Sheet.rowOf, Sheet.totalBelow, Sheet.bytesOfRow, Sheet.rowsBelow, Sheet.sheetBytes, Sheet.sheetOf}
 use Rattle.passes.specs.tallies.Grid.{cellPlace}
+use Rattle.passes.proofs.laws.Reading.{part-left, part-right, rows-length, row-in, four-sized, cell-of-four}
 use Rattle.passes.proofs.days.demands.Fits.{Below, rows-fit, total-fits}
 
 -- ---- where a row and a column stand
 
-part-left : (xs ys : List ℕ) (m n : ℕ) → m + n ≤ length xs → part m n (xs ++ ys) ≡ part m n xs
-part-left xs ys m n h = ap (take n) (drop-append-le m xs ys (omega (arith, h))) ∙ take-append-le n (drop m xs) ys (simp length-drop (omega (arith, h)))
-
-part-right : (xs ys : List ℕ) (m n : ℕ) → length xs ≡ m → length ys ≤ n → part m n (xs ++ ys) ≡ ys
-part-right xs ys m n e h = ap (take n) (drop-at xs ys m e) ∙ take-all n ys h
-
-rows-length : (k : ℕ) (f : ℕ → Row) → length (rowsBelow 4 k f) ≡ 40 * k
-unfolding rowsBelow
-rows-length zero f = omega arith
-rows-length (suc k) f = omega (arith, length-append (rowsBelow 4 k f) (bytesOfRow 4 (f k)), rows-length k f)
-
-row-in : (k : ℕ) (f : ℕ → Row) (n : ℕ) → n < k → part (40 * n) 40 (rowsBelow 4 k f) ≡ bytesOfRow 4 (f n)
-unfolding rowsBelow
-row-in zero f n h = absurd (omega arith)
-row-in (suc k) f n h =
-    test (ltb n k)
-    (λ t. let p = ltb-true n k t in part-left (rowsBelow 4 k f) (bytesOfRow 4 (f k)) (40 * n) 40 (omega (arith, p, rows-length k f)) ∙ row-in k f n p)
-    (λ t.
-    let z : k ≡ n = omega (arith, h, ltb-false n k t) in
-    part-right (rowsBelow 4 k f) (bytesOfRow 4 (f k)) (40 * n) 40 (omega (arith, z, rows-length k f)) (omega arith) ∙ ap (λ m. bytesOfRow 4 (f m)) z)
-
-cell-in : (r : Row) (c : ℕ) → c < 10 → part (4 * c) 4 (bytesOfRow 4 r) ≡ bytesOf 4 (columnOf r c)
-cell-in r zero h = refl
-cell-in r (suc zero) h = refl
-cell-in r (suc (suc zero)) h = refl
-cell-in r (suc (suc (suc zero))) h = refl
-cell-in r (suc (suc (suc (suc zero)))) h = refl
-cell-in r (suc (suc (suc (suc (suc zero))))) h = refl
-cell-in r (suc (suc (suc (suc (suc (suc zero)))))) h = refl
-cell-in r (suc (suc (suc (suc (suc (suc (suc zero))))))) h = refl
-cell-in r (suc (suc (suc (suc (suc (suc (suc (suc zero)))))))) h = refl
-cell-in r (suc (suc (suc (suc (suc (suc (suc (suc (suc zero))))))))) h = refl
-cell-in r (suc (suc (suc (suc (suc (suc (suc (suc (suc (suc c)))))))))) h = absurd (omega arith)
-
 module _ (f : ℕ → Row) where
   row-of : (n : ℕ) → n < 64 → part (40 * n) 40 (sheetBytes 4 f) ≡ bytesOfRow 4 (f n)
-  row-of n h = part-left (rowsBelow 4 64 f) (bytesOfRow 4 (totalBelow 64 f)) (40 * n) 40 (omega (arith, h, rows-length 64 f)) ∙ row-in 64 f n h
+  row-of n h = part-left (rowsBelow 4 64 f) (bytesOfRow 4 (totalBelow 64 f)) (40 * n) 40 (omega (arith, h, rows-length 4 40 four-sized 64 f)) ∙ row-in 4 40 four-sized 64 f n h
 
   last-row : part (40 * 64) 40 (sheetBytes 4 f) ≡ bytesOfRow 4 (totalBelow 64 f)
-  last-row = part-right (rowsBelow 4 64 f) (bytesOfRow 4 (totalBelow 64 f)) (40 * 64) 40 (rows-length 64 f) (omega arith)
+  last-row = part-right (rowsBelow 4 64 f) (bytesOfRow 4 (totalBelow 64 f)) (40 * 64) 40 (rows-length 4 40 four-sized 64 f) (omega arith)
 
 -- ---- what it spells
 
@@ -65,7 +32,7 @@ column-below b r h s g (suc (suc (suc (suc (suc (suc (suc (suc (suc (suc c))))))
 
 spelt : (s : List ℕ) (n : ℕ) (r : Row) → part (40 * n) 40 s ≡ bytesOfRow 4 r → (c : ℕ) → c < 10 → columnOf r c < 2 ^ 32 → numberOf (part (cellPlace false n c) 4 s) ≡ columnOf r c
 spelt s n r e c p q =
-    ap numberOf (sym (part-part s (40 * n) 40 (4 * c) 4 (omega (arith, p))) ∙ ap (part (4 * c) 4) e ∙ cell-in r c p) ∙ numberOf-bytesOf 4 (columnOf r c) (omega (arith, q))
+    ap numberOf (sym (part-part s (40 * n) 40 (4 * c) 4 (omega (arith, p))) ∙ ap (part (4 * c) 4) e ∙ cell-of-four r c p) ∙ numberOf-bytesOf 4 (columnOf r c) (omega (arith, q))
 
 module _ (l : List ℕ) {first k : ℕ} (e : traceTest l ≡ good first k) where
   -- Of a good trace, each input and each column.
