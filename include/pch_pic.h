@@ -145,7 +145,7 @@
  *
  * THE STACK. Nothing is on the heap. Below its caller a call of the proved archive uses so many bytes of stack, the return address included, as tools/bench
  * --stack measured them (docs/PERFORMANCE.md says on what); a difference uses the return address alone:
- *     pch_pic_reset 16, pch_pic_read 104, pch_pic_write 144, pch_pic_level 80, pch_pic_poll 64, pch_pic_drain 105,
+ *     pch_pic_reset 16, pch_pic_read 104, pch_pic_write 144, pch_pic_level 80, pch_pic_poll 64, pch_pic_drain 105, pch_pic_waiting 56,
  *     pch_pic_convert 500, pch_pic_play 288, pch_pic_salvage 192, pch_pic_sheet 120,
  *     pch_pic_board_reset 32, pch_pic_board_read 120, pch_pic_board_write 160, pch_pic_board_level 104, pch_pic_board_poll 88, pch_pic_board_drain 129,
  *     pch_pic_board_event 8,
@@ -153,10 +153,11 @@
  *     pch_pic_table_read 1944, pch_pic_table_write 1896
  *
  * WHAT A HOST MUST DO. hosts/c/pic.c and crate pch-pic in hosts/rust do all of this (pic_settle, pic_line, pic_resume):
- *     - After each write of the guest, drain, and pass the events on in their order. Then poll all 64 inputs, in any order, and pass on what they
- *       return: an unmask announces only the lowest input that waits, and this sweep wakes the others. Once each input is polled, with no MASK, CLEAR
- *       or ISR written, no line lowered, no reset and no other image lent in between, every latched and unmasked input is in service, and each was
- *       asserted at most once. And raise each level again whose line is still high: a CLEAR takes the latch of a line though it is high.
+ *     - After each write of the guest, drain, and pass the events on in their order. Then ask who waits (pch_pic_waiting), poll each of these inputs, in any
+ *       order, and pass on what they return: an unmask announces only the lowest input that waits, and this sweep wakes the others. Once each of them is
+ *       polled, with no MASK, CLEAR or ISR written, no line lowered, no reset and no other image lent in between, every latched and unmasked input is in
+ *       service, and each was asserted at most once. Polls of all 64 leave the same image and return the same events, and take longer. And raise each level
+ *       again whose line is still high and whose latch (IRR) is gone: a CLEAR takes the latch of a line though it is high.
  *     - Make edges of the inputs that the guest has in EDGE: the device stores that register and knows levels alone. Raise such an input once, when its line goes
  *       from low to high. Do not lower it when the line falls, and do not raise it again while the line stays high. So it is latched from its rise until the
  *       guest's CLEAR; a second rise before that adds nothing. After a write, an input that has left EDGE is a level again: lower it where it is latched and its
@@ -172,7 +173,7 @@
  *       must be passed on when a write's value is not 0, since a dropped event is never told, and after a write to ISR or to a vector byte. It may be
  *       passed on at any time when no event waits, so the simplest host does it after each call.
  *     - After a load, rebuild what is not in the image. Lower each level that is latched (IRR) while its line is low now, drain, count afresh
- *       against what the controller above has on, poll all 64 inputs, and raise each level whose line is high. The same goes for a reset while the guest
+ *       against what the controller above has on, poll each input that waits, and raise each level whose line is high. The same goes for a reset while the guest
  *       runs. An edge that is latched stays so, whatever its line. The image does not say which lines were high: keep them beside it, or an edge that rose
  *       between save and load is lost.
  *     - Pass the events of one call on before the next call is made on that image: who holds the image's lock keeps it until then.
@@ -181,8 +182,8 @@
  *     - each pointer is good for as many bytes as the length beside it says; a null pointer with length 0 is an empty buffer;
  *     - the image, the board, the phase, the answer area and the event buffer or the target of one call do not overlap, nor do the five areas of a play, nor
  *       the four of a salvage, nor the three of a sheet;
- *     - while a call other than a read or a conversion runs on an image, no other call runs on it. Reads and conversions of one image may run side by
- *       side, each with its own answer area, board and target: they only load from the image. Calls on different images may always run side by side.
+ *     - while a call other than a read, pch_pic_waiting or a conversion runs on an image, no other call runs on it. These may run side by side on one image,
+ *       each with its own answer area, board and target: they only load from it. Calls on different images may always run side by side.
  */
 #ifndef PCH_PIC_H
 #define PCH_PIC_H
@@ -429,6 +430,11 @@ uint8_t pch_pic_level(uint8_t *image, size_t image_len, uint64_t input, uint64_t
  * is the vector to assert and the number, as above. An unmask announces only the lowest input that waits: poll the others. Refusals: 7, 4, 5,
  * 8 to 11, 3. */
 uint8_t pch_pic_poll(uint8_t *image, size_t image_len, uint64_t input, uint8_t *answer, size_t answer_len);
+
+/* Who waits: the value is the set of the inputs that a poll would bring into service, those that are latched, unmasked and not in service, bit n for
+ * input n; it is always present. Nothing changes in the image. A poll of any other input is done, returns nothing and changes nothing. Refusals: 7, 4, 5,
+ * 8 to 11. */
+uint8_t pch_pic_waiting(const uint8_t *image, size_t image_len, uint8_t *answer, size_t answer_len);
 
 /* Moves waiting events to the event buffer, oldest first, from byte place on: four bytes each, the vector, then 1 for an assert or 0 for a
  * deassert, then the number, little end first. It moves as many as wait or as fit, whichever is fewer; the rest wait on, and all other bytes of the

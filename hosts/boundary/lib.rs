@@ -99,6 +99,7 @@ exported! {
     pch_pic_level(image with image_len: *mut u8, input: u64, level: u64, answer with answer_len: *mut u8) -> u8;
     pch_pic_poll(image with image_len: *mut u8, input: u64, answer with answer_len: *mut u8) -> u8;
     pch_pic_drain(image with image_len: *mut u8, events with events_len: *mut u8, place: usize, answer with answer_len: *mut u8) -> u8;
+    pch_pic_waiting(image with image_len: *const u8, answer with answer_len: *mut u8) -> u8;
     pch_pic_convert(image with image_len: *const u8, target with target_len: *mut u8, answer with answer_len: *mut u8) -> u8;
     pch_pic_table_read(image with image_len: *const u8, base: u64, size: u64, address: u64, width: u64, answer with answer_len: *mut u8) -> u8;
     pch_pic_table_write(image with image_len: *mut u8, base: u64, size: u64, address: u64, width: u64, value: u64, answer with answer_len: *mut u8) -> u8;

@@ -122,6 +122,14 @@ int pic_poll(struct pic *pic, uint64_t input, struct pic_event *event)
     return number;
 }
 
+int pic_waiting_inputs(const struct pic *pic, uint64_t *inputs)
+{
+    uint8_t answer[PCH_PIC_ANSWER_LEN];
+    int number = pch_pic_waiting(pic->image, sizeof pic->image, answer, sizeof answer);
+    *inputs = number == PCH_PIC_DONE ? value_of(answer) : 0;
+    return number;
+}
+
 int pic_drain(struct pic *pic, struct pic_event events[PCH_PIC_EVENTS], size_t *count)
 {
     uint8_t answer[PCH_PIC_ANSWER_LEN], drained[PCH_PIC_EVENTS * PCH_PIC_EVENT_LEN];
@@ -310,14 +318,18 @@ static int move(struct pic *pic, struct pic_wires *wires, uint64_t input, bool h
     return number;
 }
 
-/* One sweep: each input is polled. Whatever the guest did, every latched and unmasked input is in service then, and each was asserted at most once. */
+/* One sweep: each input that waits is polled, lowest first. Whatever the guest did, every latched and unmasked input is in service then, and each was asserted at
+ * most once; polls of all 64 would come to the same. */
 static int sweep(struct pic *pic, struct pic_wires *wires)
 {
     struct pic_event event;
-    int number = PCH_PIC_DONE;
-    for (unsigned input = 0; input < PCH_PIC_INPUTS && number == PCH_PIC_DONE; input++) {
-        number = pic_poll(pic, input, &event);
-        pass_on(pic, wires, event);
+    uint64_t waiting;
+    int number = pic_waiting_inputs(pic, &waiting);
+    for (unsigned input = 0; waiting != 0 && number == PCH_PIC_DONE; input++, waiting >>= 1) {
+        if (waiting & 1) {
+            number = pic_poll(pic, input, &event);
+            pass_on(pic, wires, event);
+        }
     }
     return number;
 }
@@ -325,8 +337,8 @@ static int sweep(struct pic *pic, struct pic_wires *wires)
 static int move_all(struct pic *pic, struct pic_wires *wires, uint64_t inputs, bool high)
 {
     int number = PCH_PIC_DONE;
-    for (unsigned input = 0; input < PCH_PIC_INPUTS && number == PCH_PIC_DONE; input++) {
-        if (inputs >> input & 1) {
+    for (unsigned input = 0; inputs != 0 && number == PCH_PIC_DONE; input++, inputs >>= 1) {
+        if (inputs & 1) {
             number = move(pic, wires, input, high);
         }
     }
@@ -356,7 +368,8 @@ int pic_settle(struct pic *pic, struct pic_wires *wires)
     if (number == PCH_PIC_DONE) {
         number = sweep(pic, wires);
     }
-    return number == PCH_PIC_DONE ? move_all(pic, wires, wires->high & ~edges, true) : number;
+    /* A raise of one that is latched would do nothing now: it is in service, or masked. */
+    return number == PCH_PIC_DONE ? move_all(pic, wires, wires->high & ~edges & ~pic_latched(pic), true) : number;
 }
 
 /* Of an edge only the rise is told: its latch stays though the line falls, and a line that is high already makes no second edge. */

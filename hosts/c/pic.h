@@ -88,6 +88,10 @@ int pic_level(struct pic *pic, uint64_t input, bool high, struct pic_event *even
 int pic_poll(struct pic *pic, uint64_t input, struct pic_event *event);
 int pic_drain(struct pic *pic, struct pic_event events[PCH_PIC_EVENTS], size_t *count);
 
+/* Who waits: the inputs that a poll would bring into service, bit n for input n. A poll of any other gives nothing and changes nothing. No watcher is told of it,
+ * since it changes nothing: it is no record of a day. */
+int pic_waiting_inputs(const struct pic *pic, uint64_t *inputs);
+
 /* Puts events that pic_level, pic_poll and pic_drain gave into the order in which the device made them: a returned one is there at once, a drained one
  * comes late. At most 32768 events may have been made from the oldest of them to the newest, dropped ones counted. */
 void pic_in_order(struct pic_event *events, size_t count);
@@ -113,8 +117,8 @@ bool pic_on(const struct pic *pic, uint8_t vector);
 int pic_hear(uint8_t board[PCH_PIC_BOARD_LEN], struct pic_event event);
 
 /* Brings the wires in line with the device, whatever the guest did: drains and passes on, counts afresh which vectors are on and passes on what no
- * event told, polls all 64 inputs, and raises each line again that is still high and no edge. Then every latched and unmasked input is in service. Call it after
- * each write and each reset. Once it has been called a level is latched while its line is high, and an edge from its rise until the guest clears it; an edge
+ * event told, polls each input that waits, and raises each line again that is still high, no edge, and no longer latched. Then every latched and unmasked input
+ * is in service. Where nobody waits it is a drain and a look at who waits. Call it after each write and each reset. Once it has been called a level is latched while its line is high, and an edge from its rise until the guest clears it; an edge
  * that the guest makes a level follows its line from then on. */
 int pic_settle(struct pic *pic, struct pic_wires *wires);
 

@@ -443,6 +443,7 @@ static void a_watched_device(void)
     static struct pic pic, plain;
     static struct pic_wires wires, other;
     uint64_t value = 0, offset = PCH_PIC_REG_ISR;
+    struct pic_event event;
     size_t len = 0;
     wires.route = other.route = no_route;
     pic_recorder_begin(&recorder);
@@ -457,7 +458,13 @@ static void a_watched_device(void)
                                      pic_write(&plain, BASE + PCH_PIC_REG_MASK, 8, 0, NULL) == 0 && pic_settle(&plain, &other) == 0 &&
                                      pic_line(&plain, &other, 5, true) == 0 && pic_line(&plain, &other, 5, false) == 0);
     expect("watching changes nothing", memcmp(pic.image, plain.image, IMAGE_LEN) == 0);
-    expect("two settles of 65 calls, two writes, two lines of two calls, three reads", recorder.stopped == 0 && recorder.count == 2 * 66 + 4 + 3);
+    expect("two writes, each with a drain, two lines of two calls, three reads", recorder.stopped == 0 && recorder.count == 2 * 2 + 4 + 3);
+    expect("three lines go up", pic_level(&pic, 6, true, &event) == 0 && pic_level(&pic, 7, true, &event) == 0 && pic_level(&pic, 8, true, &event) == 0);
+    watched_write(&pic, &wires, PCH_PIC_REG_ISR, 8, 0);
+    expect("out of service all three wait, and a settle polls them and no other", recorder.count == 11 + 3 + 2 + 3);
+    wires.high = 1 << 6 | 1 << 7;
+    watched_write(&pic, &wires, PCH_PIC_REG_CLEAR, 4, 1 << 7 | 1 << 8);
+    expect("of lines that are high the one is raised whose latch is gone", recorder.count == 19 + 2 + 1);
     expect("a trace", pic_recorder_finish(&recorder, trace, &len) == 0 && pic_trace_play(trace, len, &played, NULL) == 0);
     expect("plays to the same device", memcmp(played.image, pic.image, IMAGE_LEN) == 0);
 }

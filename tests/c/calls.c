@@ -990,6 +990,66 @@ static void hoists(void)
     image_len = IMAGE;
 }
 
+/* Asks who waits in an image of that length; the image stays. */
+static int waits(size_t len, uint64_t set)
+{
+    uint8_t before[NUMBERED];
+    memcpy(before, image, len);
+    guard();
+    return pch_pic_waiting(image, len, answer, ANSWER) == 0 && answers(0, 1, set) && memcmp(before, image, len) == 0;
+}
+
+/* Inputs 3, 9 and 63 are raised while masked. An unmask announces the lowest alone, and the others wait until they are polled. */
+static void who_waits_of(size_t len, size_t count)
+{
+    uint8_t n;
+
+    image_len = len;
+    memset(image, 0x77, sizeof image);
+    guard();
+    n = pch_pic_reset(image, len, answer, ANSWER);
+    expect("after a reset nobody waits", n == 0 && waits(len, 0));
+    guard();
+    pch_pic_level(image, len, 3, 1, answer, ANSWER);
+    pch_pic_level(image, len, 9, 1, answer, ANSWER);
+    pch_pic_level(image, len, 63, 1, answer, ANSWER);
+    expect("masked inputs do not wait", waits(len, 0));
+    pch_pic_write(image, len, 0, 0x400, 0x20, 4, 0, answer, ANSWER);
+    expect("one in service does not, one beside it does, a masked one does not", waits(len, 0x200));
+    pch_pic_write(image, len, 0, 0x400, 0x24, 4, 0, answer, ANSWER);
+    pch_pic_write(image, len, 0, 0x400, 0x3a0, 8, 0, answer, ANSWER);
+    expect("out of service all three do, 63 too", waits(len, 0x8000000000000208u));
+    guard();
+    n = pch_pic_poll(image, len, 63, answer, ANSWER);
+    expect("one that waits is polled into service", n == 0 && answer[1] == 1 && answer[8] == 63 && waits(len, 0x208));
+    guard();
+    n = pch_pic_poll(image, len, 5, answer, ANSWER);
+    expect("a poll of another returns nothing", n == 0 && answers(0, 0, 0) && waits(len, 0x208));
+    guard();
+    n = pch_pic_waiting(image, len, answer, ANSWER - 1);
+    expect("7: who waits, with 15 bytes for the answer", n == 7 && untouched());
+    guard();
+    n = pch_pic_waiting(image, len - 1, answer, ANSWER);
+    expect("4: who waits, with a byte less", n == 4 && answers(4, 0, 0));
+    image[0] ^= 4;
+    guard();
+    n = pch_pic_waiting(image, len, answer, ANSWER);
+    expect("5: who waits, of no form", n == 5 && answers(5, 0, 0));
+    image[0] ^= 4;
+    image[count] = 17;
+    guard();
+    n = pch_pic_waiting(image, len, answer, ANSWER);
+    expect("9: who waits, where 17 events do", n == 9 && answers(9, 1, count));
+}
+
+static void who_waits(void)
+{
+    who_waits_of(IMAGE, 222);
+    who_waits_of(IMAGE2, 214);
+    who_waits_of(NUMBERED, 219);
+    image_len = IMAGE;
+}
+
 int main(void)
 {
     uint8_t before[IMAGE];
@@ -1118,6 +1178,7 @@ int main(void)
     traces();
     boards();
     hoists();
+    who_waits();
     expect("the archive says which kind it is", pch_pic_built == BUILT);
     expect("and its version, which is the header's", strcmp(pch_pic_version(), PCH_PIC_VERSION) == 0);
     expect("with its name before it, and zeros behind", memcmp(pch_pic_linked, linked, sizeof linked) == 0);

@@ -1,4 +1,4 @@
-//! Calls that stand beside the plain ones: with a board (02, C-20), and those of the hoist profile (02, C-22). They are measured on images with numbers, as
+//! Calls that stand beside the plain ones: with a board (02, C-20), those of the hoist profile (02, C-22), and who waits, with what a host does by it. They are measured on images with numbers, as
 //! a new host has them; the rows of the plain calls on such images stand beside them.
 
 pub mod sides;
@@ -10,13 +10,16 @@ use crate::kinds::{self, NUMBERED, Prepared, Slot};
 /// As many as fit into the first cache with their boards.
 pub const BATCH: usize = 32;
 
-/// What is asked: a call with a board, an event for a second board, a reset, read or write of the profile, or the end of start-up.
+/// What is asked: a call with a board, an event for a second board, a reset, read or write of the profile, the end of start-up, or who waits. And what hosts do
+/// after a write: a drain, and polls of those who wait or, as they did before they could ask, of everyone.
 #[derive(Clone, Copy, PartialEq, Eq, Debug)]
 pub enum Asked {
     Board(Call),
     Event { vector: u8, flag: u8 },
     Hoist(Call),
     EndStartup,
+    Waiting,
+    Settle { everyone: bool },
 }
 
 /// What is lent: what the plain call is lent, a board and a phase.
@@ -65,7 +68,7 @@ fn running(kind: Kind) -> Kind {
 }
 
 pub fn all() -> Vec<Kind> {
-    boards().into_iter().chain(hoists()).collect()
+    boards().into_iter().chain(hoists()).chain(waits()).collect()
 }
 
 fn boards() -> Vec<Kind> {
@@ -110,5 +113,19 @@ fn hoists() -> Vec<Kind> {
         Kind { number: 15, ..hoist("hoist-15-served", "hoist: refusal 15, in service (write)", busy(), served) },
         Kind { number: 15, ..running(hoist("hoist-15-after", "hoist: refusal 15, after start-up (write)", busy(), vectors)) },
         Kind { number: 15, ..kind("hoist-15-end", "hoist: refusal 15, no end of start-up", busy(), Asked::EndStartup) },
+    ]
+}
+
+/// Who waits where nobody does, and where two do; and both ways to settle then, with a drain of one event.
+fn waits() -> Vec<Kind> {
+    let two = || kinds::busy().latched(0x1_0000_0228);
+    let settle = |name, title, image: Prepared, everyone| kind(name, title, image.waiting(1), Asked::Settle { everyone });
+    vec![
+        kind("waiting-0", "who waits: nobody", kinds::busy(), Asked::Waiting),
+        kind("waiting-2", "who waits: two inputs", two(), Asked::Waiting),
+        settle("settle-0-all", "settle, nobody waits: drain, 64 polls", kinds::busy(), true),
+        settle("settle-0", "settle, nobody waits: drain, who waits", kinds::busy(), false),
+        settle("settle-2-all", "settle, two wait: drain, 64 polls", two(), true),
+        settle("settle-2", "settle, two wait: drain, who waits, 2 polls", two(), false),
     ]
 }

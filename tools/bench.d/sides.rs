@@ -178,7 +178,7 @@ pub mod portable {
         pch_pic_board_write as board_write, pch_pic_convert as convert, pch_pic_drain as drain,
         pch_pic_hoist_end_startup as hoist_end_startup, pch_pic_hoist_read as hoist_read, pch_pic_hoist_reset as hoist_reset,
         pch_pic_hoist_write as hoist_write, pch_pic_level as level, pch_pic_play as play, pch_pic_poll as poll, pch_pic_read as read,
-        pch_pic_reset as reset, pch_pic_salvage as salvage, pch_pic_sheet as sheet, pch_pic_write as write,
+        pch_pic_reset as reset, pch_pic_salvage as salvage, pch_pic_sheet as sheet, pch_pic_waiting as waiting, pch_pic_write as write,
     };
 }
 rust!(Portable, portable);

@@ -45,6 +45,7 @@ fn names(front: u8) -> Option<&'static [usize]> {
         7 => &[BOARD, ANSWER],
         8 | 9 => &[IMAGE, PHASE, ANSWER],
         10 => &[TRACE, SHEET, ANSWER],
+        11 => &[IMAGE, ANSWER],
         _ => return None,
     })
 }
@@ -101,9 +102,13 @@ impl Case {
             }
             6 | 7 => with_board(self, areas)?,
             8 | 9 => under_profile(self, areas)?,
-            _ => {
+            10 => {
                 let [(t, tl), (s, sl), (a, al)] = areas.lent([TRACE, SHEET, ANSWER]);
                 unsafe { pch_pic_sheet(t, tl, s, sl, a, al) }
+            }
+            _ => {
+                let [(i, il), (a, al)] = areas.lent([IMAGE, ANSWER]);
+                unsafe { pch_pic_waiting(i, il, a, al) }
             }
         })
     }

@@ -56,6 +56,10 @@ pub unsafe fn pch_pic_drain(
     unsafe { text::calls::pch_pic_drain(area(image, image_len), area(events, events_len), place, area(answer, answer_len)) }
 }
 
+pub unsafe fn pch_pic_waiting(image: *const u8, image_len: usize, answer: *mut u8, answer_len: usize) -> u8 {
+    unsafe { text::calls::pch_pic_waiting(area(image.cast_mut(), image_len), area(answer, answer_len)) }
+}
+
 pub unsafe fn pch_pic_convert(
     image: *const u8,
     image_len: usize,

@@ -40,6 +40,10 @@ pub struct Met {
     pub wrapping: u64,
     /// Differences of two numbers.
     pub differences: u64,
+    /// After each call, who waits: by the number that is expected; those that had some, and the most of them.
+    pub looks: [u64; 12],
+    pub waiting: u64,
+    pub most_waiting: u32,
     /// What was met in traces.
     pub traces: MetInTraces,
     /// What was met by the later fronts.
@@ -76,7 +80,7 @@ pub struct MetByFronts {
     pub salvages: [u64; 17],
     pub sheets: [u64; 17],
     pub plain: [u64; 17],
-    /// And conversions, differences and plays that were made as such calls.
+    /// And conversions, differences, plays and looks at who waits that were made as such calls.
     pub others: [u64; 17],
     /// Blocks kept and dropped by salvages that were done; outcomes that were salvaged again and played; good traces that came out as they were.
     pub kept: u64,
@@ -107,7 +111,7 @@ impl MetByFronts {
     pub fn meet(&mut self, front: &Front, number: u8) {
         let met = match front {
             Front::Plain(_) => &mut self.plain,
-            Front::Convert | Front::Difference { .. } | Front::Play => &mut self.others,
+            Front::Convert | Front::Difference { .. } | Front::Play | Front::Waiting => &mut self.others,
             Front::Board(_) => &mut self.boards,
             Front::Event { .. } => &mut self.heard,
             Front::Hoist(_) => &mut self.hoists,
@@ -261,6 +265,10 @@ impl Bench {
                     return None;
                 }
             }
+            if let Some(what) = self.who_waits() {
+                self.fail(call, head, what);
+                return None;
+            }
             self.passed += 1;
             self.meet(call, wanted);
             return Some(wanted);
@@ -268,6 +276,37 @@ impl Bench {
         let what = what(&self.got, &self.want, number, wanted);
         self.fail(call, head, what);
         self.wrong = Some((number, std::mem::replace(&mut self.got, self.want.clone())));
+        None
+    }
+
+    /// Asks who waits in the image that the call left, on both sides, with an answer area as the call had. What differs.
+    fn who_waits(&mut self) -> Option<String> {
+        let Bench { got, want, got_again, want_again, .. } = self;
+        for areas in [&mut *got_again, &mut *want_again] {
+            areas.image = got.image.clone();
+            areas.answer = want.answer.clone();
+            areas.answer.fill(self.fill.rotate_left(11));
+        }
+        let number = match caught(|| under_test::waiting(got_again)) {
+            Ok(number) => number,
+            Err(words) => return Some(format!("who waits: the library panicked: {words}")),
+        };
+        let wanted = self.expected.waiting(want_again.image.bytes(), want_again.answer.slice());
+        if number != wanted {
+            return Some(format!("who waits: number {number}, expected {wanted}"));
+        }
+        if let Some((at, got, want)) = got_again.answer.difference(&want_again.answer) {
+            return Some(format!("who waits: answer area byte {at}: {got:02x}, expected {want:02x}"));
+        }
+        if let Some((at, got, want)) = got_again.image.difference(&want_again.image) {
+            return Some(format!("who waits: image byte {at}: {got:02x}, expected {want:02x}"));
+        }
+        self.met.looks[usize::from(wanted)] += 1;
+        if wanted == 0 {
+            let set = u64::from_le_bytes(want_again.answer.bytes()[8..16].try_into().unwrap());
+            self.met.waiting += u64::from(set != 0);
+            self.met.most_waiting = self.met.most_waiting.max(set.count_ones());
+        }
         None
     }
 

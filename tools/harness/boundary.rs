@@ -4,6 +4,7 @@
 use crate::call::Call;
 use crate::image::{self, Form, Image};
 use crate::numbers::Numbers;
+use crate::told::tell;
 use oracle::{AccessWidth, DeviceError, GuestPhysAddr, LoongArchPchPic, PchPicOutputEvent, PchPicOutputPort};
 
 pub struct Boundary {
@@ -57,6 +58,24 @@ impl Boundary {
         answer[2..8].fill(0);
         answer[8..16].copy_from_slice(&value.unwrap_or(0).to_le_bytes());
         number
+    }
+
+    /// Who waits. It is refused as a read is, and then the registers tell it, as the Rust's own reads have them; a read of ISR leaves out masked inputs, which do not
+    /// wait either. Nothing changes, and the image that the last call left is no load here too.
+    pub fn waiting(&mut self, image: &[u8], answer: &mut [u8]) -> u8 {
+        if answer.len() < 16 {
+            return 7;
+        }
+        match image::test(image) {
+            (0, _) => {}
+            (number, value) => return tell(answer, number, value),
+        }
+        if *image != *self.left {
+            self.load(image);
+        }
+        let [irr, mask, isr] =
+            [0x380, 0x020, 0x3a0].map(|offset| self.read(0, 0x400, offset, AccessWidth::Qword).expect("a register stands there"));
+        tell(answer, 0, Some(irr & !mask & !isr))
     }
 
     fn done(&mut self, call: &Call, image: &mut [u8], events: &mut [u8]) -> Done {

@@ -16,6 +16,7 @@ pub enum Front {
     EndStartup,
     Salvage,
     Sheet,
+    Waiting,
 }
 
 impl Front {
@@ -31,6 +32,7 @@ impl Front {
             Front::Hoist(_) | Front::EndStartup => &["image", "phase", "answer"],
             Front::Salvage => &["trace", "kept", "list", "answer"],
             Front::Sheet => &["trace", "sheet", "answer"],
+            Front::Waiting => &["image", "answer"],
         }
     }
 }

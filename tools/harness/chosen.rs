@@ -32,7 +32,7 @@ pub struct File {
     pub numbers: &'static [(&'static str, &'static [u8])],
 }
 
-pub const FILES: [File; 7] = [
+pub const FILES: [File; 8] = [
     File { name: "plays", choose: plays, numbers: &[("front-play", &[0, 4, 7, 12, 13])] },
     File { name: "conversions", choose: conversions, numbers: &[("front-convert", &[0, 4, 5, 7, 8, 9, 10, 11])] },
     File { name: "differences", choose: differences, numbers: &[("front-difference", &[0])] },
@@ -61,6 +61,7 @@ pub const FILES: [File; 7] = [
         ],
     },
     File { name: "sheets", choose: sheets, numbers: &[("sheet", &[0, 7, 12, 13])] },
+    File { name: "waits", choose: waits, numbers: &[("waiting", &[0, 4, 5, 7, 8, 9, 10, 11])] },
 ];
 
 impl Choice {
@@ -475,4 +476,47 @@ fn sheets(choice: &mut Choice) {
     make(choice, trace::bytes(&records, &blocks), LENGTH, 16);
     assert_eq!(choice.bench.met.fronts.greatest_wait, 3999, "a wait from the first record to the last");
     make(choice, good, LENGTH, 17);
+}
+
+/// Inputs alone, latched or not, masked or not, in service or not; images where any may be; every refusal, faults several at a time; lengths.
+fn waits(choice: &mut Choice) {
+    let look = |choice: &mut Choice, image: &[u8], answer: usize, null: bool| {
+        choice.make(Front::Waiting, vec![image.to_vec(), vec![0xc3; answer]], null)
+    };
+    for (k, form) in FORMS.into_iter().enumerate() {
+        let with = |image: &mut Vec<u8>, place: usize, set: u64| image[place..place + 8].copy_from_slice(&set.to_le_bytes());
+        for (input, told) in [0, 1, 31, 32, 63].into_iter().flat_map(|input| (0..8).map(move |told| (input, told))) {
+            let mut image = generate::accepted(&mut choice.chance, form);
+            let set = 1_u64 << input;
+            let [latched, masked, service] = [1, 2, 4].map(|bit| told & bit != 0);
+            for place in [Some(form.irr), form.copy].into_iter().flatten() {
+                with(&mut image, place, if latched { set } else { !set });
+            }
+            with(&mut image, form.mask, if masked { set } else { 0 });
+            with(&mut image, form.isr, if service { set } else { 0 });
+            assert_eq!(look(choice, &image, 16, false), 0);
+        }
+        for _ in 0..20 {
+            let image = generate::accepted(&mut choice.chance, form);
+            assert_eq!(look(choice, &image, 16 + k, false), 0);
+        }
+        let image = with_events(&mut choice.chance, form);
+        for image in broken(&image, form) {
+            assert_ne!(look(choice, &image, 16, false), 0);
+            assert_eq!(look(choice, &image, 15, false), 7);
+        }
+        for length in [0, 1, 22, 250, 252, 258, 260, 289, 291, 300] {
+            assert_eq!(look(choice, &vec![0; length], 16, length == 0), 4);
+        }
+        for answer in [0, 1, 15, 17, 24] {
+            look(choice, &image, answer, answer == 0);
+        }
+        for _ in 0..20 {
+            let mut image = generate::accepted(&mut choice.chance, form);
+            generate::damage(&mut choice.chance, &mut image, form);
+            look(choice, &image, 16, false);
+        }
+    }
+    let image = generate::accepted(&mut choice.chance, NUMBERED);
+    assert_eq!(look(choice, &image, 17, false), 0);
 }

@@ -205,6 +205,14 @@ fn tell(bench: &Bench) {
          masked bits in ISR {}, accesses over the window's end {}, numbers that went round {}",
         met.vectors_returned, met.events_drained, met.full_ring, met.dropping, met.at_stop, met.masked_isr, met.straddling, met.wrapping
     );
+    let looks: Vec<String> =
+        met.looks.iter().enumerate().filter(|(_, count)| **count > 0).map(|(n, count)| format!("{n}: {count}")).collect();
+    eprintln!(
+        "differential: who waits after a call, by the number handed back {}; some did {}, at most {}",
+        looks.join(", "),
+        met.waiting,
+        met.most_waiting
+    );
     let met = &met.traces;
     let plays = met.plays.iter().enumerate().filter(|(_, count)| **count > 0).map(|(number, count)| format!("{number}: {count}"));
     let [one, two, numbered] = met.forms;

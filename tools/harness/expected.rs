@@ -34,6 +34,7 @@ pub fn expected(boundary: &mut Boundary, front: &Front, lent: &mut [Block]) -> u
         (Front::Hoist(call), [image, phase, answer]) => hoist::call(boundary, call, image.slice(), phase.slice(), answer.slice()),
         (Front::EndStartup, [image, phase, answer]) => hoist::end_startup(image.bytes(), phase.slice(), answer.slice()),
         (Front::Salvage, [trace, kept, list, answer]) => salvaged::salvage(trace.bytes(), kept.slice(), list.slice(), answer.slice()),
+        (Front::Waiting, [image, answer]) => boundary.waiting(image.bytes(), answer.slice()),
         (Front::Sheet, [trace, sheet, answer]) => sheet::sheet(boundary, trace.bytes(), sheet.slice(), answer.slice()),
         _ => unreachable!("a case has the areas of its call"),
     }

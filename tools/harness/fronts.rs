@@ -33,6 +33,7 @@ pub fn make(front: &Front, lent: &mut [Block]) -> u8 {
         (Front::Salvage, [trace, kept, list, answer]) => lend([trace, kept, list, answer], |[(t, tl), (k, kl), (l, ll), (a, al)]| unsafe {
             library::pch_pic_salvage(t, tl, k, kl, l, ll, a, al)
         }),
+        (Front::Waiting, [image, answer]) => lend([image, answer], under_test::make_waiting),
         (Front::Sheet, [trace, sheet, answer]) => {
             lend([trace, sheet, answer], |[(t, tl), (s, sl), (a, al)]| unsafe { library::pch_pic_sheet(t, tl, s, sl, a, al) })
         }

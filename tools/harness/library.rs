@@ -35,6 +35,7 @@ unsafe extern "C" {
         answer: *mut u8,
         answer_len: usize,
     ) -> u8;
+    pub fn pch_pic_waiting(image: *const u8, image_len: usize, answer: *mut u8, answer_len: usize) -> u8;
     pub fn pch_pic_convert(
         image: *const u8,
         image_len: usize,

@@ -10,6 +10,7 @@ mod chance;
 mod image;
 mod numbers;
 mod quiet;
+mod told;
 
 use boundary::Boundary;
 use call::Call;

@@ -93,6 +93,11 @@ pub unsafe fn pch_pic_drain(
     unsafe { perform(Call::Drain { place: place as u64 }, (image, image_len), (answer, answer_len), (events, events_len)) }
 }
 
+pub unsafe fn pch_pic_waiting(image: *const u8, image_len: usize, answer: *mut u8, answer_len: usize) -> u8 {
+    let (image, answer) = unsafe { (area(image.cast_mut(), image_len), area(answer, answer_len)) };
+    DEVICE.with_borrow_mut(|device| device.waiting(image, answer))
+}
+
 pub unsafe fn pch_pic_convert(
     image: *const u8,
     image_len: usize,

@@ -66,6 +66,7 @@ fn front_words(front: &Front) -> String {
         Front::EndStartup => "hoist-end".into(),
         Front::Salvage => "salvage".into(),
         Front::Sheet => "sheet".into(),
+        Front::Waiting => "waiting".into(),
     }
 }
 
@@ -88,7 +89,9 @@ pub fn front_line(case: &Case, failure: u64) -> String {
 pub fn parse_front(words: &[String]) -> Option<Result<Case, String>> {
     let (name, words) = words.split_first()?;
     let known = match name.as_str() {
-        "salvage" | "sheet" | "hoist-end" | "board-event" | "front-convert" | "front-difference" | "front-play" => name.as_str(),
+        "salvage" | "sheet" | "waiting" | "hoist-end" | "board-event" | "front-convert" | "front-difference" | "front-play" => {
+            name.as_str()
+        }
         name => name.split_once('-').filter(|(front, _)| ["plain", "board", "hoist"].contains(front))?.1,
     };
     Some(case_of(name, known, words))
@@ -131,6 +134,7 @@ fn case_of(name: &str, call: &str, words: &[String]) -> Result<Case, String> {
         "front-play" => Front::Play,
         "salvage" => Front::Salvage,
         "sheet" => Front::Sheet,
+        "waiting" => Front::Waiting,
         "hoist-end" => Front::EndStartup,
         "board-event" => Front::Event { vector: byte("vector")?, flag: byte("flag")? },
         _ => match (call_of(call, &fields)?, name.split('-').next()) {

@@ -61,6 +61,19 @@ pub fn make_play([(t, tl), (i, il), (s, sl), (e, el), (a, al)]: [Area; 5]) -> u8
     unsafe { library::pch_pic_play(t, tl, i, il, s, sl, e, el, a, al) }
 }
 
+/// Asks who waits in the image.
+#[allow(dead_code)]
+pub fn waiting(lent: &mut Areas) -> u8 {
+    // it has no numbers of its own, so that any call stands for it
+    on(&Call::Reset, lent, |_, [image, answer, ..]| make_waiting([image, answer]))
+}
+
+#[allow(dead_code)]
+pub fn make_waiting([(i, il), (a, al)]: [Area; 2]) -> u8 {
+    // SAFETY: as above.
+    unsafe { library::pch_pic_waiting(i, il, a, al) }
+}
+
 pub type Area = (*mut u8, usize);
 
 fn on(call: &Call, lent: &mut Areas, make: fn(&Call, [Area; 4]) -> u8) -> u8 {

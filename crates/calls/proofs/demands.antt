@@ -2,3 +2,4 @@
 pub mod WhollyInside
 pub mod OneOutcome
 pub mod Refused
+pub mod WhoWaits

@@ -5,3 +5,4 @@ pub mod Conversions
 pub mod Refusals
 pub mod Answers
 pub mod Requests
+pub mod Waits

@@ -3,6 +3,7 @@
 pub mod PremisesMet
 pub mod ExportedMet
 pub mod SweepMet
+pub mod WaitingMet
 pub mod OrderMet
 pub mod WorkedDay
 pub mod TracePlayed

@@ -4,3 +4,4 @@ pub mod OneInput
 pub mod Announcing
 pub mod Reading
 pub mod Polls
+pub mod Idle

@@ -2,7 +2,7 @@
 //!
 //! What the library asks of its host holds by the types: a slice's length is true, and a mutable slice overlaps no other. So a call that
 //! changes an image is alone with it. Reads and conversions of one image may run side by side, and `PchPic` may be `Sync`: `pch_pic_read`,
-//! `pch_pic_board_read`, `pch_pic_table_read`, `pch_pic_hoist_read` and `pch_pic_convert` get the image as `const` and only load from it, write to nothing but
+//! `pch_pic_board_read`, `pch_pic_table_read`, `pch_pic_hoist_read`, `pch_pic_waiting` and `pch_pic_convert` get the image as `const` and only load from it, write to nothing but
 //! what they are lent to write, and the library has no memory of its own.
 
 /// Each line is a call as the header has it, a slice for each pointer and its length. A shared slice is only read.
@@ -44,6 +44,8 @@ linked! {
     fn pch_pic_poll(image: &mut [u8], input: u64, answer: &mut [u8]);
     /// Waiting events are moved out.
     fn pch_pic_drain(image: &mut [u8], events: &mut [u8], place: usize, answer: &mut [u8]);
+    /// Who waits.
+    fn pch_pic_waiting(image: &[u8], answer: &mut [u8]);
     /// The read, decoded by the table.
     fn pch_pic_table_read(image: &[u8], base: u64, size: u64, address: u64, width: u64, answer: &mut [u8]);
     /// The write, decoded by the table.

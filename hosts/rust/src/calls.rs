@@ -1,4 +1,4 @@
-//! The 24 calls as C has them, over slices: `include/pch_pic.h` of the repository tells each. The rest of the crate is types around them.
+//! The calls as C has them, over slices: `include/pch_pic.h` of the repository tells each. The rest of the crate is types around them.
 //!
 //! Each is lent an answer area of at least 16 bytes and hands back a number: 0 where it was done, else why it was refused ([`Error`](crate::Error) has the
 //! numbers). None requires anything of its bytes, numbers and lengths, and none panics, whatever they are.
@@ -15,7 +15,7 @@
 //! assert_eq!(pch_pic_read(&image, 0, 0x400, 0, 4, &mut []), 7); // no room for the answer
 //! ```
 //!
-//! - `pch_pic_reset`, `_read`, `_write`, `_level`, `_poll` and `_drain` are the device, on its image.
+//! - `pch_pic_reset`, `_read`, `_write`, `_level`, `_poll` and `_drain` are the device, on its image, and `pch_pic_waiting` tells who waits in it.
 //! - `pch_pic_board_reset` and so on are the same six with a board beside the image, and `pch_pic_board_event` counts an event on a board alone.
 //! - `pch_pic_table_read` and `_write` are decoded by the table of registers, and answer the same.
 //! - `pch_pic_hoist_reset`, `_read`, `_write` and `_end_startup` hold a guest to the hoist profile.

@@ -209,6 +209,24 @@ impl PchPic {
         Ok(Returned(value.map(|value| event::returned(value, true))))
     }
 
+    /// Who waits: the inputs that a [`poll`](PchPic::poll) would bring into service, bit n for input n. They are latched, unmasked and not in service. A poll of
+    /// any other input gives nothing and changes nothing.
+    ///
+    /// ```
+    /// use pch_pic::{reg, PchPic, Width, Window};
+    ///
+    /// let (mut pic, window) = (PchPic::new(), Window::at(0));
+    /// let _ = (pic.set_level(3, true)?, pic.set_level(9, true)?, pic.set_level(40, true)?); // masked: only latched
+    /// assert_eq!(pic.waiting_inputs(), 0);
+    /// pic.write(window, reg::MASK, Width::Dword, 0)?; // announces 3 alone; 40 is masked still
+    /// assert_eq!(pic.waiting_inputs(), 1 << 9);
+    /// # Ok::<(), pch_pic::Error>(())
+    /// ```
+    pub fn waiting_inputs(&self) -> u64 {
+        let set = outcome::waiting(&self.image).expect("a device's image is accepted");
+        set.expect("a done call has the set")
+    }
+
     /// Moves waiting events to the front of `events`, oldest first, as many as wait or as fit, and says how many. The rest wait on.
     ///
     /// ```

@@ -24,7 +24,7 @@
 //! [counted](PchPic::drops). Inputs may share a vector. An unmask announces only the lowest input that waits, and a write to CLEAR takes the
 //! latch of a line though it is still high. A guest that changes a vector in service gets a deassert of a vector that was never asserted,
 //! and a write to ISR makes no event at all. [`Wires`] does what is to be done about all of it: [`Wires::settle`] after every write of the
-//! guest, [`Wires::line`] for every line that moves, and [`Wires::resume`] after a load. To settle is also to poll all 64 inputs, and that one
+//! guest, [`Wires::line`] for every line that moves, and [`Wires::resume`] after a load. To settle is also to poll each input that waits, and that one
 //! sweep wakes every input that is latched and unmasked. And the device knows levels alone: of the inputs that the guest has in EDGE,
 //! [`Wires`] makes [edges](Wires#edges).
 //!

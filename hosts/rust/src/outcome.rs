@@ -64,6 +64,10 @@ pub fn poll(image: &mut [u8], board: &mut [u8], input: u64) -> Outcome {
     asked(|answer| calls::pch_pic_board_poll(image, board, input, answer))
 }
 
+pub fn waiting(image: &[u8]) -> Outcome {
+    asked(|answer| calls::pch_pic_waiting(image, answer))
+}
+
 pub fn drain(image: &mut [u8], board: &mut [u8], events: &mut [u8], place: usize) -> Outcome {
     asked(|answer| calls::pch_pic_board_drain(image, board, events, place, answer))
 }

@@ -166,8 +166,8 @@ impl Wires {
     }
 
     /// Brings the wires in line with the device, whatever the guest did: drains and passes on, counts afresh which vectors are on and passes
-    /// on what no event told, polls all 64 inputs, and raises each line again that is still high and no edge. Then every latched and unmasked
-    /// input is in service. To be called after each write and each reset.
+    /// on what no event told, polls each input that waits, and raises each line again that is still high, no edge, and no longer latched. Then every
+    /// latched and unmasked input is in service. To be called after each write and each reset. Where nobody waits it is a drain and a look at who waits.
     ///
     /// ```
     /// use pch_pic::{reg, PchPic, Width, Window, Wires};
@@ -190,7 +190,8 @@ impl Wires {
             self.shift(pic, input, false, &mut route);
         }
         self.sweep(pic, &mut route);
-        for input in inputs(self.high & !edges) {
+        // A raise of one that is latched would do nothing now: it is in service, or masked.
+        for input in inputs(self.high & !edges & !pic.pic().latched()) {
             self.shift(pic, input, true, &mut route);
         }
     }
@@ -245,10 +246,10 @@ impl Wires {
         }
     }
 
-    /// One sweep: each input is polled. Whatever the guest did, every latched and unmasked input is in service then, and each was asserted at
-    /// most once.
+    /// One sweep: each input that waits is polled, lowest first. Whatever the guest did, every latched and unmasked input is in service then, and each was
+    /// asserted at most once; polls of all 64 would come to the same.
     fn sweep(&mut self, pic: &mut impl Device, route: &mut impl FnMut(Change)) {
-        for input in inputs(u64::MAX) {
+        for input in inputs(pic.pic().waiting_inputs()) {
             for event in pic.poll(input).into_iter().flatten() {
                 self.pass_on(pic.pic().board(), event, route);
             }
@@ -282,6 +283,10 @@ fn edge_inputs(pic: &PchPic) -> u64 {
 }
 
 /// The inputs of a set, lowest first.
-fn inputs(set: u64) -> impl Iterator<Item = u64> {
-    (0..INPUTS as u64).filter(move |input| set >> input & 1 == 1)
+fn inputs(mut set: u64) -> impl Iterator<Item = u64> {
+    core::iter::from_fn(move || {
+        let lowest = (set != 0).then(|| u64::from(set.trailing_zeros()))?;
+        set &= set - 1;
+        Some(lowest)
+    })
 }

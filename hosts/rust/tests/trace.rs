@@ -217,10 +217,22 @@ fn a_host_with_wires_is_recorded() {
     plain.resume(&mut pic, 0, |change| as_told.push(change));
     assert_eq!((told.len(), &told), (2, &as_told));
     assert_eq!(*day.pic(), pic);
-    // A write; a settle of a drain and 64 polls; a line with a drain; a line lowered, and another settle.
+    // A write; a settle, where nobody waits a drain alone; a line with a drain; a line lowered, and another settle.
+    assert_eq!(day.recorder().len(), 1 + 1 + 2 + 1 + 1);
+    // Three inputs that are taken out of service wait: a settle polls them and no other. Of two lines that are high the one is raised whose latch is gone.
+    for input in [6, 7, 8] {
+        let _ = day.set_level(input, true).unwrap();
+    }
+    day.write(WINDOW, WINDOW.base + reg::ISR, Width::Qword, 0).unwrap();
+    wires.settle(&mut day, |_| ());
+    assert_eq!(day.recorder().len(), 6 + 3 + 1 + 1 + 3);
+    wires.line(&mut day, 6, true, |_| ()).unwrap();
+    wires.line(&mut day, 7, true, |_| ()).unwrap();
+    day.write(WINDOW, WINDOW.base + reg::CLEAR, Width::Dword, 1 << 7 | 1 << 8).unwrap();
+    wires.settle(&mut day, |_| ());
+    assert_eq!(day.recorder().len(), 14 + 4 + 1 + 1 + 1);
     let trace = day.recorder().finish().unwrap();
-    assert_eq!(trace.records().len(), 1 + 65 + 2 + 1 + 65);
-    assert_eq!(trace.play().pic(), pic);
+    assert_eq!(trace.play().pic(), *day.pic());
 }
 
 #[test]

@@ -265,6 +265,41 @@ fn any_guest() {
     }
 }
 
+/// Polls of those who wait, and raises of lines whose latch is gone, come to the same as polls of all 64 and raises of all lines: the same events with the same
+/// numbers, and the same device.
+#[test]
+fn the_other_polls_do_nothing() {
+    let mut chance = dice(0x2545_f491_4f6c_dd1d);
+    let (mut pic, mut waited, mut polled) = (PchPic::new(), 0, 0);
+    for _ in 0..2000 {
+        let place = [reg::MASK, reg::MASK, reg::CLEAR, reg::ISR][(chance() % 4) as usize];
+        pic.write(WINDOW, place, Width::Qword, chance() & chance()).unwrap();
+        let _ = pic.set_level(chance() % 64, chance() % 4 != 0).unwrap();
+        let (set, high, mut all) = (pic.waiting_inputs(), chance() & chance(), pic.clone());
+        let [mut some_told, mut all_told] = [Vec::new(), Vec::new()];
+        for input in 0..64 {
+            all_told.extend(all.poll(input).unwrap().event());
+            if set >> input & 1 == 1 {
+                some_told.extend(pic.poll(input).unwrap().event());
+                polled += 1;
+            }
+        }
+        assert_eq!((&some_told, pic.waiting_inputs()), (&all_told, 0));
+        assert_eq!(some_told.len() as u32, set.count_ones());
+        let latched = pic.latched();
+        for input in (0..64).filter(|input| high >> input & 1 == 1) {
+            all_told.extend(all.set_level(input, true).unwrap().event());
+            if latched >> input & 1 == 0 {
+                some_told.extend(pic.set_level(input, true).unwrap().event());
+            }
+        }
+        assert_eq!((&some_told, &pic), (&all_told, &all));
+        waited += usize::from(set != 0);
+        let _ = pic.drain_events().count();
+    }
+    assert!(waited > 500 && polled > 2000, "{waited} {polled}");
+}
+
 /// An unmasked input 7, edge-triggered.
 fn with_an_edge() -> Host {
     let mut host = Host::unmasked();

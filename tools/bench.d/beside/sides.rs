@@ -57,6 +57,7 @@ mod library {
             al: usize,
         ) -> u8;
         pub fn pch_pic_hoist_end_startup(i: *const u8, il: usize, p: Bytes, pl: usize, a: Bytes, al: usize) -> u8;
+        pub fn pch_pic_waiting(i: *const u8, il: usize, a: Bytes, al: usize) -> u8;
     }
 }
 pub use library::*;
@@ -112,6 +113,10 @@ pub trait Side {
     unsafe fn hoist_end_startup(i: Area, _: Area, a: Area) -> u8 {
         nothing(i.0, a.0)
     }
+    #[inline(always)]
+    unsafe fn waiting(i: Area, a: Area) -> u8 {
+        nothing(i.0, a.0)
+    }
 }
 
 impl Side for Nothing {}
@@ -160,6 +165,10 @@ impl Side for Library {
     #[inline(always)]
     unsafe fn hoist_end_startup(i: Area, p: Area, a: Area) -> u8 {
         unsafe { pch_pic_hoist_end_startup(i.0, i.1, p.0, p.1, a.0, a.1) }
+    }
+    #[inline(always)]
+    unsafe fn waiting(i: Area, a: Area) -> u8 {
+        unsafe { pch_pic_waiting(i.0, i.1, a.0, a.1) }
     }
 }
 
@@ -221,6 +230,10 @@ macro_rules! rust {
             unsafe fn hoist_end_startup(i: Area, p: Area, a: Area) -> u8 {
                 unsafe { $of::hoist_end_startup(part(i), part_mut(p), part_mut(a)) }
             }
+            #[inline(always)]
+            unsafe fn waiting(i: Area, a: Area) -> u8 {
+                unsafe { $of::waiting(part(i), part_mut(a)) }
+            }
         }
     };
 }
@@ -252,6 +265,26 @@ fn areas(lent: &mut Lent, lengths: Lengths) -> Areas {
     }
 }
 
+/// What hosts do after a write: a drain, and a poll of each input that waits, or of everyone, with a board. The number is that of the last call.
+///
+/// SAFETY: as of a side's calls.
+#[inline(always)]
+unsafe fn settle<S: Side>(l: &Areas, everyone: bool) -> u8 {
+    unsafe {
+        let mut number = S::board_drain(l.image, l.board, l.events, 0, l.answer);
+        let mut left = !0;
+        if !everyone {
+            number = S::waiting(l.image, l.answer);
+            left = part(l.answer).last_chunk().map_or(0, |value| u64::from_le_bytes(*value));
+        }
+        while number == 0 && left != 0 {
+            number = S::board_poll(l.image, l.board, left.trailing_zeros().into(), l.answer);
+            left &= left - 1;
+        }
+        number
+    }
+}
+
 /// Does something with what is asked: $do is given a name for the areas, and the call on them. The profile has no other calls on the image.
 macro_rules! matched {
     ($side:ident, $asked:expr, $do:ident) => {
@@ -277,6 +310,8 @@ macro_rules! matched {
                 $do!(l, $side::hoist_write(l.image, l.phase, (base, size, address, width), value, l.answer))
             }
             Asked::EndStartup => $do!(l, $side::hoist_end_startup(l.image, l.phase, l.answer)),
+            Asked::Waiting => $do!(l, $side::waiting(l.image, l.answer)),
+            Asked::Settle { everyone } => $do!(l, settle::<$side>(&l, everyone)),
             asked => panic!("{asked:?} is no call"),
         }
     };

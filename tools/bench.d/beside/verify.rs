@@ -79,7 +79,7 @@ fn hoist(chance: &mut Chance) -> Asked {
         Call::Write { base, size, address, width, value } if chance.percent(30) => Call::Write { base, size, address, width, value },
         Call::Reset => Call::Reset,
         Call::Read { .. } => Call::Read { base: BASE, size: SIZE, address: aligned, width: 4 },
-        Call::Poll { .. } => return Asked::EndStartup,
+        Call::Poll { .. } => return chance.one_of(&[Asked::EndStartup, Asked::Waiting, Asked::Waiting]),
         _ => Call::Write { base: BASE, size: SIZE, address: aligned, width: 4, value },
     };
     Asked::Hoist(call)

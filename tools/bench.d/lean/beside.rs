@@ -212,6 +212,20 @@ pub fn hoist_write(image: &mut [u8], phase: &[u8], base: u64, size: u64, address
     told(answer, by_length!(image, hoist_write_in, *phase != 0, base, size, address, width, value))
 }
 
+#[inline(always)]
+fn waiting_in<F: Form<N>, const N: usize>(image: &[u8]) -> Outcome {
+    match checked::<F, N>(image) {
+        Ok(image) => (0, Some(word(image, F::IRR) & !word(image, F::MASK) & !word(image, F::ISR))),
+        Err(refused) => refused,
+    }
+}
+
+#[inline(never)]
+pub fn waiting(image: &[u8], answer: &mut [u8]) -> u8 {
+    let Some(answer) = answer.first_chunk_mut() else { return 7 };
+    told(answer, by_length!(image, waiting_in))
+}
+
 #[inline(never)]
 pub fn hoist_end_startup(image: &[u8], phase: &mut [u8], answer: &mut [u8]) -> u8 {
     let (Some(answer), Some(phase)) = (answer.first_chunk_mut(), phase.first_mut()) else { return 7 };

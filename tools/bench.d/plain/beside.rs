@@ -154,6 +154,12 @@ pub fn hoist_write(image: &mut [u8], phase: &[u8], base: u64, size: u64, address
 }
 
 #[inline(never)]
+pub fn waiting(image: &[u8], answer: &mut [u8]) -> u8 {
+    let Some(answer) = answer.first_chunk_mut() else { return 7 };
+    told(answer, looked(image, |state| Ok(Some(state.irr & !state.mask & !state.isr))))
+}
+
+#[inline(never)]
 pub fn hoist_end_startup(image: &[u8], phase: &mut [u8], answer: &mut [u8]) -> u8 {
     let (Some(answer), Some(phase)) = (answer.first_chunk_mut(), phase.first_mut()) else { return 7 };
     let outcome = looked(image, |state| if *phase != 0 || state.isr != 0 { Err(refusal(15)) } else { Ok(None) });

@@ -1,7 +1,7 @@
 -- From how a call ends to what it leaves: what it tells stands in the answer area, and a drain was lent the event buffer from its place on.
 use Rattle.basics.proofs.Prelude.{_≡_, sym, ap, _∙_, List, [], _++_, append-nil, ℕ, _-_, _≤_, arith, length, take, drop, length-drop, drop-of-length-le, take-all, putMid, part}
-use Rattle.calls.specs.{Calls.Request, Calls.answered, Calls.bufferOf, Calls.placeOf, Calls.leaves, Calls.ending, Calls.outcome, Convert.convertEnding, Convert.conversion}
-use Rattle.calls.proofs.laws.{Conversions.conversion-room, Outcomes.room, Outcomes.behind, Outcomes.drain-behind}
+use Rattle.calls.specs.{Calls.Request, Calls.answered, Calls.bufferOf, Calls.placeOf, Calls.leaves, Calls.ending, Calls.outcome, Convert.convertEnding, Convert.conversion, Waiting.waitingEnding, Waiting.waiting}
+use Rattle.calls.proofs.laws.{Conversions.conversion-room, Waits.waiting-room, Outcomes.room, Outcomes.behind, Outcomes.drain-behind}
 use Rattle.answer.specs.{Given.valueView, Given.ends, declared.Told.Told}
 use Rattle.calls.specs.Calls as asked
 
@@ -29,3 +29,8 @@ module _ (i a : List ℕ) (roomy : 16 ≤ length a) (t : Told) {r : ℕ} {b : Li
 pub told-of-convert : (i t a : List ℕ) → 16 ≤ length a → (x : Told) {r : ℕ} {b : List ℕ} → (r ≡ x .number) × (b ≡ answered (x .number) (valueView (x .value)) a)
     → {j : List ℕ} → ends x j [] ≡ convertEnding i t → leaves r j b [] ≡ conversion i t a
 told-of-convert i t a roomy x {b} tells {j} d = ap (λ (n : ℕ). leaves n j b []) (tells .0) ∙ conversion-room i t a roomy (ends x j []) d (tells .1)
+
+-- and of the call that tells who waits, which leaves the image as it was given
+pub told-of-waiting : (i a : List ℕ) → 16 ≤ length a → (x : Told) {r : ℕ} {b : List ℕ} → (r ≡ x .number) × (b ≡ answered (x .number) (valueView (x .value)) a)
+    → ends x i [] ≡ waitingEnding i → leaves r i b [] ≡ waiting i a
+told-of-waiting i a roomy x {b} tells d = ap (λ (n : ℕ). leaves n i b []) (tells .0) ∙ waiting-room i a roomy (ends x i []) d (tells .1)

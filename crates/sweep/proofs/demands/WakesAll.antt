@@ -3,7 +3,7 @@ use Rattle.basics.proofs.Prelude.{_≡_, refl, sym, ap, _∙_, _⊎_, inl, inr,
 use Rattle.rules.specs.{Device.Device, Device.Call, Device.actsOf, History.history}
 use Rattle.histories.specs.{Premises.Along, Demands.inService, Demands.Eligible, Demands.pollsOrRaises, Demands.assertsOf, Demands.someAct}
 use Rattle.sweep.specs.Sweeps.{unsettles, sweeping, isPoll, everyCall, someCall, Sweep, wakes, WakesAll, Announced, AssertedBy}
-use Rattle.sweep.proofs.laws.{Quiet.sweeping-is, OneInput.calls-swept, OneInput.calls-awake, Announcing.calls-announce, Announcing.asserted-by, Announcing.calls-drain}
+use Rattle.sweep.proofs.laws.{Quiet.sweeping-is, OneInput.Awake, OneInput.calls-swept, OneInput.calls-awake, Announcing.calls-announce, Announcing.asserted-by, Announcing.calls-drain}
 use Rattle.rules.specs.Device as call
 
 -- ---- one input
@@ -20,24 +20,30 @@ once false true false false h g u e = absurd (true≢false (sym (g refl refl)))
 once false false y true h g u e = ⊎-elim (λ p. absurd (true≢false (sym p))) (λ p. absurd (true≢false (sym (p .0)))) (h refl)
 once false false y false h g u e = omega arith
 
--- Of one input n: the calls are such as a sweep admits, and one of them is a poll or a raise of n, whatever is polled besides. Then at their end n is in
--- service if it is latched and unmasked, and they assert it once if it wakes, and else not at all.
+-- Of one input n, where the calls are such as a sweep admits, and at their end n is in service if it is latched and unmasked: they assert it once if it wakes,
+-- and else not at all.
+module _ (n : ℕ) (b : n < 64) (d : Device) (cs : List Call) (e : everyCall sweeping cs ≡ true) where
+  pub awake-is-asserted : Awake n b (history d cs .after .core .lines) → assertsOf n (history d cs .made) ≡ cond (wakes n (d .core .lines) (history d cs .after .core .lines)) 1 0
+  awake-is-asserted h =
+      let l = d .core .lines in
+      let k = history d cs .after .core .lines in
+      let s = calls-swept n b d cs e in
+      once (on (l .isr) n) (on (k .irr) n) (on (k .mask) n) (on (k .isr) n)
+      (λ z. ⊎-elim (λ u. inl u) (λ r. inr (r .latched, r .unmasked)) (s .cause z)) (λ x y. h (record { latched = x; unmasked = y }))
+      (assertsOf n (history d cs .made)) (s .count)
+
+-- The calls are such as a sweep admits, and one of them is a poll or a raise of n, whatever is polled besides. Then at their end n is in service if it is latched
+-- and unmasked, and they assert it once if it wakes, and else not at all.
 module _ (n : ℕ) (b : n < 64) (d : Device) (cs : List Call) (e : everyCall sweeping cs ≡ true) (p : someCall (pollsOrRaises n) cs ≡ true) where
   pub one-is-served : Eligible n (history d cs .after .core .lines) → inService n (history d cs .after .core .lines) ≡ true
   one-is-served = calls-awake n b d cs e p
 
   pub one-is-asserted : assertsOf n (history d cs .made) ≡ cond (wakes n (d .core .lines) (history d cs .after .core .lines)) 1 0
-  one-is-asserted =
-      let l = d .core .lines in
-      let k = history d cs .after .core .lines in
-      let s = calls-swept n b d cs e in
-      once (on (l .isr) n) (on (k .irr) n) (on (k .mask) n) (on (k .isr) n)
-      (λ z. ⊎-elim (λ u. inl u) (λ r. inr (r .latched, r .unmasked)) (s .cause z)) (λ x y. one-is-served (record { latched = x; unmasked = y }))
-      (assertsOf n (history d cs .made)) (s .count)
+  one-is-asserted = awake-is-asserted n b d cs e one-is-served
 
 -- ---- a sweep
 
-poll-asks : (n : ℕ) (cs : List Call) → someCall (isPoll n) cs ≡ true → someCall (pollsOrRaises n) cs ≡ true
+pub poll-asks : (n : ℕ) (cs : List Call) → someCall (isPoll n) cs ≡ true → someCall (pollsOrRaises n) cs ≡ true
 poll-asks n [] e = e
 poll-asks n (c ∷ cs) e =
     test (isPoll n c) (λ t. rw (here c t)) (λ t. rw (poll-asks n cs (rw t at e)) (or-true (pollsOrRaises n c)))

@@ -137,7 +137,7 @@ module _ (n : ℕ) (b : n < 64) where
   act-swept c (store s) t = swept-none (c .lines)
   act-swept c (setVector m v) t = swept-none (c .lines)
 
-  call-swept : (d : Device) (c : Call) → sweeping c ≡ true → Swept (d .core .lines) (step d c .made) (step d c .after .core .lines)
+  pub call-swept : (d : Device) (c : Call) → sweeping c ≡ true → Swept (d .core .lines) (step d c .made) (step d c .after .core .lines)
   unfolding step acted
   call-swept d c e =
       fold-acts (λ c ms e. Swept (c .lines) ms (e .lines)) (λ c. swept-none (c .lines))

@@ -1,13 +1,13 @@
 -- Polls one after another, from any accepted image and with an answer area that has room: each is done and leaves such an image and area (polls-done). The
--- calls of all 64 are a sweep (all-polled).
-use Rattle.basics.proofs.Prelude.{_≡_, refl, sym, ap₂, _∙_, ⊎-elim, true, or-true, List, [], _∷_, _++_, map, ℕ, zero, suc, _+_, _<_, _≤_, eq-or-lt-of-le, arith, length, eq-eqb, le-leb, lt-ltb, Bytes}
+-- calls of all 64 are a sweep (all-polled), and those of listed inputs are what polling these alone leaves of it (listed-polled).
+use Rattle.basics.proofs.Prelude.{_≡_, refl, sym, ap, ap₂, _∙_, ⊎-elim, Bool, true, or-true, List, [], _∷_, _++_, map, ℕ, zero, suc, _+_, _<_, _≤_, eq-or-lt-of-le, arith, lit≤, length, eq-eqb, le-leb, lt-ltb, Bytes, on, from, inputs, test}
 use Rattle.rules.specs.{Device.Call, Device.poll, Device.upFrom, Device.Value, Device.step, Numbering.numbersAfter, Numbering.valueWith}
 use Rattle.rules.proofs.laws.Numbered.{numbers-step}
 use Rattle.images.{specs.Image.decode, specs.Image.numbersIn, specs.Image.imageTest, specs.Image.accepted, proofs.laws.Saved.bytes-encode}
 use Rattle.calls.specs.Calls.{performed, answerLength, answered, outcome}
 use Rattle.histories.specs.exported.Exported.{Exported, leftBy, isDone, HandedOn, doneCall, doneCalls}
 use Rattle.histories.proofs.{laws.WellFormed.step-well, exported.demands.FromCalls.a-call-is-a-step}
-use Rattle.sweep.specs.{Sweeps.sweeping, Sweeps.isPoll, Sweeps.everyCall, Sweeps.someCall, Sweeps.Sweep, Handed.pollsFrom}
+use Rattle.sweep.specs.{Sweeps.sweeping, Sweeps.isPoll, Sweeps.everyCall, Sweeps.someCall, Sweeps.Sweep, Handed.pollsFrom, Waited.pollingOnly, Waited.pollsOf}
 use Rattle.laws.proofs.laws.Images.{accepted-has, encode-as, encode-decode, decode-well-formed, numbers-well, accepted-encode}
 use Rattle.calls.specs.Calls as request
 
@@ -38,7 +38,7 @@ record Fit (i a : List ℕ) : Type 0 where
   isAccepted : imageTest i ≡ accepted
   room : answerLength ≤ length a
 
-length-answered : (number : ℕ) (v : Value) (a : List ℕ) → answerLength ≤ length (answered number v a)
+pub length-answered : (number : ℕ) (v : Value) (a : List ℕ) → answerLength ≤ length (answered number v a)
 unfolding answered
 length-answered number v a = omega arith
 
@@ -89,4 +89,33 @@ pub polls-done : (n k : ℕ) → n + k ≤ 64 → (i a : List ℕ) → Bytes i �
     → HandedOn i (pollsFrom n k i a) × (doneCalls (pollsFrom n k i a) ≡ pollCalls n k)
 polls-done n k l i a b e h =
     let r = polled-from n k l i a (record { bytes = b; isAccepted = e; room = h }) in
+    (r .handedOn, r .calls)
+
+-- ---- polls of listed inputs
+
+-- those of the k inputs from n on that are in w are what is left of polling all k
+pub listed-polled : (w n k : ℕ) → pollingOnly w (pollCalls n k) ≡ map poll (from n k (on w))
+unfolding upFrom from pollingOnly
+listed-polled w n zero = refl
+listed-polled w n (suc k) = test (on w n) (λ t. rw t (ap (λ cs. poll n ∷ cs) (listed-polled w (suc n) k))) (λ t. rw t (listed-polled w (suc n) k))
+
+record Listed (ns : List ℕ) (i a : List ℕ) : Type 0 where
+  handedOn : HandedOn i (pollsOf ns i a)
+  calls : doneCalls (pollsOf ns i a) ≡ map poll ns
+
+listed-from : (f : ℕ → Bool) (n k : ℕ) → n + k ≤ 64 → (i a : List ℕ) → Fit i a → Listed (from n k f) i a
+unfolding from pollsOf HandedOn doneCalls
+listed-from f n zero l i a g = record { handedOn = tt; calls = refl }
+listed-from f n (suc k) l i a g =
+    let b : n < 64 = omega arith in
+    test (f n)
+    (λ t.
+    let rest = listed-from f (suc n) k (omega arith) _ _ (poll-fit n b i a g) in
+    rw t (record { handedOn = (refl, refl, rest .handedOn); calls = ap₂ _++_ (poll-call n b i a g) (rest .calls) }))
+    (λ t. rw t (listed-from f (suc n) k (omega arith) i a g))
+
+pub listed-done : (f : ℕ → Bool) (i a : List ℕ) → Bytes i → imageTest i ≡ accepted → answerLength ≤ length a
+    → HandedOn i (pollsOf (inputs f) i a) × (doneCalls (pollsOf (inputs f) i a) ≡ map poll (inputs f))
+listed-done f i a b e h =
+    let r = listed-from f 0 64 (lit≤ tt) i a (record { bytes = b; isAccepted = e; room = h }) in
     (r .handedOn, r .calls)

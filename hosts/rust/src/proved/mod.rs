@@ -43,7 +43,7 @@ pub mod trace;
 #[allow(unused_imports)]
 pub mod calls {
     pub use super::difference::pch_pic_difference;
-    pub use super::pch_pic::{pch_pic_drain, pch_pic_level, pch_pic_poll, pch_pic_read, pch_pic_reset, pch_pic_write};
+    pub use super::pch_pic::{pch_pic_drain, pch_pic_level, pch_pic_poll, pch_pic_read, pch_pic_reset, pch_pic_waiting, pch_pic_write};
     pub use super::pch_pic_convert::pch_pic_convert;
     pub use super::pch_pic_trace::pch_pic_play;
     pub use super::pch_pic_salvage::pch_pic_salvage;

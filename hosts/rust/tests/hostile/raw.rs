@@ -1,4 +1,4 @@
-//! The 24 calls as they are, each made twice: by what does the work in this build, and by the plain copy of the proved text. Both leave the same bytes.
+//! The calls as they are, each made twice: by what does the work in this build, and by the plain copy of the proved text. Both leave the same bytes.
 
 use crate::dice::{Dice, FORMS};
 use crate::{proved, rounds};
@@ -95,7 +95,7 @@ impl Bench {
         let ([base, size, address], width, value) = (self.dice.access(), self.dice.width(), self.dice.any());
         let (input, level) = (self.dice.input(), self.dice.number());
         let place = self.dice.of(&[0, 0, 0, 1, 63, 64, 65, usize::MAX, usize::MAX - 1]);
-        let [a, b, c, d, e, f, g] = [(); 7].map(|()| [self.image()]);
+        let [a, b, c, d, e, f, g, h] = [(); 8].map(|()| [self.image()]);
         let drained = [self.image(), self.dice.area(64)];
         twice!(self, "reset of an image", a, |[image], answer| pch_pic_reset(image, answer));
         twice!(self, "read", b, |[image], answer| pch_pic_read(image, base, size, address, width, answer));
@@ -103,6 +103,7 @@ impl Bench {
         twice!(self, "level of an image", d, |[image], answer| pch_pic_level(image, input, level, answer));
         twice!(self, "poll of an image", e, |[image], answer| pch_pic_poll(image, input, answer));
         twice!(self, "drain of an image", drained, |[image, events], answer| pch_pic_drain(image, events, place, answer));
+        twice!(self, "waiting", h, |[image], answer| pch_pic_waiting(image, answer));
         twice!(self, "table_read", f, |[image], answer| pch_pic_table_read(image, base, size, address, width, answer));
         twice!(self, "table_write to an image", g, |[image], answer| pch_pic_table_write(image, base, size, address, width, value, answer));
     }

@@ -1,11 +1,12 @@
 // Made from crates/pch_pic/src/lib.rt by tools/portable: do not change it here.
-//! The calls that a host makes, over a lent image, numbers and a lent answer area: 01's six. None requires anything: every input has its outcome.
+//! The calls that a host makes, over a lent image, numbers and a lent answer area: 01's six, and who waits. None requires anything: every input has its outcome.
 //! Here is what lacks room, 01's refusal 7, which comes first; the crates below make the call, and what it tells goes into the answer area.
 
 use super::answer;
 use super::six_calls::reset_drain;
 use super::six_calls::tested_access;
 use super::six_calls::tested_input;
+use super::six_calls::who_waits;
 
 /// ```text
 /// ensures { λ r. ⌜ leaves r (now (image .exit)) (now (answer .exit)) [] ≡ outcome asked.reset (now (image .entry)) (now (answer .entry)) ⌝ }
@@ -200,5 +201,31 @@ fn pch_pic_drain_of<const N: usize>(
     answer: &mut [u8],
 ) -> u8 {
     let told = reset_drain::drain(image, &mut events[place..]);
+    answer::tell(answer, told)
+}
+
+/// ```text
+/// ensures { λ r. ⌜ leaves r (now (image .entry)) (now (answer .exit)) [] ≡ waiting (now (image .entry)) (now (answer .entry)) ⌝ }
+/// ```
+pub fn pch_pic_waiting(image: &[u8], answer: &mut [u8]) -> u8 {
+    if let Ok(image) = <&[u8; 259]>::try_from(image) {
+        return pch_pic_waiting_of(image, answer);
+    }
+    if let Ok(image) = <&[u8; 251]>::try_from(image) {
+        return pch_pic_waiting_of(image, answer);
+    }
+    if let Ok(image) = <&[u8; 290]>::try_from(image) {
+        return pch_pic_waiting_of(image, answer);
+    }
+    pch_pic_waiting_of(&[0u8; 0], answer)
+}
+
+#[inline]
+fn pch_pic_waiting_of<const N: usize>(image: &[u8; N], answer: &mut [u8]) -> u8 {
+    let room = answer.len();
+    if room < 16 {
+        return 7;
+    }
+    let told = who_waits::waiting(image);
     answer::tell(answer, told)
 }
