@@ -87,7 +87,8 @@
  * at 32768.
  *
  * TRACES. A trace is a day of calls as bytes, from a reset on: what was asked, and not what was answered, which pch_pic_play works out again. It has at
- * most 4000 records in 1 to 64 blocks, and so at most 64258 bytes, which fit into 64 KiB. All numbers have their little end first. First come its contents:
+ * most 4000 records in 1 to 64 blocks, and so at most 64258 bytes, which fit into 64 KiB. A longer day is several traces, each played by pch_pic_play_on on the
+ * image that the one before left. All numbers have their little end first. First come its contents:
  *
  *     bytes 0..1    the number of blocks, 1 to 64
  *     then          for each block four bytes: where in the trace it begins (two bytes), and how many records it has (two bytes), none 0
@@ -103,7 +104,10 @@
  * A record is bad where its kind is another or a byte is not 0 that has to be. An input of 64 or a width of 3 is not bad: that call is refused, and its
  * answer says so. So 16 zeros are a bad record, and a recorder that lost power can be seen in its file: hosts/c/recorder.c and module trace of hosts/rust
  * record, keep a planned day in a file, load and play. A trace whose contents are right and some of whose records are bad is damaged: pch_pic_salvage makes
- * a good trace of its blocks that have no bad record, and lists the others.
+ * a good trace of its blocks that have no bad record, and lists the others. Each block that is missing is a hole. Up to the first hole such a trace is the
+ * day. Behind it the calls are played on another state than the day had, and nothing that comes of them is the day's: a day with no assert and three waits
+ * withdrawn may come out with three asserts and none withdrawn. hosts/c/holes.h and module holes of hosts/rust keep what comes before the first hole, and
+ * keep a list of the holes beside a trace.
  *
  * THE HOIST PROFILE. A guest whose driver uses aligned Dwords alone, and touches neither ISR nor the vectors once it runs, can be held to that: the host
  * makes its accesses by pch_pic_hoist_read and pch_pic_hoist_write, and all else, lines, polls and drains, by the plain calls on the same image. There are
@@ -146,7 +150,7 @@
  * THE STACK. Nothing is on the heap. Below its caller a call of the proved archive uses so many bytes of stack, the return address included, as tools/bench
  * --stack measured them (docs/PERFORMANCE.md says on what); a difference uses the return address alone:
  *     pch_pic_reset 16, pch_pic_read 104, pch_pic_write 144, pch_pic_level 80, pch_pic_poll 64, pch_pic_drain 105, pch_pic_waiting 56,
- *     pch_pic_convert 500, pch_pic_play 288, pch_pic_salvage 192, pch_pic_sheet 120,
+ *     pch_pic_convert 500, pch_pic_play 400, pch_pic_play_on 400, pch_pic_salvage 192, pch_pic_sheet 120,
  *     pch_pic_board_reset 32, pch_pic_board_read 120, pch_pic_board_write 160, pch_pic_board_level 104, pch_pic_board_poll 88, pch_pic_board_drain 129,
  *     pch_pic_board_event 8,
  *     pch_pic_hoist_reset 24, pch_pic_hoist_read 88, pch_pic_hoist_write 144, pch_pic_hoist_end_startup 57,
@@ -338,8 +342,8 @@ enum {
 };
 
 /* The numbers handed back. A call tests for them in the order 7, 4, 5, 8, 9, 10, 11, then 3, or 2 before 1, and hands back the first
- * that holds; pch_pic_play in the order 7, 4, 12, 13, 7, pch_pic_salvage 7, 12, 16, 7, and pch_pic_sheet 7, 12, 13; the calls of the hoist profile end
- * with 14 before 15. There is no 6 any more. */
+ * that holds; pch_pic_play in the order 7, 4, 12, 13, 7, pch_pic_play_on 7, 4, 5, 8 to 11, 12, 13, 7, pch_pic_salvage 7, 12, 16, 7, and pch_pic_sheet
+ * 7, 12, 13; the calls of the hoist profile end with 14 before 15. There is no 6 any more. */
 enum pch_pic_number {
     PCH_PIC_DONE = 0,     /* the call was done */
     PCH_PIC_OUTSIDE = 1,  /* not all bytes of the access are inside the window; the value is the address */
@@ -487,13 +491,22 @@ uint8_t pch_pic_board_event(uint8_t *board, size_t board_len, uint8_t vector, ui
 uint8_t pch_pic_play(const uint8_t *trace, size_t trace_len, uint8_t *image, size_t image_len, uint8_t *answers, size_t answers_len,
                      uint8_t *events, size_t events_len, uint8_t *answer, size_t answer_len);
 
+/* Plays a trace on from image as it is, with no reset: in all else as pch_pic_play. Every byte is what the calls of its records leave, made one by one on that
+ * image, which stays in its form. So a day longer than a trace is played trace by trace, the first by pch_pic_play and each other by this on the image that the one
+ * before left: that is all their records played in order. Numbers of events run on in an image of 290 bytes.
+ * Refusals: 7 (the answer area), 4, 5 and 8 to 11 with the place, as the other calls test an image, and then 12, 13 and 7 as of pch_pic_play. All come before
+ * anything is played, and leave image, answers and events. */
+uint8_t pch_pic_play_on(const uint8_t *trace, size_t trace_len, uint8_t *image, size_t image_len, uint8_t *answers, size_t answers_len,
+                        uint8_t *events, size_t events_len, uint8_t *answer, size_t answer_len);
+
 /* Salvages a damaged trace, whose contents are right: kept gets the trace of the blocks whose records are all good, byte for byte and in their order, with
  * contents of their own; list gets for each block that is dropped its number and that of the first bad record in it, both counted from 0, the record
  * within its block, two bytes each, little end first, in rising order. Bytes past them stay. What comes out is a good trace, no longer than the one lent;
  * a good trace comes out as it is, with an empty list. The value is the new trace's length. How many blocks were dropped is the number of blocks in the
  * old contents less that in the new. Refusals: 7 (the answer area), 12 as of a play, 16 where no block is left, and then 7 where kept is too short for the
  * new trace or list for its entries; none of them writes a byte of kept and list. As many bytes as the trace has are enough for kept, and
- * PCH_PIC_DROPPED_MAX for every list. */
+ * PCH_PIC_DROPPED_MAX for every list. What comes behind a block that was dropped plays on another state than the day had: only the blocks before the first
+ * one in the list are the day's. */
 uint8_t pch_pic_salvage(const uint8_t *trace, size_t trace_len, uint8_t *kept, size_t kept_len, uint8_t *list, size_t list_len, uint8_t *answer,
                         size_t answer_len);
 

@@ -115,6 +115,8 @@ exported! {
     pch_pic_board_event(board with board_len: *mut u8, vector: u8, flag: u8, answer with answer_len: *mut u8) -> u8;
     pch_pic_play(trace with trace_len: *const u8, image with image_len: *mut u8, answers with answers_len: *mut u8, events with events_len: *mut u8,
                  answer with answer_len: *mut u8) -> u8;
+    pch_pic_play_on(trace with trace_len: *const u8, image with image_len: *mut u8, answers with answers_len: *mut u8, events with events_len: *mut u8,
+                    answer with answer_len: *mut u8) -> u8;
     pch_pic_salvage(trace with trace_len: *const u8, kept with kept_len: *mut u8, list with list_len: *mut u8, answer with answer_len: *mut u8) -> u8;
     pch_pic_hoist_reset(image with image_len: *mut u8, phase with phase_len: *mut u8, answer with answer_len: *mut u8) -> u8;
     pch_pic_hoist_read(image with image_len: *const u8, base: u64, size: u64, address: u64, width: u64, answer with answer_len: *mut u8) -> u8;

@@ -1,12 +1,13 @@
-/* A day as a trace: session lines recorded; a trace played and printed as a session with its answers beside it; its numbers; a damaged trace salvaged.
+/* A day as a trace: session lines recorded; a trace played and printed, each record with its number and its answer; its numbers; a damaged trace salvaged.
  *     day --record FILE [LINES]   makes the trace FILE of the lines, which docs/DEVICE.md tells; - or no word is standard input
  *     day --play FILE             prints each record of the trace and what it gave, and how many events were dropped; - is standard input
  *     day --sheet FILE            prints the day's numbers, input by input, as a table
  *     day --csv FILE              the same for a program, with commas
- *     day --salvage FILE TO       makes the trace TO of the blocks of FILE that have no bad record, and prints which others there are
- * It ends with 0; with 1 where something cannot be read or written, a line is no record or a trace is refused; and with 2 where its words are wrong. */
+ *     day --salvage FILE TO       makes the trace TO of what comes before the first hole of FILE: the day, exactly, as far as it goes
+ *     day --salvage FILE TO --all makes it of all blocks of FILE that have no bad record; behind a hole it does not play as the day did
+ * Where something is missing, TO.holes says what (holes.h), and the others find it there. It ends with 0; with 1 where something cannot be read or written, a line is no record or a trace is refused; and with 2 where its words are wrong. */
 #define _POSIX_C_SOURCE 200809L
-#include "recorder.h"
+#include "holes.h"
 #include "sheet.h"
 
 #include <errno.h>
@@ -17,7 +18,7 @@
 #include <sys/stat.h>
 
 /* The longest line of a session has 25 bytes. A block of 64 records has 1 KiB, and 63 blocks take the longest day. */
-enum { LINE_LEN = 64, BLOCK = 64 };
+enum { LINE_LEN = 64, LIST_LEN = 4096, BLOCK = 64 };
 
 static uint8_t trace[PCH_PIC_TRACE_MAX];
 
@@ -180,18 +181,18 @@ static uint64_t number_at(const uint8_t *bytes, size_t len)
     return value;
 }
 
-/* A record as the line of a session that asks for it. */
+/* A record in words, its input in decimal, so that nobody takes it for the line of a session, which has hex digits. */
 static void print_line(const uint8_t *record, char line[LINE_LEN])
 {
     unsigned byte = record[PCH_PIC_RECORD_BYTE], offset = (unsigned)number_at(record + PCH_PIC_RECORD_OFFSET, 2);
     uint64_t value = number_at(record + PCH_PIC_RECORD_VALUE, 8);
     switch (record[PCH_PIC_RECORD_KIND]) {
-    case PCH_PIC_RAISE: snprintf(line, LINE_LEN, "l %02x 1", byte); break;
-    case PCH_PIC_LOWER: snprintf(line, LINE_LEN, "l %02x 0", byte); break;
-    case PCH_PIC_POLL: snprintf(line, LINE_LEN, "p %02x", byte); break;
-    case PCH_PIC_READ: snprintf(line, LINE_LEN, "r %x %04x", byte, offset); break;
-    case PCH_PIC_WRITE: snprintf(line, LINE_LEN, "w %x %04x %016" PRIx64, byte, offset, value); break;
-    default: snprintf(line, LINE_LEN, "d"); break;
+    case PCH_PIC_RAISE: snprintf(line, LINE_LEN, "raise %u", byte); break;
+    case PCH_PIC_LOWER: snprintf(line, LINE_LEN, "lower %u", byte); break;
+    case PCH_PIC_POLL: snprintf(line, LINE_LEN, "poll %u", byte); break;
+    case PCH_PIC_READ: snprintf(line, LINE_LEN, "read %u %04x", byte, offset); break;
+    case PCH_PIC_WRITE: snprintf(line, LINE_LEN, "write %u %04x %016" PRIx64, byte, offset, value); break;
+    default: snprintf(line, LINE_LEN, "drain"); break;
     }
 }
 
@@ -226,14 +227,16 @@ static unsigned long drops_of(const uint8_t *image, size_t len)
     return pic_init(&pic, 0) == PCH_PIC_DONE && pic_take(&pic, image, len, NULL) == PCH_PIC_DONE ? pic_drops(&pic) : 0;
 }
 
-/* Ends where a trace is refused, or its file cannot be read. */
-static void refused(const char *name, int number)
+/* Ends where a trace is refused, or its file cannot be read. Of refusal 12 it tells the cause. */
+static void refused(const char *name, size_t len, int number)
 {
+    char cause[PIC_TEXT_LEN];
     if (number == PIC_FILE) {
         fail(told(name), pic_why(number));
     }
     if (number != PCH_PIC_DONE) {
-        fprintf(stderr, "day: %s: refused with %d: %s\n", told(name), number, pic_why(number));
+        bool known = number == PCH_PIC_TRACE && pic_trace_cause(trace, len, cause);
+        fprintf(stderr, "day: %s: refused with %d: %s\n", told(name), number, known ? cause : pic_why(number));
         exit(1);
     }
 }
@@ -242,18 +245,51 @@ static void refused(const char *name, int number)
 static size_t load(const char *name)
 {
     size_t len = 0;
-    refused(name, pic_trace_load(opened(name), trace, &len));
+    refused(name, len, pic_trace_load(opened(name), trace, &len) == PIC_FILE ? PIC_FILE : PCH_PIC_DONE);
     return len;
 }
 
 /* Ends where the library has refused the trace. */
-static void taken(const char *name, int number, uint64_t bad)
+static void taken(const char *name, size_t len, int number, uint64_t bad)
 {
     if (number == PCH_PIC_RECORD) {
         fprintf(stderr, "day: %s: refused with %d: %s, number %" PRIu64 " from 0 on\n", told(name), number, pic_why(number), bad);
         exit(1);
     }
-    refused(name, number);
+    refused(name, len, number);
+}
+
+/* The holes of a trace, by the list beside its file. What comes by a pipe has none beside it. */
+static void find_holes(const char *name, size_t len, struct pic_holes *holes)
+{
+    char list[LIST_LEN];
+    holes->count = 0;
+    if (strcmp(name, "-") == 0) {
+        return;
+    }
+    int number = pic_holes_load(name, trace, len, holes);
+    if (number != PCH_PIC_DONE) {
+        snprintf(list, sizeof list, "%s.holes", name);
+        fail(list, pic_holes_why(number));
+    }
+}
+
+/* A hole, and what it means for what comes behind it. */
+static void print_hole(const struct pic_hole *hole, bool last)
+{
+    char text[2 * PIC_TEXT_LEN];
+    pic_hole_text(hole, text);
+    printf("hole %s; %s\n", text, last ? "the trace ends there, and the day went on" : "what follows is not the day's");
+}
+
+/* The holes that stand before a record, from the first that was not printed yet. */
+static size_t print_holes(const struct pic_holes *holes, size_t from, size_t record, size_t records)
+{
+    while (from < holes->count && holes->of[from].at <= record) {
+        print_hole(&holes->of[from], holes->of[from].at == records);
+        from++;
+    }
+    return from;
 }
 
 /* All of standard output is written, or it is told. */
@@ -268,28 +304,56 @@ static void play(const char *name)
 {
     static struct pic_played played;
     struct pic_step step = {0};
+    struct pic_holes holes;
     char line[LINE_LEN];
     uint64_t bad = 0;
-    size_t len = load(name);
+    size_t len = load(name), hole = 0;
     int number = pic_trace_play(trace, len, &played, &bad);
-    taken(name, number, bad);
+    taken(name, len, number, bad);
+    find_holes(name, len, &holes);
     while (pic_trace_step(trace, &played, &step)) {
+        hole = print_holes(&holes, hole, step.number, played.records);
         print_line(step.record, line);
-        printf("%-25s   ", line);
+        printf("%7zu  %-30s  ", step.number, line);
         print_answer(&step);
     }
-    printf("%-25s   drops %08lx\n", "(end)", drops_of(played.image, sizeof played.image));
+    print_holes(&holes, hole, played.records, played.records);
+    printf("%7s  %-30s  drops %lu\n", "end", "", drops_of(played.image, sizeof played.image));
     written();
 }
 
-static void sheet(const char *name, void print(const struct pic_sheet *sheet, FILE *out))
+static void sheet(const char *name)
 {
     static struct pic_sheet sheet;
+    struct pic_holes holes;
+    size_t began[PCH_PIC_SHEET_ROWS], len = load(name);
+    uint64_t bad = 0;
+    int number = pic_trace_sheet(trace, len, &sheet, &bad);
+    taken(name, len, number, bad);
+    find_holes(name, len, &holes);
+    taken(name, len, pic_sheet_began(trace, len, &sheet, began), 0);
+    print_holes(&holes, 0, sheet.records, sheet.records);
+    pic_sheet_print_began(&sheet, began, stdout);
+    if (holes.count > 0 && holes.of[0].at < sheet.records) {
+        printf("NOT THE DAY'S: these numbers go over a hole; only what comes before record %zu is the day's\n", holes.of[0].at);
+    }
+    written();
+}
+
+/* Behind the numbers a row of its own for each hole, as wide as the others. */
+static void csv(const char *name)
+{
+    static struct pic_sheet sheet;
+    struct pic_holes holes;
     uint64_t bad = 0;
     size_t len = load(name);
     int number = pic_trace_sheet(trace, len, &sheet, &bad);
-    taken(name, number, bad);
-    print(&sheet, stdout);
+    taken(name, len, number, bad);
+    find_holes(name, len, &holes);
+    pic_sheet_csv(&sheet, stdout);
+    for (size_t hole = 0; hole < holes.count; hole++) {
+        printf("hole at record %zu: records %zu to %zu are missing,,,,,,,,,,\n", holes.of[hole].at, holes.of[hole].first, holes.of[hole].last);
+    }
     written();
 }
 
@@ -298,25 +362,94 @@ static unsigned blocks_of(const uint8_t *bytes)
     return (unsigned)number_at(bytes + PCH_PIC_TRACE_BLOCKS, 2);
 }
 
-/* Behind the contents a trace has records and nothing else. */
-static unsigned records_of(const uint8_t *bytes, size_t len)
+/* What is kept of a damaged trace, and what that is worth. */
+static void print_lead(const struct pic_salvaged *kept, const struct pic_holes *holes)
 {
-    return (unsigned)((len - PCH_PIC_TRACE_ENTRIES - PCH_PIC_BLOCK_LEN * blocks_of(bytes)) / PCH_PIC_RECORD_LEN);
+    size_t records = pic_trace_records(kept->trace);
+    if (holes->count == 0) {
+        printf("kept all %zu records in %u blocks: nothing is missing\n", records, blocks_of(kept->trace));
+        return;
+    }
+    print_hole(&holes->of[0], true);
+    printf("kept %zu of %zu records, those before the hole: they are the day's, exactly\n", records, pic_day_records(kept->trace, holes));
 }
 
-/* The new trace is there before anything is printed, whoever reads that. */
-static void salvage(const char *name, const char *file)
+static void print_whole(const struct pic_salvaged *kept, const struct pic_holes *holes)
 {
-    static struct pic_salvaged salvaged;
     struct pic_dropped dropped;
-    apart(name, file);
-    size_t len = load(name);
-    refused(name, pic_trace_salvage(trace, len, &salvaged));
-    saved(file, pic_salvaged_save(&salvaged, file));
-    for (size_t place = 0; pic_trace_dropped(&salvaged, place, &dropped); place++) {
+    size_t records = pic_trace_records(kept->trace);
+    for (size_t place = 0; pic_trace_dropped(kept, place, &dropped); place++) {
         printf("block %u: record %u is bad\n", dropped.block, dropped.record);
     }
-    printf("kept %u of %u blocks, %u records\n", blocks_of(salvaged.trace), blocks_of(trace), records_of(salvaged.trace, salvaged.len));
+    printf("kept %u of %u blocks, %zu records\n", blocks_of(kept->trace), blocks_of(kept->trace) + (unsigned)kept->dropped, records);
+    if (holes->count > 0 && holes->of[0].at < records) {
+        printf("NOT THE DAY'S: from record %zu on it plays on another state than the day did, and no number there is the day's\n", holes->of[0].at);
+    } else if (holes->count > 0) {
+        printf("the trace ends there, and the day went on\n");
+    }
+}
+
+/* The trace to be salvaged: one that was cut short gets zeros for what is missing, which are bad records, and cut says so. */
+static size_t load_damaged(const char *name, char cut[PIC_TEXT_LEN])
+{
+    size_t len = load(name);
+    if (!pic_trace_cause(trace, len, cut)) {
+        cut[0] = 0;
+    }
+    size_t filled = pic_trace_fill(trace, len);
+    if (filled == len) {
+        cut[0] = 0;
+    }
+    return filled;
+}
+
+/* Where nothing stands before the first hole, --all may still find something. */
+static void nothing_leads(const char *name, size_t len, struct pic_salvaged *kept, struct pic_holes *holes)
+{
+    if (pic_trace_whole(trace, len, kept, holes) != PCH_PIC_DONE) {
+        refused(name, len, PCH_PIC_EMPTY);
+    }
+    fail(told(name), "its first record is bad, so nothing comes before the first hole (--all keeps the whole blocks behind it)");
+}
+
+/* The new trace and the list of its holes, or a line that says why not. */
+static void save_kept(const char *file, const char *list, const struct pic_salvaged *kept, const struct pic_holes *holes)
+{
+    int number = pic_holes_save(file, kept, holes);
+    if (number == PIC_NO_LIST) {
+        fail(list, "it is no list of holes, and is not replaced");
+    }
+    saved(file, number);
+}
+
+/* Both are there before anything is printed, whoever reads that. */
+static void salvage(const char *name, const char *file, bool all)
+{
+    static struct pic_salvaged kept;
+    struct pic_holes holes;
+    char list[LIST_LEN], cut[PIC_TEXT_LEN];
+    snprintf(list, sizeof list, "%s.holes", file);
+    apart(name, file);
+    apart(name, list);
+    size_t len = load_damaged(name, cut);
+    find_holes(name, len, &holes);
+    int number = all ? pic_trace_whole(trace, len, &kept, &holes) : pic_trace_lead(trace, len, &kept, &holes);
+    if (number == PCH_PIC_EMPTY && !all) {
+        nothing_leads(name, len, &kept, &holes);
+    }
+    refused(name, len, number);
+    save_kept(file, list, &kept, &holes);
+    if (cut[0] != 0) {
+        printf("%s\n", cut);
+    }
+    if (all) {
+        print_whole(&kept, &holes);
+    } else {
+        print_lead(&kept, &holes);
+    }
+    if (holes.count > 0) {
+        printf("%s says what is missing\n", list);
+    }
     written();
 }
 
@@ -329,15 +462,17 @@ int main(int argc, char **argv)
     if (argc == 3 && strcmp(argv[1], "--play") == 0) {
         play(argv[2]);
     } else if (argc == 3 && strcmp(argv[1], "--sheet") == 0) {
-        sheet(argv[2], pic_sheet_print);
+        sheet(argv[2]);
     } else if (argc == 3 && strcmp(argv[1], "--csv") == 0) {
-        sheet(argv[2], pic_sheet_csv);
+        csv(argv[2]);
     } else if ((argc == 3 || argc == 4) && strcmp(argv[1], "--record") == 0) {
         record(argv[2], argc == 4 ? argv[3] : "-");
     } else if (argc == 4 && strcmp(argv[1], "--salvage") == 0) {
-        salvage(argv[2], argv[3]);
+        salvage(argv[2], argv[3], false);
+    } else if (argc == 5 && strcmp(argv[1], "--salvage") == 0 && strcmp(argv[4], "--all") == 0) {
+        salvage(argv[2], argv[3], true);
     } else {
-        fprintf(stderr, "usage: day --play FILE | day --sheet FILE | day --csv FILE | day --record FILE [LINES] | day --salvage FILE TO\n");
+        fprintf(stderr, "usage: day --play FILE | day --sheet FILE | day --csv FILE | day --record FILE [LINES] | day --salvage FILE TO [--all]\n");
         return 2;
     }
     return 0;

@@ -6,9 +6,10 @@
 #include <errno.h>
 #include <stdio.h>
 #include <string.h>
+#include <time.h>
 #include <unistd.h>
 
-enum { NO_FILE = -1, MOST_BYTE = 0xff, MOST_OFFSET = 0xffff };
+enum { NO_FILE = -1, MOST_BYTE = 0xff, MOST_OFFSET = 0xffff, TIME_LEN = 8, PATH_LEN = 4096 };
 
 static void put(uint8_t *bytes, size_t len, uint64_t value)
 {
@@ -72,6 +73,42 @@ int pic_recorder_plan(struct pic_recorder *recorder, const uint16_t *blocks, siz
     return PCH_PIC_DONE;
 }
 
+int pic_recorder_clock(struct pic_recorder *recorder, uint64_t clock(void *of), void *of)
+{
+    if (recorder->count != 0) {
+        return PIC_STARTED;
+    }
+    recorder->clock = clock;
+    recorder->clock_of = of;
+    return PCH_PIC_DONE;
+}
+
+uint64_t pic_recorder_monotonic(void *unused)
+{
+    struct timespec now = {0};
+    (void)unused;
+    clock_gettime(CLOCK_MONOTONIC, &now);
+    return (uint64_t)now.tv_sec * 1000000000 + (uint64_t)now.tv_nsec;
+}
+
+int pic_recorder_save_times(const struct pic_recorder *recorder, const char *path)
+{
+    uint8_t bytes[TIME_LEN * PCH_PIC_RECORDS_MAX];
+    char name[PATH_LEN];
+    int len = snprintf(name, sizeof name, "%s.times", path);
+    if (recorder->count == 0 || recorder->clock == NULL) {
+        return PIC_EMPTY;
+    }
+    if (len < 0 || len >= PATH_LEN) {
+        errno = ENAMETOOLONG;
+        return PIC_FILE;
+    }
+    for (size_t record = 0; record < recorder->count; record++) {
+        put(bytes + TIME_LEN * record, TIME_LEN, recorder->times[record]);
+    }
+    return pic_replace(name, bytes, TIME_LEN * recorder->count);
+}
+
 int pic_recorder_keep(struct pic_recorder *recorder, const char *path)
 {
     uint8_t trace[PCH_PIC_TRACE_MAX] = {0};
@@ -125,6 +162,7 @@ static int take(struct pic_recorder *recorder, const uint8_t record[PCH_PIC_RECO
         return PIC_FILE;
     }
     memcpy(recorder->records + PCH_PIC_RECORD_LEN * recorder->count, record, PCH_PIC_RECORD_LEN);
+    recorder->times[recorder->count] = recorder->clock != NULL ? recorder->clock(recorder->clock_of) : 0;
     recorder->count++;
     recorder->open++;
     if (full) {
@@ -329,15 +367,28 @@ int pic_trace_test(const uint8_t *trace, size_t len, uint64_t *bad)
     return number == PCH_PIC_ROOM ? PCH_PIC_DONE : refused(number, answer, bad);
 }
 
+static int records_played(int number, const uint8_t answer[PCH_PIC_ANSWER_LEN], struct pic_played *played, uint64_t *bad)
+{
+    if (number == PCH_PIC_DONE) {
+        played->records = (size_t)get(answer + PCH_PIC_ANSWER_VALUE, 8);
+    }
+    return refused(number, answer, bad);
+}
+
 int pic_trace_play(const uint8_t *trace, size_t len, struct pic_played *played, uint64_t *bad)
 {
     uint8_t answer[PCH_PIC_ANSWER_LEN];
     int number = pch_pic_play(trace, len, played->image, sizeof played->image, played->answers, sizeof played->answers, played->events,
                               sizeof played->events, answer, sizeof answer);
-    if (number == PCH_PIC_DONE) {
-        played->records = (size_t)get(answer + PCH_PIC_ANSWER_VALUE, 8);
-    }
-    return refused(number, answer, bad);
+    return records_played(number, answer, played, bad);
+}
+
+int pic_trace_play_on(const uint8_t *trace, size_t len, struct pic_played *played, uint64_t *bad)
+{
+    uint8_t answer[PCH_PIC_ANSWER_LEN];
+    int number = pch_pic_play_on(trace, len, played->image, sizeof played->image, played->answers, sizeof played->answers, played->events,
+                                 sizeof played->events, answer, sizeof answer);
+    return records_played(number, answer, played, bad);
 }
 
 bool pic_trace_step(const uint8_t *trace, const struct pic_played *played, struct pic_step *step)

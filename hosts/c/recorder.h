@@ -28,7 +28,7 @@ enum {
     PIC_STARTED = 121    /* there are records already, or the device is not as a reset leaves it: a trace begins there */
 };
 
-/* 64 KiB, so not for a small stack. All of it belongs to the functions below, but for stopped, which a host reads. */
+/* 96 KiB, so not for a small stack. All of it belongs to the functions below, but for stopped, which a host reads. */
 struct pic_recorder {
     uint8_t records[PCH_PIC_RECORDS_MAX * PCH_PIC_RECORD_LEN];
     uint16_t blocks[PCH_PIC_BLOCKS_MAX];  /* how many records each closed block has */
@@ -38,6 +38,9 @@ struct pic_recorder {
     int file;                             /* where the day is kept as it goes, or -1 */
     int stopped;                          /* 0 while a watched device is recorded; else why it is no longer */
     int error;                            /* errno of a PIC_FILE that stopped it */
+    uint64_t (*clock)(void *of);          /* tells the time of a record in nanoseconds, or NULL */
+    void *clock_of;
+    uint64_t times[PCH_PIC_RECORDS_MAX];  /* what it told of each record */
 };
 
 /* Begins a day whose blocks are closed as it goes: at most 4000 records in at most 64 blocks. */
@@ -45,6 +48,15 @@ void pic_recorder_begin(struct pic_recorder *recorder);
 
 /* Begins a day with its blocks planned: blocks[n] is how many records block n is to have. Each is closed when it has them. */
 int pic_recorder_plan(struct pic_recorder *recorder, const uint16_t *blocks, size_t count);
+
+/* Keeps the time of each record too, from before its first one on: clock(of) is asked as each is taken, and tells nanoseconds from any beginning; it is not to go back.
+ * pic_recorder_monotonic is the system's own. PIC_STARTED where there are records already. */
+int pic_recorder_clock(struct pic_recorder *recorder, uint64_t clock(void *of), void *of);
+uint64_t pic_recorder_monotonic(void *unused);
+
+/* The times to a file beside the trace at path, of the same name and .times: eight bytes for each record, little end first. tools/day then tells waits in milliseconds.
+ * PIC_EMPTY where there is no record, or no clock. */
+int pic_recorder_save_times(const struct pic_recorder *recorder, const char *path);
 
 /* Keeps a planned day in a file, from before its first record on. The file has the planned contents from the start and zeros for its records, which are
  * bad ones; each record is written at its place as it is taken, and each full block is then put on the disk. So a day that is cut short leaves a
@@ -96,6 +108,11 @@ struct pic_played {
 /* Plays a trace from a reset. A refusal is as of pic_trace_test, and leaves played. */
 int pic_trace_play(const uint8_t *trace, size_t len, struct pic_played *played, uint64_t *bad);
 
+/* Plays a trace on from played->image, with no reset: that is the image that the last play left, or one that a host put there. So a day that is longer than a
+ * trace is played trace by trace. Answers and events are those of this trace alone. A refusal is as of pic_trace_test, or 5 or 8 to 11 where the image is none,
+ * and leaves played. */
+int pic_trace_play_on(const uint8_t *trace, size_t len, struct pic_played *played, uint64_t *bad);
+
 /* One record of a played trace, and what it gave. */
 struct pic_step {
     size_t number;         /* counted from 0 over the trace */
@@ -116,7 +133,8 @@ struct pic_salvaged {
     size_t dropped;                    /* how many these are */
 };
 
-/* Salvages a trace whose contents are right: 0, 12 where they are not, or 16 where no block is left. A refusal leaves salvaged. */
+/* Salvages a trace whose contents are right: 0, 12 where they are not, or 16 where no block is left. A refusal leaves salvaged. Behind a block that was dropped it
+ * plays on another state than the day had, and no number there is the day's; holes.h keeps what comes before the first one. */
 int pic_trace_salvage(const uint8_t *trace, size_t len, struct pic_salvaged *salvaged);
 
 /* A dropped block and the first bad record in it, both counted from 0, the record within its block. */

@@ -3,7 +3,7 @@
  *     recordings FOLDER   plays them, with its files in FOLDER; the last line is 'N passed, M failed' */
 #define _POSIX_C_SOURCE 200809L
 #include "hoist.h"
-#include "recorder.h"
+#include "holes.h"
 #include "sheet.h"
 
 #include <errno.h>
@@ -93,6 +93,34 @@ static bool plays_alike(size_t len)
     return alike && (live.drained == sizeof played.events || played.events[live.drained] == 0xa5);
 }
 
+/* The records of the trace from one on, as a trace of one block; its length. */
+static size_t part_of(size_t from, size_t count, uint8_t *part)
+{
+    const uint8_t *records = trace + 2 + 4 * (size_t)trace[0];
+    memcpy(part, (const uint8_t[]){1, 0, 6, 0, (uint8_t)count, (uint8_t)(count >> 8)}, 6);
+    memcpy(part + 6, records + PCH_PIC_RECORD_LEN * from, PCH_PIC_RECORD_LEN * count);
+    return 6 + PCH_PIC_RECORD_LEN * count;
+}
+
+/* Whether the day, cut in two behind so many records, plays to every byte that the live calls gave: the second on the image that the first left. */
+static bool plays_in_two(size_t first)
+{
+    static uint8_t part[PCH_PIC_TRACE_MAX];
+    size_t events = 0;
+    size_t len = part_of(0, first, part);
+    if (pic_trace_play(part, len, &played, NULL) != PCH_PIC_DONE) {
+        return false;
+    }
+    for (struct pic_step step = {0}; pic_trace_step(part, &played, &step);) {
+        events += PCH_PIC_EVENT_LEN * step.drained;
+    }
+    bool alike = memcmp(played.answers, live.answers, ANSWER_LEN * first) == 0 && memcmp(played.events, live.events, events) == 0;
+    len = part_of(first, live.calls - first, part);
+    alike = alike && pic_trace_play_on(part, len, &played, NULL) == PCH_PIC_DONE && played.records == live.calls - first;
+    alike = alike && memcmp(played.answers, live.answers + ANSWER_LEN * first, ANSWER_LEN * (live.calls - first)) == 0;
+    return alike && memcmp(played.events, live.events + events, live.drained - events) == 0 && memcmp(played.image, live.image, IMAGE_LEN) == 0;
+}
+
 /* Whether the records of a played trace are met one by one, each with its own answer and events. */
 static bool steps_through(void)
 {
@@ -166,6 +194,9 @@ static void a_day(void)
     expect("67 records in the first, right behind the contents", trace[2] == 14 && trace[3] == 0 && trace[4] == 67 && trace[5] == 0);
     expect("a day plays to the same bytes", plays_alike(len));
     expect("and is gone through record by record", steps_through());
+    for (size_t first = 1; first < live.calls; first += 16) {
+        expect("cut in two it plays to the same bytes", plays_in_two(first));
+    }
     trace[14 + 16 * 70 + 4] = 1;
     uint64_t bad = 0;
     expect("a changed byte is found, with its record", pic_trace_test(trace, len, &bad) == PCH_PIC_RECORD && bad == 70);
@@ -547,6 +578,86 @@ static void a_sheet(void)
     expect("and the sheet stays", memcmp(&sheet, &kept, sizeof sheet) == 0);
 }
 
+static uint64_t ticks(void *of)
+{
+    uint64_t *now = of;
+    *now += 1000000007;
+    return *now;
+}
+
+/* Each record has the time that the clock told as it was taken, and a file of them stands beside the trace. */
+static void times(void)
+{
+    char name[sizeof path + 8];
+    uint8_t bytes[24] = {0};
+    uint64_t now = 0xfffffffff0;
+    pic_recorder_begin(&recorder);
+    expect("a day without a clock has no times", pic_recorder_drain(&recorder, 64) == 0 && pic_recorder_save_times(&recorder, path) == PIC_EMPTY);
+    expect("nor does one get it later", pic_recorder_clock(&recorder, ticks, &now) == PIC_STARTED);
+    pic_recorder_begin(&recorder);
+    expect("a clock", pic_recorder_clock(&recorder, ticks, &now) == PCH_PIC_DONE && pic_recorder_save_times(&recorder, path) == PIC_EMPTY);
+    expect("two records", pic_recorder_raise(&recorder, 5) == 0 && pic_recorder_drain(&recorder, 64) == 0 && pic_recorder_raise(&recorder, 256) == PIC_BYTE);
+    expect("two times", pic_recorder_save_times(&recorder, path) == PCH_PIC_DONE && now == 0xfffffffff0 + 2 * 1000000007ull);
+    snprintf(name, sizeof name, "%s.times", path);
+    FILE *file = fopen(name, "rb");
+    expect("of eight bytes each", file != NULL && fread(bytes, 1, sizeof bytes, file) == 16 && bytes[8] == (uint8_t)now && bytes[13] == (uint8_t)(now >> 40));
+    if (file != NULL) {
+        fclose(file);
+    }
+    remove(name);
+    uint64_t first = pic_recorder_monotonic(NULL);
+    expect("the system's clock does not go back", pic_recorder_monotonic(NULL) >= first);
+}
+
+/* A day of 3, 1 and 4 raises, and these of them bad. */
+static size_t torn_day(unsigned long bad)
+{
+    static const uint16_t blocks[] = {3, 1, 4};
+    size_t len = 0;
+    pic_recorder_plan(&recorder, blocks, 3);
+    for (unsigned record = 0; record < 8; record++) {
+        pic_recorder_raise(&recorder, record);
+    }
+    pic_recorder_finish(&recorder, trace, &len);
+    for (unsigned record = 0; record < 8; record++) {
+        if (bad >> record & 1) {
+            memset(trace + 14 + 16 * record, 0, 16);
+        }
+    }
+    return len;
+}
+
+/* What comes before the first hole is kept record for record; of whole blocks each that is missing is told. */
+static void holes(void)
+{
+    struct pic_holes holes = {.count = 0};
+    char text[2 * PIC_TEXT_LEN], digest[PIC_DIGEST_LEN + 1];
+    size_t len = torn_day(1 << 5);
+    expect("what leads is kept", pic_trace_lead(trace, len, &salvaged, &holes) == 0 && pic_trace_records(salvaged.trace) == 5 && salvaged.len == 14 + 5 * 16 &&
+                                     memcmp(salvaged.trace + 14, trace + 14, 5 * 16) == 0 && pic_trace_test(salvaged.trace, salvaged.len, NULL) == 0);
+    expect("with a hole at its end", holes.count == 1 && holes.of[0].at == 5 && holes.of[0].first == 5 && holes.of[0].last == 7 && pic_day_records(salvaged.trace, &holes) == 8);
+    len = torn_day(1 << 3);
+    holes.count = 0;
+    expect("whole blocks", pic_trace_whole(trace, len, &salvaged, &holes) == 0 && pic_trace_records(salvaged.trace) == 7 && holes.count == 1 && holes.of[0].at == 3 && holes.of[0].last == 3);
+    pic_hole_text(&holes.of[0], text);
+    expect("and a line for it", strcmp(text, "at record 3: records 3 to 3 of the day are missing (block 1, whose record 0 is bad)") == 0);
+    expect("they are saved", pic_holes_save(path, &salvaged, &holes) == 0 && pic_trace_load(path, again, &len) == 0 && len == salvaged.len);
+    struct pic_holes found = {.count = 9};
+    expect("and found", pic_holes_load(path, again, len, &found) == 0 && found.count == 1 && found.of[0].at == 3 && strcmp(found.of[0].why, holes.of[0].why) == 0);
+    again[len - 15] ^= 1;
+    expect("but not of another trace", pic_holes_load(path, again, len, &found) == PIC_OTHER_TRACE);
+    len = torn_day(1);
+    holes.count = 0;
+    expect("nothing leads", pic_trace_lead(trace, len, &salvaged, &holes) == PCH_PIC_EMPTY && holes.count == 0);
+    len = torn_day(0);
+    expect("a whole day has none", pic_trace_lead(trace, len, &salvaged, &holes) == 0 && holes.count == 0 && memcmp(salvaged.trace, trace, len) == 0);
+    expect("and takes the list away", pic_holes_save(path, &salvaged, &holes) == 0 && pic_holes_load(path, trace, len, &found) == 0 && found.count == 0);
+    expect("a copy cut short is filled", pic_trace_cause(trace, len - 20, text) && pic_trace_fill(trace, len - 20) == len && trace[len - 32] == 0 && trace[len - 33 - 14] == 5);
+    pic_digest((const uint8_t *)"abc", 3, digest);
+    expect("a digest", strcmp(digest, "ba7816bf8f01cfea414140de5dae2223b00361a396177a9cb410ff61f20015ad") == 0);
+    remove(path);
+}
+
 static void texts(void)
 {
     for (int number = PIC_FULL; number <= PIC_STARTED; number++) {
@@ -575,6 +686,8 @@ int main(int argc, char **argv)
     a_watched_hoist();
     a_recording_that_stops();
     a_sheet();
+    times();
+    holes();
     texts();
     printf("%d passed, %d failed\n", passed, failed);
     return failed != 0;

@@ -36,6 +36,53 @@ int pic_trace_sheet(const uint8_t *trace, size_t len, struct pic_sheet *sheet, u
     return PCH_PIC_DONE;
 }
 
+/* The sheet of the first so many records, as a trace of one block. */
+static int sheet_of_first(const uint8_t *records, size_t count, struct pic_sheet *sheet)
+{
+    uint8_t part[PCH_PIC_TRACE_MAX] = {1, 0, PCH_PIC_TRACE_ENTRIES + PCH_PIC_BLOCK_LEN, 0, (uint8_t)count, (uint8_t)(count >> 8)};
+    size_t first = PCH_PIC_TRACE_ENTRIES + PCH_PIC_BLOCK_LEN;
+    memcpy(part + first, records, PCH_PIC_RECORD_LEN * count);
+    return pic_trace_sheet(part, first + PCH_PIC_RECORD_LEN * count, sheet, NULL);
+}
+
+/* After how many records a row's greatest wait is what it is at the day's end: it only grows, so halves tell. */
+static int reached(const uint8_t *records, const struct pic_sheet *sheet, size_t row, size_t *count)
+{
+    size_t low = 0, high = sheet->records;
+    struct pic_sheet part;
+    while (high - low > 1) {
+        size_t middle = low + (high - low) / 2;
+        int number = sheet_of_first(records, middle, &part);
+        if (number != PCH_PIC_DONE) {
+            return number;
+        }
+        if (part.of[row][PCH_PIC_SHEET_WAIT] < sheet->of[row][PCH_PIC_SHEET_WAIT]) {
+            low = middle;
+        } else {
+            high = middle;
+        }
+    }
+    *count = high;
+    return PCH_PIC_DONE;
+}
+
+int pic_sheet_began(const uint8_t *trace, size_t len, const struct pic_sheet *sheet, size_t began[PCH_PIC_SHEET_ROWS])
+{
+    const uint8_t *records = trace + len - PCH_PIC_RECORD_LEN * sheet->records;
+    for (size_t row = 0; row < PCH_PIC_SHEET_ROWS; row++) {
+        size_t wait = sheet->of[row][PCH_PIC_SHEET_WAIT], count = 0;
+        began[row] = PIC_NO_WAIT;
+        if (wait != 0) {
+            int number = reached(records, sheet, row, &count);
+            if (number != PCH_PIC_DONE) {
+                return number;
+            }
+            began[row] = count - 1 - wait;
+        }
+    }
+    return PCH_PIC_DONE;
+}
+
 bool pic_sheet_idle(const struct pic_sheet *sheet, size_t row)
 {
     for (size_t column = 0; column < PCH_PIC_SHEET_COLUMNS; column++) {
@@ -74,24 +121,56 @@ static void label(char text[8], size_t row)
 
 void pic_sheet_print(const struct pic_sheet *sheet, FILE *out)
 {
-    size_t idle = 0;
+    pic_sheet_print_began(sheet, NULL, out);
+}
+
+/* The column that stands behind the greatest wait. */
+static void print_began(const char *text, FILE *out)
+{
+    fprintf(out, "  %8s", text);
+}
+
+static void print_row(const struct pic_sheet *sheet, size_t row, const size_t *began, FILE *out)
+{
+    char text[24];
+    label(text, row);
+    fprintf(out, "%5s", text);
+    for (size_t column = 0; column < PCH_PIC_SHEET_COLUMNS; column++) {
+        fprintf(out, "  %*" PRIu32, width(column), sheet->of[row][column]);
+        if (column == PCH_PIC_SHEET_WAIT && began != NULL) {
+            if (began[row] == PIC_NO_WAIT) {
+                strcpy(text, "-");
+            } else {
+                snprintf(text, sizeof text, "%zu", began[row]);
+            }
+            print_began(text, out);
+        }
+    }
+    fprintf(out, "\n");
+}
+
+static void print_names(const size_t *began, FILE *out)
+{
     fprintf(out, "input");
     for (size_t column = 0; column < PCH_PIC_SHEET_COLUMNS; column++) {
         fprintf(out, "  %*s", width(column), pic_sheet_column(column));
+        if (column == PCH_PIC_SHEET_WAIT && began != NULL) {
+            print_began("began at", out);
+        }
     }
     fprintf(out, "\n");
+}
+
+void pic_sheet_print_began(const struct pic_sheet *sheet, const size_t *began, FILE *out)
+{
+    size_t idle = 0;
+    print_names(began, out);
     for (size_t row = 0; row < PCH_PIC_SHEET_ROWS; row++) {
-        char text[8];
         if (row != PCH_PIC_SHEET_TOTAL && pic_sheet_idle(sheet, row)) {
             idle++;
-            continue;
+        } else {
+            print_row(sheet, row, began, out);
         }
-        label(text, row);
-        fprintf(out, "%5s", text);
-        for (size_t column = 0; column < PCH_PIC_SHEET_COLUMNS; column++) {
-            fprintf(out, "  %*" PRIu32, width(column), sheet->of[row][column]);
-        }
-        fprintf(out, "\n");
     }
     fprintf(out, "records: %zu; inputs that did nothing and are left out: %zu\n", sheet->records, idle);
 }

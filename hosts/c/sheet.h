@@ -25,8 +25,14 @@ bool pic_sheet_idle(const struct pic_sheet *sheet, size_t row);
 /* A column as the table names it. */
 const char *pic_sheet_column(size_t column);
 
-/* A table for people: inputs that did nothing are left out, and the total comes last. */
+/* Where the greatest wait of each row began: the number of the raise's record, of several that are as long the first; PIC_NO_WAIT where there was none. The library's own
+ * sheets of the day's beginnings tell it. */
+#define PIC_NO_WAIT ((size_t)-1)
+int pic_sheet_began(const uint8_t *trace, size_t len, const struct pic_sheet *sheet, size_t began[PCH_PIC_SHEET_ROWS]);
+
+/* A table for people: inputs that did nothing are left out, and the total comes last. With began it has a column more. */
 void pic_sheet_print(const struct pic_sheet *sheet, FILE *out);
+void pic_sheet_print_began(const struct pic_sheet *sheet, const size_t *began, FILE *out);
 
 /* Lines for a program, with commas between: names first, then every input and the total. */
 void pic_sheet_csv(const struct pic_sheet *sheet, FILE *out);

@@ -441,6 +441,75 @@ static void play_refusals(void)
     expect("12: no trace at all", pch_pic_play(NULL, 0, image, image_len, NULL, 0, NULL, 0, answer, ANSWER) == 12 && nothing_played());
 }
 
+/* An image that is played on: the bytes before the call, and what they became where it was done. */
+static uint8_t begun[NUMBERED];
+
+/* Played on from the image that begun has, for as long as image_len says. */
+static uint8_t play_on(size_t answer_len)
+{
+    memcpy(image, begun, image_len);
+    guard();
+    memset(told, 0x3c, sizeof told);
+    memset(drained, 0x96, sizeof drained);
+    return pch_pic_play_on(trace, trace_len, image, image_len, told, told_len, drained, drained_len, answer, answer_len);
+}
+
+static int nothing_played_on(void)
+{
+    return memcmp(image, begun, image_len) == 0 && written(0, 0);
+}
+
+/* In each form: the day that was played is played on, and no reset comes between; then the same in one trace. */
+static void played_on(size_t len, uint64_t first, uint64_t last)
+{
+    uint8_t want[NUMBERED], other[ANSWER];
+    image_len = len;
+    small_day();
+    expect("a day", play(ANSWER) == 0);
+    memcpy(begun, image, len);
+    memcpy(want, image, len);
+    expect("is played on", play_on(ANSWER) == 0 && answers(0, 1, 10) && written(10 * ANSWER, 0));
+    expect("5 is in service and not raised again; lowered, it is told", told_at(0, 0, 0, 0) && told_at(2, 0, 1, 0x20) && told_at(3, 0, 1, first) && told_at(9, 0, 1, last));
+    pch_pic_level(want, len, 5, 1, other, ANSWER);
+    pch_pic_write(want, len, 0, 0x10000, 0x20, 4, 0xffffffdf, other, ANSWER);
+    pch_pic_level(want, len, 5, 0, other, ANSWER);
+    pch_pic_drain(want, len, events, EVENTS, 0, other, ANSWER);
+    pch_pic_level(want, len, 5, 1, other, ANSWER);
+    expect("the image is what the calls leave", memcmp(want, image, len) == 0);
+}
+
+/* Refusals in their order: each stands before those behind it, which hold too. */
+static void play_on_refusals(void)
+{
+    uint8_t other[ANSWER];
+    pch_pic_reset(begun, NUMBERED, other, ANSWER);
+    image_len = NUMBERED - 1;
+    small_day();
+    told_len = 10 * ANSWER - 1;
+    trace[10 + 16 * 4] = 7;
+    trace[0] = 3;
+    expect("7: a short answer area, before all others", play_on(ANSWER - 1) == 7 && untouched() && nothing_played_on());
+    expect("4: 289 bytes, before 12", play_on(ANSWER) == 4 && answers(4, 0, 0) && nothing_played_on());
+    image_len = NUMBERED;
+    begun[0] = 1;
+    expect("5: contents of the image, before 12", play_on(ANSWER) == 5 && answers(5, 0, 0) && nothing_played_on());
+    begun[0] = 2;
+    begun[NUMBERED - 1] = 1;
+    expect("11: an unused number, with its place, before 12", play_on(ANSWER) == 11 && answers(11, 1, NUMBERED - 1) && nothing_played_on());
+    begun[NUMBERED - 1] = 0;
+    expect("12: contents, before 13", play_on(ANSWER) == 12 && answers(12, 0, 0) && nothing_played_on());
+    trace[0] = 2;
+    expect("13: the fifth record, before 7", play_on(ANSWER) == 13 && answers(13, 1, 4) && nothing_played_on());
+    small_day();
+    told_len = 10 * ANSWER - 1;
+    expect("7: a byte less for the answers, and nothing is written", play_on(ANSWER) == 7 && untouched() && nothing_played_on());
+    told_len = 10 * ANSWER;
+    drained_len = 2 * EVENTS - 1;
+    expect("7: a byte less for the events, and nothing is written", play_on(ANSWER) == 7 && untouched() && nothing_played_on());
+    expect("12: no trace at all", pch_pic_play_on(NULL, 0, image, image_len, NULL, 0, NULL, 0, answer, ANSWER) == 12);
+    expect("4: no image at all", pch_pic_play_on(trace, trace_len, NULL, 0, NULL, 0, NULL, 0, answer, ANSWER) == 4);
+}
+
 /* What makes contents wrong: each byte of them, a length, no block, an empty one, 65 blocks, 4,001 records. */
 static void wrong_contents(void)
 {
@@ -715,6 +784,10 @@ static void traces(void)
     played(IMAGE, 5);
     played(IMAGE2, 5);
     play_refusals();
+    played_on(NUMBERED, 0x30005, 0x40005);
+    played_on(IMAGE, 5, 5);
+    played_on(IMAGE2, 5, 5);
+    play_on_refusals();
     wrong_contents();
     bad_records();
     longest();

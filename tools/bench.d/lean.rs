@@ -639,8 +639,15 @@ fn records_of(trace: &[u8]) -> Result<&[[u8; 16]], Outcome> {
     }
 }
 
+/// The trace played on an image that `begun` makes ready where nothing is refused: by a reset, or not at all.
 #[inline(always)]
-fn play_in<F: Form<N>, const N: usize>(image: &mut [u8], trace: &[u8], answers: &mut [u8], events: &mut [u8]) -> Outcome {
+fn play_from<F: Form<N>, const N: usize>(
+    image: &mut [u8],
+    begun: impl FnOnce(&mut [u8; N]),
+    trace: &[u8],
+    answers: &mut [u8],
+    events: &mut [u8],
+) -> Outcome {
     let records = match records_of(trace) {
         Ok(records) => records,
         Err(refused) => return refused,
@@ -651,7 +658,7 @@ fn play_in<F: Form<N>, const N: usize>(image: &mut [u8], trace: &[u8], answers: 
         return (7, None);
     }
     let image: &mut [u8; N] = image.try_into().unwrap();
-    *image = F::RESET;
+    begun(image);
     let mut used = 0;
     for (record, answer) in records.iter().zip(answers) {
         let (byte, offset) = (u64::from(record[1]), u64::from(number(record, 2)));
@@ -670,6 +677,19 @@ fn play_in<F: Form<N>, const N: usize>(image: &mut [u8], trace: &[u8], answers: 
         told(answer, outcome);
     }
     (0, Some(records.len() as u64))
+}
+
+#[inline(always)]
+fn play_in<F: Form<N>, const N: usize>(image: &mut [u8], trace: &[u8], answers: &mut [u8], events: &mut [u8]) -> Outcome {
+    play_from::<F, N>(image, |image| *image = F::RESET, trace, answers, events)
+}
+
+#[inline(always)]
+fn play_on_in<F: Form<N>, const N: usize>(image: &mut [u8], trace: &[u8], answers: &mut [u8], events: &mut [u8]) -> Outcome {
+    match checked::<F, N>(image) {
+        Ok(_) => play_from::<F, N>(image, |_| (), trace, answers, events),
+        Err(refused) => refused,
+    }
 }
 
 // The calls. They stay calls of their own in the measured program, as those of a library do.
@@ -721,6 +741,15 @@ pub fn convert(image: &[u8], target: &mut [u8], answer: &mut [u8]) -> u8 {
 pub fn play(trace: &[u8], image: &mut [u8], answers: &mut [u8], events: &mut [u8], answer: &mut [u8]) -> u8 {
     let Some(answer) = answer.first_chunk_mut() else { return 7 };
     match by_length!(image, play_in, trace, answers, events) {
+        (7, _) => 7,
+        outcome => told(answer, outcome),
+    }
+}
+
+#[inline(never)]
+pub fn play_on(trace: &[u8], image: &mut [u8], answers: &mut [u8], events: &mut [u8], answer: &mut [u8]) -> u8 {
+    let Some(answer) = answer.first_chunk_mut() else { return 7 };
+    match by_length!(image, play_on_in, trace, answers, events) {
         (7, _) => 7,
         outcome => told(answer, outcome),
     }

@@ -562,15 +562,27 @@ fn saved<F: Form<N>, const N: usize>(image: &mut [u8; N], state: &State) -> Outc
     Ok(None)
 }
 
-/// Refusals 12 and 13, and 7 where answers or events have no room. Then all is played on one state, which is saved at the end.
-fn played<F: Form<N>, const N: usize>(image: &mut [u8; N], trace: &[u8], answers: &mut [u8], events: &mut [u8]) -> Outcome {
+/// Refusals 12 and 13, and 7 where answers or events have no room.
+#[inline(always)]
+fn fitting<'a>(trace: &'a [u8], answers: &[[u8; 16]], events: &[u8]) -> Result<&'a [[u8; 16]], Refusal> {
     let records = records_of(trace)?;
     let drains = records.iter().filter(|record| record[0] == 6).count();
-    let (answers, _) = answers.as_chunks_mut();
     if answers.len() < records.len() || events.len() < 64 * drains {
         return Err(refusal(7));
     }
-    let (mut state, mut used) = (State::reset(), 0);
+    Ok(records)
+}
+
+/// All is played on one state, that after reset or the one that the image holds, which is saved at the end.
+#[inline(always)]
+fn through<F: Form<N>, const N: usize>(
+    mut state: State,
+    image: &mut [u8; N],
+    records: &[[u8; 16]],
+    answers: &mut [[u8; 16]],
+    events: &mut [u8],
+) -> Outcome {
+    let mut used = 0;
     for (record, answer) in records.iter().zip(answers) {
         // Without the body of numbers they hold within one call; what waits has its place as its number by itself.
         if F::NUMBERS.is_none() {
@@ -580,6 +592,19 @@ fn played<F: Form<N>, const N: usize>(image: &mut [u8; N], trace: &[u8], answers
     }
     state.save::<F, N>(image);
     Ok(Some(records.len() as u64))
+}
+
+fn played<F: Form<N>, const N: usize>(image: &mut [u8; N], trace: &[u8], answers: &mut [u8], events: &mut [u8]) -> Outcome {
+    let (answers, _) = answers.as_chunks_mut();
+    let records = fitting(trace, answers, events)?;
+    through::<F, N>(State::reset(), image, records, answers, events)
+}
+
+fn played_on<F: Form<N>, const N: usize>(image: &mut [u8; N], trace: &[u8], answers: &mut [u8], events: &mut [u8]) -> Outcome {
+    check::<F, N>(image)?;
+    let (answers, _) = answers.as_chunks_mut();
+    let records = fitting(trace, answers, events)?;
+    through::<F, N>(State::load::<F, N>(image), image, records, answers, events)
 }
 
 // The calls. They stay calls of their own in the measured program, as those of a library do.
@@ -647,6 +672,15 @@ pub fn convert(image: &[u8], target: &mut [u8], answer: &mut [u8]) -> u8 {
 pub fn play(trace: &[u8], image: &mut [u8], answers: &mut [u8], events: &mut [u8], answer: &mut [u8]) -> u8 {
     let Some(answer) = answer.first_chunk_mut() else { return 7 };
     match by_length!(image, played, trace, answers, events) {
+        Err(Refusal { number: 7, .. }) => 7,
+        outcome => told(answer, outcome),
+    }
+}
+
+#[inline(never)]
+pub fn play_on(trace: &[u8], image: &mut [u8], answers: &mut [u8], events: &mut [u8], answer: &mut [u8]) -> u8 {
+    let Some(answer) = answer.first_chunk_mut() else { return 7 };
+    match by_length!(image, played_on, trace, answers, events) {
         Err(Refusal { number: 7, .. }) => 7,
         outcome => told(answer, outcome),
     }

@@ -19,6 +19,7 @@ const IN_BLOCK: usize = RECORDS.div_ceil(BLOCKS);
 #[derive(Clone, Copy, PartialEq, Eq)]
 pub enum Way {
     Played,
+    PlayedOn,
     OneByOne,
     Salvaged,
     Summed,
@@ -75,7 +76,12 @@ impl Lent {
         match play.way {
             Way::Salvaged => Lent::for_salvage(play.trace.len(), 4 * BLOCKS),
             Way::Summed => Lent::for_sheet(SHEET),
-            _ => Lent::new(play.image_len, play.calls.len(), drains(&play.calls)),
+            Way::Played | Way::OneByOne => Lent::new(play.image_len, play.calls.len(), drains(&play.calls)),
+            Way::PlayedOn => {
+                let mut lent = Lent::new(play.image_len, play.calls.len(), drains(&play.calls));
+                plain::reset(&mut lent.image, &mut [0; 16]);
+                lent
+            }
         }
     }
 }
@@ -143,6 +149,7 @@ pub fn all() -> Vec<Play> {
             of("play-1", "play of 1", &raise, image_len, Way::Played),
             of("play-100", "play of 100, each record", &day[128..228], image_len, Way::Played),
             of("play-4000", "play of 4,000, each record", &day[..RECORDS], image_len, Way::Played),
+            of("play-on-4000", "play on of 4,000, each record", &day[..RECORDS], image_len, Way::PlayedOn),
             of("calls-4000", "those 4,000 one by one, each", &day[..RECORDS], image_len, Way::OneByOne),
         ]
     };

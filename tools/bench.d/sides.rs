@@ -39,6 +39,18 @@ mod library {
             answer: *mut u8,
             al: usize,
         ) -> u8;
+        pub fn pch_pic_play_on(
+            trace: *const u8,
+            tl: usize,
+            image: *mut u8,
+            il: usize,
+            answers: *mut u8,
+            bl: usize,
+            events: *mut u8,
+            el: usize,
+            answer: *mut u8,
+            al: usize,
+        ) -> u8;
         pub fn pch_pic_salvage(
             trace: *const u8,
             tl: usize,
@@ -69,6 +81,7 @@ pub trait Side {
     unsafe fn drain(image: Area, events: Area, place: usize, answer: Area) -> u8;
     unsafe fn convert(image: Area, target: Area, answer: Area) -> u8;
     unsafe fn play(trace: &[u8], image: Area, answers: Area, events: Area, answer: Area) -> u8;
+    unsafe fn play_on(trace: &[u8], image: Area, answers: Area, events: Area, answer: Area) -> u8;
     unsafe fn salvage(trace: &[u8], kept: Area, list: Area, answer: Area) -> u8;
     unsafe fn sheet(trace: &[u8], sheet: Area, answer: Area) -> u8;
 }
@@ -107,6 +120,10 @@ impl Side for Library {
     #[inline(always)]
     unsafe fn play(trace: &[u8], i: Area, b: Area, e: Area, a: Area) -> u8 {
         unsafe { pch_pic_play(trace.as_ptr(), trace.len(), i.0, i.1, b.0, b.1, e.0, e.1, a.0, a.1) }
+    }
+    #[inline(always)]
+    unsafe fn play_on(trace: &[u8], i: Area, b: Area, e: Area, a: Area) -> u8 {
+        unsafe { pch_pic_play_on(trace.as_ptr(), trace.len(), i.0, i.1, b.0, b.1, e.0, e.1, a.0, a.1) }
     }
     #[inline(always)]
     unsafe fn salvage(trace: &[u8], k: Area, l: Area, a: Area) -> u8 {
@@ -157,6 +174,10 @@ macro_rules! rust {
                 unsafe { $of::play(trace, part_mut(i.0, i.1), part_mut(b.0, b.1), part_mut(e.0, e.1), part_mut(a.0, a.1)) }
             }
             #[inline(always)]
+            unsafe fn play_on(trace: &[u8], i: Area, b: Area, e: Area, a: Area) -> u8 {
+                unsafe { $of::play_on(trace, part_mut(i.0, i.1), part_mut(b.0, b.1), part_mut(e.0, e.1), part_mut(a.0, a.1)) }
+            }
+            #[inline(always)]
             unsafe fn salvage(trace: &[u8], k: Area, l: Area, a: Area) -> u8 {
                 unsafe { $of::salvage(trace, part_mut(k.0, k.1), part_mut(l.0, l.1), part_mut(a.0, a.1)) }
             }
@@ -177,8 +198,9 @@ pub mod portable {
         pch_pic_board_poll as board_poll, pch_pic_board_read as board_read, pch_pic_board_reset as board_reset,
         pch_pic_board_write as board_write, pch_pic_convert as convert, pch_pic_drain as drain,
         pch_pic_hoist_end_startup as hoist_end_startup, pch_pic_hoist_read as hoist_read, pch_pic_hoist_reset as hoist_reset,
-        pch_pic_hoist_write as hoist_write, pch_pic_level as level, pch_pic_play as play, pch_pic_poll as poll, pch_pic_read as read,
-        pch_pic_reset as reset, pch_pic_salvage as salvage, pch_pic_sheet as sheet, pch_pic_waiting as waiting, pch_pic_write as write,
+        pch_pic_hoist_write as hoist_write, pch_pic_level as level, pch_pic_play as play, pch_pic_play_on as play_on, pch_pic_poll as poll,
+        pch_pic_read as read, pch_pic_reset as reset, pch_pic_salvage as salvage, pch_pic_sheet as sheet, pch_pic_waiting as waiting,
+        pch_pic_write as write,
     };
 }
 rust!(Portable, portable);
@@ -222,6 +244,10 @@ impl Side for Nothing {
     }
     #[inline(always)]
     unsafe fn play(_: &[u8], i: Area, _: Area, _: Area, a: Area) -> u8 {
+        nothing(i.0, a.0)
+    }
+    #[inline(always)]
+    unsafe fn play_on(_: &[u8], i: Area, _: Area, _: Area, a: Area) -> u8 {
         nothing(i.0, a.0)
     }
     #[inline(always)]
@@ -317,6 +343,14 @@ pub fn play<S: Side>(trace: &[u8], lent: &mut Lent) -> u8 {
     unsafe { S::play(trace, area(&mut lent.image), area(&mut lent.answers), area(&mut lent.events), area(&mut lent.answer)) }
 }
 
+/// The trace played on from the image. The number that is handed back.
+#[inline(always)]
+pub fn play_on<S: Side>(trace: &[u8], lent: &mut Lent) -> u8 {
+    let area = |bytes: &mut Vec<u8>| (bytes.as_mut_ptr(), bytes.len());
+    // SAFETY: as in play.
+    unsafe { S::play_on(trace, area(&mut lent.image), area(&mut lent.answers), area(&mut lent.events), area(&mut lent.answer)) }
+}
+
 /// The trace salvaged. The number that is handed back.
 #[inline(always)]
 pub fn salvage<S: Side>(trace: &[u8], lent: &mut Lent) -> u8 {
@@ -363,6 +397,7 @@ fn played<S: Side>(play: &Play, lent: &mut Lent, times: usize) {
     for _ in 0..times {
         match play.way {
             Way::Played => drop(black_box(self::play::<S>(&play.trace, lent))),
+            Way::PlayedOn => drop(black_box(self::play_on::<S>(&play.trace, lent))),
             Way::OneByOne => one_by_one::<S>(&play.calls, lent),
             Way::Salvaged => drop(black_box(salvage::<S>(&play.trace, lent))),
             Way::Summed => drop(black_box(sheet::<S>(&play.trace, lent))),

@@ -87,10 +87,10 @@ fn area(bytes: &mut Vec<u8>) -> (u64, u64) {
     (bytes.as_mut_ptr() as u64, bytes.len() as u64)
 }
 
-fn play_numbers(trace: &[u8], lent: &mut Lent) -> Numbers {
+fn play_numbers(call: usize, trace: &[u8], lent: &mut Lent) -> Numbers {
     let ((t, tl), (i, il)) = ((trace.as_ptr() as u64, trace.len() as u64), area(&mut lent.image));
     let ((b, bl), (e, el), (a, al)) = (area(&mut lent.answers), area(&mut lent.events), area(&mut lent.answer));
-    all(sides::pch_pic_play as *const () as usize, [t, tl, i, il, b, bl, e, el, a, al])
+    all(call, [t, tl, i, il, b, bl, e, el, a, al])
 }
 
 fn salvage_numbers(trace: &[u8], lent: &mut Lent) -> Numbers {
@@ -154,10 +154,17 @@ fn name(call: &Call) -> &'static str {
 const RANDOM: usize = 20_000;
 const TRACES: usize = 1_000;
 
-/// The most that a play uses: over those that are measured, every offset and width read and written, random traces, and what is refused.
-fn plays(stack: &mut Painted) -> usize {
+/// The most that a play uses, from a reset or on: over those that are measured, every offset and width read and written, random traces, and what is refused. Each is made
+/// on an image that is reset, and on bytes that are none.
+fn plays(stack: &mut Painted, call: usize) -> usize {
     let mut deepest = 0;
-    let mut note = |trace: &[u8], lent: &Lent| deepest = deepest.max(used(stack, || lent.clone(), |lent| play_numbers(trace, lent)));
+    let mut note = |trace: &[u8], lent: &Lent| {
+        let mut reset = lent.clone();
+        plain::reset(&mut reset.image, &mut [0; 16]);
+        for lent in [&reset, lent] {
+            deepest = deepest.max(used(stack, || lent.clone(), |lent| play_numbers(call, trace, lent)));
+        }
+    };
     for play in plays::all().iter().filter(|play| play.way == Way::Played) {
         note(&play.trace, &Lent::of(play));
     }
@@ -295,7 +302,8 @@ pub fn print(markdown: bool) -> Result<(), String> {
         note(&verify::random_call(&mut chance), &slot, length, 16);
         note(&Call::Convert { target: chance.one_of(&LENGTHS) }, &slot, length, 16);
     }
-    most.push(("pch_pic_play", plays(&mut stack)));
+    most.push(("pch_pic_play", plays(&mut stack, sides::pch_pic_play as *const () as usize)));
+    most.push(("pch_pic_play_on", plays(&mut stack, sides::pch_pic_play_on as *const () as usize)));
     most.push(("pch_pic_salvage", salvages(&mut stack)));
     most.push(("pch_pic_sheet", sheets(&mut stack)));
     most.extend(besides(&mut stack));

@@ -4,7 +4,7 @@ use crate::call::Call;
 use crate::chance::Chance;
 use crate::kinds::{BASE, Kind, LENGTH, LENGTHS, NUMBERED, Prepared, SIZE, Slot, count_at, moved};
 use crate::plays::{self, Lent, Play, Way, blocks};
-use crate::sides::{Lean, Library, Plain, Portable, Side, converted, make, one_by_one, play, salvage, sheet};
+use crate::sides::{Lean, Library, Plain, Portable, Side, converted, make, one_by_one, play, play_on, salvage, sheet};
 
 /// What a side hands back, and the target of a conversion.
 fn by<S: Side>(call: &Call, slot: &mut Slot, image_len: usize, answer_len: usize) -> (u8, [u8; NUMBERED]) {
@@ -144,6 +144,21 @@ fn same_play(what: &str, trace: &[u8], lent: &mut Lent) -> Result<u8, String> {
     }
 }
 
+/// The same of a trace that is played on.
+fn same_play_on(what: &str, trace: &[u8], lent: &mut Lent) -> Result<u8, String> {
+    let (mut plain, mut lean, mut portable) = (lent.clone(), lent.clone(), lent.clone());
+    let number = play_on::<Library>(trace, lent);
+    let others = [
+        ("plain Rust", play_on::<Plain>(trace, &mut plain), plain),
+        ("lean Rust", play_on::<Lean>(trace, &mut lean), lean),
+        ("portable Rust", play_on::<Portable>(trace, &mut portable), portable),
+    ];
+    match others.iter().find(|other| other.1 != number || other.2 != *lent) {
+        Some((name, handed, _)) => Err(format!("{what}: a play on hands back {number}, that of {name} {handed}, or leaves other bytes")),
+        None => Ok(number),
+    }
+}
+
 /// The calls of what was played, made one by one on each side, must leave the same bytes but in the answer area, which told the reset last.
 fn same_calls(what: &str, calls: &[Call], before: &Lent, left: &Lent) -> Result<(), String> {
     let sides = [one_by_one::<Library>, one_by_one::<Plain>, one_by_one::<Lean>, one_by_one::<Portable>];
@@ -228,10 +243,11 @@ pub fn played(of: &Play) -> Result<(), String> {
     match of.way {
         Way::Salvaged => return salvaged(of),
         Way::Summed => return summed(of),
-        Way::Played | Way::OneByOne => {}
+        Way::Played | Way::PlayedOn | Way::OneByOne => {}
     }
     let (before, mut lent) = (Lent::of(of), Lent::of(of));
-    match same_play(&of.name, &of.trace, &mut lent)? {
+    let played = if of.way == Way::PlayedOn { same_play_on } else { same_play };
+    match played(&of.name, &of.trace, &mut lent)? {
         0 => same_calls(&of.name, &of.calls, &before, &lent),
         number => Err(format!("{}: the play is refused with {number}", of.name)),
     }
@@ -266,6 +282,8 @@ pub fn traces() -> Result<[u64; 14], String> {
         if number == 0 && !spoilt {
             same_calls("random", &calls, &before, &lent)?;
         }
+        // and once more, on what was left, or on an image that is none
+        same_play_on("random", &trace, &mut lent)?;
     }
     match [0, 4, 7, 12, 13].into_iter().find(|&number| numbers[number] == 0) {
         Some(number) => Err(format!("the random traces never met number {number}")),

@@ -46,6 +46,7 @@ fn names(front: u8) -> Option<&'static [usize]> {
         8 | 9 => &[IMAGE, PHASE, ANSWER],
         10 => &[TRACE, SHEET, ANSWER],
         11 => &[IMAGE, ANSWER],
+        12 => &[TRACE, IMAGE, ANSWERS, EVENTS, ANSWER],
         _ => return None,
     })
 }
@@ -102,6 +103,10 @@ impl Case {
             }
             6 | 7 => with_board(self, areas)?,
             8 | 9 => under_profile(self, areas)?,
+            12 => {
+                let [(t, tl), (i, il), (s, sl), (e, el), (a, al)] = areas.lent([TRACE, IMAGE, ANSWERS, EVENTS, ANSWER]);
+                unsafe { pch_pic_play_on(t, tl, i, il, s, sl, e, el, a, al) }
+            }
             10 => {
                 let [(t, tl), (s, sl), (a, al)] = areas.lent([TRACE, SHEET, ANSWER]);
                 unsafe { pch_pic_sheet(t, tl, s, sl, a, al) }

@@ -1,6 +1,8 @@
 //! A day as lanes: of each input that did something, from where to where it was masked, latched and in service, where it waited, and where an event was dropped.
 
-use pch_pic::history::{End, Fate, History, Moment, Wait};
+use crate::text::Asked;
+use pch_pic::history::{End, Fate, History, Made, Moment, Wait};
+use pch_pic::holes::{self, Hole};
 use pch_pic::sheet::Sheet;
 use pch_pic::{INPUTS, Trace};
 
@@ -18,8 +20,10 @@ pub struct Lane {
     pub served: Vec<Run>,
     /// Those of 0 records are left out: the raise itself made the assert.
     pub waits: Vec<Wait>,
-    /// Records that made an event of this input that was dropped.
-    pub dropped: Vec<usize>,
+    /// Records that made an assert of this input that was dropped: a sample that was not announced.
+    pub unannounced: Vec<usize>,
+    /// Records that made a deassert of it that was dropped: a line that was left on.
+    pub left_on: Vec<usize>,
 }
 
 pub struct Day {
@@ -28,6 +32,13 @@ pub struct Day {
     pub history: History,
     pub sheet: Sheet,
     pub lanes: Vec<Lane>,
+    pub holes: Vec<Hole>,
+    /// When each record was by the recorder's own clock, in microseconds from the first one on, where it kept that.
+    pub times: Option<Vec<u64>>,
+    /// The SHA-256 of the trace.
+    pub digest: String,
+    /// How many records a step of the picture has: 1, or more on a day that is too long to draw each.
+    pub unit: usize,
 }
 
 /// Where a wait ends in the picture: before the record that asserted it or took it back, or at the end of the day.
@@ -53,14 +64,18 @@ fn runs(moments: &[Moment], input: usize, register: fn(&Moment) -> u64) -> Vec<R
 impl Lane {
     fn new(history: &History, input: usize) -> Self {
         let moments = history.moments();
-        let lost = |moment: &&Moment| moment.made.iter().any(|made| made.input == input && made.fate == Fate::Dropped);
+        let lost = |asserted: bool| {
+            let made = move |made: &Made| made.input == input && made.fate == Fate::Dropped && made.event.asserted == asserted;
+            moments.iter().filter(move |moment| moment.made.iter().any(made)).map(|moment| moment.number).collect()
+        };
         Lane {
             input,
             masked: runs(moments, input, |moment| moment.masked),
             latched: runs(moments, input, |moment| moment.latched),
             served: runs(moments, input, |moment| moment.in_service),
             waits: history.waits().iter().filter(|wait| wait.input == input && wait.length() != Some(0)).copied().collect(),
-            dropped: moments.iter().filter(lost).map(|moment| moment.number).collect(),
+            unannounced: lost(true),
+            left_on: lost(false),
         }
     }
 
@@ -81,12 +96,63 @@ impl Lane {
 }
 
 impl Day {
-    pub fn new(trace: &Trace) -> Self {
+    pub fn new(trace: &Trace, holes: Vec<Hole>, times: Option<Vec<u64>>) -> Self {
         let (history, sheet) = (trace.history(), trace.sheet());
         let moved = history.moments().iter().fold(0, |moved, moment| moved | moment.latched | moment.in_service);
         let at_work = (0..INPUTS).filter(|input| moved >> input & 1 == 1 || !sheet.inputs()[*input].is_idle());
         let lanes = at_work.map(|input| Lane::new(&history, input)).collect();
-        Day { records: trace.records().len(), blocks: trace.blocks().collect(), history, sheet, lanes }
+        let digest = holes::digest(trace.as_bytes());
+        Day { records: trace.records().len(), blocks: trace.blocks().collect(), history, sheet, lanes, holes, times, digest, unit: 1 }
+    }
+
+    /// Runs as they are drawn: in whole steps of the picture, so that none is lost, and those that then meet as one.
+    pub fn drawn(&self, runs: &[Run]) -> Vec<Run> {
+        let mut drawn: Vec<Run> = Vec::new();
+        for run in runs {
+            let first = run.first / self.unit * self.unit;
+            let end = (run.first + run.len).next_multiple_of(self.unit).min(self.records);
+            match drawn.last_mut().filter(|last| self.unit > 1 && last.first + last.len >= first) {
+                Some(last) => last.len = end.max(last.first + last.len) - last.first,
+                None => drawn.push(Run { first, len: end - first }),
+            }
+        }
+        drawn
+    }
+
+    /// The steps that have one of these records, each told by its first record.
+    pub fn steps(&self, records: &[usize]) -> Vec<usize> {
+        let mut steps: Vec<usize> = records.iter().map(|record| record / self.unit * self.unit).collect();
+        steps.dedup();
+        steps
+    }
+
+    /// How long a wait took by the clock: to the end of the day where it is open.
+    pub fn took(&self, wait: &Wait) -> Option<u64> {
+        let times = self.times.as_ref()?;
+        let end = ends(wait, self.records).min(self.records - 1);
+        Some(times[end] - times[wait.raised])
+    }
+
+    /// Whether a wait is over a limit, if there is one, however it ended.
+    pub fn too_long(&self, asked: &Asked, wait: &Wait) -> bool {
+        let records = ends(wait, self.records) - wait.raised;
+        asked.limit.is_some_and(|limit| records > limit)
+            || asked.limit_ms.zip(self.took(wait)).is_some_and(|(limit, took)| took > limit.saturating_mul(1000))
+    }
+
+    /// The record from which on nothing is the day's: that behind the first hole. None where no record comes behind one.
+    pub fn wrong_from(&self) -> Option<usize> {
+        self.holes.first().map(|hole| hole.at).filter(|at| *at < self.records)
+    }
+
+    /// Whether what shows at a record is not the day's.
+    pub fn is_wrong(&self, record: usize) -> bool {
+        self.wrong_from().is_some_and(|from| record >= from)
+    }
+
+    /// Whether the day went on behind the trace's end.
+    pub fn went_on(&self) -> bool {
+        self.holes.last().is_some_and(|hole| hole.at == self.records)
     }
 
     /// Holds what is drawn to the library's sheet, input by input: the page is not written where they differ.
@@ -96,7 +162,7 @@ impl Day {
             let row = &self.sheet.inputs()[lane.input];
             let greatest = lane.greatest().and_then(Wait::length).unwrap_or(0);
             let drawn = [greatest, lane.withdrawn().count(), usize::from(lane.open().is_some())];
-            let drops = lane.dropped.len() == row.dropped as usize;
+            let drops = lane.unannounced.len() + lane.left_on.len() == row.dropped as usize;
             if drawn != [row.greatest_wait, row.withdrawn, row.open].map(|number| number as usize) || !drops {
                 return Err(differ(lane.input));
             }

@@ -11,13 +11,14 @@ mod text;
 mod words;
 
 use lanes::Day;
-use pch_pic::Trace;
-use pch_pic::trace::LoadError;
+use pch_pic::holes::{self, Hole};
+use pch_pic::{Error, Trace};
 use std::collections::BTreeMap;
 use std::ffi::OsString;
 use std::io::{self, Write};
 use std::path::Path;
 use std::process::ExitCode;
+use text::Asked;
 
 /// A file's name as it is told: on one line, whatever is in it.
 fn shown(path: &Path) -> String {
@@ -45,34 +46,92 @@ fn names(path: &Path) -> Result<BTreeMap<usize, String>, String> {
     Ok(names)
 }
 
-fn load(path: &Path) -> Result<Trace, String> {
-    let (from, told) = if path == Path::new("-") { (Path::new("/dev/stdin"), "standard input".into()) } else { (path, shown(path)) };
-    Trace::load(from).map_err(|why| match why {
-        LoadError::Trace(why) => format!("{told}: refused with {}: {why}", why.number()),
-        other => format!("{told}: {other}"),
-    })
+/// Where a file is opened, and how it is told.
+fn opened(path: &Path) -> (&Path, String) {
+    if path == Path::new("-") { (Path::new("/dev/stdin"), "standard input".into()) } else { (path, shown(path)) }
 }
 
-/// What the words ask for: `[--limit N] [--names FILE] TRACE`. tools/day has tested them.
-fn page(words: &[OsString]) -> Result<String, String> {
-    let (mut limit, mut named, mut file) = (None, BTreeMap::new(), None);
-    let mut words = words.iter();
+/// A good trace, and its holes by the list beside its file. What comes by a pipe has none beside it.
+fn load(path: &Path) -> Result<(Trace, Vec<Hole>), String> {
+    let (from, told) = opened(path);
+    let bytes = holes::read(from).map_err(|why| format!("{told}: {why}"))?;
+    let trace = Trace::try_from(bytes.clone()).map_err(|why| {
+        let cause = holes::cause(&bytes).filter(|_| why == Error::Trace);
+        format!("{told}: refused with {}: {}", why.number(), cause.unwrap_or_else(|| why.to_string()))
+    })?;
+    if path == Path::new("-") {
+        return Ok((trace, Vec::new()));
+    }
+    let list = holes::load(path, &bytes).map_err(|why| format!("{}: {why}", shown(&holes::beside(path))))?;
+    Ok((trace, list))
+}
+
+/// When each record was, by the file TRACE.times: eight bytes each, little end first, in nanoseconds. They become whole microseconds from the first record on, so that
+/// all that the page tells of them fits together. None where there is no such file.
+fn times(path: &Path, records: usize) -> Result<Option<Vec<u64>>, String> {
+    let mut name = path.as_os_str().to_owned();
+    name.push(".times");
+    let name = Path::new(&name);
+    if path == Path::new("-") || !name.exists() {
+        return Ok(None);
+    }
+    let at = |why: String| format!("{}: {why}", shown(name));
+    let bytes = std::fs::read(name).map_err(|why| at(why.to_string()))?;
+    if bytes.len() != 8 * records {
+        return Err(at(format!("it has {} bytes, and the times of {records} records are {}", bytes.len(), 8 * records)));
+    }
+    let times: Vec<u64> = bytes.chunks_exact(8).map(|bytes| u64::from_le_bytes(bytes.try_into().expect("a chunk of eight"))).collect();
+    match times.windows(2).position(|pair| pair[1] < pair[0]) {
+        Some(record) => Err(at(format!("its clock goes back at record {}", record + 1))),
+        None => Ok(Some(times.iter().map(|time| (time - times[0]) / 1000).collect())),
+    }
+}
+
+/// The words, which tools/day has tested: `[--limit N] [--limit-ms N] [--coarse N] [--names FILE] [--title TEXT] [--date TEXT] [--version TEXT] TRACE`.
+fn asked(words: &[OsString]) -> Result<(Asked, &Path), String> {
+    let mut asked = Asked {
+        title: String::new(),
+        file: String::new(),
+        date: None,
+        version: String::new(),
+        names: BTreeMap::new(),
+        limit: None,
+        limit_ms: None,
+        coarse: 1,
+    };
+    let (mut file, mut words) = (None, words.iter());
     while let Some(word) = words.next() {
+        let mut value = || words.next().ok_or_else(|| format!("{} wants a value", word.to_string_lossy()));
+        let number = |word: &OsString| word.to_str().and_then(|word| word.parse().ok()).ok_or("a limit wants a number");
         match word.to_str() {
-            Some("--limit") => {
-                let number = words.next().and_then(|word| word.to_str()?.parse().ok());
-                limit = Some(number.ok_or("--limit wants a number")?);
-            }
-            Some("--names") => named = names(Path::new(words.next().ok_or("--names wants a file")?))?,
+            Some("--limit") => asked.limit = Some(number(value()?)? as usize),
+            Some("--limit-ms") => asked.limit_ms = Some(number(value()?)?),
+            Some("--coarse") => asked.coarse = number(value()?)? as usize,
+            Some("--names") => asked.names = names(Path::new(value()?))?,
+            Some("--title") => asked.title = shown(Path::new(value()?)),
+            Some("--date") => asked.date = Some(shown(Path::new(value()?))),
+            Some("--version") => asked.version = shown(Path::new(value()?)),
             _ => file = Some(Path::new(word)),
         }
     }
     let file = file.ok_or("it wants a trace")?;
-    let trace = load(file)?;
-    let day = Day::new(&trace);
+    asked.file = if file == Path::new("-") { "standard input".into() } else { shown(Path::new(file.file_name().unwrap_or_default())) };
+    if asked.title.is_empty() {
+        asked.title = asked.file.clone();
+    }
+    Ok((asked, file))
+}
+
+fn page(words: &[OsString]) -> Result<String, String> {
+    let (asked, file) = asked(words)?;
+    let (trace, holes) = load(file)?;
+    let times = times(file, trace.records().len())?;
+    if asked.limit_ms.is_some() && times.is_none() {
+        return Err(format!("--limit-ms wants the times of the records, and there is no {}.times", opened(file).1));
+    }
+    let mut day = Day::new(&trace, holes, times);
     day.holds()?;
-    let title = if file == Path::new("-") { "standard input".into() } else { shown(Path::new(file.file_name().unwrap_or_default())) };
-    Ok(page::page(&text::Asked { title: &title, names: &named, limit }, &day))
+    Ok(page::page(&asked, &mut day))
 }
 
 /// A reader that has closed its pipe ends it quietly, as the signal would.

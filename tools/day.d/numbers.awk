@@ -19,7 +19,8 @@ function between(text, before, after) {
 }
 
 /^<tr data-input=|^<tr><th scope="row">total/ {
-    label = between($0, "<th scope=\"row\">", "</th>")
+    label = between($0, "<th scope=\"row\"", "</th>")
+    sub(/^[^>]*>/, "", label)
     row = $0
     sub(/.*<\/th>/, "", row)
     gsub(/<td[^>]*>/, ",", row)
@@ -35,6 +36,6 @@ function between(text, before, after) {
 /^<path class="(wait|over)"/ { all(between($0, " d=\"", "\"")); if (longest > wait[input]) wait[input] = longest }
 /^<path class="gone"/ { gone[input] += all(between($0, " d=\"", "\"")) }
 /^<path class="open"/ { open[input] += all(between($0, " d=\"", "\"")) }
-/^<path class="drop" data-input=/ { of = between($0, "data-input=\"", "\""); drops[of] += all(between($0, " d=\"", "\"")) }
+/^<path class="(drop|left)" data-input=/ { of = between($0, "data-input=\"", "\""); drops[of] += all(between($0, " d=\"", "\"")) }
 
 END { for (at = 1; at <= lanes; at++) print "drawn," order[at] "," wait[order[at]] "," gone[order[at]] "," open[order[at]] "," drops[order[at]] }

@@ -1,7 +1,8 @@
 //! The picture: one SVG, with a lane for each input and records from left to right.
 //!
 //! What belongs to records is drawn in an inner SVG whose unit is a record, so that it may be drawn as wide as is wished; widths of lines, marks and letters
-//! do not grow with it. A run of records is a piece of a path, so a lane has a handful of elements, however long the day is.
+//! do not grow with it. A run of records is a piece of a path, so a lane has a handful of elements, however long the day is. Where even the pieces are too many, a step
+//! of the picture is several records, and what was in one of them is drawn in all of the step.
 
 use crate::lanes::{Day, Lane, Run, ends};
 use crate::text::{Asked, counted};
@@ -19,12 +20,12 @@ fn percent(record: f64, day: &Day) -> String {
     format!("{:.3}%", 100.0 * record / day.records as f64)
 }
 
-fn boxes(runs: impl Iterator<Item = Run>, top: usize, height: usize) -> String {
-    runs.map(|run| format!("M{} {top}h{}v{height}h-{}z", run.first, run.len, run.len)).collect()
+fn boxes(runs: &[Run], top: usize, height: usize) -> String {
+    runs.iter().map(|run| format!("M{} {top}h{}v{height}h-{}z", run.first, run.len, run.len)).collect()
 }
 
-fn lines(runs: impl Iterator<Item = Run>, middle: usize) -> String {
-    runs.map(|run| format!("M{} {middle}h{}", run.first, run.len)).collect()
+fn lines(runs: &[Run], middle: usize) -> String {
+    runs.iter().map(|run| format!("M{} {middle}h{}", run.first, run.len)).collect()
 }
 
 /// A path of that class, if there is something to draw.
@@ -41,25 +42,29 @@ const LATCH: (usize, usize) = (20, 5);
 fn write_lane(out: &mut String, asked: &Asked, day: &Day, lane: &Lane, top: usize) {
     let run = |wait: &Wait| Run { first: wait.raised, len: ends(wait, day.records) - wait.raised };
     let of = |keep: &dyn Fn(&Wait) -> bool| lane.waits.iter().filter(|wait| keep(wait)).map(run).collect::<Vec<_>>();
-    let over = of(&|wait| asked.too_long(wait));
-    let waits = of(&|wait| wait.length().is_some() && !asked.too_long(wait));
+    let over = of(&|wait| wait.length().is_some() && day.too_long(asked, wait));
+    let waits = of(&|wait| wait.length().is_some() && !day.too_long(asked, wait));
+    let edge = of(&|wait| wait.length().is_none() && day.too_long(asked, wait));
     let (gone, open) = (of(&|wait| matches!(wait.end, End::Withdrawn(_))), of(&|wait| wait.end == End::Open));
     let _ = writeln!(out, "<g class=\"lane\" data-input=\"{}\" transform=\"translate(0 {top})\">", lane.input);
-    path(out, "masked", &boxes(lane.masked.iter().copied(), 0, LANE));
-    path(out, "latched", &boxes(lane.latched.iter().copied(), LATCH.0, LATCH.1));
-    path(out, "served", &boxes(lane.served.iter().copied(), BAND.0, BAND.1));
-    for (class, runs) in [("wait", &waits), ("over", &over), ("gone", &gone), ("open", &open)] {
-        path(out, class, &boxes(runs.iter().copied(), BAND.0, BAND.1));
+    path(out, "masked", &boxes(&day.drawn(&lane.masked), 0, LANE));
+    path(out, "latched", &boxes(&day.drawn(&lane.latched), LATCH.0, LATCH.1));
+    path(out, "served", &boxes(&day.drawn(&lane.served), BAND.0, BAND.1));
+    // What was withdrawn or is open is over the limit by its edge alone.
+    for (class, runs) in [("wait", &waits), ("over", &over), ("gone", &gone), ("open", &open), ("edge", &edge)] {
+        path(out, class, &boxes(&day.drawn(runs), BAND.0, BAND.1));
     }
-    path(out, "stripes", &lines(waits.iter().chain(&over).copied(), BAND.0 + BAND.1 / 2));
+    let middle = BAND.0 + BAND.1 / 2;
+    path(out, "stripes", &(lines(&day.drawn(&waits), middle) + &lines(&day.drawn(&over), middle)));
     out.push_str("</g>\n");
 }
 
 /// What keeps its size: the numbers and marks of waits.
 fn write_marks(out: &mut String, day: &Day, lane: &Lane, top: usize) {
     let middle = top + BAND.0 + BAND.1 / 2;
-    for wait in lane.withdrawn() {
-        let _ = writeln!(out, "<use href=\"#gone\" x=\"{}\" y=\"{middle}\"/>", percent(ends(wait, day.records) as f64, day));
+    let gone: Vec<usize> = lane.withdrawn().map(|wait| ends(wait, day.records)).collect();
+    for record in day.steps(&gone) {
+        let _ = writeln!(out, "<use href=\"#gone\" x=\"{}\" y=\"{middle}\"/>", percent(record as f64, day));
     }
     if lane.open().is_some() {
         let _ = writeln!(out, "<use href=\"#open\" x=\"100%\" y=\"{middle}\"/>");
@@ -85,9 +90,11 @@ fn write_axis(out: &mut String, day: &Day) {
     let step = step(day.records);
     for record in (0..day.records).step_by(step) {
         let x = percent(record as f64, day);
+        // At the day's end a number stands left of its tick, so that it is not cut.
+        let side = if record * 20 > day.records * 19 { " end" } else { "" };
         let _ = writeln!(
             out,
-            "<line class=\"tick\" x1=\"{x}\" x2=\"{x}\" y1=\"{}\" y2=\"{AXIS}\"/><text class=\"at\" x=\"{x}\" y=\"14\">{}</text>",
+            "<line class=\"tick\" x1=\"{x}\" x2=\"{x}\" y1=\"{}\" y2=\"{AXIS}\"/><text class=\"at{side}\" x=\"{x}\" y=\"14\">{}</text>",
             AXIS - 7,
             counted(record)
         );
@@ -102,23 +109,52 @@ const UNIT: f64 = 2.5;
 fn write_ring(out: &mut String, day: &Day) {
     let high = |waiting: usize| FOOT as f64 - UNIT * waiting as f64;
     let (mut d, mut last) = (format!("M0 {FOOT}"), 0);
-    for moment in day.history.moments().iter() {
-        if moment.waiting != last {
-            last = moment.waiting;
-            let _ = write!(d, "H{}V{}", moment.number, high(last));
+    for step in day.history.moments().chunks(day.unit) {
+        let most = step.iter().map(|moment| moment.waiting).max().unwrap_or(0);
+        if most != last {
+            last = most;
+            let _ = write!(d, "H{}V{}", step[0].number, high(last));
         }
     }
     let _ = writeln!(out, "<path class=\"ring\" data-foot=\"{FOOT}\" data-unit=\"{UNIT}\" d=\"{d}H{}V{FOOT}z\"/>", day.records);
     path(out, "full", &format!("M0 {}H{}", high(EVENTS), day.records));
 }
 
-/// Dropped events: a piece of no length with round ends is a dot, whatever the width of the day.
-fn write_dots(out: &mut String, lane: &Lane, top: usize) {
+/// Dropped events: a piece of no length with round ends is a dot, whatever the width of the day. Of a deassert it is a ring, with the ground in its middle.
+fn write_dots(out: &mut String, day: &Day, lane: &Lane, top: usize) {
     let middle = top + BAND.0 + BAND.1 / 2;
-    let dots: String = lane.dropped.iter().map(|record| format!("M{record}.5 {middle}h0")).collect();
-    path(out, "halo", &dots);
-    if !dots.is_empty() {
-        let _ = writeln!(out, "<path class=\"drop\" data-input=\"{}\" d=\"{dots}\"/>", lane.input);
+    let dots = |records: &[usize]| day.steps(records).iter().map(|record| format!("M{record}.5 {middle}h0")).collect::<String>();
+    let (asserts, deasserts) = (dots(&lane.unannounced), dots(&lane.left_on));
+    path(out, "halo", &format!("{asserts}{deasserts}"));
+    for (class, dots) in [("drop", &asserts), ("left", &deasserts)] {
+        if !dots.is_empty() {
+            let _ = writeln!(out, "<path class=\"{class}\" data-input=\"{}\" d=\"{dots}\"/>", lane.input);
+        }
+    }
+    path(out, "core", &deasserts);
+}
+
+/// A hole is a heavy line, with what is lost above it; what comes behind the first one is washed out, as far as there is something.
+fn write_holes(out: &mut String, day: &Day, height: usize) {
+    if let Some(from) = day.wrong_from() {
+        let (x, middle) = (percent(from as f64, day), (AXIS + height) / 2);
+        let high = height - AXIS;
+        let _ = writeln!(
+            out,
+            "<rect class=\"wash\" x=\"{x}\" y=\"{AXIS}\" width=\"{}\" height=\"{high}\"/>",
+            percent((day.records - from) as f64, day)
+        );
+        let _ = writeln!(out, "<line class=\"behind\" x1=\"{x}\" x2=\"100%\" y1=\"{middle}\" y2=\"{middle}\" stroke-width=\"{high}\"/>");
+    }
+    for hole in &day.holes {
+        let (x, late) = (percent(hole.at as f64, day), hole.at * 2 > day.records);
+        let (side, lost) = (if late { " end" } else { "" }, counted(hole.lost()));
+        let _ = writeln!(
+            out,
+            "<line class=\"hole\" data-at=\"{}\" x1=\"{x}\" x2=\"{x}\" y1=\"{AXIS}\" y2=\"{height}\"/><text class=\"hole{side}\" x=\"{x}\" y=\"{}\">hole: {lost} missing</text>",
+            hole.at,
+            AXIS + 12
+        );
     }
 }
 
@@ -128,9 +164,10 @@ pub fn picture(asked: &Asked, day: &Day) -> String {
     let height = top(day.lanes.len());
     let _ = writeln!(
         out,
-        "<svg id=\"picture\" width=\"100%\" height=\"{height}\" data-records=\"{}\" data-top=\"{}\" data-lane=\"{LANE}\" role=\"img\" \
+        "<svg id=\"picture\" width=\"100%\" height=\"{height}\" data-records=\"{}\" data-unit=\"{}\" data-top=\"{}\" data-lane=\"{LANE}\" role=\"img\" \
          aria-label=\"The day, a lane for each input, records from left to right\">",
         day.records,
+        day.unit,
         top(0)
     );
     let _ = writeln!(out, "<svg width=\"100%\" height=\"{height}\" viewBox=\"0 0 {} {height}\" preserveAspectRatio=\"none\">", day.records);
@@ -142,13 +179,14 @@ pub fn picture(asked: &Asked, day: &Day) -> String {
     let rules: String = (0..=day.lanes.len()).map(|at| format!("M0 {}H{}", top(at), day.records)).collect();
     path(&mut out, "rule", &rules);
     for (at, lane) in day.lanes.iter().enumerate() {
-        write_dots(&mut out, lane, top(at));
+        write_dots(&mut out, day, lane, top(at));
     }
     out.push_str("</svg>\n");
     write_axis(&mut out, day);
     for (at, lane) in day.lanes.iter().enumerate() {
         write_marks(&mut out, day, lane, top(at));
     }
+    write_holes(&mut out, day, height);
     let _ = writeln!(out, "<line id=\"hair\" x1=\"0\" x2=\"0\" y1=\"{AXIS}\" y2=\"{height}\"/>\n</svg>");
     out
 }

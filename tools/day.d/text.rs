@@ -1,13 +1,20 @@
 //! What was asked for, and words and numbers as the page has them.
 
-use pch_pic::history::Wait;
 use std::collections::BTreeMap;
 
-/// What was asked for: the file's name, names of inputs, and how long a wait may be.
-pub struct Asked<'a> {
-    pub title: &'a str,
-    pub names: &'a BTreeMap<usize, String>,
+/// What was asked for: the day's title and date as given, names of inputs, and how long a wait may be.
+pub struct Asked {
+    pub title: String,
+    pub file: String,
+    pub date: Option<String>,
+    pub version: String,
+    pub names: BTreeMap<usize, String>,
+    /// In records.
     pub limit: Option<usize>,
+    /// In milliseconds.
+    pub limit_ms: Option<u64>,
+    /// How many records a step of the picture has at least.
+    pub coarse: usize,
 }
 
 /// Text as it may stand in a page.
@@ -33,7 +40,12 @@ pub fn plural(number: usize, one: &str, many: &str) -> String {
     format!("{} {}", counted(number), if number == 1 { one } else { many })
 }
 
-impl Asked<'_> {
+/// Microseconds as milliseconds, with three places.
+pub fn milliseconds(micros: u64) -> String {
+    format!("{}.{:03} ms", counted((micros / 1000) as usize), micros % 1000)
+}
+
+impl Asked {
     /// An input as it is spoken of.
     pub fn name(&self, input: usize) -> String {
         match self.names.get(&input) {
@@ -42,9 +54,12 @@ impl Asked<'_> {
         }
     }
 
-    /// Whether a wait is over the limit, if there is one.
-    pub fn too_long(&self, wait: &Wait) -> bool {
-        self.limit.is_some_and(|limit| wait.length().is_some_and(|length| length > limit))
+    /// The limits in words, if there is one.
+    pub fn limits(&self) -> Option<String> {
+        let records = self.limit.map(|limit| plural(limit, "record", "records"));
+        let time = self.limit_ms.map(|limit| format!("{} ms", counted(limit as usize)));
+        let limits: Vec<String> = records.into_iter().chain(time).collect();
+        if limits.is_empty() { None } else { Some(limits.join(" or ")) }
     }
 }
 

@@ -6,6 +6,9 @@
   const lanes = all("g.lane"), top = Number(picture.dataset.top), height = Number(picture.dataset.lane);
   const near = (one, other) => Math.abs(one - other) <= 1.5;
 
+  // Whether all that can be folded is seen; try-day asks for it of a page that is drawn as on paper. Before a key opens a fold.
+  say("folds", all("details").every((fold) => Array.from(fold.children).slice(1).every((child) => child.checkVisibility())));
+
   // The runs of a path: where each begins, and how long it is.
   function runs(lane, name) {
     const path = lane.querySelector("path." + name);
@@ -16,10 +19,15 @@
 
   // The sheet as it is read, and what is drawn, as numbers.awk tells them from the text.
   for (const row of all("#sheet tbody tr, #sheet tfoot tr")) say("sheet", ...all("th, td", row).map((cell) => cell.innerText.trim()));
+  const dots = (name, input) => all("path." + name + '[data-input="' + input + '"]').reduce((sum, path) => sum + path.getAttribute("d").split("M").length - 1, 0);
   for (const lane of lanes) {
-    const input = lane.dataset.input, dots = document.querySelector('path.drop[data-input="' + input + '"]');
-    say("drawn", input, longest(lane)[1], runs(lane, "gone").length, runs(lane, "open").length, dots ? dots.getAttribute("d").split("M").length - 1 : 0);
+    const input = lane.dataset.input;
+    say("drawn", input, longest(lane)[1], runs(lane, "gone").length, runs(lane, "open").length, dots("drop", input) + dots("left", input));
   }
+  // The two kinds of drops, in tile and picture: an assert is a filled dot, a deassert one with the ground in its middle.
+  const tile = (name) => Number(all(".tiles div").find((tile) => tile.querySelector("dt").innerText === name).querySelector("dd").innerText.replace(/[*,]/g, ""));
+  const sum = (name) => lanes.reduce((count, lane) => count + dots(name, lane.dataset.input), 0);
+  say("tiles", tile("asserts dropped") === sum("drop") && tile("deasserts dropped") === sum("left") && all("#picture path.core").length === all("path.left[data-input]").length);
 
   // What is drawn stands where it should, in pixels: a path's box on the screen is from its first record to its last.
   const box = picture.getBoundingClientRect(), x = (record) => box.left + (box.width * record) / records;
@@ -57,7 +65,7 @@
     picture.dispatchEvent(new PointerEvent("pointermove", { clientX: x(record + 0.5), clientY: box.top + top - 10, bubbles: true }));
     return Number(tip.innerText.match(/(\d+) events? waits? in the ring/)[1]);
   }
-  const lost = all("path.drop[data-input]").flatMap((path) => Array.from(path.getAttribute("d").matchAll(/M(\d+)\.5/g), (m) => Number(m[1])));
+  const lost = all("path.drop[data-input], path.left[data-input]").flatMap((path) => Array.from(path.getAttribute("d").matchAll(/M(\d+)\.5/g), (m) => Number(m[1])));
   say("ring", ringed(0) === 0 && lost.every((record) => ringed(record) === 16));
   const press = (key) => picture.parentNode.dispatchEvent(new KeyboardEvent("keydown", { key: key, bubbles: true }));
   for (const [index, lane] of lanes.entries()) {
@@ -73,7 +81,7 @@
     say("keys", tip.innerText.startsWith(records > 1 ? "Record 1 " : "Record 0 "));
     press("Escape");
     say("escape", tip.hidden);
-    const at = { clientX: x(0.5), clientY: box.top + top + 3, bubbles: true };
+    const at = { clientX: Math.ceil(x(0.5)), clientY: box.top + top + 3, bubbles: true };
     picture.dispatchEvent(new MouseEvent("click", at));
     picture.dispatchEvent(new PointerEvent("pointerleave"));
     const stays = !tip.hidden;
@@ -85,10 +93,71 @@
     all(".zoom button")[0].click();
     say("back", near(picture.getBoundingClientRect().width, width));
   }
-  // A finding leads to its record.
-  const links = all(".findings a"), led = links.map((link) => { link.click(); return !tip.hidden && tip.innerText.startsWith("Record " + link.dataset.record + " "); });
-  say("links", links.length, led.every(Boolean));
+  // A finding leads to its record, and so do the keys n and p, one after another and round, into folds too.
+  const links = all(".findings a"), leads = (link) => !tip.hidden && tip.innerText.startsWith("Record " + link.dataset.record + " ");
+  say("links", links.length, links.every((link) => (link.click(), leads(link))));
+  const key = (name) => document.dispatchEvent(new KeyboardEvent("keydown", { key: name, bubbles: true }));
+  const shown = (link) => link.getClientRects().length > 0;
+  if (links.length > 0) {
+    links[links.length - 1].click();
+    for (const fold of all(".findings details")) fold.open = false;
+    say("next", links.every((link) => (key("n"), leads(link) && shown(link) && link.classList.contains("now"))));
+    say("previous", links.slice(0, -1).reverse().every((link) => (key("p"), leads(link))));
+  }
+  // Every wait over the limit is listed: as many rows as are drawn with a heavy edge.
+  const heavy = lanes.reduce((count, lane) => count + runs(lane, "over").length + runs(lane, "edge").length, 0);
+  say("listed", all(".over tbody tr").length === heavy);
+
+  // A hole is drawn where it is, what comes behind it is washed out, and the tip says so there alone.
+  const holes = all("line.hole"), from = picture.parentNode.dataset.wrong;
+  say("holes", holes.every((hole) => { const seen = hole.getBoundingClientRect(); return near((seen.left + seen.right) / 2, x(Number(hole.dataset.at))); }));
   press("Escape");
+  scrollTo(0, 0);
+  if (from !== "") {
+    const wash = document.querySelector(".wash").getBoundingClientRect(), behind = "not the day's";
+    say("washed", near(wash.left, x(Number(from))) && near(wash.right, box.right));
+    point(Number(from) - 1, 0);
+    const before = tip.innerText.includes(behind);
+    point(Number(from), 0);
+    say("behind", !before && tip.innerText.includes(behind));
+    say("warned", document.querySelector(".warning").innerText.includes("From record " + from + " on this is not the day") && all(".tiles dd:not(.more)").every((dd) => dd.innerText.endsWith("*")));
+    // Each finding that rests on a record behind the hole says so; the holes themselves come first.
+    const items = all(".findings li").slice(holes.length), last = (item) => Math.max(...Array.from(item.querySelector("a").innerText.matchAll(/record[s]? ([\d, ]+)/g), (m) => Number(m[1].split(",").pop())));
+    say("marked", items.every((item) => item.innerText.includes(behind) || last(item) < Number(from)));
+  } else {
+    say("unmarked", all(".wash, .behind").length === 0 && all(".findings strong").length === 0);
+  }
+  // By the clock: each listed wait tells its milliseconds as the tip does.
+  say("clock", all(".over tbody tr").every((row) => {
+    const cells = all("td", row).map((cell) => cell.innerText), time = cells.find((text) => text.endsWith(" ms"));
+    if (!time || cells[1] === "-") return true;
+    row.querySelector("a").click();
+    return tip.innerText.includes(", " + time.replace(/,/g, "") + ",");
+  }));
+
+  // No name is cut, and no text is hard to read.
+  const cut = (name) => name.scrollWidth > name.clientWidth + 1 || name.scrollHeight > name.clientHeight + 1;
+  say("names", !all(".names span").some(cut) && !all(".names .name").some((name) => name.scrollWidth > name.clientWidth + 1 || name.scrollHeight > name.clientHeight + 1));
+  const channel = (value) => (value <= 0.04045 ? value / 12.92 : ((value + 0.055) / 1.055) ** 2.4);
+  const light = (colour) => { const [r, g, b] = colour.match(/[\d.]+/g).slice(0, 3).map((part) => channel(part / 255)); return 0.2126 * r + 0.7152 * g + 0.0722 * b; };
+  const clear = (colour) => colour === "rgba(0, 0, 0, 0)" || colour === "transparent";
+  function ground(element) {
+    for (let at = element; at; at = at.parentElement) if (!clear(getComputedStyle(at).backgroundColor)) return getComputedStyle(at).backgroundColor;
+    return getComputedStyle(document.documentElement).backgroundColor;
+  }
+  function contrast(element) {
+    const style = getComputedStyle(element), one = light(element.closest("svg") ? style.fill : style.color), other = light(ground(element));
+    return (Math.max(one, other) + 0.05) / (Math.min(one, other) + 0.05);
+  }
+  press("Escape");
+  const texts = all("body *").filter((element) => !element.closest("script, style") && element.getClientRects().length > 0 && Array.from(element.childNodes).some((node) => node.nodeType === 3 && node.data.trim() !== ""));
+  const pale = texts.filter((element) => contrast(element) < 4.5);
+  say("contrast", pale.length === 0 && texts.length > 50);
+  if (pale.length > 0) say("pale", pale.slice(0, 4).map((element) => element.tagName + "." + element.className + " " + contrast(element).toFixed(2)).join("; "));
+  // No type is smaller on paper than 7 points; try-day asks for it of a page that is drawn as on paper.
+  const size = (element) => parseFloat(getComputedStyle(element).fontSize) * (element.currentCSSZoom || 1);
+  const smallest = Math.min(...texts.map(size));
+  say("points", smallest >= 28 / 3 - 0.01);
   say("loaded", performance.getEntriesByType("resource").length);
   const out = document.createElement("pre");
   out.id = "tried";

@@ -1,5 +1,6 @@
 //! A record in words: what was asked, what it gave, and the events that it made.
 
+use crate::text::milliseconds;
 use pch_pic::history::{Fate, Made, Moment};
 use pch_pic::{Record, reg};
 
@@ -81,9 +82,10 @@ fn made(events: &[Made]) -> String {
     format!("{what} of {} {}", inputs.join(" "), fate(first))
 }
 
-/// One line: the number, what was asked, what it gave, and what it made.
-pub fn line(moment: &Moment) -> String {
+/// One line: the number, when it was, where that is known, what was asked, what it gave, and what it made.
+pub fn line(moment: &Moment, time: Option<u64>) -> String {
     let alike = |one: &Made, next: &Made| one.event.asserted == next.event.asserted && one.fate == next.fate;
     let parts: Vec<String> = gave(moment).into_iter().chain(moment.made.chunk_by(alike).map(made)).collect();
-    format!("{:>4}  {:44}  {}", moment.number, asked(moment.record), parts.join(", ")).trim_end().to_string()
+    let time = time.map_or(String::new(), |time| format!("{:>14}  ", milliseconds(time)));
+    format!("{:>4}  {time}{:44}  {}", moment.number, asked(moment.record), parts.join(", ")).trim_end().to_string()
 }

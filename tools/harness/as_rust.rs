@@ -116,6 +116,24 @@ pub unsafe fn pch_pic_play(
     }
 }
 
+pub unsafe fn pch_pic_play_on(
+    trace: *const u8,
+    trace_len: usize,
+    image: *mut u8,
+    image_len: usize,
+    answers: *mut u8,
+    answers_len: usize,
+    events: *mut u8,
+    events_len: usize,
+    answer: *mut u8,
+    answer_len: usize,
+) -> u8 {
+    unsafe {
+        let (image, answers, events) = (area(image, image_len), area(answers, answers_len), area(events, events_len));
+        text::calls::pch_pic_play_on(area(trace.cast_mut(), trace_len), image, answers, events, area(answer, answer_len))
+    }
+}
+
 pub unsafe fn pch_pic_salvage(
     trace: *const u8,
     trace_len: usize,

@@ -53,8 +53,8 @@ pub struct Met {
 /// What the plays of a run met; all but the first of those that were done.
 #[derive(Default)]
 pub struct MetInTraces {
-    /// Plays by the number that 02 expects.
-    pub plays: [u64; 14],
+    /// Plays by the number that is expected: from a reset, and on from an image.
+    pub plays: [[u64; 14]; 2],
     /// By the image's form.
     pub forms: [u64; 3],
     /// Records, refused ones among them, the most in one trace, and those that were held against calls made one by one.
@@ -62,6 +62,8 @@ pub struct MetInTraces {
     pub refused: u64,
     pub longest: u64,
     pub one_by_one: u64,
+    /// Records of traces that were played one after another as one day.
+    pub in_turn: u64,
     /// Events returned, drained, dropped; and traces whose numbers went round.
     pub returned: u64,
     pub drained: u64,
@@ -111,7 +113,7 @@ impl MetByFronts {
     pub fn meet(&mut self, front: &Front, number: u8) {
         let met = match front {
             Front::Plain(_) => &mut self.plain,
-            Front::Convert | Front::Difference { .. } | Front::Play | Front::Waiting => &mut self.others,
+            Front::Convert | Front::Difference { .. } | Front::Play(_) | Front::Waiting => &mut self.others,
             Front::Board(_) => &mut self.boards,
             Front::Event { .. } => &mut self.heard,
             Front::Hoist(_) => &mut self.hoists,

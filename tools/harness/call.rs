@@ -12,6 +12,14 @@ pub enum Call {
     Convert { target: usize },
 }
 
+/// What the first record of a trace is played on: the image after its reset, or the image as it is.
+#[allow(dead_code)]
+#[derive(Clone, Copy, Debug, PartialEq, Eq)]
+pub enum From {
+    Reset,
+    Image,
+}
+
 /// As the files of recorded answers have the six calls: a kind, 1 to 6, and the call's numbers.
 #[allow(dead_code)]
 impl Call {

@@ -1,6 +1,6 @@
 //! A call of a front as data, with the bytes of all that it is lent.
 
-use crate::call::Call;
+use crate::call::{Call, From};
 use crate::lent::Block;
 
 /// The fronts' calls with their numbers, and the plain calls beside them. What a difference hands back is put into an area, as if it had been lent one.
@@ -9,7 +9,7 @@ pub enum Front {
     Plain(Call),
     Convert,
     Difference { later: u16, earlier: u16 },
-    Play,
+    Play(From),
     Board(Call),
     Event { vector: u8, flag: u8 },
     Hoist(Call),
@@ -26,7 +26,7 @@ impl Front {
             Front::Plain(_) => &["image", "events", "answer"],
             Front::Convert => &["image", "target", "answer"],
             Front::Difference { .. } => &["difference"],
-            Front::Play => &["trace", "image", "answers", "events", "answer"],
+            Front::Play(_) => &["trace", "image", "answers", "events", "answer"],
             Front::Board(_) => &["image", "events", "answer", "board"],
             Front::Event { .. } => &["board", "answer"],
             Front::Hoist(_) | Front::EndStartup => &["image", "phase", "answer"],

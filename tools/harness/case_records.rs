@@ -3,7 +3,7 @@
 //! Every number has its little end first. A file begins with the letters PCHPICC1, the number of cases in 4 bytes, and 4 zero bytes. Then come the cases:
 //!
 //!   0       the front: 1 a plain call, 2 convert, 3 difference, 4 play, 5 salvage, 6 a call with a board, 7 an event that a board hears, 8 a call of the
-//!           hoist profile, 9 its end of start-up, 10 sheet, 11 waiting
+//!           hoist profile, 9 its end of start-up, 10 sheet, 11 waiting, 12 play on from an image
 //!   1       of 1, 6 and 8 the call: 1 reset, 2 read, 3 write, 4 level, 5 poll, 6 drain; 0 of all others
 //!   2       the number handed back
 //!   3       1 where an empty area is lent as a null pointer, else 0
@@ -20,7 +20,7 @@
 //!   6..8    how many runs there are
 //!   8..     the runs: how many bytes from the end of the last run, or from the start, are as they were (2 bytes), how many are others (2 bytes), and these
 
-use crate::call::Call;
+use crate::call::{Call, From};
 use crate::case::{Case, Front, Made};
 use crate::lent::Block;
 use std::collections::HashMap;
@@ -43,7 +43,7 @@ fn coded(front: &Front) -> (u8, u8, Vec<u64>) {
         Front::Plain(call) => of(1, call),
         Front::Convert => (2, 0, vec![]),
         &Front::Difference { later, earlier } => (3, 0, vec![later.into(), earlier.into()]),
-        Front::Play => (4, 0, vec![]),
+        Front::Play(From::Reset) => (4, 0, vec![]),
         Front::Salvage => (5, 0, vec![]),
         Front::Board(call) => of(6, call),
         &Front::Event { vector, flag } => (7, 0, vec![vector.into(), flag.into()]),
@@ -51,6 +51,7 @@ fn coded(front: &Front) -> (u8, u8, Vec<u64>) {
         Front::EndStartup => (9, 0, vec![]),
         Front::Sheet => (10, 0, vec![]),
         Front::Waiting => (11, 0, vec![]),
+        Front::Play(From::Image) => (12, 0, vec![]),
     }
 }
 
@@ -65,7 +66,7 @@ fn decoded(front: u8, call: u8, bytes: &mut Bytes) -> Option<Front> {
         (1, _) => Front::Plain(Call::decoded(call, &numbers)?),
         (2, 0) => Front::Convert,
         (3, 0) => Front::Difference { later: numbers[0].try_into().ok()?, earlier: numbers[1].try_into().ok()? },
-        (4, 0) => Front::Play,
+        (4, 0) => Front::Play(From::Reset),
         (5, 0) => Front::Salvage,
         (6, _) => Front::Board(Call::decoded(call, &numbers)?),
         (7, 0) => Front::Event { vector: numbers[0].try_into().ok()?, flag: numbers[1].try_into().ok()? },
@@ -73,6 +74,7 @@ fn decoded(front: u8, call: u8, bytes: &mut Bytes) -> Option<Front> {
         (9, 0) => Front::EndStartup,
         (10, 0) => Front::Sheet,
         (11, 0) => Front::Waiting,
+        (12, 0) => Front::Play(From::Image),
         _ => return None,
     })
 }

@@ -4,7 +4,7 @@ use crate::bench::Bench;
 use crate::board::LINES;
 use crate::boards;
 use crate::boundary::Boundary;
-use crate::call::Call;
+use crate::call::{Call, From};
 use crate::case::{Case, Front};
 use crate::cases::Cases;
 use crate::chance::Chance;
@@ -32,7 +32,7 @@ pub struct File {
     pub numbers: &'static [(&'static str, &'static [u8])],
 }
 
-pub const FILES: [File; 8] = [
+pub const FILES: [File; 9] = [
     File { name: "plays", choose: plays, numbers: &[("front-play", &[0, 4, 7, 12, 13])] },
     File { name: "conversions", choose: conversions, numbers: &[("front-convert", &[0, 4, 5, 7, 8, 9, 10, 11])] },
     File { name: "differences", choose: differences, numbers: &[("front-difference", &[0])] },
@@ -62,6 +62,7 @@ pub const FILES: [File; 8] = [
     },
     File { name: "sheets", choose: sheets, numbers: &[("sheet", &[0, 7, 12, 13])] },
     File { name: "waits", choose: waits, numbers: &[("waiting", &[0, 4, 5, 7, 8, 9, 10, 11])] },
+    File { name: "plays-on", choose: plays_on, numbers: &[("front-play-on", &[0, 4, 5, 7, 8, 9, 10, 11, 12, 13])] },
 ];
 
 impl Choice {
@@ -76,17 +77,18 @@ fn plays(choice: &mut Choice) {
     let play = |choice: &mut Choice, play: &days::Play| {
         let lent = [(0xcc, play.image.len()), (0xee, play.answers), (0xdd, play.events), (0xee, play.answer)];
         let areas = [play.trace.clone()].into_iter().chain(lent.map(|(byte, length)| vec![byte; length])).collect();
-        choice.make(Front::Play, areas, false);
+        choice.make(Front::Play(From::Reset), areas, false);
     };
     for form in FORMS {
         for history in fixed::histories(form) {
             let records: Vec<Record> = history.steps.iter().filter_map(|(call, _)| trace::record(call)).collect();
             let (count, blocks) = (records.len(), days::cut(&mut choice.chance, records.len()));
-            play(choice, &Day { records, blocks, image: vec![0; form.length] }.play(count, 8, 0));
+            play(choice, &Day { from: From::Reset, records, blocks, image: vec![0; form.length] }.play(count, 8, 0));
         }
         for length in (1..=40).step_by(2).chain([130]) {
             let records = random_records(&mut choice.chance, length);
-            let good = Day { records, blocks: days::cut(&mut choice.chance, length), image: vec![0; form.length] }.play(length, 8, 0);
+            let good = Day { from: From::Reset, records, blocks: days::cut(&mut choice.chance, length), image: vec![0; form.length] }
+                .play(length, 8, 0);
             play(choice, &good);
             let damaged = days::damaged(&mut choice.chance, good);
             play(choice, &damaged);
@@ -94,25 +96,45 @@ fn plays(choice: &mut Choice) {
     }
     let records = random_records(&mut choice.chance, 4000);
     let blocks = days::cut(&mut choice.chance, 4000);
-    play(choice, &Day { records, blocks, image: vec![0; NUMBERED.length] }.play(4000, 0, 0));
+    play(choice, &Day { from: From::Reset, records, blocks, image: vec![0; NUMBERED.length] }.play(4000, 0, 0));
 }
 
-/// An accepted image in which some events wait, and more have room.
-pub fn with_events(chance: &mut Chance, form: Form) -> Vec<u8> {
-    loop {
-        let image = generate::accepted(chance, form);
-        if (2..16).contains(&image[form.count]) {
-            return image;
+/// Traces played on from accepted images of all forms, each damaged too; such images with each rule broken, under a trace that is wrong and no room; and days of three traces, each
+/// played on what the one before left.
+fn plays_on(choice: &mut Choice) {
+    let play = |choice: &mut Choice, play: &days::Play| {
+        let lent = [(0xee, play.answers), (0xdd, play.events), (0xee, play.answer)];
+        let areas = [play.trace.clone(), play.image.clone()].into_iter().chain(lent.map(|(byte, length)| vec![byte; length])).collect();
+        choice.make(Front::Play(From::Image), areas, false);
+    };
+    let day = |choice: &mut Choice, length: usize, image: Vec<u8>| {
+        let records = random_records(&mut choice.chance, length);
+        Day { from: From::Image, records, blocks: days::cut(&mut choice.chance, length), image }
+    };
+    for form in FORMS {
+        for length in (1..=29).step_by(4).chain([130]) {
+            let image = generate::with_events(&mut choice.chance, form);
+            let good = day(choice, length, image).play(length, 8, 0);
+            play(choice, &good);
+            let damaged = days::damaged(&mut choice.chance, good);
+            play(choice, &damaged);
+        }
+        let image = generate::with_events(&mut choice.chance, form);
+        for (place, byte) in generate::breaches(&image, form) {
+            let mut broken = image.clone();
+            broken[place] = byte;
+            let mut refused = day(choice, 3, broken).play(3, 0, 0);
+            play(choice, &refused);
+            (refused.trace[0], refused.answers) = (0, 0);
+            play(choice, &refused);
+        }
+        let mut left = image;
+        for length in [7, 40, 1] {
+            let part = day(choice, length, left).play(length, 8, 0);
+            play(choice, &part);
+            left = choice.cases.left(1).to_vec();
         }
     }
-}
-
-/// Places and bytes that break each rule of the form in such an image: 5, 9, 10, 11, and, where it has them, of the copy of IRR 8 and of the numbers 11.
-pub fn breaches(image: &[u8], form: Form) -> Vec<(usize, u8)> {
-    let mut breaches = vec![(0, 9), (form.count, 17), (form.pairs + 3, 2), (form.pairs + 31, 1)];
-    breaches.extend(form.copy.map(|copy| (copy, image[copy] ^ 1)));
-    breaches.extend(form.numbers.map(|numbers| (numbers + 33, 1)));
-    breaches
 }
 
 /// The image with each of them.
@@ -122,7 +144,7 @@ fn broken(image: &[u8], form: Form) -> Vec<Vec<u8>> {
         image[place] = byte;
         image
     };
-    breaches(image, form).into_iter().map(with).collect()
+    generate::breaches(image, form).into_iter().map(with).collect()
 }
 
 /// From each form to each, empty and full rings among them; every refusal; areas of other lengths; faults several at a time.
@@ -142,7 +164,7 @@ fn conversions(choice: &mut Choice) {
                 assert_eq!(convert(choice, image, target.length, 16, false), 0);
             }
         }
-        let image = with_events(&mut choice.chance, form);
+        let image = generate::with_events(&mut choice.chance, form);
         for (k, image) in broken(&image, form).iter().enumerate() {
             assert_ne!(convert(choice, image, FORMS[k % 3].length, 16, false), 0);
         }
@@ -234,7 +256,7 @@ fn salvages(choice: &mut Choice) {
         let trace = trace::bytes(&torn, &blocks);
         both.try_bytes(bench, &trace, 3);
         both.short(bench, chance, &trace);
-        let damaged = days::damaged(chance, Day { records: torn, blocks, image: vec![0; 290] }.play(length, 0, 0));
+        let damaged = days::damaged(chance, Day { from: From::Reset, records: torn, blocks, image: vec![0; 290] }.play(length, 0, 0));
         both.try_bytes(bench, &damaged.trace, 0);
     }
     choice.cases = both.cases;
@@ -302,7 +324,7 @@ fn boards(choice: &mut Choice) {
     };
     let mut met = [false; 3];
     for form in FORMS {
-        let mut image = with_events(&mut choice.chance, form);
+        let mut image = generate::with_events(&mut choice.chance, form);
         image[form.vectors + 9] = 0x77;
         for call in calls {
             for (isr, same) in [(0, false), (1 << 9, false), (u64::MAX, false), (u64::MAX, true)] {
@@ -321,7 +343,7 @@ fn boards(choice: &mut Choice) {
         }
     }
     assert_eq!(met, [true; 3], "0, 1 and 64 inputs in service are counted");
-    let image = with_events(&mut choice.chance, NUMBERED);
+    let image = generate::with_events(&mut choice.chance, NUMBERED);
     for call in calls {
         for (answer, board) in [(16, 0), (16, 1), (16, 255), (16, 257), (16, 300), (0, 256), (15, 256), (17, 256), (40, 258), (15, 255)] {
             make(choice, call, &image, [answer, board], answer == 0 || board == 0);
@@ -366,7 +388,7 @@ fn hoists(choice: &mut Choice) {
     };
     let calls = [Front::Hoist(read(0x3a0, 4)), Front::Hoist(Call::Reset), Front::Hoist(write(0x20, 4, 6)), Front::EndStartup];
     for form in FORMS {
-        let mut image = with_events(&mut choice.chance, form);
+        let mut image = generate::with_events(&mut choice.chance, form);
         for front in calls {
             for (phase, isr) in ANY.into_iter().flat_map(|phase| [0, 1, 1 << 63].map(|isr| (phase, isr))) {
                 set_isr(&mut image, isr);
@@ -377,7 +399,7 @@ fn hoists(choice: &mut Choice) {
             }
         }
     }
-    let mut image = with_events(&mut choice.chance, NUMBERED);
+    let mut image = generate::with_events(&mut choice.chance, NUMBERED);
     set_isr(&mut image, 0x8421_0000_0000_1248);
     let value = choice.chance.number();
     for (offset, phase) in REGISTERS.into_iter().flat_map(|low| [low, low + 4]).flat_map(|offset| [0, 1].map(|phase| (offset, phase))) {
@@ -460,7 +482,7 @@ fn sheets(choice: &mut Choice) {
     }
     for length in [1, 2, 8, 20, 40, 60, 90, 120, 200] {
         for records in [sheets::waiting(&mut choice.chance, length), random_records(&mut choice.chance, length)] {
-            let day = Day { records, blocks: days::cut(&mut choice.chance, length), image: vec![] };
+            let day = Day { from: From::Reset, records, blocks: days::cut(&mut choice.chance, length), image: vec![] };
             let play = day.play(length, 0, 0);
             make(choice, play.trace.clone(), LENGTH + length % 3, 16);
             let damaged = days::damaged(&mut choice.chance, play);
@@ -500,7 +522,7 @@ fn waits(choice: &mut Choice) {
             let image = generate::accepted(&mut choice.chance, form);
             assert_eq!(look(choice, &image, 16 + k, false), 0);
         }
-        let image = with_events(&mut choice.chance, form);
+        let image = generate::with_events(&mut choice.chance, form);
         for image in broken(&image, form) {
             assert_ne!(look(choice, &image, 16, false), 0);
             assert_eq!(look(choice, &image, 15, false), 7);

@@ -1,14 +1,16 @@
 //! Days of calls and plays of them as data: by hand, at random, and damaged.
 
+use crate::call::From;
 use crate::chance::Chance;
 use crate::generate;
 use crate::image::FORMS;
 use crate::lent::{Block, Five};
 use crate::trace::{self, BASE, DRAIN, LOWER, POLL, RAISE, READ, ROOM, Record, SIZE, WRITE};
 
-/// A play: the trace, the image's bytes before it, how long the other areas are, whether empty ones are null, and what they hold before.
+/// A play, from a reset or on: the trace, the image's bytes before it, how long the other areas are, whether empty ones are null, and what they hold before.
 #[derive(Clone)]
 pub struct Play {
+    pub from: From,
     pub trace: Vec<u8>,
     pub image: Vec<u8>,
     pub answers: usize,
@@ -20,7 +22,7 @@ pub struct Play {
 
 impl Play {
     pub fn lent(&self) -> Five {
-        let Play { ref trace, ref image, answers, events, answer, null, fill } = *self;
+        let Play { ref trace, ref image, answers, events, answer, null, fill, .. } = *self;
         Five {
             trace: Block::of(trace, null),
             image: Block::of(image, null),
@@ -31,9 +33,10 @@ impl Play {
     }
 }
 
-/// Records, cut into blocks of so many, to be played on bytes of some length.
+/// Records, cut into blocks of so many, to be played on bytes of some length, or on from an image.
 #[derive(Clone)]
 pub struct Day {
+    pub from: From,
     pub records: Vec<Record>,
     pub blocks: Vec<usize>,
     pub image: Vec<u8>,
@@ -54,6 +57,7 @@ impl Day {
         let first = &self.records[..records];
         let drains = first.iter().filter(|record| record[0] == DRAIN).count();
         Play {
+            from: self.from,
             trace: trace::bytes(first, &blocks),
             image: self.image.clone(),
             answers: 16 * records + more,
@@ -119,7 +123,7 @@ pub fn cut_in(chance: &mut Chance, records: usize, parts: usize) -> Vec<usize> {
     blocks
 }
 
-/// Bytes for an image to be played on: a play resets it, whatever they are.
+/// Bytes for an image that is reset before a trace is played, whatever they are.
 pub fn any_bytes(chance: &mut Chance, length: usize) -> Vec<u8> {
     match (chance.below(4), FORMS.into_iter().find(|form| form.length == length)) {
         (0, Some(form)) => generate::accepted(chance, form),
@@ -162,6 +166,12 @@ pub fn damaged(chance: &mut Chance, mut play: Play) -> Play {
                 play.trace.resize(other as usize, 0);
             }
             // the areas
+            // the image: of one that is played on some byte, in half of them
+            7 if play.from == From::Image && chance.percent(50) => {
+                if let Some(form) = FORMS.into_iter().find(|form| form.length == play.image.len()) {
+                    generate::damage(chance, &mut play.image, form);
+                }
+            }
             7 => {
                 let length = generate::length(chance);
                 play.image = any_bytes(chance, length);

@@ -36,6 +36,7 @@ mod traces;
 mod under_test;
 
 use bench::Bench;
+use call::From;
 use chance::Chance;
 use std::process::ExitCode;
 use std::time::Instant;
@@ -158,8 +159,13 @@ type Random = fn(&mut Bench, &mut Chance, u64);
 
 /// One call alone, as a failure printed it.
 fn one(words: &[String]) -> Result<ExitCode, String> {
-    if words.first().is_some_and(|word| word == "play") {
-        let play = text::parse_play(&words[1..])?;
+    let from = words.first().and_then(|word| match word.as_str() {
+        "play" => Some(From::Reset),
+        "play-on" => Some(From::Image),
+        _ => None,
+    });
+    if let Some(from) = from {
+        let play = text::parse_play(from, &words[1..])?;
         let (mut bench, mut stage) = (Bench::new(0, u64::MAX), plays::Stage::new());
         stage.play(&mut bench, &play);
         stage.show();
@@ -214,16 +220,19 @@ fn tell(bench: &Bench) {
         met.most_waiting
     );
     let met = &met.traces;
-    let plays = met.plays.iter().enumerate().filter(|(_, count)| **count > 0).map(|(number, count)| format!("{number}: {count}"));
+    let plays = met.plays.map(|met| {
+        let met = met.iter().enumerate().filter(|(_, count)| **count > 0).map(|(number, count)| format!("{number}: {count}"));
+        met.collect::<Vec<_>>().join(", ")
+    });
     let [one, two, numbered] = met.forms;
     eprintln!(
-        "differential: plays by the number handed back {}; done on form 1 {one}, on form 2 {two}, with numbers {numbered}",
-        plays.collect::<Vec<_>>().join(", ")
+        "differential: plays by the number handed back {}; played on {}; done on form 1 {one}, on form 2 {two}, with numbers {numbered}",
+        plays[0], plays[1]
     );
     eprintln!(
-        "differential: records played {}, of these refused {}, at most in a trace {}, held against calls made one by one {}, events returned {}, \
+        "differential: records played {}, of these refused {}, at most in a trace {}, held against calls made one by one {}, as a day of several traces {}, events returned {}, \
          drained {}, dropped {}, traces whose numbers went round {}",
-        met.records, met.refused, met.longest, met.one_by_one, met.returned, met.drained, met.dropped, met.round
+        met.records, met.refused, met.longest, met.one_by_one, met.in_turn, met.returned, met.drained, met.dropped, met.round
     );
 }
 

@@ -7,7 +7,7 @@ use crate::case::Front;
 use crate::hoist;
 use crate::lent::Block;
 use crate::numbers;
-use crate::played;
+use crate::played::{self, Lent};
 use crate::salvaged;
 use crate::sheet;
 
@@ -24,8 +24,9 @@ pub fn expected(boundary: &mut Boundary, front: &Front, lent: &mut [Block]) -> u
             difference.slice().iter_mut().zip(bytes).for_each(|(place, byte)| *place = byte);
             0
         }
-        (Front::Play, [trace, image, answers, events, answer]) => {
-            played::play(boundary, trace.bytes(), image.slice(), answers.slice(), events.slice(), answer.slice())
+        (&Front::Play(from), [trace, image, answers, events, answer]) => {
+            let lent = Lent { trace: trace.bytes(), image: image.slice(), answers: answers.slice(), events: events.slice() };
+            played::play(boundary, from, lent, answer.slice())
         }
         (Front::Board(call), [image, events, answer, board]) => {
             board::call(boundary, call, image.slice(), board.slice(), events.slice(), answer.slice())

@@ -21,7 +21,9 @@ pub fn make(front: &Front, lent: &mut [Block]) -> u8 {
             difference.slice().iter_mut().zip(bytes).for_each(|(place, byte)| *place = byte);
             0
         }
-        (Front::Play, [trace, image, answers, events, answer]) => lend([trace, image, answers, events, answer], under_test::make_play),
+        (&Front::Play(from), [trace, image, answers, events, answer]) => {
+            lend([trace, image, answers, events, answer], |areas| under_test::make_play(from, areas))
+        }
         (Front::Board(call), [image, events, answer, board]) => lend([image, events, answer, board], |areas| with_board(call, areas)),
         (&Front::Event { vector, flag }, [board, answer]) => {
             lend([board, answer], |[(b, bl), (a, al)]| unsafe { library::pch_pic_board_event(b, bl, vector, flag, a, al) })

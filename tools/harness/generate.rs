@@ -247,6 +247,26 @@ pub fn accepted(chance: &mut Chance, form: Form) -> Image {
     image
 }
 
+/// An accepted image in which some events wait, and more have room.
+#[allow(dead_code)]
+pub fn with_events(chance: &mut Chance, form: Form) -> Vec<u8> {
+    loop {
+        let image = accepted(chance, form);
+        if (2..16).contains(&image[form.count]) {
+            return image;
+        }
+    }
+}
+
+/// Places and bytes that break each rule of the form in such an image: 5, 9, 10, 11, and, where it has them, of the copy of IRR 8 and of the numbers 11.
+#[allow(dead_code)]
+pub fn breaches(image: &[u8], form: Form) -> Vec<(usize, u8)> {
+    let mut breaches = vec![(0, 9), (form.count, 17), (form.pairs + 3, 2), (form.pairs + 31, 1)];
+    breaches.extend(form.copy.map(|copy| (copy, image[copy] ^ 1)));
+    breaches.extend(form.numbers.map(|numbers| (numbers + 33, 1)));
+    breaches
+}
+
 /// Numbers for so many waiting events: mostly such as a history leaves, next numbers near where they go round among them, else any.
 pub fn numbers(chance: &mut Chance, count: usize) -> Numbers {
     let next = match chance.below(5) {

@@ -77,6 +77,18 @@ unsafe extern "C" {
         answer: *mut u8,
         answer_len: usize,
     ) -> u8;
+    pub fn pch_pic_play_on(
+        trace: *const u8,
+        trace_len: usize,
+        image: *mut u8,
+        image_len: usize,
+        answers: *mut u8,
+        answers_len: usize,
+        events: *mut u8,
+        events_len: usize,
+        answer: *mut u8,
+        answer_len: usize,
+    ) -> u8;
     pub fn pch_pic_salvage(
         trace: *const u8,
         trace_len: usize,

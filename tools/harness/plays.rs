@@ -3,12 +3,12 @@
 
 use crate::bench::{Bench, FILL};
 use crate::boundary::Boundary;
-use crate::call::Call;
+use crate::call::{Call, From};
 use crate::caught::caught;
 use crate::days::{Day, Play};
 use crate::image::FORMS;
 use crate::lent::{Areas, Five};
-use crate::played;
+use crate::played::{self, Lent};
 use crate::trace::{self, DRAIN, LOWER, POLL, RAISE, ROOM, WRITE};
 use crate::under_test;
 
@@ -23,7 +23,9 @@ fn one_by_one(day: &Day) -> OneByOne {
     let mut areas = Areas::new();
     (areas.image.len, areas.answer.len, areas.events.len) = (day.image.len(), 16, ROOM);
     areas.image.slice().copy_from_slice(&day.image);
-    assert_eq!(under_test::call(&Call::Reset, &mut areas), 0, "bytes of a form's length can be reset");
+    if day.from == From::Reset {
+        assert_eq!(under_test::call(&Call::Reset, &mut areas), 0, "bytes of a form's length can be reset");
+    }
     let mut left = OneByOne { answers: Vec::new(), events: Vec::new(), after: Vec::new() };
     for record in &day.records {
         areas.answer.fill(FILL);
@@ -55,10 +57,11 @@ impl Stage {
             return None;
         }
         let (mut got, mut want) = (play.lent(), play.lent());
-        let number = caught(|| under_test::play(&mut got));
+        let number = caught(|| under_test::play(play.from, &mut got));
         let Five { trace, image, answers, events, answer } = &mut want;
         let expected = &mut self.expected;
-        let wanted = caught(|| played::play(expected, trace.bytes(), image.slice(), answers.slice(), events.slice(), answer.slice()));
+        let lent = Lent { trace: trace.bytes(), image: image.slice(), answers: answers.slice(), events: events.slice() };
+        let wanted = caught(|| played::play(expected, play.from, lent, answer.slice()));
         let same = number.is_ok() && number == wanted && got == want;
         let what = match (number, &wanted) {
             (_, Err(words)) => {
@@ -75,7 +78,7 @@ impl Stage {
         if same {
             bench.passed += 1;
             let number = wanted.unwrap_or_default();
-            self.meet(bench, number);
+            self.meet(bench, play, number);
             return Some(number);
         }
         tell_failed(bench, play, what.join("; "));
@@ -108,6 +111,45 @@ impl Stage {
         }
     }
 
+    /// Plays a day as several traces of so many records, the first as the day says and each other on from the image that the one before left, and holds all of it against the library's own
+    /// calls made one by one.
+    pub fn in_turn(&mut self, bench: &mut Bench, day: &Day, parts: &[usize], fill: u64) {
+        if bench.over() {
+            return;
+        }
+        let left = match caught(|| one_by_one(day)) {
+            Ok(left) => left,
+            Err(words) => {
+                return tell_failed(
+                    bench,
+                    &day.play(day.records.len(), 0, fill),
+                    format!("made one by one, the library's calls panicked: {words}"),
+                );
+            }
+        };
+        let (mut part, mut done, mut used) = (Day { blocks: Vec::new(), ..day.clone() }, 0, 0);
+        for &records in parts {
+            (part.records, part.blocks) = (day.records[done..done + records].to_vec(), vec![records]);
+            let play = part.play(records, 0, fill);
+            let (Some(number), Some(got)) = (self.play(bench, &play), &self.got) else { return };
+            let (answers, (events, image)) = (&left.answers[16 * done..16 * (done + records)], &left.after[done + records - 1]);
+            let same = number == 0
+                && got.image.bytes() == image
+                && got.answers.bytes() == answers
+                && got.events.bytes()[..events - used] == left.events[used..*events];
+            if !same {
+                bench.passed -= 1;
+                return tell_failed(
+                    bench,
+                    &play,
+                    format!("number {number}; a day of traces: made one by one, the library's own calls leave other bytes"),
+                );
+            }
+            (part.from, part.image, done, used) = (From::Image, image.clone(), done + records, *events);
+            bench.met.traces.in_turn += records as u64;
+        }
+    }
+
     /// The bytes after the last play, on both sides where they differ.
     pub fn show(&self) {
         let (Some(got), Some(want)) = (&self.got, &self.want) else { return };
@@ -128,10 +170,10 @@ impl Stage {
         tell("expected", want);
     }
 
-    fn meet(&self, bench: &mut Bench, number: u8) {
+    fn meet(&self, bench: &mut Bench, play: &Play, number: u8) {
         let Some(want) = &self.want else { return };
         let met = &mut bench.met.traces;
-        met.plays[usize::from(number)] += 1;
+        met.plays[usize::from(play.from == From::Image)][usize::from(number)] += 1;
         if number != 0 {
             return;
         }

@@ -223,10 +223,10 @@ fn read_sweep(recorder: &mut Recorder, chance: &mut Chance, form: Form) {
 
 /// Each rule of the form broken in turn, for a call of each kind.
 fn broken_rules(recorder: &mut Recorder, chance: &mut Chance, form: Form) {
-    let image = chosen::with_events(chance, form);
+    let image = generate::with_events(chance, form);
     recorder.load(&image);
     let (base, size) = (0, 0x400);
-    for (place, byte) in chosen::breaches(&image, form) {
+    for (place, byte) in generate::breaches(&image, form) {
         recorder.set_byte(place, byte);
         recorder.call(Call::Read { base, size, address: 0x3a0, width: 8 }, form.length, 16, 0);
         recorder.call(Call::Write { base, size, address: 0x020, width: 4, value: 0 }, form.length, 16, 0);

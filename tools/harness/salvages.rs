@@ -1,6 +1,7 @@
 //! The traces that are salvaged: small ones with every set of damaged records, every length of the areas, and random ones with records damaged in any block.
 
 use crate::bench::{Bench, FILL};
+use crate::call::From;
 use crate::case::{Case, Front};
 use crate::cases::{Cases, tell_failed};
 use crate::chance::Chance;
@@ -141,7 +142,7 @@ pub fn random(bench: &mut Bench, chance: &mut Chance, records: u64) {
             both.short(bench, chance, &trace);
             if chance.percent(40) {
                 // damage of contents and length, and of records on top
-                let day = Day { records: torn, blocks: blocks.clone(), image: any_bytes(chance, 290) };
+                let day = Day { from: From::Reset, records: torn, blocks: blocks.clone(), image: any_bytes(chance, 290) };
                 let damaged = days::damaged(chance, day.play(length, 0, FILL));
                 both.try_bytes(bench, &damaged.trace, more);
             }
@@ -217,6 +218,7 @@ impl Salvages {
         bench.met.fronts.again += 1;
         let records = (new.len() - 2 - 4 * new_blocks as usize) / 16;
         let play = days::Play {
+            from: From::Reset,
             trace: new,
             image: vec![0x5c; FORMS[records % 3].length],
             answers: 16 * records,

@@ -2,6 +2,7 @@
 
 use crate::bench::{Bench, FILL};
 use crate::boundary::Boundary;
+use crate::call::From;
 use crate::case::{Case, Front};
 use crate::cases::Cases;
 use crate::chance::Chance;
@@ -184,7 +185,7 @@ pub fn random(bench: &mut Bench, chance: &mut Chance, records: u64) {
         .min(records - made) as usize;
         made += length as u64;
         let records = if chance.percent(50) { random_records(chance, length) } else { waiting(chance, length) };
-        let day = Day { records, blocks: cut(chance, length), image: any_bytes(chance, 290) };
+        let day = Day { from: From::Reset, records, blocks: cut(chance, length), image: any_bytes(chance, 290) };
         let play = day.play(length, 0, FILL);
         let length = if chance.percent(95) { LENGTH + chance.below(3) as usize } else { LENGTH - chance.one_of(&[1, 1, 4, 40]) };
         make(bench, &mut cases, play.trace.clone(), length, 16 + chance.below(3) as usize);

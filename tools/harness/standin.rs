@@ -17,7 +17,7 @@ mod told;
 mod trace;
 
 use boundary::Boundary;
-use call::Call;
+use call::{Call, From};
 use std::cell::RefCell;
 
 thread_local! {
@@ -156,7 +156,25 @@ pub unsafe fn pch_pic_play(
 ) -> u8 {
     let (image, answers, events) = unsafe { (area(image, image_len), area(answers, answers_len), area(events, events_len)) };
     let (trace, answer) = unsafe { (area(trace.cast_mut(), trace_len), area(answer, answer_len)) };
-    DEVICE.with_borrow_mut(|device| played::play(device, trace, image, answers, events, answer))
+    DEVICE.with_borrow_mut(|device| played::play(device, From::Reset, played::Lent { trace, image, answers, events }, answer))
+}
+
+#[allow(clippy::too_many_arguments)]
+pub unsafe fn pch_pic_play_on(
+    trace: *const u8,
+    trace_len: usize,
+    image: *mut u8,
+    image_len: usize,
+    answers: *mut u8,
+    answers_len: usize,
+    events: *mut u8,
+    events_len: usize,
+    answer: *mut u8,
+    answer_len: usize,
+) -> u8 {
+    let (image, answers, events) = unsafe { (area(image, image_len), area(answers, answers_len), area(events, events_len)) };
+    let (trace, answer) = unsafe { (area(trace.cast_mut(), trace_len), area(answer, answer_len)) };
+    DEVICE.with_borrow_mut(|device| played::play(device, From::Image, played::Lent { trace, image, answers, events }, answer))
 }
 
 type Lent = (*mut u8, usize);

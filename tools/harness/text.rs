@@ -1,6 +1,6 @@
 //! One call as a line of words: a failure is printed so, and `tools/differential --one` takes it back.
 
-use crate::call::Call;
+use crate::call::{Call, From};
 use crate::case::{Case, Front};
 use crate::days::Play;
 use crate::lent::Areas;
@@ -42,11 +42,15 @@ pub fn line(call: &Call, image: &[u8], lent: &Areas, fill: u64, head: usize) -> 
     )
 }
 
-/// A play in the same way; its trace is in a file.
+/// A play in the same way, `play` from a reset or `play-on`; its trace is in a file.
 pub fn play_line(play: &Play, file: &str) -> String {
     let Play { ref image, answers, events, answer, null, fill, .. } = *play;
     let bytes: String = image.iter().map(|byte| format!("{byte:02x}")).collect();
-    format!("play trace={file} answers={answers:#x} events={events:#x} answer={answer:#x} null={} fill={fill:#x} image={bytes}", null as u8)
+    let name = if play.from == From::Image { "play-on" } else { "play" };
+    format!(
+        "{name} trace={file} answers={answers:#x} events={events:#x} answer={answer:#x} null={} fill={fill:#x} image={bytes}",
+        null as u8
+    )
 }
 
 /// The name of a front's call.
@@ -59,7 +63,8 @@ fn front_words(front: &Front) -> String {
         Front::Plain(call) => format!("plain-{}", words(call)),
         Front::Convert => "front-convert".into(),
         Front::Difference { later, earlier } => format!("front-difference later={later:#x} earlier={earlier:#x}"),
-        Front::Play => "front-play".into(),
+        Front::Play(From::Reset) => "front-play".into(),
+        Front::Play(From::Image) => "front-play-on".into(),
         Front::Board(call) => format!("board-{}", words(call)),
         Front::Event { vector, flag } => format!("board-event vector={vector:#x} flag={flag:#x}"),
         Front::Hoist(call) => format!("hoist-{}", words(call)),
@@ -89,7 +94,7 @@ pub fn front_line(case: &Case, failure: u64) -> String {
 pub fn parse_front(words: &[String]) -> Option<Result<Case, String>> {
     let (name, words) = words.split_first()?;
     let known = match name.as_str() {
-        "salvage" | "sheet" | "waiting" | "hoist-end" | "board-event" | "front-convert" | "front-difference" | "front-play" => {
+        "salvage" | "sheet" | "waiting" | "hoist-end" | "board-event" | "front-convert" | "front-difference" | "front-play" | "front-play-on" => {
             name.as_str()
         }
         name => name.split_once('-').filter(|(front, _)| ["plain", "board", "hoist"].contains(front))?.1,
@@ -131,7 +136,8 @@ fn case_of(name: &str, call: &str, words: &[String]) -> Result<Case, String> {
     let front = match call {
         "front-convert" => Front::Convert,
         "front-difference" => Front::Difference { later: event("later")?, earlier: event("earlier")? },
-        "front-play" => Front::Play,
+        "front-play" => Front::Play(From::Reset),
+        "front-play-on" => Front::Play(From::Image),
         "salvage" => Front::Salvage,
         "sheet" => Front::Sheet,
         "waiting" => Front::Waiting,
@@ -246,15 +252,16 @@ fn call_of(kind: &str, fields: &Fields) -> Result<Call, String> {
         "poll" => Call::Poll { input: need("input")? },
         "drain" => Call::Drain { place: need("place")? },
         "convert" => Call::Convert { target: fields.length("target", need("target")?, 320)? },
-        other => return Err(format!("'{other}' is none of reset, read, write, level, poll, drain, convert, play")),
+        other => return Err(format!("'{other}' is none of reset, read, write, level, poll, drain, convert, play, play-on")),
     })
 }
 
 /// A play back from the words behind its name.
-pub fn parse_play(words: &[String]) -> Result<Play, String> {
+pub fn parse_play(from: From, words: &[String]) -> Result<Play, String> {
     let fields = Fields::of(words, &["trace", "image", "answers", "events", "answer", "null", "fill"])?;
     let file = fields.text("trace")?;
     Ok(Play {
+        from,
         trace: std::fs::read(file).map_err(|error| format!("{file}: {error}"))?,
         image: fields.image()?,
         answers: fields.length("answers", 64_000, 1 << 20)?,

@@ -1,16 +1,18 @@
-//! The traces that are played: those that are tried whole, and random ones, good and damaged.
+//! The traces that are played, from a reset and on from an image: those that are tried whole, and random ones, good and damaged.
 
 use crate::bench::{Bench, FILL};
+use crate::call::From;
 use crate::chance::Chance;
 use crate::days::{self, Day, EACH, Play, any_bytes, cut, cut_in, fields, random_records, some, with_number};
 use crate::fixed;
+use crate::generate;
 use crate::image::{FORMS, NUMBERED};
 use crate::plays::Stage;
 use crate::trace::{self, DRAIN, ROOM, Record, WRITE};
 
 /// What is small enough is tried whole.
 pub fn sweep(bench: &mut Bench, chance: &mut Chance) {
-    let parts: [(&str, Part); 8] = [
+    let parts: [(&str, Part); 11] = [
         ("the papers' histories", papers),
         ("contents", contents),
         ("lengths of the trace", lengths),
@@ -19,6 +21,9 @@ pub fn sweep(bench: &mut Bench, chance: &mut Chance) {
         ("bad records", bad_records),
         ("lengths of the areas and order of the refusals", areas),
         ("long days", long_days),
+        ("played on: the papers' histories", papers_on),
+        ("played on: images that are refused", images),
+        ("played on: order of the refusals", orders_on),
     ];
     let mut counts = Vec::new();
     for (name, part) in parts {
@@ -38,7 +43,7 @@ fn papers(bench: &mut Bench, chance: &mut Chance, stage: &mut Stage) {
             let records: Vec<Record> = history.steps.iter().filter_map(|(call, _)| trace::record(call)).collect();
             let blocks = cut(chance, records.len());
             let all: Vec<usize> = (1..=records.len()).collect();
-            stage.day(bench, &Day { records, blocks, image: any_bytes(chance, form.length) }, &all, 0, FILL);
+            stage.day(bench, &Day { from: From::Reset, records, blocks, image: any_bytes(chance, form.length) }, &all, 0, FILL);
         }
     }
 }
@@ -216,7 +221,7 @@ fn bad_records(bench: &mut Bench, chance: &mut Chance, stage: &mut Stage) {
 fn areas(bench: &mut Bench, chance: &mut Chance, stage: &mut Stage) {
     let good = |form: usize| {
         let records = vec![fields(WRITE, 8, 0x20, 0), EACH[0], EACH[5], EACH[4], EACH[1], EACH[5]];
-        Day { blocks: vec![4, 2], image: vec![0x5c; FORMS[form].length], records }.play(6, 0, FILL)
+        Day { from: From::Reset, blocks: vec![4, 2], image: vec![0x5c; FORMS[form].length], records }.play(6, 0, FILL)
     };
     for form in 0..3 {
         let play = good(form);
@@ -266,14 +271,87 @@ fn long_days(bench: &mut Bench, chance: &mut Chance, stage: &mut Stage) {
     for form in FORMS {
         for _ in 0..3 {
             let (records, blocks) = (random_records(chance, 4000), cut(chance, 4000));
-            let day = Day { records, blocks, image: any_bytes(chance, form.length) };
+            let day = Day { from: From::Reset, records, blocks, image: any_bytes(chance, form.length) };
             stage.day(bench, &day, &lengths, 7, chance.number());
         }
         // all inputs in service, all cleared: 64 events, of which 16 wait; now and then they are drained
         let round = [fields(WRITE, 8, 0x3a0, u64::MAX), fields(WRITE, 8, 0x080, u64::MAX), EACH[5]];
         let records: Vec<Record> = (0..4000).map(|k| if k % 57 == 56 { round[2] } else { round[k % 2] }).collect();
-        let day = Day { records, blocks: vec![1000; 4], image: any_bytes(chance, form.length) };
+        let day = Day { from: From::Reset, records, blocks: vec![1000; 4], image: any_bytes(chance, form.length) };
         stage.day(bench, &day, &lengths, 0, chance.number());
+    }
+}
+
+/// The fixed histories as traces, played on from an accepted image of each form, after each record and as a day of several traces.
+fn papers_on(bench: &mut Bench, chance: &mut Chance, stage: &mut Stage) {
+    for form in FORMS {
+        for history in fixed::histories(form) {
+            let records: Vec<Record> = history.steps.iter().filter_map(|(call, _)| trace::record(call)).collect();
+            let (blocks, all, parts) =
+                (cut(chance, records.len()), (1..=records.len()).collect::<Vec<usize>>(), cut(chance, records.len()));
+            let day = Day { from: From::Image, records, blocks, image: generate::accepted(chance, form) };
+            stage.day(bench, &day, &all, 0, FILL);
+            stage.in_turn(bench, &day, &parts, chance.number());
+        }
+    }
+}
+
+/// Every byte of an accepted image of each form with one bit changed, every rule broken, and every length; under a good trace, and under one that is wrong and no room.
+fn images(bench: &mut Bench, chance: &mut Chance, stage: &mut Stage) {
+    for form in FORMS {
+        let image = generate::with_events(chance, form);
+        let good = Day { from: From::Image, records: some(6), blocks: vec![4, 2], image: image.clone() }.play(6, 3, FILL);
+        let mut other: Vec<Vec<u8>> = (0..=320).map(|length| any_bytes(chance, length)).collect();
+        let changed = |place: usize, byte: u8| image.iter().enumerate().map(|(at, old)| if at == place { byte } else { *old }).collect();
+        other.extend((0..image.len()).map(|place| changed(place, image[place] ^ 1 << chance.below(8))));
+        other.extend(generate::breaches(&image, form).into_iter().map(|(place, byte)| changed(place, byte)));
+        for image in other {
+            let play = Play { image, ..good.clone() };
+            stage.play(bench, &play);
+            stage.play(bench, &Play { trace: Vec::new(), answers: 0, events: 0, ..play });
+        }
+    }
+}
+
+/// Several faults at once, of which the first in the order 7, 4, 5 or 8 to 11, 12, 13, 7 is told; and every length of each area.
+fn orders_on(bench: &mut Bench, chance: &mut Chance, stage: &mut Stage) {
+    for form in FORMS {
+        let image = generate::with_events(chance, form);
+        let records = vec![fields(WRITE, 8, 0x20, 0), EACH[0], EACH[5], EACH[4], EACH[1], EACH[5]];
+        let play = Day { from: From::Image, records, blocks: vec![4, 2], image }.play(6, 0, FILL);
+        for breach in generate::breaches(&play.image, form) {
+            for faults in 0..128 {
+                let mut play = play.clone();
+                let faulty = |bit: usize| faults & (1 << bit) != 0;
+                if faulty(0) {
+                    play.answer = 15;
+                }
+                if faulty(1) {
+                    play.image[breach.0] = breach.1;
+                }
+                if faulty(2) {
+                    play.image.push(0);
+                }
+                if faulty(3) {
+                    play.trace[0] = 3;
+                }
+                if faulty(4) {
+                    play.trace[10] = 0;
+                }
+                if faulty(5) {
+                    play.answers -= 1;
+                }
+                if faulty(6) {
+                    play.events -= 1;
+                }
+                stage.play(bench, &play);
+            }
+        }
+        for length in 0..=16 * 6 + 40 {
+            stage.play(bench, &Play { answers: length, ..play.clone() });
+            stage.play(bench, &Play { events: length, null: true, ..play.clone() });
+            stage.play(bench, &Play { answer: length % 40, ..play.clone() });
+        }
     }
 }
 
@@ -291,7 +369,12 @@ pub fn random(bench: &mut Bench, chance: &mut Chance, records: u64) {
         .min(records - made) as usize;
         made += length as u64;
         let form = chance.one_of(&FORMS);
-        let day = Day { records: random_records(chance, length), blocks: cut(chance, length), image: any_bytes(chance, form.length) };
+        let (from, image) = if chance.percent(50) {
+            (From::Reset, any_bytes(chance, form.length))
+        } else {
+            (From::Image, generate::accepted(chance, form))
+        };
+        let day = Day { from, records: random_records(chance, length), blocks: cut(chance, length), image };
         let parts: Vec<usize> = if length <= 24 {
             (1..=length).collect()
         } else {
@@ -301,6 +384,7 @@ pub fn random(bench: &mut Bench, chance: &mut Chance, records: u64) {
         };
         let more = if chance.percent(50) { 0 } else { chance.below(40) as usize };
         stage.day(bench, &day, &parts, more, chance.number());
+        stage.in_turn(bench, &day, &cut(chance, length), chance.number());
         for _ in 0..chance.below(4) {
             let play = day.play(length, more, chance.number());
             stage.play(bench, &days::damaged(chance, play));
@@ -312,5 +396,5 @@ pub fn random(bench: &mut Bench, chance: &mut Chance, records: u64) {
 fn roomy(trace: Vec<u8>, image: usize) -> Play {
     let records = trace.len() / 16;
     let (answers, events) = (16 * records + 5, ROOM * (records / 6 + 3) + 3);
-    Play { trace, image: vec![0x5c; image], answers, events, answer: 20, null: false, fill: FILL }
+    Play { from: From::Reset, trace, image: vec![0x5c; image], answers, events, answer: 20, null: false, fill: FILL }
 }

@@ -1,7 +1,7 @@
 //! Makes a call of the library under test on lent areas. A read or a write is made a second time by the table, on areas that held the same, and has to leave
 //! the same number and the same bytes.
 
-use crate::call::Call;
+use crate::call::{Call, From};
 use crate::lent::{Areas, Block, Five};
 use std::sync::atomic::{AtomicBool, Ordering};
 
@@ -34,11 +34,11 @@ pub fn difference(later: u16, earlier: u16) -> i16 {
     unsafe { library::pch_pic_difference(later, earlier) }
 }
 
-/// Plays a trace.
+/// Plays a trace, from a reset or on from the image.
 #[allow(dead_code)]
-pub fn play(lent: &mut Five) -> u8 {
+pub fn play(from: From, lent: &mut Five) -> u8 {
     let Five { trace, image, answers, events, answer } = lent;
-    lend([trace, image, answers, events, answer], make_play)
+    lend([trace, image, answers, events, answer], |areas| make_play(from, areas))
 }
 
 /// Lends blocks to a call.
@@ -56,9 +56,14 @@ pub fn lend<const N: usize>(mut blocks: [&mut Block; N], make: impl FnOnce([Area
 }
 
 #[allow(dead_code)]
-pub fn make_play([(t, tl), (i, il), (s, sl), (e, el), (a, al)]: [Area; 5]) -> u8 {
+pub fn make_play(from: From, [(t, tl), (i, il), (s, sl), (e, el), (a, al)]: [Area; 5]) -> u8 {
     // SAFETY: each pointer and length is an area of its own that outlives the call; an empty one may be null, as the boundary says.
-    unsafe { library::pch_pic_play(t, tl, i, il, s, sl, e, el, a, al) }
+    unsafe {
+        match from {
+            From::Reset => library::pch_pic_play(t, tl, i, il, s, sl, e, el, a, al),
+            From::Image => library::pch_pic_play_on(t, tl, i, il, s, sl, e, el, a, al),
+        }
+    }
 }
 
 /// Asks who waits in the image.

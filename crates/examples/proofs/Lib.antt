@@ -7,6 +7,7 @@ pub mod WaitingMet
 pub mod OrderMet
 pub mod WorkedDay
 pub mod TracePlayed
+pub mod TracePlayedOn
 pub mod TraceSalvaged
 pub mod BoardsMet
 pub mod HoistMet

@@ -1,4 +1,4 @@
--- Playing a trace (02, C-11): the exported call that each record is, made one after another from a reset.
+-- Playing a trace (02, C-11): the exported call that each record is, made one after another, on an image or from a reset.
 use mathlib.Core.Bool.{cond}
 use mathlib.Core.List.{List, [], _∷_, _++_}
 use Prim.Native.Nat.{ℕ, zero, suc, _*_}
@@ -70,11 +70,19 @@ gathered i (o ∷ os) =
     let rest = gathered (o .image) os in
     record { image = rest .image; answers = o .answer ++ rest .answers; events = drainedIn o ++ rest .events }
 
--- what n records of a trace from number k on leave, played on an image
+-- what records leave, played on an image
+abbrev pub playedAll : List ℕ → List Record → Played
+playedAll i rs = gathered i (outcomes i rs)
+
+-- n records of a trace from number k on
 abbrev pub playedFrom : List ℕ → ℕ → ℕ → List ℕ → Played
-playedFrom l n k i = gathered i (outcomes i (recordsFrom l n k))
+playedFrom l n k i = playedAll i (recordsFrom l n k)
 
 -- ---- a trace
+
+-- a good trace played on an image: all its records
+abbrev pub playedThrough : List ℕ → List ℕ → Played
+playedThrough l i = playedAll i (records l)
 
 -- the image that a reset makes of bytes of an admitted length
 abbrev pub afresh : List ℕ → List ℕ
@@ -85,4 +93,4 @@ abbrev pub outcomesOf : List ℕ → List ℕ → List Outcome
 outcomesOf l i = outcomes (afresh i) (records l)
 
 abbrev pub played : List ℕ → List ℕ → Played
-played l i = playedFrom l (recordCount l) 0 (afresh i)
+played l i = playedThrough l (afresh i)

@@ -1,2 +1,3 @@
--- The exported call that plays a trace (02, C-11), as a definition over traces and the rules.
+-- The exported calls that play a trace (02, C-11), as definitions over traces and the rules; and plays one after another.
 pub mod Playing
+pub mod InTurn

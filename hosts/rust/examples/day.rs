@@ -1,12 +1,13 @@
-//! A day as a trace: session lines recorded; a trace played and printed as a session with its answers beside it; its numbers; a damaged trace salvaged.
+//! A day as a trace: session lines recorded; a trace played and printed, each record with its number and its answer; its numbers; a damaged trace salvaged.
 //!
 //! `day --record FILE [LINES]` makes the trace FILE of the lines, which docs/DEVICE.md tells; - or no word is standard input. `day --play FILE` prints each
 //! record of the trace and what it gave, and how many events were dropped; - is standard input. `day --sheet FILE` prints the day's numbers, input by input, as
-//! a table, and `day --csv FILE` for a program. `day --salvage FILE TO` makes the trace TO of the blocks of FILE that have no bad record, and prints which
-//! others there are. hosts/c/day.c does the same, and `./run` by it.
+//! a table, and `day --csv FILE` for a program. `day --salvage FILE TO` makes the trace TO of what comes before the first hole of FILE: the day, exactly, as far
+//! as it goes. `day --salvage FILE TO --all` makes it of all blocks of FILE that have no bad record; behind a hole it does not play as the day did. Where
+//! something is missing, TO.holes says what, and the others find it there. hosts/c/day.c does the same, and `./run` by it.
 
-use pch_pic::trace::LoadError;
-use pch_pic::{RecordError, Recorder, Salvaged, Trace, Window, EVENTS};
+use pch_pic::holes::{self, Hole, HolesError, Kept};
+use pch_pic::{Error, Record, RecordError, Recorder, Trace, Window, EVENTS};
 use std::env;
 use std::ffi::OsString;
 use std::fmt::Display;
@@ -37,10 +38,21 @@ fn told(name: &Path) -> String {
     }
 }
 
-/// What is read is not to be lost by what is written: one file cannot be both.
+#[cfg(unix)]
+fn one_file(from: &fs::Metadata, to: &fs::Metadata) -> bool {
+    use std::os::unix::fs::MetadataExt;
+    (from.dev(), from.ino()) == (to.dev(), to.ino())
+}
+
+#[cfg(not(unix))]
+fn one_file(_: &fs::Metadata, _: &fs::Metadata) -> bool {
+    false
+}
+
+/// What is read is not to be lost by what is written: one file cannot be both, by whatever names and links.
 fn apart(name: &Path, file: &Path) -> Result<(), String> {
-    let same = fs::canonicalize(path(name)).is_ok_and(|from| from.is_file() && fs::canonicalize(file).is_ok_and(|to| from == to));
-    if same {
+    let (from, to) = (fs::metadata(path(name)), fs::metadata(file));
+    if from.is_ok_and(|from| from.is_file() && to.is_ok_and(|to| one_file(&from, &to))) {
         return Err(format!("{}: it is what is read, and is not overwritten", file.display()));
     }
     Ok(())
@@ -89,16 +101,24 @@ fn record(file: &Path, name: &Path) -> Result<(), String> {
     trace.save(file).map_err(|why| at(file, &why))
 }
 
-/// What a trace is refused for.
-fn refused(name: &Path, why: LoadError) -> String {
-    match why {
-        LoadError::Trace(why) => format!("{}: refused with {}: {why}", told(name), why.number()),
-        other => format!("{}: {other}", told(name)),
-    }
+/// What a trace is refused for; of refusal 12 the cause.
+fn refused(name: &Path, bytes: &[u8], why: Error) -> String {
+    let cause = holes::cause(bytes).filter(|_| why == Error::Trace);
+    format!("{}: refused with {}: {}", told(name), why.number(), cause.unwrap_or_else(|| why.to_string()))
 }
 
-fn load(name: &Path) -> Result<Trace, String> {
-    Trace::load(path(name)).map_err(|why| refused(name, why))
+/// A good trace, and its holes by the list beside its file. What comes by a pipe has none beside it.
+fn load(name: &Path) -> Result<(Trace, Vec<Hole>), String> {
+    let bytes = holes::read(path(name)).map_err(|why| at(name, &why))?;
+    let trace = Trace::try_from(bytes.clone()).map_err(|why| refused(name, &bytes, why))?;
+    Ok((trace, find_holes(name, &bytes)?))
+}
+
+fn find_holes(name: &Path, bytes: &[u8]) -> Result<Vec<Hole>, String> {
+    if name == Path::new("-") {
+        return Ok(Vec::new());
+    }
+    holes::load(name, bytes).map_err(|why| at(&holes::beside(name), &why))
 }
 
 fn written(done: io::Result<()>) -> Result<(), String> {
@@ -111,30 +131,106 @@ fn print(text: String) -> io::Result<()> {
     out.flush()
 }
 
-/// The new trace is there before anything is printed, whoever reads that.
-fn salvage(name: &Path, file: &Path) -> Result<(), String> {
+/// Where nothing stands before the first hole, --all may still find something.
+fn unsalvaged(name: &Path, bytes: &[u8], why: Error, all: bool) -> String {
+    if why == Error::Empty && !all && holes::whole(bytes, &[]).is_ok() {
+        return at(name, &"its first record is bad, so nothing comes before the first hole (--all keeps the whole blocks behind it)");
+    }
+    refused(name, bytes, why)
+}
+
+/// The new trace and its list are there before anything is printed, whoever reads that.
+fn salvage(name: &Path, file: &Path, all: bool) -> Result<(), String> {
+    let list = holes::beside(file);
     apart(name, file)?;
-    let salvaged = Trace::salvage_file(path(name)).map_err(|why| refused(name, why))?;
-    salvaged.trace.save(file).map_err(|why| at(file, &why))?;
-    written(print_salvaged(&salvaged))
-}
-
-fn print_salvaged(salvaged: &Salvaged) -> io::Result<()> {
-    let (blocks, mut out) = (salvaged.trace.blocks().len(), io::BufWriter::new(io::stdout().lock()));
-    for dropped in &salvaged.dropped {
-        writeln!(out, "{dropped}")?;
+    apart(name, &list)?;
+    let bytes = holes::read(path(name)).map_err(|why| at(name, &why))?;
+    let (cut, filled) = (holes::cause(&bytes), holes::filled(bytes.clone()));
+    let known = find_holes(name, &filled)?;
+    let kept = if all { holes::whole(&filled, &known) } else { holes::lead(&filled, &known) };
+    let kept = kept.map_err(|why| unsalvaged(name, &filled, why, all))?;
+    kept.save(file).map_err(|why| match why {
+        HolesError::NoList => at(&list, &"it is no list of holes, and is not replaced"),
+        why => at(file, &why),
+    })?;
+    let cut = cut.filter(|_| filled != bytes).map_or(String::new(), |cut| cut + "\n");
+    let mut text = cut + &if all { whole_text(&kept) } else { lead_text(&kept) };
+    if !kept.holes.is_empty() {
+        text += &format!("{} says what is missing\n", list.display());
     }
-    writeln!(out, "kept {blocks} of {} blocks, {} records", blocks + salvaged.dropped.len(), salvaged.trace.records().len())?;
-    out.flush()
+    written(print(text))
 }
 
-fn play(trace: &Trace) -> io::Result<()> {
-    let (played, mut out) = (trace.play(), io::BufWriter::new(io::stdout().lock()));
+/// A hole, and what it means for what comes behind it.
+fn hole_text(hole: &Hole, records: usize) -> String {
+    let what = if hole.at == records { "the trace ends there, and the day went on" } else { "what follows is not the day's" };
+    format!("hole {hole}; {what}\n")
+}
+
+fn lead_text(kept: &Kept) -> String {
+    let (records, blocks) = (kept.trace.records().len(), kept.trace.blocks().len());
+    match kept.holes.first() {
+        None => format!("kept all {records} records in {blocks} blocks: nothing is missing\n"),
+        Some(hole) => {
+            let kept = format!("kept {records} of {} records, those before the hole: they are the day's, exactly\n", kept.of());
+            hole_text(hole, records) + &kept
+        }
+    }
+}
+
+fn whole_text(kept: &Kept) -> String {
+    let (records, blocks) = (kept.trace.records().len(), kept.trace.blocks().len());
+    let mut text: String = kept.dropped.iter().map(|dropped| format!("{dropped}\n")).collect();
+    text += &format!("kept {blocks} of {} blocks, {records} records\n", blocks + kept.dropped.len());
+    match kept.holes.first() {
+        None => text,
+        Some(hole) if hole.at == records => text + "the trace ends there, and the day went on\n",
+        Some(hole) => {
+            let from = hole.at;
+            text + &format!(
+                "NOT THE DAY'S: from record {from} on it plays on another state than the day did, and no number there is the day's\n"
+            )
+        }
+    }
+}
+
+/// A record in words, its input in decimal, so that nobody takes it for the line of a session, which has hex digits.
+fn asked(record: Record) -> String {
+    match record {
+        Record::Raise(input) => format!("raise {input}"),
+        Record::Lower(input) => format!("lower {input}"),
+        Record::Poll(input) => format!("poll {input}"),
+        Record::Read { offset, width } => format!("read {width} {offset:04x}"),
+        Record::Write { offset, width, value } => format!("write {width} {offset:04x} {value:016x}"),
+        Record::Drain => "drain".into(),
+    }
+}
+
+fn play(trace: &Trace, holes: &[Hole]) -> io::Result<()> {
+    let (played, records, mut out) = (trace.play(), trace.records().len(), io::BufWriter::new(io::stdout().lock()));
+    let before =
+        |record: usize| holes.iter().filter(move |hole| hole.at == record).map(move |hole| hole_text(hole, records)).collect::<String>();
     for step in played.steps() {
-        writeln!(out, "{:25}   {step}", step.record)?;
+        write!(out, "{}", before(step.number))?;
+        writeln!(out, "{:>7}  {:30}  {step}", step.number, asked(step.record))?;
     }
-    writeln!(out, "{:25}   drops {:08x}", "(end)", played.pic().drops())?;
+    writeln!(out, "{}{:>7}  {:30}  drops {}", before(records), "end", "", played.pic().drops())?;
     out.flush()
+}
+
+fn sheet(trace: &Trace, holes: &[Hole]) -> String {
+    let records = trace.records().len();
+    let above: String = holes.iter().map(|hole| hole_text(hole, records)).collect();
+    let below = holes.first().filter(|hole| hole.at < records).map_or(String::new(), |hole| {
+        format!("NOT THE DAY'S: these numbers go over a hole; only what comes before record {} is the day's\n", hole.at)
+    });
+    format!("{above}{}\n{below}", trace.sheet().table(&trace.history()))
+}
+
+/// Behind the numbers a row of its own for each hole, as wide as the others.
+fn csv(trace: &Trace, holes: &[Hole]) -> String {
+    let row = |hole: &Hole| format!("hole at record {}: records {} to {} are missing,,,,,,,,,,\n", hole.at, hole.first, hole.last);
+    trace.sheet().csv() + &holes.iter().map(row).collect::<String>()
 }
 
 fn main() -> ExitCode {
@@ -143,14 +239,17 @@ fn main() -> ExitCode {
     let first = words.first().and_then(|word| word.to_str());
     let files: Vec<&Path> = words.iter().skip(1).map(Path::new).collect();
     let done = match (first, &files[..]) {
-        (Some("--play"), [file]) => load(file).and_then(|trace| written(play(&trace))),
-        (Some("--sheet"), [file]) => load(file).and_then(|trace| written(print(format!("{}\n", trace.sheet())))),
-        (Some("--csv"), [file]) => load(file).and_then(|trace| written(print(trace.sheet().csv()))),
+        (Some("--play"), [file]) => load(file).and_then(|(trace, holes)| written(play(&trace, &holes))),
+        (Some("--sheet"), [file]) => load(file).and_then(|(trace, holes)| written(print(sheet(&trace, &holes)))),
+        (Some("--csv"), [file]) => load(file).and_then(|(trace, holes)| written(print(csv(&trace, &holes)))),
         (Some("--record"), [file]) => record(file, Path::new("-")),
         (Some("--record"), [file, lines]) => record(file, lines),
-        (Some("--salvage"), [file, to]) => salvage(file, to),
+        (Some("--salvage"), [file, to]) => salvage(file, to, false),
+        (Some("--salvage"), [file, to, all]) if *all == Path::new("--all") => salvage(file, to, true),
         _ => {
-            eprintln!("usage: day --play FILE | day --sheet FILE | day --csv FILE | day --record FILE [LINES] | day --salvage FILE TO");
+            eprintln!(
+                "usage: day --play FILE | day --sheet FILE | day --csv FILE | day --record FILE [LINES] | day --salvage FILE TO [--all]"
+            );
             return ExitCode::from(2);
         }
     };

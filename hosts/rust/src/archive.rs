@@ -66,8 +66,10 @@ linked! {
     fn pch_pic_board_event(board: &mut [u8], vector: u8, flag: u8, answer: &mut [u8]);
     /// An image in another form.
     fn pch_pic_convert(image: &[u8], target: &mut [u8], answer: &mut [u8]);
-    /// A trace is played.
+    /// A trace is played from a reset.
     fn pch_pic_play(trace: &[u8], image: &mut [u8], answers: &mut [u8], events: &mut [u8], answer: &mut [u8]);
+    /// A trace is played on from the image as it is.
+    fn pch_pic_play_on(trace: &[u8], image: &mut [u8], answers: &mut [u8], events: &mut [u8], answer: &mut [u8]);
     /// The whole blocks of a damaged trace.
     fn pch_pic_salvage(trace: &[u8], kept: &mut [u8], list: &mut [u8], answer: &mut [u8]);
     /// The reset, under the hoist profile.

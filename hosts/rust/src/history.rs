@@ -110,6 +110,13 @@ impl History {
     pub fn waits(&self) -> &[Wait] {
         &self.waits
     }
+
+    /// The longest wait of an input that ended with an assert, of several that are as long the first; none where each raise made its assert itself.
+    pub fn greatest(&self, input: usize) -> Option<&Wait> {
+        let waits = || self.waits.iter().filter(|wait| wait.input == input);
+        let length = waits().filter_map(Wait::length).max().filter(|length| *length > 0)?;
+        waits().find(|wait| wait.length() == Some(length))
+    }
 }
 
 impl Trace {

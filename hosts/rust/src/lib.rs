@@ -61,8 +61,9 @@
 //! # A day recorded and played back
 //!
 //! A [`Trace`] has the calls of a day from a reset on, and [playing](Trace::play) it gives every byte again. [`Recorded`] is a device whose calls are recorded
-//! as they are made, and [`Recorder`] takes calls one by one. Of a damaged trace [`Trace::salvage`] keeps the blocks that are whole. [`Trace::sheet`] counts the
-//! day in ten exact numbers for each input, and [`Trace::history`] tells where in the day they come from. They are there with feature `std`.
+//! as they are made, and [`Recorder`] takes calls one by one. Of a damaged trace [`holes::lead`] keeps what comes before the first hole, which is the day;
+//! [`Trace::salvage`] keeps every whole block, and what comes behind a hole does not play as the day did. [`Trace::sheet`] counts the day in ten exact numbers for
+//! each input, and [`Trace::history`] tells where in the day they come from. They are there with feature `std`.
 //!
 //! # What does the work
 //!
@@ -119,6 +120,8 @@ mod form;
 #[cfg(feature = "std")]
 pub mod history;
 mod hoist;
+#[cfg(feature = "std")]
+pub mod holes;
 mod outcome;
 #[cfg(all(feature = "plain", not(feature = "archive")))]
 #[rustfmt::skip]
@@ -143,7 +146,7 @@ pub use event::{difference, Event, Events, Returned};
 pub use form::{Form, Image};
 pub use hoist::{Hoist, Phase};
 #[cfg(feature = "std")]
-pub use recorder::{RecordError, Recorded, Recorder};
+pub use recorder::{monotonic, RecordError, Recorded, Recorder};
 #[cfg(feature = "std")]
 pub use sheet::Sheet;
 #[cfg(feature = "std")]

@@ -86,6 +86,11 @@ pub fn play(trace: &[u8], image: &mut [u8], answers: &mut [u8], events: &mut [u8
 }
 
 #[cfg(any(feature = "std", test))]
+pub fn play_on(trace: &[u8], image: &mut [u8], answers: &mut [u8], events: &mut [u8]) -> Outcome {
+    asked(|answer| calls::pch_pic_play_on(trace, image, answers, events, answer))
+}
+
+#[cfg(any(feature = "std", test))]
 pub fn salvage(trace: &[u8], kept: &mut [u8], list: &mut [u8]) -> Outcome {
     asked(|answer| calls::pch_pic_salvage(trace, kept, list, answer))
 }

@@ -9,6 +9,8 @@ use core::fmt;
 use std::fs::File;
 use std::io::{self, Seek, SeekFrom, Write};
 use std::path::Path;
+use std::sync::OnceLock;
+use std::time::Instant;
 
 /// Why a recorder takes no more, or not this. It is left as it was.
 ///
@@ -108,6 +110,15 @@ pub struct Recorder {
     plan: Vec<u16>,
     /// Where a planned day is kept as it goes.
     file: Option<File>,
+    /// What tells the time of a record, and what it told of each.
+    clock: Option<fn() -> u64>,
+    times: Vec<u64>,
+}
+
+/// Nanoseconds by the system's own clock that never goes back, for [`Recorder::with_clock`]. They count from the first call on.
+pub fn monotonic() -> u64 {
+    static FIRST: OnceLock<Instant> = OnceLock::new();
+    FIRST.get_or_init(Instant::now).elapsed().as_nanos() as u64
 }
 
 impl Default for Recorder {
@@ -119,7 +130,7 @@ impl Default for Recorder {
 impl Recorder {
     /// A day whose blocks are closed as it goes.
     pub fn new() -> Self {
-        Recorder { records: Vec::new(), blocks: Vec::new(), open: 0, plan: Vec::new(), file: None }
+        Recorder { records: Vec::new(), blocks: Vec::new(), open: 0, plan: Vec::new(), file: None, clock: None, times: Vec::new() }
     }
 
     /// A day with its blocks planned: how many records each is to have. Each is closed when it has them.
@@ -154,6 +165,50 @@ impl Recorder {
         bytes.resize(bytes.len() + RECORD_LEN * recorder.most(), 0);
         let file = replace::replace(path.as_ref(), &bytes)?;
         Ok(Recorder { file: Some(file), ..recorder })
+    }
+
+    /// Keeps the time of each record too: the clock is asked as each is taken, and tells nanoseconds from any beginning; it is not to go back. [`monotonic`]
+    /// is the system's own.
+    ///
+    /// ```
+    /// use pch_pic::{monotonic, Recorded, Recorder};
+    ///
+    /// let mut day = Recorded::with_recorder(Recorder::new().with_clock(monotonic)?)?;
+    /// let _ = day.set_level(5, true)?;
+    /// let _ = day.set_level(5, false)?;
+    /// let times = day.recorder().times().unwrap();
+    /// assert!(times.len() == 2 && times[0] <= times[1]);
+    /// # Ok::<(), Box<dyn std::error::Error>>(())
+    /// ```
+    ///
+    /// # Errors
+    ///
+    /// [`RecordError::Started`] where there are records already.
+    pub fn with_clock(self, clock: fn() -> u64) -> Result<Self, RecordError> {
+        if !self.is_empty() {
+            return Err(RecordError::Started);
+        }
+        Ok(Recorder { clock: Some(clock), ..self })
+    }
+
+    /// The time of each record, where a clock tells it.
+    pub fn times(&self) -> Option<&[u64]> {
+        self.clock.map(|_| &self.times[..])
+    }
+
+    /// The times to a file beside the trace at `path`, of the same name and `.times`: eight bytes for each record, little end first. `tools/day` then tells waits
+    /// in milliseconds. The file is replaced whole or not at all.
+    ///
+    /// # Errors
+    ///
+    /// [`RecordError::Empty`] where there is no record, or no clock; else [`RecordError::Io`].
+    pub fn save_times(&self, path: impl AsRef<Path>) -> Result<(), RecordError> {
+        let times = self.times().filter(|times| !times.is_empty()).ok_or(RecordError::Empty)?;
+        let mut name = path.as_ref().as_os_str().to_owned();
+        name.push(".times");
+        let bytes: Vec<u8> = times.iter().flat_map(|time| time.to_le_bytes()).collect();
+        replace::replace(Path::new(&name), &bytes)?;
+        Ok(())
     }
 
     /// How many records were taken.
@@ -250,6 +305,7 @@ impl Recorder {
         let full = self.plan.get(self.blocks.len()) == Some(&(self.open + 1));
         self.keep(record, full)?;
         self.records.extend(record.to_bytes());
+        self.times.extend(self.clock.map(|clock| clock()));
         self.open += 1;
         if full {
             self.end_block();

@@ -13,6 +13,7 @@
 //! # Ok::<(), Box<dyn std::error::Error>>(())
 //! ```
 
+use crate::history::History;
 use crate::{contents, outcome, Trace, INPUTS, SHEET_LEN};
 use core::fmt;
 
@@ -142,24 +143,58 @@ impl Sheet {
 /// Each column is as wide as its name, and at least so wide.
 const LEAST: usize = 6;
 
-fn line(f: &mut fmt::Formatter<'_>, label: &str, cells: impl Iterator<Item = String>) -> fmt::Result {
+/// A line of the table, and what stands in it behind the greatest wait, if the table has that column.
+fn line(f: &mut impl fmt::Write, label: &str, cells: impl Iterator<Item = String>, began: Option<String>) -> fmt::Result {
     write!(f, "{label:>5}")?;
     for (name, cell) in COLUMNS.iter().zip(cells) {
         write!(f, "  {cell:>0$}", name.len().max(LEAST))?;
+        if let Some(began) = began.as_ref().filter(|_| *name == "greatest wait") {
+            write!(f, "  {began:>0$}", BEGAN.len())?;
+        }
     }
     writeln!(f)
+}
+
+const BEGAN: &str = "began at";
+
+impl Sheet {
+    /// The table with a column more: the record where the greatest wait of each row began, by the [history](Trace::history) of the same day.
+    ///
+    /// ```
+    /// use pch_pic::{reg, Recorded, Width, Window};
+    ///
+    /// let mut day = Recorded::new();
+    /// let _ = day.set_level(5, true)?; // record 0: masked, so it waits
+    /// day.write(Window::at(0), reg::MASK, Width::Dword, 0)?; // record 1: its assert is offered
+    /// let trace = day.recorder().finish()?;
+    /// assert!(trace.sheet().table(&trace.history()).contains("greatest wait  began at  withdrawn"));
+    /// # Ok::<(), Box<dyn std::error::Error>>(())
+    /// ```
+    pub fn table(&self, history: &History) -> String {
+        let began: Vec<Option<usize>> = (0..INPUTS).map(|input| history.greatest(input).map(|wait| wait.raised)).collect();
+        let longest = self.inputs.iter().position(|row| row.greatest_wait == self.total.greatest_wait);
+        let total = longest.and_then(|input| began[input]);
+        let mut text = String::new();
+        let _ = self.print(&mut text, |row| Some(began.get(row).copied().unwrap_or(total).map_or("-".into(), |record| record.to_string())));
+        text
+    }
+
+    /// Inputs that did nothing are left out, and the total comes last. `began` says what stands behind the greatest wait of a row.
+    fn print(&self, f: &mut impl fmt::Write, began: impl Fn(usize) -> Option<String>) -> fmt::Result {
+        line(f, "input", COLUMNS.iter().map(|name| name.to_string()), began(INPUTS).map(|_| BEGAN.into()))?;
+        for (input, row) in self.inputs.iter().enumerate().filter(|(_, row)| !row.is_idle()) {
+            line(f, &input.to_string(), row.numbers().iter().map(u32::to_string), began(input))?;
+        }
+        line(f, "total", self.total.numbers().iter().map(u32::to_string), began(INPUTS))?;
+        let idle = self.inputs.iter().filter(|row| row.is_idle()).count();
+        write!(f, "records: {}; inputs that did nothing and are left out: {idle}", self.records)
+    }
 }
 
 impl fmt::Display for Sheet {
     /// A table for people: inputs that did nothing are left out, and the total comes last.
     fn fmt(&self, f: &mut fmt::Formatter<'_>) -> fmt::Result {
-        line(f, "input", COLUMNS.iter().map(|name| name.to_string()))?;
-        for (input, row) in self.inputs.iter().enumerate().filter(|(_, row)| !row.is_idle()) {
-            line(f, &input.to_string(), row.numbers().iter().map(u32::to_string))?;
-        }
-        line(f, "total", self.total.numbers().iter().map(u32::to_string))?;
-        let idle = self.inputs.iter().filter(|row| row.is_idle()).count();
-        write!(f, "records: {}; inputs that did nothing and are left out: {idle}", self.records)
+        self.print(f, |_| None)
     }
 }
 

@@ -1,6 +1,7 @@
 //! A day of calls as bytes, tested, played, and salvaged where it is damaged.
 //!
-//! A trace has what was asked of a device from a reset on, and not what was answered: [`Trace::play`] has the library work that out again, byte for byte.
+//! A trace has what was asked of a device from a reset on, and not what was answered: [`Trace::play`] has the library work that out again, byte for byte. A longer day
+//! is several traces, each [played on](Trace::play_on) from the image that the one before left.
 //! `include/pch_pic.h` tells its bytes, "Traces". A [`Recorder`](crate::Recorder) makes one, and `./run --play` prints one.
 //!
 //! ```
@@ -27,6 +28,9 @@ use core::fmt;
 use std::fs::File;
 use std::io::{self, Read};
 use std::path::Path;
+
+/// A call that plays: trace, image, answers, events.
+type Play = fn(&[u8], &mut [u8], &mut [u8], &mut [u8]) -> outcome::Outcome;
 
 /// Before the blocks stand their number, and an entry for each.
 const ENTRIES: usize = 2;
@@ -238,6 +242,9 @@ impl Trace {
     /// Of a damaged trace, whose contents are right, the blocks that have no bad record, byte for byte and in their order, and which others there were. A
     /// good trace comes out as it is, with nothing dropped.
     ///
+    /// A block that is missing is a hole. Behind it the calls are played on another state than the day had, so no number there is the day's: a day with no
+    /// assert and three waits withdrawn may come out with three asserts and none withdrawn. [`holes::lead`](crate::holes::lead) keeps what comes before it.
+    ///
     /// ```
     /// use pch_pic::{Dropped, Record, Trace};
     ///
@@ -306,13 +313,35 @@ impl Trace {
         self.play_in(Form::Numbered)
     }
 
-    /// Plays it on an image of this form. In the forms without numbers those of events hold within one record.
+    /// Plays it from a reset on an image of this form. In the forms without numbers those of events hold within one record.
     pub fn play_in(&self, form: Form) -> Played<'_> {
+        self.played(outcome::play, vec![0; form.image_len()], form)
+    }
+
+    /// Plays it on from this image, in its form, with no reset: every byte is what the calls of its records leave, made one after another on that image. So a day that is longer than one
+    /// trace is several, each played on what the one before left.
+    ///
+    /// ```
+    /// use pch_pic::{Record, Trace};
+    ///
+    /// let trace = |record: Record| Trace::try_from([&[1, 0, 6, 0, 1, 0][..], &record.to_bytes()].concat());
+    /// let (morning, evening) = (trace(Record::Write { offset: 0x20, width: 4, value: 0 })?, trace(Record::Raise(5))?);
+    /// let played = morning.play(); // the guest unmasks 0 to 31
+    /// let played = evening.play_on(played.image()); // and a device raises line 5
+    /// assert_eq!(played.steps().next().unwrap().outcome(), Ok(Some(5)));
+    /// assert_eq!(evening.play().steps().next().unwrap().outcome(), Ok(None)); // from a reset all are masked
+    /// # Ok::<(), pch_pic::Error>(())
+    /// ```
+    pub fn play_on(&self, image: &Image) -> Played<'_> {
+        self.played(outcome::play_on, image.to_vec(), image.form())
+    }
+
+    /// Plays it by one of the two calls, on bytes of this form.
+    fn played(&self, play: Play, mut image: Vec<u8>, form: Form) -> Played<'_> {
         let drains = self.records().filter(|record| *record == Record::Drain).count();
-        let mut image = vec![0; form.image_len()];
         let mut answers = vec![0; outcome::ANSWER_LEN * self.records().len()];
         let mut events = vec![0; DRAIN_ROOM * drains];
-        outcome::play(&self.bytes, &mut image, &mut answers, &mut events).expect("a good trace plays where there is room");
+        play(&self.bytes, &mut image, &mut answers, &mut events).expect("a good trace plays where there is room");
         let image = Image::converted(&image, form).expect("what a play leaves is accepted");
         let mut played = Played { trace: self, image, answers, events };
         let drained = played.steps().map(|step| step.events.len()).sum();
@@ -322,7 +351,7 @@ impl Trace {
 }
 
 /// The bytes of a file. More is asked for than a trace has, so that a longer file is seen.
-fn bytes_of(path: &Path) -> io::Result<Vec<u8>> {
+pub(crate) fn bytes_of(path: &Path) -> io::Result<Vec<u8>> {
     let mut bytes = Vec::new();
     File::open(path)?.take(TRACE_MAX as u64 + 1).read_to_end(&mut bytes)?;
     Ok(bytes)

@@ -202,6 +202,42 @@ fn forms_without_numbers_play_too() {
     }
 }
 
+/// Records as a trace of one block.
+fn one_block(records: &[Record]) -> Trace {
+    let count = (records.len() as u16).to_le_bytes();
+    let contents = [1, 0, 6, 0, count[0], count[1]];
+    Trace::try_from([&contents[..], &records.iter().flat_map(|record| record.to_bytes()).collect::<Vec<_>>()].concat()).unwrap()
+}
+
+/// A day cut into traces, each played on what the one before left, is the day in one trace; and played from a reset instead, it is not.
+#[test]
+fn a_day_of_several_traces_plays_to_the_same_bytes() {
+    let mut live = Live::default();
+    start_up(&mut live);
+    seventeen(&mut live);
+    live.level(3, false);
+    live.write(reg::MASK, 4, 0xffff_fff0);
+    live.poll(1);
+    live.drain();
+    let day = live.played();
+    let records: Vec<Record> = day.records().collect();
+    for form in [Form::One, Form::Two, Form::Numbered] {
+        let whole = day.play_in(form);
+        for length in [1, 7, 40] {
+            let (mut image, mut answers, mut events) = (PchPic::new().save(form), Vec::new(), Vec::new());
+            for part in records.chunks(length).map(one_block) {
+                let played = part.play_on(&image);
+                answers.extend_from_slice(played.answers());
+                events.extend_from_slice(played.events());
+                image = played.image().clone();
+            }
+            assert!((&image, &answers[..], &events[..]) == (whole.image(), whole.answers(), whole.events()), "{form} by {length}");
+        }
+    }
+    let last = one_block(&records[records.len() - 3..]);
+    assert_ne!(last.play().answers(), &day.play().answers()[16 * (records.len() - 3)..]);
+}
+
 #[test]
 fn a_host_with_wires_is_recorded() {
     let (mut day, mut wires) = (Recorded::new(), Wires::new());
@@ -447,4 +483,28 @@ fn there_and_back() {
     assert!(matches!(Trace::load(folder.0.join("nothing")), Err(LoadError::Io(_))));
     assert!(matches!(Trace::load("/dev/zero"), Err(LoadError::Trace(Error::Trace))));
     assert_eq!(fs::read_dir(&folder.0).unwrap().count(), 1);
+}
+
+/// Each record has the time that the clock told as it was taken, and a file of them stands beside the trace.
+#[test]
+fn times_stand_beside_a_trace() {
+    use std::sync::atomic::{AtomicU64, Ordering};
+    static NOW: AtomicU64 = AtomicU64::new(0xff_ffff_fff0);
+    let clock = || NOW.fetch_add(1_000_000_007, Ordering::Relaxed);
+    let path = std::env::temp_dir().join(format!("pch-pic-times-{}", std::process::id()));
+    let mut untimed = Recorder::new();
+    untimed.drain(16).unwrap();
+    assert!(untimed.times().is_none() && matches!(untimed.save_times(&path), Err(RecordError::Empty)));
+    assert!(matches!(untimed.with_clock(clock), Err(RecordError::Started)));
+    let mut recorder = Recorder::new().with_clock(clock).unwrap();
+    assert!(matches!(recorder.save_times(&path), Err(RecordError::Empty)));
+    recorder.raise(5).unwrap();
+    recorder.drain(16).unwrap();
+    assert!(recorder.raise(256).is_err());
+    assert_eq!(recorder.times().unwrap(), [0xff_ffff_fff0, 0xff_ffff_fff0 + 1_000_000_007]);
+    recorder.save_times(&path).unwrap();
+    let name = path.with_extension("times");
+    let bytes = std::fs::read(&name).unwrap();
+    assert_eq!(bytes, recorder.times().unwrap().iter().flat_map(|time| time.to_le_bytes()).collect::<Vec<_>>());
+    std::fs::remove_file(name).unwrap();
 }

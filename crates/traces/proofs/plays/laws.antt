@@ -6,3 +6,4 @@ pub mod Rooms
 pub mod InFront
 pub mod Keeps
 pub mod Late
+pub mod Ways

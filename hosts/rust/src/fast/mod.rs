@@ -35,7 +35,7 @@ pub mod calls {
     pub use super::for_difference::difference::pch_pic_difference;
     pub use super::for_pch_pic::pch_pic::{pch_pic_drain, pch_pic_level, pch_pic_poll, pch_pic_read, pch_pic_reset, pch_pic_waiting, pch_pic_write};
     pub use super::for_pch_pic_convert::pch_pic_convert::pch_pic_convert;
-    pub use super::for_pch_pic_trace::pch_pic_trace::pch_pic_play;
+    pub use super::for_pch_pic_trace::pch_pic_trace::{pch_pic_play, pch_pic_play_on};
     pub use super::for_pch_pic_salvage::pch_pic_salvage::pch_pic_salvage;
     pub use super::for_pch_pic_board::pch_pic_board::{pch_pic_board_drain, pch_pic_board_event, pch_pic_board_level, pch_pic_board_poll, pch_pic_board_read, pch_pic_board_reset, pch_pic_board_write};
     pub use super::for_pch_pic_hoist::pch_pic_hoist::{pch_pic_hoist_end_startup, pch_pic_hoist_read, pch_pic_hoist_reset, pch_pic_hoist_write};

@@ -153,7 +153,9 @@ impl Bench {
         let played = [self.image(), self.dice.area(16 * 60), self.dice.area(64 * 60)];
         let salvaged = [self.dice.area(trace.len()), self.dice.area(20)];
         twice!(self, "convert to an image", converted, |[target], answer| pch_pic_convert(&image, target, answer));
-        twice!(self, "play on an image", played, |[image, answers, events], answer| pch_pic_play(&trace, image, answers, events, answer));
+        let on = [self.image(), self.dice.area(16 * 60), self.dice.area(64 * 60)];
+        twice!(self, "play from a reset", played, |[image, answers, events], answer| pch_pic_play(&trace, image, answers, events, answer));
+        twice!(self, "play on", on, |[image, answers, events], answer| pch_pic_play_on(&trace, image, answers, events, answer));
         twice!(self, "salvage", salvaged, |[kept, list], answer| pch_pic_salvage(&trace, kept, list, answer));
         twice!(self, "sheet", sheet, |[sheet], answer| pch_pic_sheet(&trace, sheet, answer));
         let (later, earlier) = (self.dice.any() as u16, self.dice.any() as u16);

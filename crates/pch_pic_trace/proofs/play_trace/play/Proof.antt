@@ -1,11 +1,11 @@
 -- `play`: each refusal leaves where the order of the tests puts it; else the image is reset, and the records are played on it.
 use Rattle.basics.proofs.Prelude.{_≡_, sym, ap, _∙_, arith, needs, _*_, _≤_, length}
 use Rattle.images.specs.Form.{known, formOf}
-use Rattle.traces.specs.{Trace.good, Trace.traceTest, Played.drainRoom, Played.recordsFrom, Played.afresh, plays.Playing.drainsIn}
+use Rattle.traces.specs.{Trace.good, Trace.traceTest, Played.drainRoom, Played.recordsFrom, Played.afresh, plays.Playing.drainsIn, plays.Playing.playEnding}
 use Rattle.image.specs.Shown.{formView, formKnown}
 use Rattle.trace.specs.Found.{testedView}
 use Rattle.pch_pic_trace.proofs.play_records.Counting.{few-counted}
-use Rattle.pch_pic_trace.proofs.play_trace.Endings.{tells, reaches, is-afresh, no-form, no-trace, no-answers, no-events, ready, has-played}
+use Rattle.pch_pic_trace.proofs.play_trace.Endings.{tells, reaches, afresh-passes, is-afresh, no-form, opens, no-trace, no-answers, no-events, ready, has-played}
 use Rattle.pch_pic_trace.proofs.play_trace.play.Statement.{statement}
 use Rattle.pch_pic_trace.proofs.play_trace.play.Tie as tie
 
@@ -49,13 +49,15 @@ play-spec = tie.close (tie.spec (λ c κs. search needs) (λ c. search needs) (�
     let k = t .before in
     let a = start k .args in
     tells (c .of-trace .result) (c .of-trace .ensures)
-    (no-trace (a .trace .now) (a .image .now) (a .answers .now) (a .events .now) (its-form k) (t .test .result) (m .match2 .keys2) (t .test .ensures)))
+    (no-trace (a .trace .now) (afresh (a .image .now)) (a .image .now) (a .answers .now) (a .events .now) (playEnding (a .trace .now) (a .image .now) (a .answers .now) (a .events .now))
+    (opens (a .trace .now) (a .image .now) (a .answers .now) (a .events .now) (its-form k)) (t .test .result) (m .match2 .keys2) (t .test .ensures)))
     (λ c. omega (arith, reaches (start (formed c) .args .trace .now) (is-good c) .few)) (λ c κs. search needs)
     (λ c. let h = c .before in
     let k = h .before in
     let a = start (formed k) .args in
     tells (c .no-room .result) (c .no-room .ensures)
-    (no-answers (a .trace .now) (a .image .now) (a .answers .now) (a .events .now) (its-form (formed k)) (is-good k) (h .if1 .taken)))
+    (no-answers (a .trace .now) (afresh (a .image .now)) (a .image .now) (a .answers .now) (a .events .now) (playEnding (a .trace .now) (a .image .now) (a .answers .now) (a .events .now))
+    (opens (a .trace .now) (a .image .now) (a .answers .now) (a .events .now) (its-form (formed k))) (is-good k) (h .if1 .taken)))
     (λ c κs. let k = c .before in reaches (start (formed k) .args .trace .now) (is-good k))
     (λ c. let k = c .before .before in let a = start (formed k) .args in
     omega (arith, c .count-drains .ensures, few-counted (a .trace .now) (k .before .tested .given .0 .1 .0) 0, reaches (a .trace .now) (is-good k) .few))
@@ -65,16 +67,20 @@ play-spec = tie.close (tie.spec (λ c κs. search needs) (λ c. search needs) (�
     let k = d .before .before in
     let a = start (formed k) .args in
     tells (c .no-room2 .result) (c .no-room2 .ensures)
-    (no-events (a .trace .now) (a .image .now) (a .answers .now) (a .events .now) (its-form (formed k)) (is-good k) (rw (d .count-drains .ensures) at (h .if2 .taken))))
+    (no-events (a .trace .now) (afresh (a .image .now)) (a .image .now) (a .answers .now) (a .events .now) (playEnding (a .trace .now) (a .image .now) (a .answers .now) (a .events .now))
+    (opens (a .trace .now) (a .image .now) (a .answers .now) (a .events .now) (its-form (formed k))) (is-good k) (rw (d .count-drains .ensures) at (h .if2 .taken))))
     (λ c κs. search needs)
     (λ c κs. let r = c .before .before .before .before .before in
     let k = tested r in
     let a = start (formed k) .args in
-    ready (a .trace .now) (a .image .now) (a .answers .now) (a .events .now) (its-form (formed k)) (is-good k) (r .before .before .before .before .if1 .left) (events-room r) (afresh-now r))
+    ready (a .trace .now) (afresh (a .image .now)) (a .image .now) (a .answers .now) (a .events .now) (playEnding (a .trace .now) (a .image .now) (a .answers .now) (a .events .now))
+    (opens (a .trace .now) (a .image .now) (a .answers .now) (a .events .now) (its-form (formed k))) (is-good k) (r .before .before .before .before .if1 .left) (events-room r) (afresh-now r)
+    (afresh-passes (a .image .now) (its-form (formed k))))
     (λ c κs. search needs) (λ c. search needs) (λ c. search needs) (λ c. search needs)
     (λ c. let p = c .before .before .before .before .before .before .before in
     let r = p .before .before .before .before .before .before in
     let k = tested r in
     let a = start (formed k) .args in
     tells (c .done .result) (c .done .ensures)
-    (has-played (a .trace .now) (a .image .now) (a .answers .now) (a .events .now) (its-form (formed k)) (is-good k) (r .before .before .before .before .if1 .left) (events-room r) (afresh-now r) (p .play-all .ensures))))
+    (has-played (a .trace .now) (afresh (a .image .now)) (a .image .now) (a .answers .now) (a .events .now) (playEnding (a .trace .now) (a .image .now) (a .answers .now) (a .events .now))
+    (opens (a .trace .now) (a .image .now) (a .answers .now) (a .events .now) (its-form (formed k))) (is-good k) (r .before .before .before .before .if1 .left) (events-room r) (afresh-now r) (p .play-all .ensures))))

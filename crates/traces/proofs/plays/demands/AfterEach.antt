@@ -1,68 +1,30 @@
--- After each record (02, C-11): a play of the first records is the beginning of the whole, and the next record is the exported call made on what they left.
-use Rattle.basics.proofs.Prelude.{_≡_, refl, sym, ap, _∙_, List, [], _++_, append-nil, append-assoc, ℕ, zero, suc, _+_, _-_, _*_, _<_, _≤_, arith, length, take, take-at, drop-at, part}
-use Rattle.traces.specs.{Trace.recordCount, Trace.nth, Played.requestOf, Played.playedOn, Played.drainedIn, Played.Played, Played.afresh, Played.played}
+-- After each record of a play from a reset (02, C-11): as on any image, on the one that the reset leaves.
+use Rattle.basics.proofs.Prelude.{_≡_, refl, List, [], ℕ, suc, _*_, _<_, _≤_, length, take, part}
+use Rattle.traces.specs.{Trace.recordCount, Trace.nth, Played.playedOn, Played.afresh, Played.played}
 use Rattle.traces.specs.plays.Playing.{playedTo, behind}
-use Rattle.traces.proofs.{laws.Plays.played-none, demands.Play.sixteen-bytes, demands.Play.answers-from, plays.laws.Prefixes.played-more}
-
--- what more records add to a play: answers and events behind those that are there
-record Adds (p q : Played) : Type 0 where
-  answers : List ℕ
-  events : List ℕ
-  all-answers : q .answers ≡ p .answers ++ answers
-  all-events : q .events ≡ p .events ++ events
+use Rattle.traces.proofs.plays.demands.AfterEachOn.{none-played-on, one-more-on, first-answers-on, first-events-on, its-answer-on}
 
 module _ (l i : List ℕ) where
   -- none played: the image is reset, and nothing is answered
   pub none-played : playedTo l 0 i ≡ record { image = afresh i; answers = []; events = [] }
-  none-played = played-none l 0 (afresh i)
+  none-played = none-played-on l (afresh i)
 
   -- one more: its outcome is that of the call which it is, on the image that those before it left
   pub one-more : (k : ℕ) → playedTo l (suc k) i ≡ behind (playedTo l k i) (playedOn (playedTo l k i .image) (nth l k))
-  one-more k = played-more l k i
+  one-more k = one-more-on l (afresh i) k
 
   -- all of them: the play
   pub all-played : playedTo l (recordCount l) i ≡ played l i
   all-played = refl
 
-  adds : (k m : ℕ) → Adds (playedTo l k i) (playedTo l (k + m) i)
-  adds k zero =
-      let z : k + 0 ≡ k = omega arith in
-      record {
-        answers = [];
-        events = [];
-        all-answers = ap (λ (n : ℕ). playedTo l n i .answers) z ∙ sym (append-nil (playedTo l k i .answers));
-        all-events = ap (λ (n : ℕ). playedTo l n i .events) z ∙ sym (append-nil (playedTo l k i .events));
-      }
-  adds k (suc m) =
-      let z : k + suc m ≡ suc (k + m) = omega arith in
-      let a = adds k m in
-      let o = playedOn (playedTo l (k + m) i .image) (nth l (k + m)) in
-      let e = ap (λ (n : ℕ). playedTo l n i) z ∙ played-more l (k + m) i in
-      record {
-        answers = a .answers ++ o .answer;
-        events = a .events ++ drainedIn o;
-        all-answers = ap (λ (p : Played). p .answers) e ∙ ap (λ xs. xs ++ o .answer) (a .all-answers) ∙ append-assoc (playedTo l k i .answers) (a .answers) (o .answer);
-        all-events = ap (λ (p : Played). p .events) e ∙ ap (λ xs. xs ++ drainedIn o) (a .all-events) ∙ append-assoc (playedTo l k i .events) (a .events) (drainedIn o);
-      }
-
-  -- so the answers and the events of the first k records are the beginning of all of them
+  -- the answers and the events of the first k records are the beginning of all of them
   module _ (k : ℕ) (h : k ≤ recordCount l) where
-    more : Adds (playedTo l k i) (played l i)
-    more = let z : k + (recordCount l - k) ≡ recordCount l = omega (arith, h) in rw z at (adds k (recordCount l - k))
-
     pub first-answers : take (16 * k) (played l i .answers) ≡ playedTo l k i .answers
-    first-answers = ap (take (16 * k)) (more .all-answers) ∙ take-at (playedTo l k i .answers) (more .answers) (16 * k) (answers-from l k 0 (afresh i))
+    first-answers = first-answers-on l (afresh i) k h
 
     pub first-events : take (length (playedTo l k i .events)) (played l i .events) ≡ playedTo l k i .events
-    first-events = ap (take (length (playedTo l k i .events))) (more .all-events) ∙ take-at (playedTo l k i .events) (more .events) (length (playedTo l k i .events)) refl
+    first-events = first-events-on l (afresh i) k h
 
   -- and record k has its sixteen bytes from byte 16 k on: those of its own call
   pub its-answer : (k : ℕ) → k < recordCount l → part (16 * k) 16 (played l i .answers) ≡ playedOn (playedTo l k i .image) (nth l k) .answer
-  its-answer k h =
-      let o = playedOn (playedTo l k i .image) (nth l k) in
-      let p = playedTo l k i .answers in
-      let m = more (suc k) h in
-      let e : played l i .answers ≡ p ++ (o .answer ++ m .answers) =
-      m .all-answers ∙ ap (λ (q : Played). q .answers ++ m .answers) (one-more k) ∙ append-assoc p (o .answer) (m .answers) in
-      ap (part (16 * k) 16) e ∙ ap (take 16) (drop-at p (o .answer ++ m .answers) (16 * k) (answers-from l k 0 (afresh i)))
-      ∙ take-at (o .answer) (m .answers) 16 (sixteen-bytes (requestOf (nth l k)) (playedTo l k i .image))
+  its-answer k h = its-answer-on l (afresh i) k h

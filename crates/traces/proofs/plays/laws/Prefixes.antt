@@ -1,7 +1,7 @@
 -- The first records of a play, and one more behind them.
-use Rattle.basics.proofs.Prelude.{_≡_, sym, ap, _∙_, List, [], _++_, append-nil, append-assoc, ℕ, zero, suc, _+_, zero-add, arith}
+use Rattle.basics.proofs.Prelude.{_≡_, sym, ap, _∙_, List, [], _++_, append-nil, append-assoc, ℕ, zero, suc, _+_, arith}
 use Rattle.calls.specs.Calls.{Outcome}
-use Rattle.traces.specs.{Trace.nth, Played.playedOn, Played.drainedIn, Played.Played, Played.playedFrom, Played.afresh, plays.Playing.playedTo, plays.Playing.behind}
+use Rattle.traces.specs.{Trace.nth, Played.playedOn, Played.drainedIn, Played.Played, Played.playedFrom, plays.Playing.behind}
 use Rattle.traces.proofs.laws.Plays.{played-none, played-next}
 
 -- an outcome in front of a play
@@ -32,7 +32,3 @@ played-last l (suc n) k i =
     ∙ both o p (playedOn (p .image) (nth l (suc k + n)))
     ∙ ap (λ (m : ℕ). behind (before o p) (playedOn (p .image) (nth l m))) z
     ∙ ap (λ (q : Played). behind q (playedOn (q .image) (nth l (k + suc n)))) (sym (played-next l k i n))
-
-pub played-more : (l : List ℕ) (n : ℕ) (i : List ℕ) → playedTo l (suc n) i ≡ behind (playedTo l n i) (playedOn (playedTo l n i .image) (nth l n))
-played-more l n i =
-    played-last l n 0 (afresh i) ∙ ap (λ (m : ℕ). behind (playedTo l n i) (playedOn (playedTo l n i .image) (nth l m))) (zero-add n)

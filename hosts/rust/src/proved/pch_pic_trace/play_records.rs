@@ -1,5 +1,5 @@
 // Made from crates/pch_pic_trace/src/play_records.rt by tools/portable: do not change it here.
-//! The records of a good trace, one after another: how many of them drain, and all of them played on an image that is reset, with nothing of it tested again.
+//! The records of a good trace, one after another: how many of them drain, and all of them played on an image that is accepted, with nothing of it tested again.
 
 use super::super::image::form::Form;
 use super::super::trace::record_bytes::LENGTH;
@@ -31,7 +31,7 @@ pub fn count_drains(trace: &[u8], first: usize, records: usize) -> usize {
     drains
 }
 
-/// The records of a good trace, on an image that is reset. A record's answer has its own sixteen bytes, and events follow those before them. It is counted in
+/// The records of a good trace, on an image that is accepted. A record's answer has its own sixteen bytes, and events follow those before them. It is counted in
 /// bytes: counted in records, a round has a shift and a copy more.
 ///
 /// ```text

@@ -1,0 +1,1 @@
+-- The laws that the proofs of this module cite are those of `play_trace`.
