@@ -1,4 +1,4 @@
-// Which bytes are a tally: no number of 2^63 or more, and no wait that began behind all records. So no sum that is made of them passes 2^64.
+// From which bytes can be counted on: no number of 2^63 or more, and no wait that began behind all records. So no number that an add makes passes 2^64.
 use answer::Told;
 use answer::Value;
 use bits::bytes::word_at;

@@ -1,5 +1,5 @@
 -- A tally: the numbers of a day that is not over, carried from trace to trace. 65 rows of ten numbers of eight bytes, little end first. The first 64 rows are the
--- inputs', in the columns of a sheet (02, C-21); but the last column has 0, or the number behind that of the raise whose wait is not over. Of the last row
+-- inputs', in the columns of a sheet (02, C-21); but the last column has 0, or 1 + the number of the raise whose wait is not over. Of the last row
 -- the first number is how many records were counted so far.
 use mathlib.Core.Bool.{Bool, true, cond, _&&_, _||_}
 use mathlib.Core.List.{List}
@@ -52,7 +52,7 @@ tallyBytes f = rowsBelow 8 65 (rowIn f)
 abbrev pub ofOpenWait : ℕ → Bool
 ofOpenWait k = eqb (k % 10) 9 && ltb k 640
 
--- a number that none can have: 2 ^ 63 or more, or that of a wait that began behind all records
+-- a number too great to count on from, which is 2 ^ 63 or more; or that of a wait that began behind all records
 abbrev pub unsound : List ℕ → ℕ → Bool
 unsound t k = leb (2 ^ 63) (numberAt t k) || (ofOpenWait k && ltb (countedIn t) (numberAt t k))
 

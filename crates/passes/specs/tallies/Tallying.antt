@@ -49,24 +49,24 @@ pub data AddTest : Type 0 where
   refused : (number : ℕ) (value : Value) → AddTest
   adds : AddTest
 
--- 4, 5, 8 to 11 of the image; then 12 and 13 of the trace; then 17 of the tally
-abbrev pub tallyLeft : TallyTest → AddTest
-tallyLeft sound = adds
-tallyLeft (wrongAt a) = refused (tallyNumber (wrongAt a)) (tallyValue (wrongAt a))
+-- 4, 5, 8 to 11 of the image come before 12 and 13 of the trace, and these before 17 of the tally
+abbrev pub unlessTally : TallyTest → AddTest
+unlessTally sound = adds
+unlessTally (wrongAt a) = refused (tallyNumber (wrongAt a)) (tallyValue (wrongAt a))
 
-abbrev pub traceLeft : TraceTest → AddTest → AddTest
-traceLeft (trace.good first n) t = t
-traceLeft trace.wrongContents t = refused (traceNumber trace.wrongContents) (traceValue trace.wrongContents)
-traceLeft (trace.badRecord k) t = refused (traceNumber (trace.badRecord k)) (traceValue (trace.badRecord k))
+abbrev pub unlessTrace : TraceTest → AddTest → AddTest
+unlessTrace (trace.good first n) t = t
+unlessTrace trace.wrongContents t = refused (traceNumber trace.wrongContents) (traceValue trace.wrongContents)
+unlessTrace (trace.badRecord k) t = refused (traceNumber (trace.badRecord k)) (traceValue (trace.badRecord k))
 
-abbrev pub imageLeft : ImageTest → AddTest → AddTest
-imageLeft accepted t = t
-imageLeft wrongLength t = refused (imageNumber wrongLength) (imageValue wrongLength)
-imageLeft wrongContents t = refused (imageNumber wrongContents) (imageValue wrongContents)
-imageLeft (broken k a) t = refused (imageNumber (broken k a)) (imageValue (broken k a))
+abbrev pub unlessImage : ImageTest → AddTest → AddTest
+unlessImage accepted t = t
+unlessImage wrongLength t = refused (imageNumber wrongLength) (imageValue wrongLength)
+unlessImage wrongContents t = refused (imageNumber wrongContents) (imageValue wrongContents)
+unlessImage (broken k a) t = refused (imageNumber (broken k a)) (imageValue (broken k a))
 
 abbrev pub addTest : (trace image tally : List ℕ) → AddTest
-addTest l i t = imageLeft (imageTest i) (traceLeft (traceTest l) (tallyLeft (tallyTest t)))
+addTest l i t = unlessImage (imageTest i) (unlessTrace (traceTest l) (unlessTally (tallyTest t)))
 
 abbrev pub addEnds : AddTest → (trace image tally answer : List ℕ) → TallyLeft
 addEnds (refused n v) l i t a = tallyLeaves n t (answered n v a)

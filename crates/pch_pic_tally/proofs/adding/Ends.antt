@@ -7,7 +7,7 @@ use Rattle.traces.specs.{Trace.good, Trace.recordCount, Trace.traceNumber, Trac
 use Rattle.sheets.specs.Day.{itemOf, items}
 use Rattle.passes.specs.tallies.{Grid.Puts, Grid.Fits, Grid.put, Marks.allMarked, Marks.dayMarks, Following.FollowsDay, Following.Stands}
 use Rattle.passes.specs.tallies.Tally.{tallyLength, numbersOf, countedIn, tallyBytes, TallyTest, sound, wrongAt, tallyTest, tallyNumber, tallyValue}
-use Rattle.passes.specs.tallies.Tallying.{overTally, tallied, AddTest, refused, adds, tallyLeft, traceLeft, imageLeft, addTest}
+use Rattle.passes.specs.tallies.Tallying.{overTally, tallied, AddTest, refused, adds, unlessTally, unlessTrace, unlessImage, addTest}
 use Rattle.passes.proofs.{laws.Bytes.tally-is, tallies.laws.Sound.counted-few, tallies.laws.Sound.image-left}
 use Rattle.fields.{specs.inplace.Passed.Passed, proofs.inplace.Passing.here}
 use Rattle.answer.specs.{Given.Tells, declared.Told.Told}
@@ -44,12 +44,12 @@ module _ (l i t : List ℕ) where
     where
       not-good : OneOf (1 ∷ 2 ∷ []) 0 → ⊥
       not-good o = ⊎-elim (λ z. omega (arith, z)) (λ z. omega (arith, z)) o
-  no-trace WrongContents o e = ap (λ x. addBy (traceLeft x (tallyLeft (tallyTest t))) l i t) e
-  no-trace (BadRecord m) o e = ap (λ x. addBy (traceLeft x (tallyLeft (tallyTest t))) l i t) e
+  no-trace WrongContents o e = ap (λ x. addBy (unlessTrace x (unlessTally (tallyTest t))) l i t) e
+  no-trace (BadRecord m) o e = ap (λ x. addBy (unlessTrace x (unlessTally (tallyTest t))) l i t) e
 
   module _ {first n : ℕ} (e : traceTest l ≡ good first n) where
-    left : {x : TallyTest} → x ≡ tallyTest t → addBy (tallyLeft x) l i t ≡ addedTo l i t
-    left f = ap (λ x. addBy (tallyLeft x) l i t) f ∙ ap (λ x. addBy (traceLeft x (tallyLeft (tallyTest t))) l i t) (sym e)
+    left : {x : TallyTest} → x ≡ tallyTest t → addBy (unlessTally x) l i t ≡ addedTo l i t
+    left f = ap (λ x. addBy (unlessTally x) l i t) f ∙ ap (λ x. addBy (unlessTrace x (unlessTally (tallyTest t))) l i t) (sym e)
 
     pub no-tally : (x : Sound) → OneOf (1 ∷ []) (tagOf enum.the-type x) → soundView x ≡ tallyTest t → record { number = tallyNumber (soundView x); value = tallyValue (soundView x); bytes = t } ≡ addedTo l i t
     no-tally Whole o f = absurd (omega (arith, o))
@@ -65,7 +65,7 @@ module _ (l i t : List ℕ) where
   -- ---- the image
 
   pub refused-image : (imageTest i ≡ accepted → ⊥) → record { number = imageNumber (imageTest i); value = imageValue (imageTest i); bytes = t } ≡ added l i t
-  refused-image n = ap (λ x. addBy x l i t) (sym (image-left (imageTest i) (traceLeft (traceTest l) (tallyLeft (tallyTest t))) n))
+  refused-image n = ap (λ x. addBy x l i t) (sym (image-left (imageTest i) (unlessTrace (traceTest l) (unlessTally (tallyTest t))) n))
 
   pub accepted-image : {f : Form} → Passed f i → {x : Ended} → x ≡ addedTo l i t → x ≡ added l i t
-  accepted-image p d = d ∙ ap (λ z. addBy (imageLeft z (traceLeft (traceTest l) (tallyLeft (tallyTest t)))) l i t) (sym (p .good))
+  accepted-image p d = d ∙ ap (λ z. addBy (unlessImage z (unlessTrace (traceTest l) (unlessTally (tallyTest t)))) l i t) (sym (p .good))

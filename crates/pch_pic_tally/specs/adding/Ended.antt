@@ -13,7 +13,7 @@ use Rattle.passes.specs.tallies.Grid.{Grid, put}
 use Rattle.passes.specs.tallies.Marks.{allMarked, dayMarks}
 use Rattle.passes.specs.tallies.Following.{Stands}
 use Rattle.passes.specs.tallies.Tally.{numbersOf, countedIn, tallyBytes, TallyTest, sound, wrongAt, tallyTest, tallyNumber, tallyValue}
-use Rattle.passes.specs.tallies.Tallying.{overTally, tallied, AddTest, refused, adds, tallyLeft, traceLeft, addTest, longRow}
+use Rattle.passes.specs.tallies.Tallying.{overTally, tallied, AddTest, refused, adds, unlessTally, unlessTrace, addTest, longRow}
 use Rattle.fields.specs.inplace.Held.{Holds}
 use Rattle.answer.specs.Given.{valueView}
 use Rattle.answer.specs.declared.Told.{Told}
@@ -39,7 +39,7 @@ added l i t = addBy (addTest l i t) l i t
 
 -- of an image that was accepted
 abbrev pub addedTo : (trace image tally : List ℕ) → Ended
-addedTo l i t = addBy (traceLeft (traceTest l) (tallyLeft (tallyTest t))) l i t
+addedTo l i t = addBy (unlessTrace (traceTest l) (unlessTally (tallyTest t))) l i t
 
 -- what is kept is of whatever device the image holds
 abbrev pub Keeps : List ℕ → Watched → Type 0

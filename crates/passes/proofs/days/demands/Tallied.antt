@@ -1,6 +1,6 @@
 -- A day of several traces, counted (02, C-21, carried from trace to trace): begun, each trace added on the image that the records before it leave, and summed, a tally gives the sheet of the plain
 -- engine's history of all their records, numbered over the day.
-use Rattle.basics.proofs.Prelude.{_≡_, refl, sym, ap, subst, _∙_, Bool, true, false, true≢false, cond, _&&_, List, [], _∷_, _++_, append-assoc, append-nil, ℕ, zero, suc, _+_, _%_, _^_, _<_, _≤_, max, arith, eqb, ne-eqb, leb, length, length-append, drop, test, bytesOf, map}
+use Rattle.basics.proofs.Prelude.{_≡_, refl, sym, ap, subst, _∙_, Bool, true, false, true≢false, cond, _&&_, List, [], _∷_, _++_, append-assoc, append-nil, ℕ, zero, suc, _+_, _%_, _^_, _<_, _≤_, max, arith, eqb, ne-eqb, leb, le-leb, Bytes, length, length-append, drop, test, bytesOf, map}
 use Rattle.rules.specs.Device.{Device, reset}
 use Rattle.images.specs.Image.{ImageTest, accepted, wrongLength, wrongContents, broken, copyDiffers, manyWait, badFlag, unusedSet, decode, imageTest}
 use Rattle.calls.specs.Calls.{answerLength}
@@ -11,8 +11,11 @@ use Rattle.plain.specs.Sequence.{Item, call, load}
 use Rattle.sheets.specs.{Day.begun, Day.dayFrom, Day.dayOf, Day.items, Day.itemOf, Sheet.Row, Sheet.columnOf, Sheet.bytesOfRow, Sheet.rowsBelow, Sheet.rowOf, Sheet.emptyRow, Sheet.together, Sheet.totalBelow, Sheet.sheetBytes}
 use Rattle.passes.specs.{tallies.Grid.Grid, tallies.Grid.put, tallies.Marks.allMarked, tallies.Marks.dayMarks, Slots.NoLoad, Finish.afterItems, Finish.zeros, Finish.isOn}
 use Rattle.passes.specs.tallies.Tally.{tallyLength, numbersOf, countedIn, tallyBytes, TallyTest, sound, wrongAt, tallyTest}
-use Rattle.passes.specs.tallies.Tallying.{TallyLeft, tallyLeaves, overTally, withRoom, beginning, tallied, AddTest, refused, adds, tallyLeft, traceLeft, imageLeft, addTest, addEnds, adding, longRow, sumEnds, summing}
-use Rattle.passes.specs.days.Parts.{Part, dayItems, HandedOn, addedAll, AllAdded}
+use Rattle.passes.specs.tallies.Tallying.{TallyLeft, tallyLeaves, overTally, withRoom, beginning, tallied, AddTest, refused, adds, unlessTally, unlessTrace, unlessImage, addTest, addEnds, adding, longRow, sumEnds, summing}
+use Rattle.traces.specs.plays.Playing.{PlayTest, plays, PlayEnding, playEnds, PlayLeft, playLeaves, playSettled, playTold, playRoom, playOnTest, playOnEnding, playingOn}
+use Rattle.passes.specs.days.Parts.{Part, dayItems, HoldsSoFar, playedPart, PlayedInTurn, addedAll, AllAdded}
+use Rattle.passes.proofs.days.demands.Played.{hands-on}
+use Rattle.traces.specs.plays.Playing as playing
 use Rattle.passes.proofs.laws.{Finishing.all-from, Passing.cells, Bytes.below-ten, Bytes.no-numbers, Days.items-loadless, Days.items-length}
 use Rattle.passes.proofs.tallies.laws.{Grids.bytes-same, Sound.counted-few}
 use Rattle.passes.proofs.days.laws.Carrying.{after-append, Alike, dayGrid, Carries, carried, alike-then, sum-alike}
@@ -42,8 +45,8 @@ record Passes (y : TraceTest) (z : TallyTest) (x : AddTest) : Type 0 where
   good : isGood y ≡ true
   whole : z ≡ sound
 
-added-by : (x : ImageTest) (y : TraceTest) (z : TallyTest) (l i t a : List ℕ) → addEnds (imageLeft x (traceLeft y (tallyLeft z))) l i t a .number ≡ 0
-    → Passes y z (imageLeft x (traceLeft y (tallyLeft z)))
+added-by : (x : ImageTest) (y : TraceTest) (z : TallyTest) (l i t a : List ℕ) → addEnds (unlessImage x (unlessTrace y (unlessTally z))) l i t a .number ≡ 0
+    → Passes y z (unlessImage x (unlessTrace y (unlessTally z)))
 added-by accepted (trace.good first n) sound l i t a e = record { goes = refl; good = refl; whole = refl }
 added-by accepted (trace.good first n) (wrongAt k) l i t a e = absurd (omega (arith, e))
 added-by accepted trace.wrongContents z l i t a e = absurd (omega (arith, e))
@@ -117,13 +120,20 @@ module _ (l i t : List ℕ) (xs : List Item) (c : Carries t xs) (d : decode i �
       (carried next (drop tallyLength t) (xs ++ items l) (omega (arith, counted, records, c .records, longer)) (sym longer) next-alike))
 
 -- all traces of a day
-pub all-carry : (ps : List Part) (t a : List ℕ) (xs : List Item) → Carries t xs → HandedOn (afterItems reset xs) ps → AllAdded t a ps → Carries (addedAll t a ps) (xs ++ dayItems ps)
+pub all-carry : (ps : List Part) (t : List ℕ) (xs : List Item) → Carries t xs → HoldsSoFar (afterItems reset xs) ps → AllAdded t ps → Carries (addedAll t ps) (xs ++ dayItems ps)
 unfolding addedAll AllAdded
-all-carry [] t a xs c h e = subst (Carries t) (sym (append-nil xs)) c
-all-carry (p ∷ ps) t a xs c h e =
-    let one = added-carries (p .trace) (p .image) t xs c (h .0) a (e .0) in
-    subst (Carries (addedAll (adding (p .trace) (p .image) t a .bytes) a ps)) (append-assoc xs (items (p .trace)) (dayItems ps))
-    (all-carry ps (adding (p .trace) (p .image) t a .bytes) a (xs ++ items (p .trace)) one (subst (λ (x : Device). HandedOn x ps) (sym (after-append xs (items (p .trace)) reset)) (h .1)) (e .1))
+all-carry [] t xs c h e = subst (Carries t) (sym (append-nil xs)) c
+all-carry (p ∷ ps) t xs c h e =
+    let one = added-carries (p .trace) (p .image) t xs c (h .0) (p .answer) (e .0) in
+    subst (Carries (addedAll (adding (p .trace) (p .image) t (p .answer) .bytes) ps)) (append-assoc xs (items (p .trace)) (dayItems ps))
+    (all-carry ps (adding (p .trace) (p .image) t (p .answer) .bytes) (xs ++ items (p .trace)) one (subst (λ (x : Device). HoldsSoFar x ps) (sym (after-append xs (items (p .trace)) reset)) (h .1)) (e .1))
+
+-- It is done where there is room, the image is accepted, the trace good and the tally sound.
+pub is-added : (l i t a : List ℕ) {first n : ℕ} → answerLength ≤ length a → tallyLength ≤ length t → imageTest i ≡ accepted → traceTest l ≡ trace.good first n → tallyTest t ≡ sound → adding l i t a .number ≡ 0
+unfolding adding
+is-added l i t a h k e f g =
+    ap (λ b. cond b (addEnds (addTest l i t) l i t a) (tallyLeaves 7 t a) .number) (λ j. le-leb answerLength (length a) h j && le-leb tallyLength (length t) k j)
+    ∙ (λ j. addEnds (unlessImage (e j) (unlessTrace (f j) (unlessTally (g j)))) l i t a .number)
 
 -- ---- summed
 
@@ -210,17 +220,67 @@ all-loadless (p ∷ ps) = both (items (p .trace)) (dayItems ps) (items-loadless 
     both (load d ∷ xs) ys h k = absurd h
     both (sequence.refused ∷ xs) ys h k = both xs ys h k
 
--- Begun, every trace added, and summed, each call done: the sheet of all records, from reset, as the plain engine's history has them. The tally, the sheet and the answer areas are any bytes.
-pub day-of-traces : (ps : List Part) → HandedOn reset ps → (t a b s c : List ℕ) → beginning t a .number ≡ 0 → AllAdded (beginning t a .bytes) b ps → summing (addedAll (beginning t a .bytes) b ps) s c .number ≡ 0
-    → summing (addedAll (beginning t a .bytes) b ps) s c .bytes ≡ sheetBytes 8 (rowOf (dayFrom begun (dayItems ps))) ++ drop tallyLength s
+-- Begun, every trace added, and summed, each call done: the sheet of all records, from reset, as the plain engine's history has them, and as eight bytes hold its numbers. The tally, the sheet and
+-- the answer areas are any bytes.
+pub day-of-traces : (ps : List Part) → HoldsSoFar reset ps → (t a s c : List ℕ) → beginning t a .number ≡ 0 → AllAdded (beginning t a .bytes) ps → summing (addedAll (beginning t a .bytes) ps) s c .number ≡ 0
+    → summing (addedAll (beginning t a .bytes) ps) s c .bytes ≡ sheetBytes 8 (rowOf (dayFrom begun (dayItems ps))) ++ drop tallyLength s
 unfolding afterItems
-day-of-traces ps h t a b s c e f g =
-    sheet-of-day (addedAll (beginning t a .bytes) b ps) (dayItems ps) (all-loadless ps) (all-carry ps (beginning t a .bytes) b [] (begun-carries t a e) h f) s c g
+day-of-traces ps h t a s c e f g =
+    sheet-of-day (addedAll (beginning t a .bytes) ps) (dayItems ps) (all-loadless ps) (all-carry ps (beginning t a .bytes) [] (begun-carries t a e) h f) s c g
 
--- Of one trace, played from reset, it is the sheet of that trace (02, C-21), each number in eight bytes.
+-- ---- the images are those of the exported plays
+
+had-answer : (e : PlayEnding) (i bs es a : List ℕ) → playTold e i bs es a .number ≡ 0 → playTold e i bs es a ≡ playSettled a e
+had-answer e i bs es a z = go (leb answerLength (length a)) refl
+  where
+    go : (b : Bool) → leb answerLength (length a) ≡ b → playTold e i bs es a ≡ playSettled a e
+    go true r = ap (λ b. cond b (playSettled a e) (playLeaves 7 i bs es a)) r
+    go false r = absurd (seven (ap (λ b. cond b (playSettled a e) (playLeaves 7 i bs es a) .number) (sym r) ∙ z))
+
+-- a play that was done found its image accepted, and played
+record Played (i : List ℕ) (t : PlayTest) : Type 0 where
+  accepts : imageTest i ≡ accepted
+  goes : t ≡ plays
+
+played-by : (l i bs es : List ℕ) (x : ImageTest) (y : TraceTest) (room : Bool) → imageTest i ≡ x → playEnds (playing.imageLeft x (playing.traceLeft y room)) l i i bs es .number ≡ 0 → Played i (playing.imageLeft x (playing.traceLeft y room))
+played-by l i bs es accepted (trace.good first n) true e z = record { accepts = e; goes = refl }
+played-by l i bs es accepted (trace.good first n) false e z = absurd (omega (arith, z))
+played-by l i bs es accepted trace.wrongContents room e z = absurd (omega (arith, z))
+played-by l i bs es accepted (trace.badRecord k) room e z = absurd (omega (arith, z))
+played-by l i bs es wrongLength y room e z = absurd (omega (arith, z))
+played-by l i bs es wrongContents y room e z = absurd (omega (arith, z))
+played-by l i bs es (broken copyDiffers k) y room e z = absurd (omega (arith, z))
+played-by l i bs es (broken manyWait k) y room e z = absurd (omega (arith, z))
+played-by l i bs es (broken badFlag k) y room e z = absurd (omega (arith, z))
+played-by l i bs es (broken unusedSet k) y room e z = absurd (omega (arith, z))
+
+-- A done play of a trace from an image on leaves one that holds the device after its records.
+pub play-hands-on : (p : Part) → Bytes (p .image) → playedPart p .number ≡ 0 → decode (playedPart p .image) ≡ afterItems (decode (p .image)) (items (p .trace))
+unfolding playingOn playOnTest
+play-hands-on p b e =
+    let l = p .trace in
+    let i = p .image in
+    let settled = had-answer (playOnEnding l i (p .answers) (p .events)) i (p .answers) (p .events) (p .told) e in
+    let done = played-by l i (p .answers) (p .events) (imageTest i) (traceTest l) (playRoom l (p .answers) (p .events)) refl (ap (λ (x : PlayLeft). x .number) (sym settled) ∙ e) in
+    ap (λ (x : PlayLeft). decode (x .image)) settled ∙ ap (λ t. decode (playEnds t l i i (p .answers) (p .events) .image)) (done .goes) ∙ hands-on (records l) i b (done .accepts)
+
+holds-so-far : (ps : List Part) (j : List ℕ) → PlayedInTurn j ps → HoldsSoFar (decode j) ps
+holds-so-far [] j h = tt
+holds-so-far (p ∷ ps) j h =
+    let at = ap decode (h .0) in
+    (at, subst (λ (x : Device). HoldsSoFar x ps) (play-hands-on p (h .1) (h .2) ∙ ap (λ (x : Device). afterItems x (items (p .trace))) at) (holds-so-far ps (playedPart p .image) (h .3)))
+
+-- The day by exported calls alone: from an image that holds a reset device, each trace is added on the image that the play before it left, and then played on.
+pub day-by-calls : (i : List ℕ) → decode i ≡ reset → (ps : List Part) → PlayedInTurn i ps → (t a s c : List ℕ) → beginning t a .number ≡ 0 → AllAdded (beginning t a .bytes) ps
+    → summing (addedAll (beginning t a .bytes) ps) s c .number ≡ 0 → summing (addedAll (beginning t a .bytes) ps) s c .bytes ≡ sheetBytes 8 (rowOf (dayFrom begun (dayItems ps))) ++ drop tallyLength s
+day-by-calls i d ps h t a s c e f g = day-of-traces ps (subst (λ (x : Device). HoldsSoFar x ps) d (holds-so-far ps i h)) t a s c e f g
+
+-- ---- one trace
+
+-- Of one trace, from reset, it is the sheet of that trace (02, C-21), each number in eight bytes.
 pub one-trace : (l i : List ℕ) → decode i ≡ reset → (t a b s c : List ℕ) → beginning t a .number ≡ 0 → adding l i (beginning t a .bytes) b .number ≡ 0
     → summing (adding l i (beginning t a .bytes) b .bytes) s c .number ≡ 0 → summing (adding l i (beginning t a .bytes) b .bytes) s c .bytes ≡ sheetBytes 8 (rowOf (dayOf l)) ++ drop tallyLength s
 unfolding addedAll AllAdded
 one-trace l i h t a b s c e f g =
-    day-of-traces (record { trace = l; image = i } ∷ []) (h, tt) t a b s c e (f, tt) g
+    day-of-traces (record { trace = l; image = i; answers = []; events = []; told = []; answer = b } ∷ []) (h, tt) t a s c e (f, tt) g
     ∙ ap (λ (xs : List Item). sheetBytes 8 (rowOf (dayFrom begun xs)) ++ drop tallyLength s) (append-nil (items l))

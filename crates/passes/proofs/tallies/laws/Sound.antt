@@ -3,7 +3,7 @@ use Rattle.basics.proofs.Prelude.{_≡_, refl, sym, ap, _∙_, Bool, true, fals
 use Rattle.images.specs.Image.{ImageTest, accepted, wrongLength, wrongContents, broken}
 use Rattle.calls.specs.Calls.{imageNumber, imageValue}
 use Rattle.passes.specs.tallies.Tally.{numberAt, countedIn, unsound, TallyTest, sound, wrongAt, firstUnsound, tallyTest}
-use Rattle.passes.specs.tallies.Tallying.{AddTest, refused, imageLeft}
+use Rattle.passes.specs.tallies.Tallying.{AddTest, refused, unlessImage}
 
 not-wrong : (a : ℕ) → wrongAt a ≡ sound → ⊥
 not-wrong a e = true≢false (ap isWrong e)
@@ -34,7 +34,7 @@ counted-few t e = leb-false (2 ^ 63) (countedIn t) (low (leb (2 ^ 63) (countedIn
 
 -- ---- the tests of an added trace
 
-pub image-left : (x : ImageTest) (t : AddTest) → (x ≡ accepted → ⊥) → imageLeft x t ≡ refused (imageNumber x) (imageValue x)
+pub image-left : (x : ImageTest) (t : AddTest) → (x ≡ accepted → ⊥) → unlessImage x t ≡ refused (imageNumber x) (imageValue x)
 image-left accepted t n = absurd (n refl)
 image-left wrongLength t n = refl
 image-left wrongContents t n = refl
