@@ -35,15 +35,17 @@ spelt s n r e c p q =
     ap numberOf (sym (part-part s (40 * n) 40 (4 * c) 4 (omega (arith, p))) ∙ ap (part (4 * c) 4) e ∙ cell-of-four r c p) ∙ numberOf-bytesOf 4 (columnOf r c) (omega (arith, q))
 
 module _ (l : List ℕ) {first k : ℕ} (e : traceTest l ≡ good first k) where
-  -- Of a good trace, each input and each column.
+  -- Of a good trace every number is below 2 ^ 32.
+  pub cell-fits : (n : ℕ) → n < 64 → (c : ℕ) → c < 10 → columnOf (rowOf (dayOf l) n) c < 2 ^ 32
+  cell-fits n h c p = let fits = rows-fit l e n h in column-below (520 * 4000) (rowOf (dayOf l) n) (fits .0) (omega arith) (fits .1) c p
+
+  pub total-fits-too : (c : ℕ) → c < 10 → columnOf (totalBelow 64 (rowOf (dayOf l))) c < 2 ^ 32
+  total-fits-too c p = let fits = total-fits l e in column-below (64 * (520 * 4000)) (totalBelow 64 (rowOf (dayOf l))) (fits .0) (omega arith) (fits .1) c p
+
+  -- Each input and each column.
   pub cell-is-exact : (n : ℕ) → n < 64 → (c : ℕ) → c < 10 → numberOf (part (cellPlace false n c) 4 (sheetOf l)) ≡ columnOf (rowOf (dayOf l) n) c
-  cell-is-exact n h c p =
-      let fits = rows-fit l e n h in
-      spelt (sheetOf l) n (rowOf (dayOf l) n) (row-of (rowOf (dayOf l)) n h) c p (column-below (520 * 4000) (rowOf (dayOf l) n) (fits .0) (omega arith) (fits .1) c p)
+  cell-is-exact n h c p = spelt (sheetOf l) n (rowOf (dayOf l) n) (row-of (rowOf (dayOf l)) n h) c p (cell-fits n h c p)
 
   -- And the total.
   pub total-is-exact : (c : ℕ) → c < 10 → numberOf (part (cellPlace false 64 c) 4 (sheetOf l)) ≡ columnOf (totalBelow 64 (rowOf (dayOf l))) c
-  total-is-exact c p =
-      let fits = total-fits l e in
-      let r = totalBelow 64 (rowOf (dayOf l)) in
-      spelt (sheetOf l) 64 r (last-row (rowOf (dayOf l))) c p (column-below (64 * (520 * 4000)) r (fits .0) (omega arith) (fits .1) c p)
+  total-is-exact c p = spelt (sheetOf l) 64 (totalBelow 64 (rowOf (dayOf l))) (last-row (rowOf (dayOf l))) c p (total-fits-too c p)

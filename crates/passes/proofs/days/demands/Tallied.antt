@@ -1,6 +1,6 @@
 -- A day of several traces, counted (02, C-21, carried from trace to trace): begun, each trace added on the image that the records before it leave, and summed, a tally gives the sheet of the plain
 -- engine's history of all their records, numbered over the day.
-use Rattle.basics.proofs.Prelude.{_≡_, refl, sym, ap, subst, _∙_, Bool, true, false, true≢false, cond, _&&_, List, [], _∷_, _++_, append-assoc, append-nil, ℕ, zero, suc, _+_, _%_, _^_, _<_, _≤_, max, arith, eqb, ne-eqb, leb, le-leb, Bytes, length, length-append, drop, test, bytesOf, map}
+use Rattle.basics.proofs.Prelude.{_≡_, refl, sym, ap, subst, _∙_, Bool, true, false, true≢false, cond, _&&_, List, [], _∷_, _++_, append-assoc, append-nil, ℕ, zero, suc, _+_, _%_, _^_, _<_, _≤_, max, arith, eqb, ne-eqb, leb, le-leb, Bytes, length, length-append, drop, test, bytesOf, numberOf, part, map}
 use Rattle.rules.specs.Device.{Device, reset}
 use Rattle.images.specs.Image.{ImageTest, accepted, wrongLength, wrongContents, broken, copyDiffers, manyWait, badFlag, unusedSet, decode, imageTest}
 use Rattle.calls.specs.Calls.{answerLength}
@@ -8,15 +8,15 @@ use Rattle.traces.specs.Trace.{TraceTest, recordCount, traceTest}
 use Rattle.traces.specs.Played.{records}
 use Rattle.traces.proofs.demands.{Told.Means, Told.test-told, Sizes.few-records}
 use Rattle.plain.specs.Sequence.{Item, call, load}
-use Rattle.sheets.specs.{Day.begun, Day.dayFrom, Day.dayOf, Day.items, Day.itemOf, Sheet.Row, Sheet.columnOf, Sheet.bytesOfRow, Sheet.rowsBelow, Sheet.rowOf, Sheet.emptyRow, Sheet.together, Sheet.totalBelow, Sheet.sheetBytes}
-use Rattle.passes.specs.{tallies.Grid.Grid, tallies.Grid.put, tallies.Marks.allMarked, tallies.Marks.dayMarks, Slots.NoLoad, Finish.afterItems, Finish.zeros, Finish.isOn}
+use Rattle.sheets.specs.{Day.begun, Day.dayFrom, Day.dayOf, Day.items, Day.itemOf, Sheet.Row, Sheet.columnOf, Sheet.bytesOfRow, Sheet.rowsBelow, Sheet.rowOf, Sheet.emptyRow, Sheet.together, Sheet.totalBelow, Sheet.sheetBytes, Sheet.sheetOf}
+use Rattle.passes.specs.{tallies.Grid.Grid, tallies.Grid.put, tallies.Grid.cellPlace, tallies.Marks.allMarked, tallies.Marks.dayMarks, Slots.NoLoad, Finish.afterItems, Finish.zeros, Finish.isOn}
 use Rattle.passes.specs.tallies.Tally.{tallyLength, numbersOf, countedIn, tallyBytes, TallyTest, sound, wrongAt, tallyTest}
 use Rattle.passes.specs.tallies.Tallying.{TallyLeft, tallyLeaves, overTally, withRoom, beginning, tallied, AddTest, refused, adds, unlessTally, unlessTrace, unlessImage, addTest, addEnds, adding, longRow, sumEnds, summing}
 use Rattle.traces.specs.plays.Playing.{PlayTest, plays, PlayEnding, playEnds, PlayLeft, playLeaves, playSettled, playTold, playRoom, playOnTest, playOnEnding, playingOn}
 use Rattle.passes.specs.days.Parts.{Part, dayItems, HoldsSoFar, playedPart, PlayedInTurn, addedAll, AllAdded}
-use Rattle.passes.proofs.days.demands.Played.{hands-on}
+use Rattle.passes.proofs.days.demands.{Played.hands-on, Exact.cell-fits, Exact.total-fits-too, Exact.cell-is-exact, Exact.total-is-exact}
 use Rattle.traces.specs.plays.Playing as playing
-use Rattle.passes.proofs.laws.{Finishing.all-from, Passing.cells, Bytes.below-ten, Bytes.no-numbers, Days.items-loadless, Days.items-length}
+use Rattle.passes.proofs.laws.{Finishing.all-from, Passing.cells, Bytes.below-ten, Bytes.no-numbers, Bytes.rows-same, Reading.number-in, Days.items-loadless, Days.items-length}
 use Rattle.passes.proofs.tallies.laws.{Grids.bytes-same, Sound.counted-few}
 use Rattle.passes.proofs.days.laws.Carrying.{after-append, Alike, dayGrid, Carries, carried, alike-then, sum-alike}
 use Rattle.traces.specs.Trace as trace
@@ -284,3 +284,31 @@ unfolding addedAll AllAdded
 one-trace l i h t a b s c e f g =
     day-of-traces (record { trace = l; image = i; answers = []; events = []; told = []; answer = b } ∷ []) (h, tt) t a s c e (f, tt) g
     ∙ ap (λ (xs : List Item). sheetBytes 8 (rowOf (dayFrom begun xs)) ++ drop tallyLength s) (append-nil (items l))
+
+-- its rows and the total as 65 rows
+abbrev withTotal : (ℕ → Row) → ℕ → Row
+withTotal f n = cond (eqb n 64) (totalBelow 64 f) (f n)
+
+long-rows : (f : ℕ → Row) → sheetBytes 8 f ≡ rowsBelow 8 65 (withTotal f)
+unfolding rowsBelow
+long-rows f = ap (λ (xs : List ℕ). xs ++ bytesOfRow 8 (totalBelow 64 f)) (rows-same 8 64 f (withTotal f) (λ n p. ap (λ b. cond b (totalBelow 64 f) (f n)) (sym (ne-eqb n 64 (λ e. omega (arith, e, p))))))
+
+narrow : (x y : ℕ) → x < 2 ^ 32 → y ≡ x → y % 2 ^ 64 ≡ x
+narrow x y h e = omega (arith, h, e)
+
+-- Number by number: the eight bytes of each number of that sheet spell what the four bytes of it in the sheet of `pch_pic_sheet` spell; and so of the total.
+module _ (l rest : List ℕ) {first k : ℕ} (e : traceTest l ≡ trace.good first k) where
+  abbrev long : List ℕ
+  long = sheetBytes 8 (rowOf (dayOf l)) ++ rest
+
+  at : (n c : ℕ) → n < 65 → c < 10 → numbersOf long n c ≡ columnOf (withTotal (rowOf (dayOf l)) n) c % 2 ^ 64
+  at n c p q = ap (λ (xs : List ℕ). numbersOf (xs ++ rest) n c) (long-rows (rowOf (dayOf l))) ∙ number-in (withTotal (rowOf (dayOf l))) rest n c p q
+
+  pub same-numbers : (n : ℕ) → n < 64 → (c : ℕ) → c < 10 → numbersOf long n c ≡ numberOf (part (cellPlace false n c) 4 (sheetOf l))
+  same-numbers n p c q =
+      at n c (omega (arith, p)) q
+      ∙ narrow _ _ (cell-fits l e n p c q) (ap (λ b. columnOf (cond b (totalBelow 64 (rowOf (dayOf l))) (rowOf (dayOf l) n)) c) (ne-eqb n 64 (λ z. omega (arith, z, p))))
+      ∙ sym (cell-is-exact l e n p c q)
+
+  pub same-total : (c : ℕ) → c < 10 → numbersOf long 64 c ≡ numberOf (part (cellPlace false 64 c) 4 (sheetOf l))
+  same-total c q = at 64 c (omega arith) q ∙ narrow _ _ (total-fits-too l e c q) refl ∙ sym (total-is-exact l e c q)
