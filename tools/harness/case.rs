@@ -16,6 +16,9 @@ pub enum Front {
     EndStartup,
     Salvage,
     Sheet,
+    TallyBegin,
+    TallyAdd,
+    TallySheet,
 }
 
 impl Front {
@@ -31,6 +34,9 @@ impl Front {
             Front::Hoist(_) | Front::EndStartup => &["image", "phase", "answer"],
             Front::Salvage => &["trace", "kept", "list", "answer"],
             Front::Sheet => &["trace", "sheet", "answer"],
+            Front::TallyBegin => &["tally", "answer"],
+            Front::TallyAdd => &["trace", "image", "tally", "answer"],
+            Front::TallySheet => &["tally", "sheet", "answer"],
         }
     }
 }

@@ -3,7 +3,7 @@
 //! Every number has its little end first. A file begins with the letters PCHPICC1, the number of cases in 4 bytes, and 4 zero bytes. Then come the cases:
 //!
 //!   0       the front: 1 a plain call, 2 convert, 3 difference, 4 play, 5 salvage, 6 a call with a board, 7 an event that a board hears, 8 a call of the
-//!           hoist profile, 9 its end of start-up, 10 sheet
+//!           hoist profile, 9 its end of start-up, 10 sheet, 11 to 13 a tally's begin, add and sheet
 //!   1       of 1, 6 and 8 the call: 1 reset, 2 read, 3 write, 4 level, 5 poll, 6 drain; 0 of all others
 //!   2       the number handed back
 //!   3       1 where an empty area is lent as a null pointer, else 0
@@ -50,6 +50,9 @@ fn coded(front: &Front) -> (u8, u8, Vec<u64>) {
         Front::Hoist(call) => of(8, call),
         Front::EndStartup => (9, 0, vec![]),
         Front::Sheet => (10, 0, vec![]),
+        Front::TallyBegin => (11, 0, vec![]),
+        Front::TallyAdd => (12, 0, vec![]),
+        Front::TallySheet => (13, 0, vec![]),
     }
 }
 
@@ -71,6 +74,9 @@ fn decoded(front: u8, call: u8, bytes: &mut Bytes) -> Option<Front> {
         (8, 1..=3) => Front::Hoist(Call::decoded(call, &numbers)?),
         (9, 0) => Front::EndStartup,
         (10, 0) => Front::Sheet,
+        (11, 0) => Front::TallyBegin,
+        (12, 0) => Front::TallyAdd,
+        (13, 0) => Front::TallySheet,
         _ => return None,
     })
 }

@@ -66,6 +66,9 @@ fn front_words(front: &Front) -> String {
         Front::EndStartup => "hoist-end".into(),
         Front::Salvage => "salvage".into(),
         Front::Sheet => "sheet".into(),
+        Front::TallyBegin => "tally-begin".into(),
+        Front::TallyAdd => "tally-add".into(),
+        Front::TallySheet => "tally-sheet".into(),
     }
 }
 
@@ -89,6 +92,7 @@ pub fn parse_front(words: &[String]) -> Option<Result<Case, String>> {
     let (name, words) = words.split_first()?;
     let known = match name.as_str() {
         "salvage" | "sheet" | "hoist-end" | "board-event" | "front-convert" | "front-difference" | "front-play" => name.as_str(),
+        "tally-begin" | "tally-add" | "tally-sheet" => name.as_str(),
         name => name.split_once('-').filter(|(front, _)| ["plain", "board", "hoist"].contains(front))?.1,
     };
     Some(case_of(name, known, words))
@@ -116,6 +120,7 @@ fn case_of(name: &str, call: &str, words: &[String]) -> Result<Case, String> {
         "kept",
         "list",
         "sheet",
+        "tally",
         "later",
         "earlier",
         "target",
@@ -131,6 +136,9 @@ fn case_of(name: &str, call: &str, words: &[String]) -> Result<Case, String> {
         "front-play" => Front::Play,
         "salvage" => Front::Salvage,
         "sheet" => Front::Sheet,
+        "tally-begin" => Front::TallyBegin,
+        "tally-add" => Front::TallyAdd,
+        "tally-sheet" => Front::TallySheet,
         "hoist-end" => Front::EndStartup,
         "board-event" => Front::Event { vector: byte("vector")?, flag: byte("flag")? },
         _ => match (call_of(call, &fields)?, name.split('-').next()) {

@@ -1,4 +1,4 @@
-//! The 24 calls as C has them, over slices: `include/pch_pic.h` of the repository tells each. The rest of the crate is types around them.
+//! The 27 calls as C has them, over slices: `include/pch_pic.h` of the repository tells each. The rest of the crate is types around them.
 //!
 //! Each is lent an answer area of at least 16 bytes and hands back a number: 0 where it was done, else why it was refused ([`Error`](crate::Error) has the
 //! numbers). None requires anything of its bytes, numbers and lengths, and none panics, whatever they are.
@@ -21,6 +21,7 @@
 //! - `pch_pic_hoist_reset`, `_read`, `_write` and `_end_startup` hold a guest to the hoist profile.
 //! - `pch_pic_convert` moves an image to another form.
 //! - `pch_pic_play`, `_salvage` and `_sheet` take a trace.
+//! - `pch_pic_tally_begin`, `_add` and `_sheet` count a day of several traces.
 //! - `pch_pic_difference` tells how far one number of an event is ahead of another.
 //!
 //! What a call is proved to do stands with it, as the proof has it: `ensures` says what holds after it.
