@@ -1,7 +1,7 @@
 //! The files of recorded cases, tests/recorded; their form is told at the top of tools/harness/case_records.rs.
 
 use crate::Score;
-use crate::areas::{ANSWER, ANSWERS, Area, Areas, BOARD, DIFFERENCE, EVENTS, IMAGE, KEPT, LIST, LONGEST, PHASE, SHEET, TARGET, TRACE};
+use crate::areas::{ANSWER, ANSWERS, Area, Areas, BOARD, DIFFERENCE, EVENTS, IMAGE, KEPT, LIST, LONGEST, PHASE, SHEET, TALLY, TARGET, TRACE};
 use crate::bytes::Bytes;
 use crate::library::*;
 
@@ -45,6 +45,9 @@ fn names(front: u8) -> Option<&'static [usize]> {
         7 => &[BOARD, ANSWER],
         8 | 9 => &[IMAGE, PHASE, ANSWER],
         10 => &[TRACE, SHEET, ANSWER],
+        11 => &[TALLY, ANSWER],
+        12 => &[TRACE, IMAGE, TALLY, ANSWER],
+        13 => &[TALLY, SHEET, ANSWER],
         _ => return None,
     })
 }
@@ -101,9 +104,21 @@ impl Case {
             }
             6 | 7 => with_board(self, areas)?,
             8 | 9 => under_profile(self, areas)?,
-            _ => {
+            10 => {
                 let [(t, tl), (s, sl), (a, al)] = areas.lent([TRACE, SHEET, ANSWER]);
                 unsafe { pch_pic_sheet(t, tl, s, sl, a, al) }
+            }
+            11 => {
+                let [(t, tl), (a, al)] = areas.lent([TALLY, ANSWER]);
+                unsafe { pch_pic_tally_begin(t, tl, a, al) }
+            }
+            12 => {
+                let [(r, rl), (i, il), (t, tl), (a, al)] = areas.lent([TRACE, IMAGE, TALLY, ANSWER]);
+                unsafe { pch_pic_tally_add(r, rl, i, il, t, tl, a, al) }
+            }
+            _ => {
+                let [(t, tl), (s, sl), (a, al)] = areas.lent([TALLY, SHEET, ANSWER]);
+                unsafe { pch_pic_tally_sheet(t, tl, s, sl, a, al) }
             }
         })
     }

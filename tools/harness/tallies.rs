@@ -95,7 +95,7 @@ pub fn day(bench: &mut Bench, cases: &mut Cases, parts: &[Part], mut image: Vec<
     Some(last)
 }
 
-fn number(bytes: &[u8], k: usize) -> u64 {
+pub fn number(bytes: &[u8], k: usize) -> u64 {
     u64::from_le_bytes(bytes[8 * k..8 * k + 8].try_into().expect("eight bytes"))
 }
 
@@ -169,7 +169,7 @@ pub fn sweep(bench: &mut Bench, chance: &mut Chance) {
         from_reset(bench, &mut cases, &parts, form);
     }
     lengths(bench, &mut cases);
-    limits(bench, &mut cases);
+    limits(bench, &mut cases, 1);
     faults(bench, &mut cases);
     // every kind of record with each byte of it another
     for good in EACH {
@@ -197,10 +197,10 @@ fn lengths(bench: &mut Bench, cases: &mut Cases) {
     }
 }
 
-/// Each number as great as it can be, and one more.
-fn limits(bench: &mut Bench, cases: &mut Cases) {
+/// Each number, or one in so many, as great as it can be, and one more.
+pub fn limits(bench: &mut Bench, cases: &mut Cases, step: usize) {
     let good = trace::bytes(&some(6), &[4, 2]);
-    for k in 0..650 {
+    for k in (0..650).step_by(step) {
         for (counted, number) in [(4000, LIMIT - 1), (4000, LIMIT), (LIMIT - 1, LIMIT - 1), (4000, 4000), (4000, 4001), (0, 1), (4000, u64::MAX)] {
             let mut tally = vec![0; LENGTH];
             put(&mut tally, COUNTED, counted);
@@ -282,7 +282,7 @@ pub fn unsound(chance: &mut Chance) -> Vec<u8> {
     tally
 }
 
-fn part(chance: &mut Chance, length: usize) -> Part {
+pub fn part(chance: &mut Chance, length: usize) -> Part {
     let records = if chance.percent(50) { random_records(chance, length) } else { sheets::waiting(chance, length) };
     (records, cut(chance, length))
 }

@@ -20,10 +20,21 @@ use core::fmt;
 pub const COLUMNS: [&str; 10] =
     ["raises", "lowers", "asserts", "deasserts", "returned", "offered", "dropped", "greatest wait", "withdrawn", "open"];
 
-/// The numbers of one input, or the total: sums, and of the waits the greatest. Refused records count as none, and keep their number. Those of a
-/// [`Tally`](crate::Tally) are `u64`.
+/// A row of a trace's sheet.
+pub type Row = RowOf<u32>;
+
+/// A row of a tally's, in numbers of 64 bits.
+pub type LongRow = RowOf<u64>;
+
+/// The sheet of a trace. [`Trace::sheet`] makes it.
+pub type Sheet = SheetOf<u32>;
+
+/// The sheet of several traces, in numbers of 64 bits. [`Tally::sheet`](crate::Tally::sheet) makes it.
+pub type LongSheet = SheetOf<u64>;
+
+/// The numbers of one input, or the total: sums, and of the waits the greatest. Refused records count as none, and keep their number.
 #[derive(Clone, Copy, Debug, Default, PartialEq, Eq, Hash)]
-pub struct Row<N = u32> {
+pub struct RowOf<N> {
     /// Raises done.
     pub raises: N,
     /// Lowers done.
@@ -46,12 +57,12 @@ pub struct Row<N = u32> {
     pub open: N,
 }
 
-impl<N: Copy> Row<N> {
+impl<N: Copy> RowOf<N> {
     /// Ten numbers one after another, each made of so many of the bytes.
     fn from_bytes(bytes: &[u8], of: fn(u64) -> N) -> Self {
         let mut numbers = bytes.chunks_exact(bytes.len() / COLUMNS.len()).map(|bytes| of(contents::number(bytes)));
         let mut next = || numbers.next().expect("a row has ten numbers");
-        Row {
+        RowOf {
             raises: next(),
             lowers: next(),
             asserts: next(),
@@ -82,19 +93,19 @@ impl<N: Copy> Row<N> {
     }
 }
 
-impl<N: Default + PartialEq> Row<N> {
+impl<N: Default + PartialEq> RowOf<N> {
     /// Whether all of them are 0: the input did nothing.
     pub fn is_idle(&self) -> bool {
-        *self == Row::default()
+        *self == RowOf::default()
     }
 }
 
-/// The sheet of a day. [`Trace::sheet`] makes it, and that of several traces [`Tally::sheet`](crate::Tally::sheet).
+/// The sheet of a day: [`Sheet`] or [`LongSheet`].
 #[derive(Clone, Debug, PartialEq, Eq, Hash)]
-pub struct Sheet<N = u32> {
+pub struct SheetOf<N> {
     records: usize,
-    inputs: [Row<N>; INPUTS],
-    total: Row<N>,
+    inputs: [RowOf<N>; INPUTS],
+    total: RowOf<N>,
 }
 
 impl Trace {
@@ -106,12 +117,12 @@ impl Trace {
     }
 }
 
-impl<N: Copy> Sheet<N> {
+impl<N: Copy> SheetOf<N> {
     /// The rows of inputs 0 to 63, and the total.
     pub(crate) fn from_bytes(records: usize, bytes: &[u8], of: fn(u64) -> N) -> Self {
         let len = bytes.len() / (INPUTS + 1);
-        let row = |number: usize| Row::from_bytes(&bytes[len * number..][..len], of);
-        Sheet { records, inputs: core::array::from_fn(row), total: row(INPUTS) }
+        let row = |number: usize| RowOf::from_bytes(&bytes[len * number..][..len], of);
+        SheetOf { records, inputs: core::array::from_fn(row), total: row(INPUTS) }
     }
 
     /// How many records the day has.
@@ -120,22 +131,22 @@ impl<N: Copy> Sheet<N> {
     }
 
     /// The row of an input; none where it is 64 or more.
-    pub fn input(&self, input: usize) -> Option<&Row<N>> {
+    pub fn input(&self, input: usize) -> Option<&RowOf<N>> {
         self.inputs.get(input)
     }
 
     /// The rows of inputs 0 to 63.
-    pub fn inputs(&self) -> &[Row<N>; INPUTS] {
+    pub fn inputs(&self) -> &[RowOf<N>; INPUTS] {
         &self.inputs
     }
 
     /// The last row.
-    pub fn total(&self) -> &Row<N> {
+    pub fn total(&self) -> &RowOf<N> {
         &self.total
     }
 }
 
-impl<N: Copy + fmt::Display> Sheet<N> {
+impl<N: Copy + fmt::Display> SheetOf<N> {
     /// The sheet for a program: a line of names, and a line for each input and the total, with commas between.
     pub fn csv(&self) -> String {
         let names = COLUMNS.map(|name| name.replace(' ', "_"));
@@ -160,7 +171,7 @@ fn line(f: &mut fmt::Formatter<'_>, label: &str, cells: impl Iterator<Item = Str
     writeln!(f)
 }
 
-impl<N: Copy + Default + PartialEq + fmt::Display> fmt::Display for Sheet<N> {
+impl<N: Copy + Default + PartialEq + fmt::Display> fmt::Display for SheetOf<N> {
     /// A table for people: inputs that did nothing are left out, and the total comes last.
     fn fmt(&self, f: &mut fmt::Formatter<'_>) -> fmt::Result {
         line(f, "input", COLUMNS.iter().map(|name| name.to_string()))?;

@@ -26,15 +26,9 @@
 //! # Ok::<(), Box<dyn std::error::Error>>(())
 //! ```
 
-use crate::sheet::{Row, Sheet};
+use crate::sheet::LongSheet;
 use crate::{contents, outcome, Error, Form, PchPic, Trace, INPUTS, LONG_SHEET_LEN, TALLY_LEN};
 use core::fmt;
-
-/// A row of the sheet of a tally, in numbers of 64 bits.
-pub type LongRow = Row<u64>;
-
-/// The sheet of a tally, in numbers of 64 bits.
-pub type LongSheet = Sheet<u64>;
 
 /// Where the number of records stands: behind the rows of the inputs.
 const RECORDS: usize = TALLY_LEN / (INPUTS + 1) * INPUTS;
@@ -92,6 +86,6 @@ impl Tally {
     pub fn sheet(&self) -> Result<LongSheet, Error> {
         let mut bytes = [0; LONG_SHEET_LEN];
         outcome::tally_sheet(&self.bytes, &mut bytes)?;
-        Ok(Sheet::from_bytes(self.records() as usize, &bytes, |number| number))
+        Ok(LongSheet::from_bytes(self.records() as usize, &bytes, |number| number))
     }
 }
