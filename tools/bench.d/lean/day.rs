@@ -118,8 +118,8 @@ impl Day<'_> {
                 self.retract(!old & self.mask, false);
             }
             0x080 => {
-                // only a latched input can wait
-                let mut left = placed & self.irr;
+                // only a latched input can wait; but in a tally that was lent with another image than its own any can
+                let mut left = if BYTES == 8 { placed } else { placed & self.irr };
                 while left != 0 {
                     self.withdraw(left.trailing_zeros() as usize);
                     left &= left - 1;
