@@ -1,5 +1,5 @@
 // Made from crates/pch_pic_tally/src/soundness.rt by tools/portable: do not change it here.
-//! Which bytes are a tally: no number of 2^63 or more, and no wait that began behind all records. So no sum that is made of them passes 2^64.
+//! From which bytes can be counted on: no number of 2^63 or more, and no wait that began behind all records. So no number that an add makes passes 2^64.
 
 use super::super::answer::Told;
 use super::super::answer::Value;
