@@ -147,10 +147,35 @@
  * input, withdraws it. Masking does not end it, nor does a write to ISR, which makes no event. The total has the sum of each column, and of the waits
  * the greatest. hosts/c/sheet.c and Trace::sheet of hosts/rust name the columns, './run --sheet FILE' prints them, and tools/day draws the day.
  *
+ * A DAY OF SEVERAL TRACES. A trace has at most 4000 records. A longer day is several traces: the first is played by pch_pic_play, and each further one by
+ * pch_pic_play_on, on the image that the one before it left. A tally carries a sheet from trace to trace: PCH_PIC_TALLY_LEN bytes, which the host owns, 65 rows
+ * of ten numbers, each a u64 with its little end first; number c of row r stands at byte PCH_PIC_LONG_ROW_LEN * r + 8 * c.
+ *     - Rows 0 to 63 have the columns of a sheet, but for the last: that is 0, or 1 + the number of the raise whose wait is not over. Records are counted from
+ *       0 over the whole day, so a wait may begin in one trace and end in another.
+ *     - Of row 64 the first number is how many records were counted so far. The other nine are 0 after pch_pic_tally_begin, and no call changes them.
+ * pch_pic_tally_add counts the records of one trace. It wants the image as it was before the first of them, so it comes before the play, and it leaves the image:
+ *
+ *     uint8_t tally[PCH_PIC_TALLY_LEN], sheet[PCH_PIC_LONG_SHEET_LEN];
+ *     pch_pic_tally_begin(tally, sizeof tally, answer, sizeof answer);
+ *     pch_pic_reset(image, sizeof image, answer, sizeof answer);
+ *     pch_pic_tally_add(first, first_len, image, sizeof image, tally, sizeof tally, answer, sizeof answer);
+ *     pch_pic_play(first, first_len, image, sizeof image, answers, sizeof answers, events, sizeof events, answer, sizeof answer);
+ *     // and for each further trace, in the order of the day:
+ *     pch_pic_tally_add(next, next_len, image, sizeof image, tally, sizeof tally, answer, sizeof answer);
+ *     pch_pic_play_on(next, next_len, image, sizeof image, answers, sizeof answers, events, sizeof events, answer, sizeof answer);
+ *     // at any time, and again later:
+ *     pch_pic_tally_sheet(tally, sizeof tally, sheet, sizeof sheet, answer, sizeof answer);
+ *
+ * pch_pic_tally_sheet writes the sheet of all records so far, PCH_PIC_LONG_SHEET_LEN bytes: the rows and columns of a sheet in numbers of eight bytes, waits that are
+ * not over as open ones, and the total. Of one trace from a reset these are the numbers of pch_pic_sheet. Waits are in records of the whole day. A host that keeps a
+ * day in files keeps the tally and the image beside them. Any bytes get an answer: 17 says that they cannot be counted on from, and other bytes that are no
+ * tally are not found out.
+ *
  * THE STACK. Nothing is on the heap. Below its caller a call of the proved archive uses so many bytes of stack, the return address included, as tools/bench
  * --stack measured them (docs/PERFORMANCE.md says on what); a difference uses the return address alone:
  *     pch_pic_reset 16, pch_pic_read 104, pch_pic_write 144, pch_pic_level 80, pch_pic_poll 64, pch_pic_drain 105, pch_pic_waiting 56,
  *     pch_pic_convert 500, pch_pic_play 400, pch_pic_play_on 400, pch_pic_salvage 192, pch_pic_sheet 120,
+ *     pch_pic_tally_begin 8, pch_pic_tally_add 120, pch_pic_tally_sheet 16,
  *     pch_pic_board_reset 32, pch_pic_board_read 120, pch_pic_board_write 160, pch_pic_board_level 104, pch_pic_board_poll 88, pch_pic_board_drain 129,
  *     pch_pic_board_event 8,
  *     pch_pic_hoist_reset 24, pch_pic_hoist_read 88, pch_pic_hoist_write 144, pch_pic_hoist_end_startup 57,
@@ -185,9 +210,10 @@
  * THE HOST'S DUTIES. No call can test these:
  *     - each pointer is good for as many bytes as the length beside it says; a null pointer with length 0 is an empty buffer;
  *     - the image, the board, the phase, the answer area and the event buffer or the target of one call do not overlap, nor do the five areas of a play, nor
- *       the four of a salvage, nor the three of a sheet;
- *     - while a call other than a read, pch_pic_waiting or a conversion runs on an image, no other call runs on it. These may run side by side on one image,
- *       each with its own answer area, board and target: they only load from it. Calls on different images may always run side by side.
+ *       the four of a salvage, nor the three of a sheet, nor those of a call on a tally;
+ *     - while a call other than a read, pch_pic_waiting, a conversion or what is added to a tally runs on an image, no other call runs on it. These may run
+ *       side by side on one image, each with its own answer area, board, target and tally: they only load from it. Calls on different images may always run
+ *       side by side.
  */
 #ifndef PCH_PIC_H
 #define PCH_PIC_H
@@ -252,7 +278,10 @@ enum {
     PCH_PIC_DROPPED_MAX = 252,         /* bytes that have room for every list: 63 blocks dropped, and one kept */
     PCH_PIC_SHEET_LEN = 2600,          /* bytes of a sheet */
     PCH_PIC_SHEET_ROWS = 65,           /* rows of a sheet: inputs 0 to 63, and the total */
-    PCH_PIC_SHEET_ROW_LEN = 40         /* bytes of a row: ten numbers of four bytes */
+    PCH_PIC_SHEET_ROW_LEN = 40,        /* bytes of a row: ten numbers of four bytes */
+    PCH_PIC_TALLY_LEN = 5200,          /* bytes of a tally, which carries a sheet over several traces */
+    PCH_PIC_LONG_SHEET_LEN = 5200,     /* bytes of the sheet of a tally */
+    PCH_PIC_LONG_ROW_LEN = 80          /* bytes of a row of both: ten numbers of eight bytes */
 };
 
 /* The window of the calls that a trace is played by: base 0, and so many bytes. */
@@ -343,7 +372,8 @@ enum {
 
 /* The numbers handed back. A call tests for them in the order 7, 4, 5, 8, 9, 10, 11, then 3, or 2 before 1, and hands back the first
  * that holds; pch_pic_play in the order 7, 4, 12, 13, 7, pch_pic_play_on 7, 4, 5, 8 to 11, 12, 13, 7, pch_pic_salvage 7, 12, 16, 7, and pch_pic_sheet
- * 7, 12, 13; the calls of the hoist profile end with 14 before 15. There is no 6 any more. */
+ * 7, 12, 13; the calls of the hoist profile end with 14 before 15. pch_pic_tally_add tests in the order 7, 4, 5, 8 to 11, 12, 13, 17, and
+ * pch_pic_tally_sheet 7, 17. There is no 6 any more. */
 enum pch_pic_number {
     PCH_PIC_DONE = 0,     /* the call was done */
     PCH_PIC_OUTSIDE = 1,  /* not all bytes of the access are inside the window; the value is the address */
@@ -351,8 +381,8 @@ enum pch_pic_number {
     PCH_PIC_INPUT = 3,    /* the input is 64 or more */
     PCH_PIC_LENGTH = 4,   /* an image, or a conversion's target, is not 290, 259 or 251 bytes long */
     PCH_PIC_CONTENTS = 5, /* the image's first bytes, 27 of 290 or else 22, are not those of the form that its length says */
-    PCH_PIC_ROOM = 7,     /* the answer area is under 16 bytes, a board under 256, a sheet under 2600, no phase is lent, a drain's place is past its
-                             buffer's end, or a play's answers or events or a salvage's second buffer or list are short */
+    PCH_PIC_ROOM = 7,     /* the answer area is under 16 bytes, a board under 256, a sheet under 2600, a tally or the sheet of one under 5200, no
+                             phase is lent, a drain's place is past its buffer's end, or a play's answers or events or a salvage's second buffer or list are short */
     /* A rule of the form is broken; the value is the place in the image of the byte that breaks it, the first where there are several. */
     PCH_PIC_COPY = 8,     /* of form 1 alone: the copy of IRR differs from IRR; the place of its first byte */
     PCH_PIC_COUNT = 9,    /* more than 16 events wait */
@@ -364,7 +394,9 @@ enum pch_pic_number {
     /* Of the hoist profile. */
     PCH_PIC_ALIGN = 14,   /* the access is no Dword at an offset that 4 divides */
     PCH_PIC_PROFILE = 15, /* the write is not for this guest, or start-up cannot end */
-    PCH_PIC_EMPTY = 16    /* of a salvage: every block has a bad record, so that none is left */
+    PCH_PIC_EMPTY = 16,   /* of a salvage: every block has a bad record, so that none is left */
+    PCH_PIC_TALLY = 17    /* the tally has a number of 2^63 or more, or an open wait above its number of records; the value is the place of the first such
+                             number's first byte */
 };
 
 /* A number in words. */
@@ -387,6 +419,7 @@ static inline const char *pch_pic_why(int number)
     case PCH_PIC_ALIGN: return "the access is no aligned Dword";
     case PCH_PIC_PROFILE: return "the profile does not allow the write, or start-up cannot end";
     case PCH_PIC_EMPTY: return "the trace has no block without a bad record";
+    case PCH_PIC_TALLY: return "the tally has a number that none can have";
     default: return "unknown number";
     }
 }
@@ -533,6 +566,22 @@ uint8_t pch_pic_hoist_end_startup(const uint8_t *image, size_t image_len, uint8_
  * sheet are written, and those past them stay. The value is the number of records. A refusal leaves the sheet. Refusals: 7 (the answer area, or a sheet
  * under 2600 bytes), 12, 13 with the number of the first bad record. */
 uint8_t pch_pic_sheet(const uint8_t *trace, size_t trace_len, uint8_t *sheet, size_t sheet_len, uint8_t *answer, size_t answer_len);
+
+/* Makes the first 5200 bytes of tally a tally that has counted nothing: zeros. Those past them stay. No value. Refusals: 7 (the answer area, or a tally under
+ * 5200 bytes). */
+uint8_t pch_pic_tally_begin(uint8_t *tally, size_t tally_len, uint8_t *answer, size_t answer_len);
+
+/* Counts the records of a trace into the tally, as told above under A DAY OF SEVERAL TRACES: what they make, played one after another on the device that image
+ * holds. The image, of any form, is only read, and nothing is played for the host. Of the tally the numbers of the inputs and that of the records change, and
+ * bytes past the first 5200 stay. No value. A refusal leaves the tally. Refusals: 7 (the answer area, or a tally under 5200 bytes), 4, 5, 8 to 11, 12, 13 with the number of
+ * the first bad record in this trace, 17. */
+uint8_t pch_pic_tally_add(const uint8_t *trace, size_t trace_len, const uint8_t *image, size_t image_len, uint8_t *tally, size_t tally_len,
+                          uint8_t *answer, size_t answer_len);
+
+/* Writes the sheet of all records that a tally has counted to the first 5200 bytes of sheet; those past them stay, and the tally is only read. Sums of the
+ * total that pass 2^64 leave their low 64 bits; no day comes near. No value. A refusal leaves the sheet. Refusals: 7 (the answer area, or tally or sheet under 5200 bytes),
+ * 17. */
+uint8_t pch_pic_tally_sheet(const uint8_t *tally, size_t tally_len, uint8_t *sheet, size_t sheet_len, uint8_t *answer, size_t answer_len);
 
 /* How far one event's number is ahead of another's: later minus earlier, below 0 where it is the older. Numbers go round, so it is the one from -32768 to
  * 32767 that differs from later - earlier by a multiple of 65536: 3 is 5 ahead of 65534, and 32768 ahead reads as -32768. It refuses nothing. */

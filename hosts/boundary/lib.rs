@@ -124,5 +124,8 @@ exported! {
                         answer with answer_len: *mut u8) -> u8;
     pch_pic_hoist_end_startup(image with image_len: *const u8, phase with phase_len: *mut u8, answer with answer_len: *mut u8) -> u8;
     pch_pic_sheet(trace with trace_len: *const u8, sheet with sheet_len: *mut u8, answer with answer_len: *mut u8) -> u8;
+    pch_pic_tally_begin(tally with tally_len: *mut u8, answer with answer_len: *mut u8) -> u8;
+    pch_pic_tally_add(trace with trace_len: *const u8, image with image_len: *const u8, tally with tally_len: *mut u8, answer with answer_len: *mut u8) -> u8;
+    pch_pic_tally_sheet(tally with tally_len: *const u8, sheet with sheet_len: *mut u8, answer with answer_len: *mut u8) -> u8;
     pch_pic_difference(later: u16, earlier: u16) -> i16;
 }

@@ -778,6 +778,155 @@ static void sheet_refusals(void)
     expect("the longest trace is counted", count(ANSWER) == 0 && answers(0, 1, 4000) && sheet[0] == 1 && sheet[36] == 1);
 }
 
+/* A tally with a guard behind it, and the sheet of one: this much of each is lent. */
+static uint8_t tally[PCH_PIC_TALLY_LEN + GUARD], long_sheet[PCH_PIC_LONG_SHEET_LEN + GUARD];
+static size_t tally_len, long_len;
+
+/* Whether these bytes stayed as they were filled. */
+static int filled(const uint8_t *bytes, size_t from, size_t to, uint8_t with)
+{
+    for (size_t i = from; i < to; i++) {
+        if (bytes[i] != with) {
+            return 0;
+        }
+    }
+    return 1;
+}
+
+static void fresh_tally(void)
+{
+    memset(tally, 0, PCH_PIC_TALLY_LEN);
+    memset(tally + PCH_PIC_TALLY_LEN, 0x96, GUARD);
+    tally_len = PCH_PIC_TALLY_LEN;
+    long_len = PCH_PIC_LONG_SHEET_LEN;
+}
+
+static uint8_t add(size_t answer_len)
+{
+    guard();
+    return pch_pic_tally_add(trace, trace_len, image, image_len, tally, tally_len, answer, answer_len);
+}
+
+static uint8_t sum(size_t answer_len)
+{
+    guard();
+    memset(long_sheet, 0x69, sizeof long_sheet);
+    return pch_pic_tally_sheet(tally, tally_len, long_sheet, long_len, answer, answer_len);
+}
+
+/* A number of a tally or its sheet. */
+static uint64_t cell(const uint8_t *bytes, size_t row, size_t column)
+{
+    uint64_t number = 0;
+    for (size_t i = 8; i-- > 0;) {
+        number = number << 8 | bytes[PCH_PIC_LONG_ROW_LEN * row + 8 * column + i];
+    }
+    return number;
+}
+
+static void put_cell(size_t row, size_t column, uint64_t number)
+{
+    for (size_t i = 0; i < 8; i++) {
+        tally[PCH_PIC_LONG_ROW_LEN * row + 8 * column + i] = (uint8_t)(number >> (8 * i));
+    }
+}
+
+static int long_row_is(size_t row, const uint32_t numbers[PCH_PIC_SHEET_COLUMNS])
+{
+    for (size_t column = 0; column < PCH_PIC_SHEET_COLUMNS; column++) {
+        if (cell(long_sheet, row, column) != numbers[column]) {
+            return 0;
+        }
+    }
+    return 1;
+}
+
+/* One day in two traces on an image of this length: input 9 is raised by record 1, and the unmask of record 4 asserts it. */
+static void tallied(size_t length)
+{
+    static const uint32_t waits[PCH_PIC_SHEET_COLUMNS] = {1, 0, 0, 0, 0, 0, 0, 0, 0, 1}, over[PCH_PIC_SHEET_COLUMNS] = {1, 1, 1, 1, 1, 1, 0, 3, 0, 0};
+    static uint8_t before[NUMBERED];
+    image_len = length;
+    pch_pic_reset(image, image_len, answer, ANSWER);
+    memset(tally, 0x96, sizeof tally);
+    tally_len = PCH_PIC_TALLY_LEN;
+    long_len = PCH_PIC_LONG_SHEET_LEN;
+    guard();
+    expect("a tally begins", pch_pic_tally_begin(tally, tally_len, answer, ANSWER) == 0 && answers(0, 0, 0) && filled(tally, 0, PCH_PIC_TALLY_LEN, 0) &&
+                                 filled(tally, PCH_PIC_TALLY_LEN, sizeof tally, 0x96));
+    contents(1, 3);
+    record(0, PCH_PIC_DRAIN, 0, 0, 0);
+    record(1, PCH_PIC_RAISE, 9, 0, 0);
+    record(2, PCH_PIC_DRAIN, 0, 0, 0);
+    memcpy(before, image, length);
+    expect("the first trace is counted", add(ANSWER) == 0 && answers(0, 0, 0) && memcmp(before, image, length) == 0);
+    expect("its wait is not over", cell(tally, 9, PCH_PIC_SHEET_RAISES) == 1 && cell(tally, 9, PCH_PIC_SHEET_OPEN) == 2 && cell(tally, 64, 0) == 3);
+    expect("it is open on the sheet", sum(ANSWER) == 0 && answers(0, 0, 0) && long_row_is(9, waits) && long_row_is(PCH_PIC_SHEET_TOTAL, waits) &&
+                                          filled(long_sheet, PCH_PIC_LONG_SHEET_LEN, sizeof long_sheet, 0x69));
+    pch_pic_level(image, image_len, 9, 1, answer, ANSWER);
+    contents(1, 3);
+    record(0, PCH_PIC_RAISE, 64, 0, 0);
+    record(1, PCH_PIC_WRITE, 8, PCH_PIC_REG_MASK, 0);
+    record(2, PCH_PIC_LOWER, 9, 0, 0);
+    expect("the second trace goes on", add(ANSWER) == 0 && answers(0, 0, 0) && cell(tally, 64, 0) == 6 && cell(tally, 9, PCH_PIC_SHEET_OPEN) == 0);
+    expect("a wait over both is counted", sum(ANSWER) == 0 && long_row_is(9, over) && long_row_is(PCH_PIC_SHEET_TOTAL, over));
+    expect("bytes past the tally stay", filled(tally, PCH_PIC_TALLY_LEN, sizeof tally, 0x96));
+}
+
+/* What no tally can have: a number of 2^63, and a wait that began behind all records. */
+static void no_tallies(void)
+{
+    small_day();
+    image_len = NUMBERED;
+    pch_pic_reset(image, image_len, answer, ANSWER);
+    fresh_tally();
+    put_cell(64, 9, UINT64_C(1) << 63);
+    expect("17: the last number", add(ANSWER) == 17 && answers(17, 1, 5192) && sum(ANSWER) == 17 && answers(17, 1, 5192));
+    put_cell(63, 9, 1);
+    expect("17: an open wait above the records", sum(ANSWER) == 17 && answers(17, 1, 5112) && filled(long_sheet, 0, sizeof long_sheet, 0x69));
+    put_cell(0, 0, UINT64_MAX);
+    expect("17: the first wrong number", add(ANSWER) == 17 && answers(17, 1, 0));
+    fresh_tally();
+    put_cell(64, 0, 1);
+    put_cell(63, 9, 1);
+    put_cell(5, 0, (UINT64_C(1) << 63) - 1);
+    expect("the greatest numbers pass", sum(ANSWER) == 0 && cell(long_sheet, 5, 0) == (UINT64_C(1) << 63) - 1 && cell(long_sheet, 63, 9) == 1);
+    expect("and are counted on", add(ANSWER) == 0 && cell(tally, 5, 0) == (UINT64_C(1) << 63) + 1 && sum(ANSWER) == 17 && answers(17, 1, 400));
+}
+
+/* Refusals in their order: each stands before those behind it, which hold too. */
+static void tally_refusals(void)
+{
+    small_day();
+    trace[0] = 3;
+    trace[10 + 16 * 4] = 7;
+    image_len = NUMBERED;
+    pch_pic_reset(image, image_len, answer, ANSWER);
+    image[0] ^= 1;
+    image_len = NUMBERED - 1;
+    fresh_tally();
+    put_cell(0, 0, UINT64_MAX);
+    expect("7: a short answer area", add(ANSWER - 1) == 7 && untouched() && sum(ANSWER - 1) == 7 && untouched());
+    tally_len = PCH_PIC_TALLY_LEN - 1;
+    expect("7: a short tally", add(ANSWER) == 7 && untouched() && sum(ANSWER) == 7 && untouched() && filled(long_sheet, 0, sizeof long_sheet, 0x69));
+    guard();
+    expect("7: none begins", pch_pic_tally_begin(tally, tally_len, answer, ANSWER) == 7 && untouched() && cell(tally, 0, 0) == UINT64_MAX);
+    expect("7: no tally", pch_pic_tally_begin(NULL, 0, answer, ANSWER) == 7 && untouched());
+    tally_len = PCH_PIC_TALLY_LEN;
+    long_len = PCH_PIC_LONG_SHEET_LEN - 1;
+    expect("7: a short sheet", sum(ANSWER) == 7 && untouched() && filled(long_sheet, 0, sizeof long_sheet, 0x69));
+    expect("4: the image's length, before 5", add(ANSWER) == 4 && answers(4, 0, 0));
+    image_len = NUMBERED;
+    expect("5: its contents, before 12", add(ANSWER) == 5 && answers(5, 0, 0));
+    pch_pic_reset(image, image_len, answer, ANSWER);
+    expect("12: the trace's contents, before 13", add(ANSWER) == 12 && answers(12, 0, 0));
+    trace[0] = 2;
+    expect("13: a bad record, before 17", add(ANSWER) == 13 && answers(13, 1, 4));
+    trace[10 + 16 * 4] = PCH_PIC_DRAIN;
+    expect("17: the tally, last", add(ANSWER) == 17 && answers(17, 1, 0));
+    expect("17 has its text", strcmp(pch_pic_why(17), pch_pic_why(99)) != 0);
+}
+
 static void traces(void)
 {
     played(NUMBERED, 0x20005);
@@ -796,6 +945,11 @@ static void traces(void)
     counted();
     counted_waits();
     sheet_refusals();
+    tallied(NUMBERED);
+    tallied(IMAGE);
+    tallied(IMAGE2);
+    no_tallies();
+    tally_refusals();
     expect("12 and 13 have their texts", strcmp(pch_pic_why(12), pch_pic_why(99)) != 0 && strcmp(pch_pic_why(13), pch_pic_why(99)) != 0);
     expect("so has 16", strcmp(pch_pic_why(16), pch_pic_why(99)) != 0);
 }

@@ -151,7 +151,7 @@ fn verified(day: &[Call]) -> Result<(), String> {
     let plays = plays::all();
     plays.iter().try_for_each(verify::played)?;
     let of_traces = verify::traces()?;
-    let (of_salvages, of_sheets) = (verify::damaged()?, verify::sheets()?);
+    let (of_salvages, of_sheets, of_tallies) = (verify::damaged()?, verify::sheets()?, verify::tallies()?);
     let beside = if WITH_C { ", on kinds and day beside the published Rust too" } else { "" };
     eprintln!(
         "bench: {} kinds, a day of {} calls and {} random calls left the same bytes on the sides{beside}; random numbers 0..11: {numbers:?}",
@@ -166,8 +166,8 @@ fn verified(day: &[Call]) -> Result<(), String> {
         beside::verify::RANDOM
     );
     eprintln!(
-        "bench: {} plays, salvages and sheets and {} random traces left the same bytes on the sides, what is played as its calls one by one; random numbers 0..13: \
-         {of_traces:?}; of as many damaged ones, salvaged, 0..16: {of_salvages:?}; of as many summed up, 0..13: {of_sheets:?}",
+        "bench: {} plays, salvages, sheets and tallies and {} random traces left the same bytes on the sides, what is played as its calls one by one; random numbers 0..13: \
+         {of_traces:?}; of as many damaged ones, salvaged, 0..16: {of_salvages:?}; of as many summed up, 0..13: {of_sheets:?}; of as many added to a tally and its sheets, 0..17: {of_tallies:?}",
         plays.len(),
         verify::TRACES
     );

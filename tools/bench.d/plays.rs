@@ -1,18 +1,19 @@
 //! Traces that are played in one call (02, C-11), and the same calls made one by one; and traces that are salvaged (02, C-23) or summed up in a sheet (02,
-//! C-21). They are of the mixed day: of 4,000 records its beginning; of 100 what comes behind the vector and route bytes of its start-up; of one a raise.
+//! C-21), or added to a tally. They are of the mixed day: of 4,000 records its beginning; of 100 what comes behind the vector and route bytes of its start-up; of one a raise.
 
 use crate::call::Call;
 use crate::chance::Chance;
 use crate::day::{self, DAYS};
-use crate::kinds::{BASE, LENGTHS, NUMBERED, SIZE};
+use crate::kinds::{BASE, LENGTHS, NUMBERED, Prepared, SIZE};
 
 /// The window that a trace is played with.
 const WINDOW: u64 = 0x1_0000;
 /// The most blocks of a trace, the most records, and so many that those fit.
 const BLOCKS: usize = 64;
 pub const RECORDS: usize = 4000;
-/// The bytes of a sheet.
+/// The bytes of a sheet, of a tally, and of the sheet of one.
 pub const SHEET: usize = 2600;
+pub const TALLY: usize = 5200;
 const IN_BLOCK: usize = RECORDS.div_ceil(BLOCKS);
 
 /// What is done with a trace.
@@ -23,6 +24,9 @@ pub enum Way {
     OneByOne,
     Salvaged,
     Summed,
+    /// Added to a tally; and the sheet of one.
+    Added,
+    Totalled,
 }
 
 pub struct Play {
@@ -45,6 +49,7 @@ pub struct Lent {
     pub kept: Vec<u8>,
     pub list: Vec<u8>,
     pub sheet: Vec<u8>,
+    pub tally: Vec<u8>,
     pub answer: Vec<u8>,
 }
 
@@ -58,6 +63,7 @@ impl Lent {
             kept: Vec::new(),
             list: Vec::new(),
             sheet: Vec::new(),
+            tally: Vec::new(),
             answer: vec![0xee; 16],
         }
     }
@@ -72,8 +78,14 @@ impl Lent {
         Lent { sheet: vec![0x99; length], ..Lent::new(0, 0, 0) }
     }
 
+    /// A tally of these bytes, a sheet for it, and an image.
+    pub fn for_tally(tally: Vec<u8>, sheet: usize, image: &[u8]) -> Self {
+        Lent { tally, sheet: vec![0x99; sheet], image: image.to_vec(), ..Lent::new(0, 0, 0) }
+    }
+
     pub fn of(play: &Play) -> Self {
         match play.way {
+            Way::Added | Way::Totalled => Lent::for_tally(vec![0; TALLY], TALLY, &Prepared::new().mask(!0).0),
             Way::Salvaged => Lent::for_salvage(play.trace.len(), 4 * BLOCKS),
             Way::Summed => Lent::for_sheet(SHEET),
             Way::Played | Way::OneByOne => Lent::new(play.image_len, play.calls.len(), drains(&play.calls)),
@@ -158,6 +170,11 @@ pub fn all() -> Vec<Play> {
         of("sheet-100", "sheet of 100, each record", &day[128..228], 0, Way::Summed),
         of("sheet-4000", "sheet of 4,000, each record", &day[..RECORDS], 0, Way::Summed),
     ];
+    let tallies = [
+        of("tally-add-1", "tally add of 1", &raise, 0, Way::Added),
+        of("tally-add-4000", "tally add of 4,000, each record", &day[..RECORDS], 0, Way::Added),
+        of("tally-sheet", "tally sheet", &raise, 0, Way::Totalled),
+    ];
     let salvage = |name: &str, title: &str, calls: &[Call]| of(name, title, calls, 0, Way::Salvaged);
     let half_torn = |play: Play| Play { trace: torn(&play.trace), ..play };
     let salvages = [
@@ -167,7 +184,7 @@ pub fn all() -> Vec<Play> {
         half_torn(salvage("salvage-100-torn", "salvage of 100, half torn, each record", &day[128..228])),
         half_torn(salvage("salvage-4000-torn", "salvage of 4,000, half torn, each record", &day[..RECORDS])),
     ];
-    DAYS.into_iter().flat_map(plays).chain(salvages).chain(sheets).collect()
+    DAYS.into_iter().flat_map(plays).chain(salvages).chain(sheets).chain(tallies).collect()
 }
 
 /// Where each block of a trace stands, and how many records it has.

@@ -61,6 +61,18 @@ mod library {
             answer: *mut u8,
             al: usize,
         ) -> u8;
+        pub fn pch_pic_tally_begin(tally: *mut u8, tl: usize, answer: *mut u8, al: usize) -> u8;
+        pub fn pch_pic_tally_add(
+            trace: *const u8,
+            rl: usize,
+            image: *const u8,
+            il: usize,
+            tally: *mut u8,
+            tl: usize,
+            answer: *mut u8,
+            al: usize,
+        ) -> u8;
+        pub fn pch_pic_tally_sheet(tally: *const u8, tl: usize, sheet: *mut u8, sl: usize, answer: *mut u8, al: usize) -> u8;
         pub fn pch_pic_sheet(trace: *const u8, tl: usize, sheet: *mut u8, sl: usize, answer: *mut u8, al: usize) -> u8;
     }
 }
@@ -84,6 +96,8 @@ pub trait Side {
     unsafe fn play_on(trace: &[u8], image: Area, answers: Area, events: Area, answer: Area) -> u8;
     unsafe fn salvage(trace: &[u8], kept: Area, list: Area, answer: Area) -> u8;
     unsafe fn sheet(trace: &[u8], sheet: Area, answer: Area) -> u8;
+    unsafe fn tally_add(trace: &[u8], image: &[u8], tally: Area, answer: Area) -> u8;
+    unsafe fn tally_sheet(tally: &[u8], sheet: Area, answer: Area) -> u8;
 }
 
 pub struct Library;
@@ -132,6 +146,14 @@ impl Side for Library {
     #[inline(always)]
     unsafe fn sheet(trace: &[u8], s: Area, a: Area) -> u8 {
         unsafe { pch_pic_sheet(trace.as_ptr(), trace.len(), s.0, s.1, a.0, a.1) }
+    }
+    #[inline(always)]
+    unsafe fn tally_add(trace: &[u8], image: &[u8], t: Area, a: Area) -> u8 {
+        unsafe { pch_pic_tally_add(trace.as_ptr(), trace.len(), image.as_ptr(), image.len(), t.0, t.1, a.0, a.1) }
+    }
+    #[inline(always)]
+    unsafe fn tally_sheet(tally: &[u8], s: Area, a: Area) -> u8 {
+        unsafe { pch_pic_tally_sheet(tally.as_ptr(), tally.len(), s.0, s.1, a.0, a.1) }
     }
 }
 
@@ -185,6 +207,14 @@ macro_rules! rust {
             unsafe fn sheet(trace: &[u8], s: Area, a: Area) -> u8 {
                 unsafe { $of::sheet(trace, part_mut(s.0, s.1), part_mut(a.0, a.1)) }
             }
+            #[inline(always)]
+            unsafe fn tally_add(trace: &[u8], image: &[u8], t: Area, a: Area) -> u8 {
+                unsafe { $of::tally_add(trace, image, part_mut(t.0, t.1), part_mut(a.0, a.1)) }
+            }
+            #[inline(always)]
+            unsafe fn tally_sheet(tally: &[u8], s: Area, a: Area) -> u8 {
+                unsafe { $of::tally_sheet(tally, part_mut(s.0, s.1), part_mut(a.0, a.1)) }
+            }
         }
     };
 }
@@ -199,8 +229,8 @@ pub mod portable {
         pch_pic_board_write as board_write, pch_pic_convert as convert, pch_pic_drain as drain,
         pch_pic_hoist_end_startup as hoist_end_startup, pch_pic_hoist_read as hoist_read, pch_pic_hoist_reset as hoist_reset,
         pch_pic_hoist_write as hoist_write, pch_pic_level as level, pch_pic_play as play, pch_pic_play_on as play_on, pch_pic_poll as poll,
-        pch_pic_read as read, pch_pic_reset as reset, pch_pic_salvage as salvage, pch_pic_sheet as sheet, pch_pic_waiting as waiting,
-        pch_pic_write as write,
+        pch_pic_read as read, pch_pic_reset as reset, pch_pic_salvage as salvage, pch_pic_sheet as sheet, pch_pic_tally_add as tally_add,
+        pch_pic_tally_sheet as tally_sheet, pch_pic_waiting as waiting, pch_pic_write as write,
     };
 }
 rust!(Portable, portable);
@@ -256,6 +286,14 @@ impl Side for Nothing {
     }
     #[inline(always)]
     unsafe fn sheet(_: &[u8], s: Area, a: Area) -> u8 {
+        nothing(s.0, a.0)
+    }
+    #[inline(always)]
+    unsafe fn tally_add(_: &[u8], _: &[u8], t: Area, a: Area) -> u8 {
+        nothing(t.0, a.0)
+    }
+    #[inline(always)]
+    unsafe fn tally_sheet(_: &[u8], s: Area, a: Area) -> u8 {
         nothing(s.0, a.0)
     }
 }
@@ -366,6 +404,21 @@ pub fn sheet<S: Side>(trace: &[u8], lent: &mut Lent) -> u8 {
     unsafe { S::sheet(trace, (lent.sheet.as_mut_ptr(), lent.sheet.len()), (lent.answer.as_mut_ptr(), lent.answer.len())) }
 }
 
+/// The trace added to the tally, as the day goes on from the image. The number that is handed back.
+#[inline(always)]
+pub fn tally_add<S: Side>(trace: &[u8], lent: &mut Lent) -> u8 {
+    let area = |bytes: &mut Vec<u8>| (bytes.as_mut_ptr(), bytes.len());
+    // SAFETY: as in play.
+    unsafe { S::tally_add(trace, &lent.image, area(&mut lent.tally), area(&mut lent.answer)) }
+}
+
+/// The sheet of the tally. The number that is handed back.
+#[inline(always)]
+pub fn tally_sheet<S: Side>(lent: &mut Lent) -> u8 {
+    // SAFETY: as in play.
+    unsafe { S::tally_sheet(&lent.tally, (lent.sheet.as_mut_ptr(), lent.sheet.len()), (lent.answer.as_mut_ptr(), lent.answer.len())) }
+}
+
 /// The reset, and then the calls of a trace's records one by one, each with its own sixteen answer bytes, and the drained events back to back.
 #[inline(always)]
 pub fn one_by_one<S: Side>(calls: &[Call], lent: &mut Lent) {
@@ -401,6 +454,8 @@ fn played<S: Side>(play: &Play, lent: &mut Lent, times: usize) {
             Way::OneByOne => one_by_one::<S>(&play.calls, lent),
             Way::Salvaged => drop(black_box(salvage::<S>(&play.trace, lent))),
             Way::Summed => drop(black_box(sheet::<S>(&play.trace, lent))),
+            Way::Added => drop(black_box(tally_add::<S>(&play.trace, lent))),
+            Way::Totalled => drop(black_box(tally_sheet::<S>(lent))),
         }
     }
 }

@@ -104,6 +104,16 @@ fn sheet_numbers(trace: &[u8], lent: &mut Lent) -> Numbers {
     all(sides::pch_pic_sheet as *const () as usize, [trace.as_ptr() as u64, trace.len() as u64, s, sl, a, al])
 }
 
+fn tally_numbers(of: Way, trace: &[u8], lent: &mut Lent) -> Numbers {
+    let ((r, rl), (i, il)) = ((trace.as_ptr() as u64, trace.len() as u64), area(&mut lent.image));
+    let ((t, tl), (s, sl), (a, al)) = (area(&mut lent.tally), area(&mut lent.sheet), area(&mut lent.answer));
+    match of {
+        Way::Added => all(sides::pch_pic_tally_add as *const () as usize, [r, rl, i, il, t, tl, a, al]),
+        Way::Totalled => all(sides::pch_pic_tally_sheet as *const () as usize, [t, tl, s, sl, a, al]),
+        _ => all(sides::pch_pic_tally_begin as *const () as usize, [t, tl, a, al]),
+    }
+}
+
 /// Bytes below the caller's stack that a call wrote, its return address among them. A byte that is written with the paint's own value
 /// is not seen, so two paints are tried, with what is lent made anew for each.
 fn used<T>(stack: &mut Painted, lent: impl Fn() -> T, numbers: impl Fn(&mut T) -> Numbers) -> usize {
@@ -218,6 +228,24 @@ fn sheets(stack: &mut Painted) -> usize {
     deepest
 }
 
+/// The most that a call on a tally uses: over those that are measured, and random traces, good and damaged, on random images.
+fn tallies(stack: &mut Painted, of: Way) -> usize {
+    let mut deepest = 0;
+    let mut note = |trace: &[u8], lent: &Lent| deepest = deepest.max(used(stack, || lent.clone(), |lent| tally_numbers(of, trace, lent)));
+    for play in plays::all().iter().filter(|play| play.way == Way::Added) {
+        note(&play.trace, &Lent::of(play));
+    }
+    let mut chance = Chance::new(9);
+    for _ in 0..TRACES {
+        let length = chance.one_of(&LENGTHS);
+        let image = verify::random_image(&mut chance, length);
+        let lent = Lent::for_tally(vec![0; plays::TALLY], plays::TALLY, &image[..length]);
+        note(&plays::random(&mut chance).0, &lent);
+        note(&plays::random_damaged(&mut chance), &lent);
+    }
+    deepest
+}
+
 fn beside_name(asked: &Asked) -> &'static str {
     match asked {
         Asked::Board(Call::Read { .. }) => "pch_pic_board_read",
@@ -306,6 +334,9 @@ pub fn print(markdown: bool) -> Result<(), String> {
     most.push(("pch_pic_play_on", plays(&mut stack, sides::pch_pic_play_on as *const () as usize)));
     most.push(("pch_pic_salvage", salvages(&mut stack)));
     most.push(("pch_pic_sheet", sheets(&mut stack)));
+    most.push(("pch_pic_tally_begin", tallies(&mut stack, Way::Played)));
+    most.push(("pch_pic_tally_add", tallies(&mut stack, Way::Added)));
+    most.push(("pch_pic_tally_sheet", tallies(&mut stack, Way::Totalled)));
     most.extend(besides(&mut stack));
     if most.iter().any(|one| one.1 > DEPTH / 2) {
         return Err("the painted stack is too small".into());

@@ -4,7 +4,7 @@ use crate::call::Call;
 use crate::chance::Chance;
 use crate::kinds::{BASE, Kind, LENGTH, LENGTHS, NUMBERED, Prepared, SIZE, Slot, count_at, moved};
 use crate::plays::{self, Lent, Play, Way, blocks};
-use crate::sides::{Lean, Library, Plain, Portable, Side, converted, make, one_by_one, play, play_on, salvage, sheet};
+use crate::sides::{Lean, Library, Plain, Portable, Side, converted, make, one_by_one, play, play_on, salvage, sheet, tally_add, tally_sheet};
 
 /// What a side hands back, and the target of a conversion.
 fn by<S: Side>(call: &Call, slot: &mut Slot, image_len: usize, answer_len: usize) -> (u8, [u8; NUMBERED]) {
@@ -238,11 +238,42 @@ fn summed(of: &Play) -> Result<(), String> {
     }
 }
 
+/// The sides add the trace to the tally and write its sheet, and must hand back the same numbers and leave the same bytes.
+fn same_tally(what: &str, trace: &[u8], lent: &mut Lent) -> Result<[u8; 2], String> {
+    fn both<S: Side>(trace: &[u8], lent: &mut Lent) -> [u8; 2] {
+        let added = tally_add::<S>(trace, lent);
+        [added, tally_sheet::<S>(lent)]
+    }
+    let (mut plain, mut lean, mut portable) = (lent.clone(), lent.clone(), lent.clone());
+    let numbers = both::<Library>(trace, lent);
+    let others = [
+        ("plain Rust", both::<Plain>(trace, &mut plain), plain),
+        ("lean Rust", both::<Lean>(trace, &mut lean), lean),
+        ("portable Rust", both::<Portable>(trace, &mut portable), portable),
+    ];
+    match others.iter().find(|other| other.1 != numbers || other.2 != *lent) {
+        Some((name, handed, other)) => {
+            let first = lent.tally.iter().zip(&other.tally).position(|(a, b)| a != b);
+            Err(format!("{what}: a tally hands back {numbers:?}, that of {name} {handed:?}; the first different byte is {first:?}"))
+        }
+        None => Ok(numbers),
+    }
+}
+
+/// A tally that is measured: it is done, by the sides alike.
+fn added(of: &Play) -> Result<(), String> {
+    match same_tally(&of.name, &of.trace, &mut Lent::of(of))? {
+        [0, 0] => Ok(()),
+        numbers => Err(format!("{}: the tally is refused with {numbers:?}", of.name)),
+    }
+}
+
 /// A play that is measured: it is done, by the sides alike, and as one by one.
 pub fn played(of: &Play) -> Result<(), String> {
     match of.way {
         Way::Salvaged => return salvaged(of),
         Way::Summed => return summed(of),
+        Way::Added | Way::Totalled => return added(of),
         Way::Played | Way::PlayedOn | Way::OneByOne => {}
     }
     let (before, mut lent) = (Lent::of(of), Lent::of(of));
@@ -328,6 +359,38 @@ pub fn sheets() -> Result<[u64; 14], String> {
     }
     match [0, 7, 12, 13].into_iter().find(|&number| numbers[number] == 0) {
         Some(number) => Err(format!("the random sheets never met number {number}")),
+        None => Ok(numbers),
+    }
+}
+
+/// Random traces added to tallies, on random images, some of them damaged; gives how often each number came.
+pub fn tallies() -> Result<[u64; 18], String> {
+    let mut chance = Chance::new(23);
+    let mut numbers = [0; 18];
+    for _ in 0..TRACES {
+        let trace = if chance.percent(80) { plays::random(&mut chance).0 } else { plays::random_damaged(&mut chance) };
+        let length = chance.one_of(&LENGTHS);
+        let image = random_image(&mut chance, length);
+        let counted = chance.number() >> chance.between(1, 60);
+        let mut words: Vec<u64> = (0..640).map(|k| if k % 10 == 9 { chance.below(counted + 1) } else { chance.number() >> 2 }).collect();
+        words.extend([counted, 0, 1, 2, 3, 4, 5, 6, 7, 8]);
+        if chance.percent(20) {
+            words[chance.below(650) as usize] = chance.one_of(&[1 << 63, counted + 1, counted]);
+        }
+        let tally = words.into_iter().flat_map(u64::to_le_bytes).collect();
+        let mut lent = Lent::for_tally(tally, plays::TALLY + chance.below(2) as usize, &image[..length]);
+        match chance.below(100) {
+            0 => lent.sheet.truncate(plays::TALLY - 1),
+            1 => lent.answer.truncate(15),
+            2 => lent.tally.truncate(plays::TALLY - 1),
+            _ => {}
+        }
+        for number in same_tally("random", &trace, &mut lent)? {
+            numbers[usize::from(number)] += 1;
+        }
+    }
+    match [0, 7, 12, 13, 17].into_iter().find(|&number| numbers[number] == 0) {
+        Some(number) => Err(format!("the random tallies never met number {number}")),
         None => Ok(numbers),
     }
 }

@@ -73,12 +73,13 @@ pub const PHASE: usize = 8;
 pub const KEPT: usize = 9;
 pub const LIST: usize = 10;
 pub const SHEET: usize = 11;
+pub const TALLY: usize = 12;
 
 /// One of each name.
-pub struct Areas(pub [Area; 12]);
+pub struct Areas(pub [Area; 13]);
 
 impl Areas {
-    pub const EMPTY: Areas = Areas([Area::EMPTY; 12]);
+    pub const EMPTY: Areas = Areas([Area::EMPTY; 13]);
 
     pub fn lent<const N: usize>(&mut self, names: [usize; N]) -> [(*mut u8, usize); N] {
         names.map(|name| self.0[name].lent())

@@ -1,7 +1,7 @@
 //! The files of recorded cases, tests/recorded; their form is told at the top of tools/harness/case_records.rs.
 
 use crate::Score;
-use crate::areas::{ANSWER, ANSWERS, Area, Areas, BOARD, DIFFERENCE, EVENTS, IMAGE, KEPT, LIST, LONGEST, PHASE, SHEET, TARGET, TRACE};
+use crate::areas::{ANSWER, ANSWERS, Area, Areas, BOARD, DIFFERENCE, EVENTS, IMAGE, KEPT, LIST, LONGEST, PHASE, SHEET, TALLY, TARGET, TRACE};
 use crate::bytes::Bytes;
 use crate::library::*;
 
@@ -47,6 +47,9 @@ fn names(front: u8) -> Option<&'static [usize]> {
         10 => &[TRACE, SHEET, ANSWER],
         11 => &[IMAGE, ANSWER],
         12 => &[TRACE, IMAGE, ANSWERS, EVENTS, ANSWER],
+        13 => &[TALLY, ANSWER],
+        14 => &[TRACE, IMAGE, TALLY, ANSWER],
+        15 => &[TALLY, SHEET, ANSWER],
         _ => return None,
     })
 }
@@ -111,9 +114,21 @@ impl Case {
                 let [(t, tl), (s, sl), (a, al)] = areas.lent([TRACE, SHEET, ANSWER]);
                 unsafe { pch_pic_sheet(t, tl, s, sl, a, al) }
             }
-            _ => {
+            11 => {
                 let [(i, il), (a, al)] = areas.lent([IMAGE, ANSWER]);
                 unsafe { pch_pic_waiting(i, il, a, al) }
+            }
+            13 => {
+                let [(t, tl), (a, al)] = areas.lent([TALLY, ANSWER]);
+                unsafe { pch_pic_tally_begin(t, tl, a, al) }
+            }
+            14 => {
+                let [(r, rl), (i, il), (t, tl), (a, al)] = areas.lent([TRACE, IMAGE, TALLY, ANSWER]);
+                unsafe { pch_pic_tally_add(r, rl, i, il, t, tl, a, al) }
+            }
+            _ => {
+                let [(t, tl), (s, sl), (a, al)] = areas.lent([TALLY, SHEET, ANSWER]);
+                unsafe { pch_pic_tally_sheet(t, tl, s, sl, a, al) }
             }
         })
     }

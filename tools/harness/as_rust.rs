@@ -341,6 +341,42 @@ pub unsafe fn pch_pic_sheet(
     unsafe { text::calls::pch_pic_sheet(area(trace.cast_mut(), trace_len), area(sheet, sheet_len), area(answer, answer_len)) }
 }
 
+pub unsafe fn pch_pic_tally_begin(tally: *mut u8, tally_len: usize, answer: *mut u8, answer_len: usize) -> u8 {
+    unsafe { text::calls::pch_pic_tally_begin(area(tally, tally_len), area(answer, answer_len)) }
+}
+
+#[allow(clippy::too_many_arguments)]
+pub unsafe fn pch_pic_tally_add(
+    trace: *const u8,
+    trace_len: usize,
+    image: *const u8,
+    image_len: usize,
+    tally: *mut u8,
+    tally_len: usize,
+    answer: *mut u8,
+    answer_len: usize,
+) -> u8 {
+    unsafe {
+        text::calls::pch_pic_tally_add(
+            area(trace.cast_mut(), trace_len),
+            area(image.cast_mut(), image_len),
+            area(tally, tally_len),
+            area(answer, answer_len),
+        )
+    }
+}
+
+pub unsafe fn pch_pic_tally_sheet(
+    tally: *const u8,
+    tally_len: usize,
+    sheet: *mut u8,
+    sheet_len: usize,
+    answer: *mut u8,
+    answer_len: usize,
+) -> u8 {
+    unsafe { text::calls::pch_pic_tally_sheet(area(tally.cast_mut(), tally_len), area(sheet, sheet_len), area(answer, answer_len)) }
+}
+
 pub unsafe fn pch_pic_difference(later: u16, earlier: u16) -> i16 {
     text::calls::pch_pic_difference(later, earlier)
 }

@@ -74,16 +74,17 @@ pub struct MetInTraces {
 /// What the calls of the later fronts met.
 #[derive(Default)]
 pub struct MetByFronts {
-    /// Calls by the number that 02 expects: with a board, events heard by one, under the profile and its ends of start-up, salvages, sheets, and plain calls among them.
-    pub boards: [u64; 17],
-    pub heard: [u64; 17],
-    pub hoists: [u64; 17],
-    pub ends: [u64; 17],
-    pub salvages: [u64; 17],
-    pub sheets: [u64; 17],
-    pub plain: [u64; 17],
+    /// Calls by the number that 02 expects: with a board, events heard by one, under the profile and its ends of start-up, salvages, sheets, those of a tally, and plain calls among them.
+    pub boards: [u64; 18],
+    pub heard: [u64; 18],
+    pub hoists: [u64; 18],
+    pub ends: [u64; 18],
+    pub salvages: [u64; 18],
+    pub sheets: [u64; 18],
+    pub tallies: [u64; 18],
+    pub plain: [u64; 18],
     /// And conversions, differences, plays and looks at who waits that were made as such calls.
-    pub others: [u64; 17],
+    pub others: [u64; 18],
     /// Blocks kept and dropped by salvages that were done; outcomes that were salvaged again and played; good traces that came out as they were.
     pub kept: u64,
     pub dropped: u64,
@@ -107,6 +108,10 @@ pub struct MetByFronts {
     pub greatest_wait: u32,
     pub withdrawn: u64,
     pub open: u64,
+    /// Days of traces whose sheet was held against those of the traces, the most traces in one, and waits that were carried from a trace to the next.
+    pub days: u64,
+    pub most_traces: u64,
+    pub carried: u64,
 }
 
 impl MetByFronts {
@@ -120,6 +125,7 @@ impl MetByFronts {
             Front::EndStartup => &mut self.ends,
             Front::Salvage => &mut self.salvages,
             Front::Sheet => &mut self.sheets,
+            Front::TallyBegin | Front::TallyAdd | Front::TallySheet => &mut self.tallies,
         };
         met[usize::from(number)] += 1;
     }

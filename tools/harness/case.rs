@@ -17,6 +17,9 @@ pub enum Front {
     Salvage,
     Sheet,
     Waiting,
+    TallyBegin,
+    TallyAdd,
+    TallySheet,
 }
 
 impl Front {
@@ -33,6 +36,9 @@ impl Front {
             Front::Salvage => &["trace", "kept", "list", "answer"],
             Front::Sheet => &["trace", "sheet", "answer"],
             Front::Waiting => &["image", "answer"],
+            Front::TallyBegin => &["tally", "answer"],
+            Front::TallyAdd => &["trace", "image", "tally", "answer"],
+            Front::TallySheet => &["tally", "sheet", "answer"],
         }
     }
 }

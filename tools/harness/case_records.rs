@@ -3,7 +3,7 @@
 //! Every number has its little end first. A file begins with the letters PCHPICC1, the number of cases in 4 bytes, and 4 zero bytes. Then come the cases:
 //!
 //!   0       the front: 1 a plain call, 2 convert, 3 difference, 4 play, 5 salvage, 6 a call with a board, 7 an event that a board hears, 8 a call of the
-//!           hoist profile, 9 its end of start-up, 10 sheet, 11 waiting, 12 play on from an image
+//!           hoist profile, 9 its end of start-up, 10 sheet, 11 waiting, 12 play on from an image, 13 to 15 a tally's begin, add and sheet
 //!   1       of 1, 6 and 8 the call: 1 reset, 2 read, 3 write, 4 level, 5 poll, 6 drain; 0 of all others
 //!   2       the number handed back
 //!   3       1 where an empty area is lent as a null pointer, else 0
@@ -52,6 +52,9 @@ fn coded(front: &Front) -> (u8, u8, Vec<u64>) {
         Front::Sheet => (10, 0, vec![]),
         Front::Waiting => (11, 0, vec![]),
         Front::Play(From::Image) => (12, 0, vec![]),
+        Front::TallyBegin => (13, 0, vec![]),
+        Front::TallyAdd => (14, 0, vec![]),
+        Front::TallySheet => (15, 0, vec![]),
     }
 }
 
@@ -75,6 +78,9 @@ fn decoded(front: u8, call: u8, bytes: &mut Bytes) -> Option<Front> {
         (10, 0) => Front::Sheet,
         (11, 0) => Front::Waiting,
         (12, 0) => Front::Play(From::Image),
+        (13, 0) => Front::TallyBegin,
+        (14, 0) => Front::TallyAdd,
+        (15, 0) => Front::TallySheet,
         _ => return None,
     })
 }

@@ -16,6 +16,8 @@ use crate::image::{FORMS, Form, NUMBERED, ONE, TWO};
 use crate::salvages::{self, Salvages};
 use crate::sheet::LENGTH;
 use crate::sheets;
+use crate::tallies;
+use crate::tally;
 use crate::trace::{self, DRAIN, RAISE, Record, WRITE};
 
 /// Both sides of the cases, and where they come from.
@@ -32,7 +34,7 @@ pub struct File {
     pub numbers: &'static [(&'static str, &'static [u8])],
 }
 
-pub const FILES: [File; 9] = [
+pub const FILES: [File; 10] = [
     File { name: "plays", choose: plays, numbers: &[("front-play", &[0, 4, 7, 12, 13])] },
     File { name: "conversions", choose: conversions, numbers: &[("front-convert", &[0, 4, 5, 7, 8, 9, 10, 11])] },
     File { name: "differences", choose: differences, numbers: &[("front-difference", &[0])] },
@@ -63,6 +65,11 @@ pub const FILES: [File; 9] = [
     File { name: "sheets", choose: sheets, numbers: &[("sheet", &[0, 7, 12, 13])] },
     File { name: "waits", choose: waits, numbers: &[("waiting", &[0, 4, 5, 7, 8, 9, 10, 11])] },
     File { name: "plays-on", choose: plays_on, numbers: &[("front-play-on", &[0, 4, 5, 7, 8, 9, 10, 11, 12, 13])] },
+    File {
+        name: "tallies",
+        choose: tallies,
+        numbers: &[("tally-begin", &[0, 7]), ("tally-add", &[0, 4, 5, 7, 8, 9, 10, 11, 12, 13, 17]), ("tally-sheet", &[0, 7, 17])],
+    },
 ];
 
 impl Choice {
@@ -541,4 +548,46 @@ fn waits(choice: &mut Choice) {
     }
     let image = generate::accepted(&mut choice.chance, NUMBERED);
     assert_eq!(look(choice, &image, 17, false), 0);
+}
+
+/// Days of one to five traces in all forms, counted by hand and random; tallies of any numbers, their limits; every refusal, faults several at a time; lengths.
+fn tallies(choice: &mut Choice) {
+    let Choice { bench, chance, cases } = choice;
+    for form in FORMS {
+        for (_, parts, _) in tallies::by_hand() {
+            tallies::from_reset(bench, cases, &tallies::whole(&parts), form);
+        }
+        for count in 1..=5 {
+            let parts: Vec<tallies::Part> = (0..count).map(|k| tallies::part(chance, 4 + 13 * k)).collect();
+            tallies::from_reset(bench, cases, &parts, form);
+        }
+        let parts: Vec<tallies::Part> = (0..2).map(|_| tallies::part(chance, 40)).collect();
+        let (image, tally) = (generate::accepted(chance, form).to_vec(), tallies::sound(chance));
+        tallies::day(bench, cases, &parts, image, tally);
+        let image = generate::with_events(chance, form).to_vec();
+        for image in broken(&image, form) {
+            tallies::add(bench, cases, trace::bytes(&some(6), &[4, 2]), image, vec![0; tally::LENGTH], 16);
+        }
+        for _ in 0..3 {
+            let part = tallies::part(chance, 20);
+            tallies::damaged(bench, chance, cases, &part, form);
+        }
+    }
+    assert!(bench.met.fronts.carried > 40, "waits are carried on");
+    for (length, answer) in [(0, 16), (1, 16), (tally::LENGTH - 1, 16), (tally::LENGTH, 15), (tally::LENGTH, 0), (tally::LENGTH + 9, 40)] {
+        tallies::begin(bench, cases, vec![0x69; length], answer);
+        tallies::add(bench, cases, trace::bytes(&some(6), &[4, 2]), tallies::reset(ONE), vec![0; length], answer);
+        tallies::sheet_of(bench, cases, vec![0; length], tally::LENGTH, answer);
+        tallies::sheet_of(bench, cases, vec![0; tally::LENGTH], length, answer);
+    }
+    tallies::faults(bench, cases);
+    tallies::limits(bench, cases, 43);
+    // a wait of a whole day: from the first record of a long trace to the last of the next
+    let first: Vec<Record> = (0..4000).map(|k| fields(RAISE, 5 + (k % 50) as u8, 0, 0)).collect();
+    let blocks = days::cut_in(chance, 4000, 64);
+    let second = vec![fields(DRAIN, 0, 0, 0), fields(WRITE, 8, 0x020, 0)];
+    let tally = vec![0; tally::LENGTH];
+    let last = tallies::day(bench, cases, &[(first, blocks), (second, vec![2])], tallies::reset(TWO), tally);
+    assert_eq!(last.map(|last| tallies::number(&last, 57)), Some(4001), "a wait over two traces");
+    tallies::sheet_of(bench, cases, vec![0; tally::LENGTH], tally::LENGTH, 17);
 }

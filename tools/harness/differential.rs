@@ -29,6 +29,8 @@ mod salvages;
 mod sheet;
 mod sheets;
 mod sweeps;
+mod tallies;
+mod tally;
 mod text;
 mod told;
 mod trace;
@@ -60,7 +62,7 @@ struct Asked {
     seed: u64,
     calls: u64,
     records: u64,
-    fronts: [u64; 4],
+    fronts: [u64; 5],
     failures: u64,
     random_only: bool,
     fronts_only: bool,
@@ -68,7 +70,7 @@ struct Asked {
 
 fn run(mut words: Vec<String>) -> Result<ExitCode, String> {
     let mut asked =
-        Asked { seed: 1, calls: 1_000_000, records: 100_000, fronts: [40_000; 4], failures: 10, random_only: false, fronts_only: false };
+        Asked { seed: 1, calls: 1_000_000, records: 100_000, fronts: [40_000; 5], failures: 10, random_only: false, fronts_only: false };
     while !words.is_empty() {
         let word = words.remove(0);
         let mut number = || {
@@ -83,6 +85,7 @@ fn run(mut words: Vec<String>) -> Result<ExitCode, String> {
             "--boards" => asked.fronts[1] = number()?,
             "--hoists" => asked.fronts[2] = number()?,
             "--sheets" => asked.fronts[3] = number()?,
+            "--tallies" => asked.fronts[4] = number()?,
             "--failures" => asked.failures = number()?,
             "--random-only" => asked.random_only = true,
             "--fronts-only" => asked.fronts_only = true,
@@ -134,11 +137,12 @@ fn calls_and_traces(bench: &mut Bench, asked: &Asked) {
 }
 
 fn later_fronts(bench: &mut Bench, asked: &Asked) {
-    let parts: [(&str, Sweep, Random); 4] = [
+    let parts: [(&str, Sweep, Random); 5] = [
         ("salvages", salvages::sweep, salvages::random),
         ("boards", boards::sweep, boards::random),
         ("hoists", hoists::sweep, hoists::random),
         ("sheets", sheets::sweep, sheets::random),
+        ("tallies", tallies::sweep, tallies::random),
     ];
     for (k, ((name, sweep, random), count)) in (1..).zip(parts.into_iter().zip(asked.fronts)) {
         // and those of each front are its own
@@ -280,6 +284,13 @@ fn tell_fronts(bench: &Bench) {
         met.greatest_wait,
         met.withdrawn,
         met.open
+    );
+    eprintln!(
+        "differential: calls on a tally {}; days held against their records as one {}, at most {} traces, open waits carried on {}",
+        numbers(&met.tallies),
+        met.days,
+        met.most_traces,
+        met.carried
     );
 }
 

@@ -10,6 +10,7 @@ use crate::numbers;
 use crate::played::{self, Lent};
 use crate::salvaged;
 use crate::sheet;
+use crate::tally;
 
 /// The number, and what the call leaves of the blocks.
 pub fn expected(boundary: &mut Boundary, front: &Front, lent: &mut [Block]) -> u8 {
@@ -37,6 +38,11 @@ pub fn expected(boundary: &mut Boundary, front: &Front, lent: &mut [Block]) -> u
         (Front::Salvage, [trace, kept, list, answer]) => salvaged::salvage(trace.bytes(), kept.slice(), list.slice(), answer.slice()),
         (Front::Waiting, [image, answer]) => boundary.waiting(image.bytes(), answer.slice()),
         (Front::Sheet, [trace, sheet, answer]) => sheet::sheet(boundary, trace.bytes(), sheet.slice(), answer.slice()),
+        (Front::TallyBegin, [tally, answer]) => tally::begin(tally.slice(), answer.slice()),
+        (Front::TallyAdd, [trace, image, tally, answer]) => {
+            tally::add(boundary, trace.bytes(), image.bytes(), tally.slice(), answer.slice())
+        }
+        (Front::TallySheet, [tally, sheet, answer]) => tally::sheet(tally.bytes(), sheet.slice(), answer.slice()),
         _ => unreachable!("a case has the areas of its call"),
     }
 }

@@ -39,6 +39,17 @@ pub fn make(front: &Front, lent: &mut [Block]) -> u8 {
         (Front::Sheet, [trace, sheet, answer]) => {
             lend([trace, sheet, answer], |[(t, tl), (s, sl), (a, al)]| unsafe { library::pch_pic_sheet(t, tl, s, sl, a, al) })
         }
+        (Front::TallyBegin, [tally, answer]) => {
+            lend([tally, answer], |[(t, tl), (a, al)]| unsafe { library::pch_pic_tally_begin(t, tl, a, al) })
+        }
+        (Front::TallyAdd, [trace, image, tally, answer]) => {
+            lend([trace, image, tally, answer], |[(r, rl), (i, il), (t, tl), (a, al)]| unsafe {
+                library::pch_pic_tally_add(r, rl, i, il, t, tl, a, al)
+            })
+        }
+        (Front::TallySheet, [tally, sheet, answer]) => {
+            lend([tally, sheet, answer], |[(t, tl), (s, sl), (a, al)]| unsafe { library::pch_pic_tally_sheet(t, tl, s, sl, a, al) })
+        }
         _ => unreachable!("a case has the areas of its call"),
     }
 }

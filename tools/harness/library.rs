@@ -203,5 +203,24 @@ unsafe extern "C" {
         answer_len: usize,
     ) -> u8;
     pub fn pch_pic_sheet(trace: *const u8, trace_len: usize, sheet: *mut u8, sheet_len: usize, answer: *mut u8, answer_len: usize) -> u8;
+    pub fn pch_pic_tally_begin(tally: *mut u8, tally_len: usize, answer: *mut u8, answer_len: usize) -> u8;
+    pub fn pch_pic_tally_add(
+        trace: *const u8,
+        trace_len: usize,
+        image: *const u8,
+        image_len: usize,
+        tally: *mut u8,
+        tally_len: usize,
+        answer: *mut u8,
+        answer_len: usize,
+    ) -> u8;
+    pub fn pch_pic_tally_sheet(
+        tally: *const u8,
+        tally_len: usize,
+        sheet: *mut u8,
+        sheet_len: usize,
+        answer: *mut u8,
+        answer_len: usize,
+    ) -> u8;
     pub fn pch_pic_difference(later: u16, earlier: u16) -> i16;
 }

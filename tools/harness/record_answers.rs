@@ -33,6 +33,8 @@ mod salvaged;
 mod salvages;
 mod sheet;
 mod sheets;
+mod tallies;
+mod tally;
 mod text;
 mod told;
 mod trace;

@@ -13,20 +13,20 @@ pub const LENGTH: usize = 65 * 40;
 /// One input's day, or the total, in the order of its bytes.
 #[derive(Clone, Copy, Debug, Default, PartialEq, Eq)]
 pub struct Row {
-    pub raises: u32,
-    pub lowers: u32,
-    pub asserts: u32,
-    pub deasserts: u32,
-    pub returned: u32,
-    pub offered: u32,
-    pub dropped: u32,
-    pub wait: u32,
-    pub withdrawn: u32,
-    pub open: u32,
+    pub raises: u64,
+    pub lowers: u64,
+    pub asserts: u64,
+    pub deasserts: u64,
+    pub returned: u64,
+    pub offered: u64,
+    pub dropped: u64,
+    pub wait: u64,
+    pub withdrawn: u64,
+    pub open: u64,
 }
 
 impl Row {
-    pub fn numbers(&self) -> [u32; 10] {
+    pub fn numbers(&self) -> [u64; 10] {
         let Row { raises, lowers, asserts, deasserts, returned, offered, dropped, wait, withdrawn, open } = *self;
         [raises, lowers, asserts, deasserts, returned, offered, dropped, wait, withdrawn, open]
     }
@@ -39,20 +39,26 @@ impl Row {
         }
     }
 
-    /// Totals are column sums, and the maximum for the wait.
-    fn with(self, other: Row) -> Row {
+    /// Totals are column sums, of which eight bytes hold the low bits, and the maximum for the wait.
+    pub fn with(self, other: Row) -> Row {
         Row {
-            raises: self.raises + other.raises,
-            lowers: self.lowers + other.lowers,
-            asserts: self.asserts + other.asserts,
-            deasserts: self.deasserts + other.deasserts,
-            returned: self.returned + other.returned,
-            offered: self.offered + other.offered,
-            dropped: self.dropped + other.dropped,
+            raises: self.raises.wrapping_add(other.raises),
+            lowers: self.lowers.wrapping_add(other.lowers),
+            asserts: self.asserts.wrapping_add(other.asserts),
+            deasserts: self.deasserts.wrapping_add(other.deasserts),
+            returned: self.returned.wrapping_add(other.returned),
+            offered: self.offered.wrapping_add(other.offered),
+            dropped: self.dropped.wrapping_add(other.dropped),
             wait: self.wait.max(other.wait),
-            withdrawn: self.withdrawn + other.withdrawn,
-            open: self.open + other.open,
+            withdrawn: self.withdrawn.wrapping_add(other.withdrawn),
+            open: self.open.wrapping_add(other.open),
         }
+    }
+
+    /// Whether it has an open wait.
+    pub fn shut(mut self, since: Option<u64>) -> Row {
+        self.open = u64::from(since.is_some());
+        self
     }
 }
 
@@ -64,7 +70,7 @@ pub fn sheet(boundary: &mut Boundary, trace: &[u8], sheet: &mut [u8], answer: &m
         Ok(records) => records,
         Err((number, value)) => return tell(answer, number, value),
     };
-    let bytes: Vec<u8> = rows(boundary, &records).iter().flat_map(Row::numbers).flat_map(u32::to_le_bytes).collect();
+    let bytes: Vec<u8> = rows(boundary, &records).iter().flat_map(Row::numbers).flat_map(|number| (number as u32).to_le_bytes()).collect();
     sheet[..LENGTH].copy_from_slice(&bytes);
     tell(answer, 0, Some(records.len() as u64))
 }
@@ -73,25 +79,28 @@ pub fn sheet(boundary: &mut Boundary, trace: &[u8], sheet: &mut [u8], answer: &m
 pub fn rows(boundary: &mut Boundary, records: &[Record]) -> Vec<Row> {
     let mut day = Day { boundary, image: vec![0; NUMBERED.length], rows: [Row::default(); 64], since: [None; 64] };
     day.perform(&Call::Reset);
-    for (at, record) in records.iter().enumerate() {
-        day.record(at, &trace::call(record, 0));
-    }
-    for (row, since) in day.rows.iter_mut().zip(day.since) {
-        row.open += u32::from(since.is_some());
-    }
-    let total = day.rows.into_iter().fold(Row::default(), Row::with);
-    day.rows.into_iter().chain([total]).collect()
+    day.records(0, records);
+    let rows: Vec<Row> = day.rows.into_iter().zip(day.since).map(|(row, since)| row.shut(since)).collect();
+    let total = rows.iter().copied().fold(Row::default(), Row::with);
+    rows.into_iter().chain([total]).collect()
 }
 
-/// The day so far, and for each input the record of the raise that waits for its assert.
-struct Day<'a> {
-    boundary: &'a mut Boundary,
-    image: Vec<u8>,
-    rows: [Row; 64],
-    since: [Option<usize>; 64],
+/// The day so far, and for each input the record of the raise that waits for its assert. The image has numbers, which tell how many events a write makes.
+pub struct Day<'a> {
+    pub boundary: &'a mut Boundary,
+    pub image: Vec<u8>,
+    pub rows: [Row; 64],
+    pub since: [Option<u64>; 64],
 }
 
 impl Day<'_> {
+    /// The records of a trace, the first of which has this number in the day.
+    pub fn records(&mut self, first: u64, records: &[Record]) {
+        for (at, record) in (first..).zip(records) {
+            self.record(at, &trace::call(record, 0));
+        }
+    }
+
     /// The value of a done call, and whether there is one; nothing of a refused one.
     fn perform(&mut self, call: &Call) -> Option<(u64, bool)> {
         let mut answer = [0; 16];
@@ -106,7 +115,7 @@ impl Day<'_> {
         (plain.intirr, plain.intisr, image::numbers(&self.image).next)
     }
 
-    fn record(&mut self, at: usize, call: &Call) {
+    fn record(&mut self, at: u64, call: &Call) {
         let (irr, isr, _) = self.state();
         match *call {
             Call::Write { base, size, address, width, value } => {
@@ -145,21 +154,21 @@ impl Day<'_> {
         }
     }
 
-    fn returned(&mut self, at: usize, input: usize, assert: bool) {
+    fn returned(&mut self, at: u64, input: usize, assert: bool) {
         self.rows[input].returned += 1;
         self.event(at, input, assert);
     }
 
-    fn event(&mut self, at: usize, input: usize, assert: bool) {
+    fn event(&mut self, at: u64, input: usize, assert: bool) {
         self.rows[input].made(assert);
         if assert && let Some(raised) = self.since[input].take() {
-            self.rows[input].wait = self.rows[input].wait.max((at - raised) as u32);
+            self.rows[input].wait = self.rows[input].wait.max(at - raised);
         }
     }
 
     /// A Byte or Dword write: the inputs that went into service were asserted, then those that left it deasserted, lowest first, and the last of these were dropped. A write of ISR
     /// makes no event.
-    fn part(&mut self, at: usize, call: &Call) {
+    fn part(&mut self, at: u64, call: &Call) {
         let (_, isr, next) = self.state();
         let (dropped, _) = self.perform(call).expect("a part of a write that is inside is inside");
         let (_, after, later) = self.state();
@@ -173,7 +182,7 @@ impl Day<'_> {
         assert_eq!(events.len(), made, "each event is of an input whose service changed");
         for (k, &(input, assert)) in events.iter().enumerate() {
             self.rows[input].offered += 1;
-            self.rows[input].dropped += u32::from(k as u64 + dropped >= made as u64);
+            self.rows[input].dropped += u64::from(k as u64 + dropped >= made as u64);
             self.event(at, input, assert);
         }
     }

@@ -100,8 +100,9 @@ fn own(bench: &mut Bench) {
         let rows = sheet::rows(&mut Boundary::new(), &records);
         let mut wanted = [[0; 10]; 65];
         for (input, row) in told {
-            wanted[input] = row;
+            wanted[input] = row.map(u64::from);
             for (k, number) in row.into_iter().enumerate() {
+                let number = u64::from(number);
                 wanted[64][k] = if k == 7 { number.max(wanted[64][k]) } else { wanted[64][k] + number };
             }
         }

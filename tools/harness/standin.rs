@@ -13,6 +13,7 @@ mod numbers;
 mod played;
 mod salvaged;
 mod sheet;
+mod tally;
 mod told;
 mod trace;
 
@@ -374,6 +375,37 @@ pub unsafe fn pch_pic_sheet(
 ) -> u8 {
     let (trace, sheet, answer) = unsafe { (area(trace.cast_mut(), trace_len), area(sheet, sheet_len), area(answer, answer_len)) };
     DEVICE.with_borrow_mut(|device| sheet::sheet(device, trace, sheet, answer))
+}
+
+pub unsafe fn pch_pic_tally_begin(tally: *mut u8, tally_len: usize, answer: *mut u8, answer_len: usize) -> u8 {
+    unsafe { tally::begin(area(tally, tally_len), area(answer, answer_len)) }
+}
+
+#[allow(clippy::too_many_arguments)]
+pub unsafe fn pch_pic_tally_add(
+    trace: *const u8,
+    trace_len: usize,
+    image: *const u8,
+    image_len: usize,
+    tally: *mut u8,
+    tally_len: usize,
+    answer: *mut u8,
+    answer_len: usize,
+) -> u8 {
+    let (trace, image) = unsafe { (area(trace.cast_mut(), trace_len), area(image.cast_mut(), image_len)) };
+    let (tally, answer) = unsafe { (area(tally, tally_len), area(answer, answer_len)) };
+    DEVICE.with_borrow_mut(|device| tally::add(device, trace, image, tally, answer))
+}
+
+pub unsafe fn pch_pic_tally_sheet(
+    tally: *const u8,
+    tally_len: usize,
+    sheet: *mut u8,
+    sheet_len: usize,
+    answer: *mut u8,
+    answer_len: usize,
+) -> u8 {
+    unsafe { tally::sheet(area(tally.cast_mut(), tally_len), area(sheet, sheet_len), area(answer, answer_len)) }
 }
 
 /// Of the two numbers below 65,536 in size that are congruent, the one in range.

@@ -72,6 +72,9 @@ fn front_words(front: &Front) -> String {
         Front::Salvage => "salvage".into(),
         Front::Sheet => "sheet".into(),
         Front::Waiting => "waiting".into(),
+        Front::TallyBegin => "tally-begin".into(),
+        Front::TallyAdd => "tally-add".into(),
+        Front::TallySheet => "tally-sheet".into(),
     }
 }
 
@@ -97,6 +100,7 @@ pub fn parse_front(words: &[String]) -> Option<Result<Case, String>> {
         "salvage" | "sheet" | "waiting" | "hoist-end" | "board-event" | "front-convert" | "front-difference" | "front-play" | "front-play-on" => {
             name.as_str()
         }
+        "tally-begin" | "tally-add" | "tally-sheet" => name.as_str(),
         name => name.split_once('-').filter(|(front, _)| ["plain", "board", "hoist"].contains(front))?.1,
     };
     Some(case_of(name, known, words))
@@ -124,6 +128,7 @@ fn case_of(name: &str, call: &str, words: &[String]) -> Result<Case, String> {
         "kept",
         "list",
         "sheet",
+        "tally",
         "later",
         "earlier",
         "target",
@@ -141,6 +146,9 @@ fn case_of(name: &str, call: &str, words: &[String]) -> Result<Case, String> {
         "salvage" => Front::Salvage,
         "sheet" => Front::Sheet,
         "waiting" => Front::Waiting,
+        "tally-begin" => Front::TallyBegin,
+        "tally-add" => Front::TallyAdd,
+        "tally-sheet" => Front::TallySheet,
         "hoist-end" => Front::EndStartup,
         "board-event" => Front::Event { vector: byte("vector")?, flag: byte("flag")? },
         _ => match (call_of(call, &fields)?, name.split('-').next()) {

@@ -54,7 +54,7 @@ recorded_answers() {
 # recorded FOLDER: the files of recorded cases in a folder, each by its name, so that none can be missing.
 recorded() {
     local name
-    for name in plays conversions differences salvages boards hoists sheets waits plays-on; do echo "$1/$name.bin"; done
+    for name in plays conversions differences salvages boards hoists sheets waits plays-on tallies; do echo "$1/$name.bin"; done
 }
 
 # damaged FILE PLACE: the file with one bit of the byte at a place changed.

@@ -12,3 +12,4 @@ pub mod TraceSalvaged
 pub mod BoardsMet
 pub mod HoistMet
 pub mod WorkedSheet
+pub mod TallyMet

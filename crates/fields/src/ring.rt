@@ -2,6 +2,7 @@
 use crate::event_numbers;
 use bits::bytes::number;
 use bits::bytes::put_bytes;
+use bits::bytes::wide;
 use image::form;
 use image::form::Form;
 use image::form::places_of;
@@ -12,8 +13,18 @@ ghost use Rattle.rules.specs.Ring.{stop, flag};
 ghost use Rattle.images.specs.Form.{formLength};
 ghost use Rattle.images.specs.Image.{ringLength};
 ghost use Rattle.image.specs.Shown.{formView};
-ghost use Rattle.fields.specs.inplace.Held.{Offers};
+ghost use Rattle.fields.specs.inplace.Held.{Reads, Offers};
 ghost use Rattle.fields.specs.ring.Fields.{RingOffered, event, offering};
+
+// How many events wait.
+pub fn waiting(image: &[u8], form: Form) -> u64
+    requires { ⌜ length (now image) ≡ formLength (formView form) ⌝ }
+    ensures { λ r. ⌜ Reads (now (image .entry)) r (λ d. length (d .ring .waiting)) ⌝ }
+{
+    let p = places_of(form);
+    let at = p.count;
+    wide(image[at])
+}
 
 // The drops with one more, up to their stop.
 fn counted(drops: u64) -> u64

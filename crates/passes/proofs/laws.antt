@@ -5,5 +5,6 @@ pub mod Recording
 pub mod Counting
 pub mod Finishing
 pub mod Bytes
+pub mod Reading
 pub mod Passing
 pub mod Days

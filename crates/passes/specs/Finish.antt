@@ -14,14 +14,24 @@ unfoldable pub afterItems : Device → List Item → Device
 afterItems d [] = d
 afterItems d (x ∷ xs) = afterItems (itemAfter d x) xs
 
--- the columns below c of row n are zero; these rows are, and those of all inputs
-unfoldable pub rowCleared : Grid → ℕ → ℕ → Grid
-rowCleared f n zero = f
-rowCleared f n (suc c) = put (rowCleared f n c) n c 0
+-- the columns below c of row n are those of g; these rows are
+unfoldable pub rowFrom : Grid → Grid → ℕ → ℕ → Grid
+rowFrom g f n zero = f
+rowFrom g f n (suc c) = put (rowFrom g f n c) n c (g n c)
 
-unfoldable pub cleared : Grid → List ℕ → Grid
-cleared f [] = f
-cleared f (n ∷ ns) = cleared (rowCleared f n 10) ns
+unfoldable pub rowsFrom : Grid → Grid → List ℕ → Grid
+rowsFrom g f [] = f
+rowsFrom g f (n ∷ ns) = rowsFrom g (rowFrom g f n 10) ns
+
+-- they are zero; and the rows of all inputs
+abbrev pub zeros : Grid
+zeros n c = 0
+
+abbrev pub rowCleared : Grid → ℕ → ℕ → Grid
+rowCleared f n c = rowFrom zeros f n c
+
+abbrev pub cleared : Grid → List ℕ → Grid
+cleared f ns = rowsFrom zeros f ns
 
 abbrev pub allInputs : List ℕ
 allInputs = inputs (on 0xffff_ffff_ffff_ffff)

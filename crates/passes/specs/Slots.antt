@@ -2,7 +2,7 @@
 use mathlib.Core.Bool.{cond, _&&_}
 use mathlib.Core.List.{List, [], _∷_}
 use mathlib.Core.Path.{_≡_}
-use Prim.Native.Nat.{ℕ, _+_, _-_, _%_, _^_, _<_, max}
+use Prim.Native.Nat.{ℕ, _+_, _-_, max}
 use lib.Dec.{eqb}
 use Rattle.plain.specs.Events.{Note}
 use Rattle.plain.specs.Sequence.{Item, call, load, refused}
@@ -55,7 +55,5 @@ notesIn (happened x ∷ ms) = x ∷ notesIn ms
 -- a grid has the slot of n in its row
 pub record Rows (f : Grid) (n : ℕ) (s : Slot) : Type 0 where
   pub greatest : f n 7 ≡ s .greatest
-  pub withdrawn : f n 8 ≡ s .withdrawn % 2 ^ 32
+  pub withdrawn : f n 8 ≡ s .withdrawn
   pub since : f n 9 ≡ s .since
-  pub great : s .greatest < 2 ^ 32
-  pub late : s .since < 2 ^ 32

@@ -2,3 +2,5 @@
 pub mod Grid
 pub mod Marks
 pub mod Following
+pub mod Tally
+pub mod Tallying

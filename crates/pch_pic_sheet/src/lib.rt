@@ -1,11 +1,6 @@
 // The call that writes the sheet of a lent trace. It requires nothing: every input has its outcome. Here is what lacks room, refusal 7, which writes no byte;
 // the crates below test the trace and make the sheet.
 pub mod sheet;
-pub mod tally;
-pub mod totals;
-pub mod watch;
-pub mod watch_record;
-pub mod watch_write;
 
 use crate::sheet::make;
 use trace::trace_refusals::NO_ROOM;

@@ -91,25 +91,25 @@ totalBelow (suc n) f = together (totalBelow n f) (f n)
 
 -- ---- the bytes
 
--- ten numbers of four bytes each, little end first
-abbrev pub bytesOfRow : Row → List ℕ
-bytesOfRow r =
-    bytesOf 4 (r .raises) ++ (bytesOf 4 (r .lowers) ++ (bytesOf 4 (r .asserts) ++ (bytesOf 4 (r .deasserts) ++ (bytesOf 4 (r .returned)
-    ++ (bytesOf 4 (r .offered) ++ (bytesOf 4 (r .dropped) ++ (bytesOf 4 (r .greatest) ++ (bytesOf 4 (r .withdrawn) ++ bytesOf 4 (r .stillOpen)))))))))
+-- ten numbers of so many bytes each, little end first
+abbrev pub bytesOfRow : ℕ → Row → List ℕ
+bytesOfRow w r =
+    bytesOf w (r .raises) ++ (bytesOf w (r .lowers) ++ (bytesOf w (r .asserts) ++ (bytesOf w (r .deasserts) ++ (bytesOf w (r .returned)
+    ++ (bytesOf w (r .offered) ++ (bytesOf w (r .dropped) ++ (bytesOf w (r .greatest) ++ (bytesOf w (r .withdrawn) ++ bytesOf w (r .stillOpen)))))))))
 
 -- the rows below n, one after another
-unfoldable pub rowsBelow : ℕ → (ℕ → Row) → List ℕ
-rowsBelow zero f = []
-rowsBelow (suc n) f = rowsBelow n f ++ bytesOfRow (f n)
+unfoldable pub rowsBelow : ℕ → ℕ → (ℕ → Row) → List ℕ
+rowsBelow w zero f = []
+rowsBelow w (suc n) f = rowsBelow w n f ++ bytesOfRow w (f n)
 
 -- inputs 0 to 63, and the total
-abbrev pub sheetBytes : (ℕ → Row) → List ℕ
-sheetBytes f = rowsBelow 64 f ++ bytesOfRow (totalBelow 64 f)
+abbrev pub sheetBytes : ℕ → (ℕ → Row) → List ℕ
+sheetBytes w f = rowsBelow w 64 f ++ bytesOfRow w (totalBelow 64 f)
 
--- how many bytes: 65 rows of ten numbers
+-- how many bytes: 65 rows of ten numbers, of four bytes each
 abbrev pub sheetLength : ℕ
 sheetLength = 65 * (10 * 4)
 
 -- the sheet of a good trace
 abbrev pub sheetOf : List ℕ → List ℕ
-sheetOf l = sheetBytes (rowOf (dayOf l))
+sheetOf l = sheetBytes 4 (rowOf (dayOf l))

@@ -82,6 +82,12 @@ linked! {
     fn pch_pic_hoist_end_startup(image: &[u8], phase: &mut [u8], answer: &mut [u8]);
     /// A day is counted.
     fn pch_pic_sheet(trace: &[u8], sheet: &mut [u8], answer: &mut [u8]);
+    /// A tally that has counted nothing.
+    fn pch_pic_tally_begin(tally: &mut [u8], answer: &mut [u8]);
+    /// The records of a trace are counted into a tally.
+    fn pch_pic_tally_add(trace: &[u8], image: &[u8], tally: &mut [u8], answer: &mut [u8]);
+    /// The sheet of a tally.
+    fn pch_pic_tally_sheet(tally: &[u8], sheet: &mut [u8], answer: &mut [u8]);
 }
 
 /// Which kind of archive is linked, as it says itself: 1 is the machine code of what is proved.

@@ -21,6 +21,7 @@
 //! - `pch_pic_hoist_reset`, `_read`, `_write` and `_end_startup` hold a guest to the hoist profile.
 //! - `pch_pic_convert` moves an image to another form.
 //! - `pch_pic_play`, `_play_on`, `_salvage` and `_sheet` take a trace.
+//! - `pch_pic_tally_begin`, `_add` and `_sheet` count a day of several traces.
 //! - `pch_pic_difference` tells how far one number of an event is ahead of another.
 //!
 //! What a call is proved to do stands with it, as the proof has it: `ensures` says what holds after it.

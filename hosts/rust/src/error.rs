@@ -56,6 +56,8 @@ pub enum Error {
     Profile,
     /// 16: of a trace that is salvaged every block has a bad record, so that none is left.
     Empty,
+    /// 17: a tally has a number of 2^63 or more, or an open wait above its number of records; the place of that number's first byte.
+    Tally(u64),
 }
 
 impl Error {
@@ -77,10 +79,11 @@ impl Error {
             Error::Align => 14,
             Error::Profile => 15,
             Error::Empty => 16,
+            Error::Tally(_) => 17,
         }
     }
 
-    /// The value that goes with the number: of 1 the address, of 8 to 11 the place in the image, of 13 the number of the record.
+    /// The value that goes with the number: of 1 the address, of 8 to 11 the place in the image, of 13 the number of the record, of 17 the place in the tally.
     pub const fn value(&self) -> Option<u64> {
         match self {
             Error::Outside(value)
@@ -88,7 +91,8 @@ impl Error {
             | Error::Count(value)
             | Error::Flag(value)
             | Error::Unused(value)
-            | Error::Record(value) => Some(*value),
+            | Error::Record(value)
+            | Error::Tally(value) => Some(*value),
             _ => None,
         }
     }
@@ -111,6 +115,7 @@ impl Error {
             (14, None) => Some(Error::Align),
             (15, None) => Some(Error::Profile),
             (16, None) => Some(Error::Empty),
+            (17, Some(place)) => Some(Error::Tally(place)),
             _ => None,
         }
     }
@@ -137,6 +142,7 @@ impl fmt::Display for Error {
             Error::Align => f.write_str("the access is no aligned Dword"),
             Error::Profile => f.write_str("the profile does not allow the write, or start-up cannot end"),
             Error::Empty => f.write_str("the trace has no block without a bad record"),
+            Error::Tally(place) => write!(f, "the tally has a number that none can have, at byte {place}"),
         }
     }
 }
@@ -149,8 +155,8 @@ mod tests {
 
     #[test]
     fn a_number_and_its_value_come_back() {
-        for number in [1, 2, 3, 4, 5, 7, 8, 9, 10, 11, 12, 13, 14, 15, 16] {
-            let value = [1, 8, 9, 10, 11, 13].contains(&number).then_some(0x1234);
+        for number in [1, 2, 3, 4, 5, 7, 8, 9, 10, 11, 12, 13, 14, 15, 16, 17] {
+            let value = [1, 8, 9, 10, 11, 13, 17].contains(&number).then_some(0x1234);
             let error = Error::from_answer(number, value).unwrap();
             assert_eq!((error.number(), error.value()), (number, value));
         }
@@ -158,7 +164,7 @@ mod tests {
 
     #[test]
     fn other_answers_are_no_error() {
-        for number in [0, 6, 8, 13, 255] {
+        for number in [0, 6, 8, 13, 17, 255] {
             assert_eq!(Error::from_answer(number, None), None);
         }
         assert_eq!(Error::from_answer(1, None), None);

@@ -63,7 +63,8 @@
 //! A [`Trace`] has the calls of a day from a reset on, and [playing](Trace::play) it gives every byte again. [`Recorded`] is a device whose calls are recorded
 //! as they are made, and [`Recorder`] takes calls one by one. Of a damaged trace [`holes::lead`] keeps what comes before the first hole, which is the day;
 //! [`Trace::salvage`] keeps every whole block, and what comes behind a hole does not play as the day did. [`Trace::sheet`] counts the day in ten exact numbers for
-//! each input, and [`Trace::history`] tells where in the day they come from. They are there with feature `std`.
+//! each input, and [`Trace::history`] tells where in the day they come from. A [`Tally`] counts a day that is longer than one trace. They are there with
+//! feature `std`.
 //!
 //! # What does the work
 //!
@@ -134,6 +135,8 @@ mod replace;
 #[cfg(feature = "std")]
 pub mod sheet;
 #[cfg(feature = "std")]
+pub mod tally;
+#[cfg(feature = "std")]
 pub mod trace;
 mod wires;
 
@@ -149,6 +152,8 @@ pub use hoist::{Hoist, Phase};
 pub use recorder::{monotonic, RecordError, Recorded, Recorder};
 #[cfg(feature = "std")]
 pub use sheet::Sheet;
+#[cfg(feature = "std")]
+pub use tally::Tally;
 #[cfg(feature = "std")]
 pub use trace::{Dropped, Played, Record, Salvaged, Step, Trace};
 pub use wires::{Change, Device, Wires};
@@ -194,6 +199,12 @@ pub(crate) const DROPPED_MAX: usize = DROPPED_LEN * (BLOCKS_MAX - 1);
 
 /// The bytes of the sheet of a day.
 pub const SHEET_LEN: usize = 2_600;
+
+/// The bytes of a tally, which carries a sheet over several traces.
+pub const TALLY_LEN: usize = 5_200;
+
+/// The bytes of the sheet of a tally.
+pub const LONG_SHEET_LEN: usize = 5_200;
 
 /// The window that a trace is played in.
 #[cfg(feature = "std")]

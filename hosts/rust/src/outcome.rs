@@ -117,6 +117,21 @@ pub fn sheet(trace: &[u8], sheet: &mut [u8]) -> Outcome {
     asked(|answer| calls::pch_pic_sheet(trace, sheet, answer))
 }
 
+#[cfg(feature = "std")]
+pub fn tally_begin(tally: &mut [u8]) -> Outcome {
+    asked(|answer| calls::pch_pic_tally_begin(tally, answer))
+}
+
+#[cfg(feature = "std")]
+pub fn tally_add(trace: &[u8], image: &[u8], tally: &mut [u8]) -> Outcome {
+    asked(|answer| calls::pch_pic_tally_add(trace, image, tally, answer))
+}
+
+#[cfg(feature = "std")]
+pub fn tally_sheet(tally: &[u8], sheet: &mut [u8]) -> Outcome {
+    asked(|answer| calls::pch_pic_tally_sheet(tally, sheet, answer))
+}
+
 #[cfg(test)]
 mod tests {
     use super::*;

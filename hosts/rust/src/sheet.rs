@@ -21,38 +21,49 @@ use core::fmt;
 pub const COLUMNS: [&str; 10] =
     ["raises", "lowers", "asserts", "deasserts", "returned", "offered", "dropped", "greatest wait", "withdrawn", "open"];
 
-const ROW_LEN: usize = 4 * COLUMNS.len();
+/// A row of a trace's sheet.
+pub type Row = RowOf<u32>;
+
+/// A row of a tally's, in numbers of 64 bits.
+pub type LongRow = RowOf<u64>;
+
+/// The sheet of a trace. [`Trace::sheet`] makes it.
+pub type Sheet = SheetOf<u32>;
+
+/// The sheet of several traces, in numbers of 64 bits. [`Tally::sheet`](crate::Tally::sheet) makes it.
+pub type LongSheet = SheetOf<u64>;
 
 /// The numbers of one input, or the total: sums, and of the waits the greatest. Refused records count as none, and keep their number.
 #[derive(Clone, Copy, Debug, Default, PartialEq, Eq, Hash)]
-pub struct Row {
+pub struct RowOf<N> {
     /// Raises done.
-    pub raises: u32,
+    pub raises: N,
     /// Lowers done.
-    pub lowers: u32,
+    pub lowers: N,
     /// Asserts made.
-    pub asserts: u32,
+    pub asserts: N,
     /// Deasserts made.
-    pub deasserts: u32,
+    pub deasserts: N,
     /// How many of both were returned by a raise, a lower or a poll.
-    pub returned: u32,
+    pub returned: N,
     /// How many of both a write offered, the dropped among them.
-    pub offered: u32,
+    pub offered: N,
     /// How many of the offered were dropped, since 16 waited.
-    pub dropped: u32,
+    pub dropped: N,
     /// The greatest difference of record numbers between a raise that found the input neither latched nor in service and the assert that followed.
-    pub greatest_wait: u32,
+    pub greatest_wait: N,
     /// Waits that a lowering or a CLEAR ended.
-    pub withdrawn: u32,
+    pub withdrawn: N,
     /// Waits that the end of the trace found, 0 or 1 of an input.
-    pub open: u32,
+    pub open: N,
 }
 
-impl Row {
-    fn from_bytes(bytes: &[u8]) -> Self {
-        let mut numbers = bytes.chunks_exact(4).map(|bytes| contents::number(bytes) as u32);
+impl<N: Copy> RowOf<N> {
+    /// Ten numbers one after another, each made of so many of the bytes.
+    fn from_bytes(bytes: &[u8], of: fn(u64) -> N) -> Self {
+        let mut numbers = bytes.chunks_exact(bytes.len() / COLUMNS.len()).map(|bytes| of(contents::number(bytes)));
         let mut next = || numbers.next().expect("a row has ten numbers");
-        Row {
+        RowOf {
             raises: next(),
             lowers: next(),
             asserts: next(),
@@ -67,7 +78,7 @@ impl Row {
     }
 
     /// The ten numbers, in the order of [`COLUMNS`].
-    pub const fn numbers(&self) -> [u32; COLUMNS.len()] {
+    pub const fn numbers(&self) -> [N; COLUMNS.len()] {
         [
             self.raises,
             self.lowers,
@@ -81,19 +92,21 @@ impl Row {
             self.open,
         ]
     }
+}
 
+impl<N: Default + PartialEq> RowOf<N> {
     /// Whether all of them are 0: the input did nothing.
     pub fn is_idle(&self) -> bool {
-        *self == Row::default()
+        *self == RowOf::default()
     }
 }
 
-/// The sheet of a day. [`Trace::sheet`] makes it.
+/// The sheet of a day: [`Sheet`] or [`LongSheet`].
 #[derive(Clone, Debug, PartialEq, Eq, Hash)]
-pub struct Sheet {
+pub struct SheetOf<N> {
     records: usize,
-    inputs: [Row; INPUTS],
-    total: Row,
+    inputs: [RowOf<N>; INPUTS],
+    total: RowOf<N>,
 }
 
 impl Trace {
@@ -101,32 +114,40 @@ impl Trace {
     pub fn sheet(&self) -> Sheet {
         let mut bytes = [0; SHEET_LEN];
         let records = outcome::sheet(self.as_bytes(), &mut bytes).expect("a good trace has a sheet");
-        let row = |number: usize| Row::from_bytes(&bytes[ROW_LEN * number..][..ROW_LEN]);
-        Sheet { records: records.expect("a done sheet has a value") as usize, inputs: core::array::from_fn(row), total: row(INPUTS) }
+        Sheet::from_bytes(records.expect("a done sheet has a value") as usize, &bytes, |number| number as u32)
     }
 }
 
-impl Sheet {
+impl<N: Copy> SheetOf<N> {
+    /// The rows of inputs 0 to 63, and the total.
+    pub(crate) fn from_bytes(records: usize, bytes: &[u8], of: fn(u64) -> N) -> Self {
+        let len = bytes.len() / (INPUTS + 1);
+        let row = |number: usize| RowOf::from_bytes(&bytes[len * number..][..len], of);
+        SheetOf { records, inputs: core::array::from_fn(row), total: row(INPUTS) }
+    }
+
     /// How many records the day has.
     pub fn records(&self) -> usize {
         self.records
     }
 
     /// The row of an input; none where it is 64 or more.
-    pub fn input(&self, input: usize) -> Option<&Row> {
+    pub fn input(&self, input: usize) -> Option<&RowOf<N>> {
         self.inputs.get(input)
     }
 
     /// The rows of inputs 0 to 63.
-    pub fn inputs(&self) -> &[Row; INPUTS] {
+    pub fn inputs(&self) -> &[RowOf<N>; INPUTS] {
         &self.inputs
     }
 
     /// The last row.
-    pub fn total(&self) -> &Row {
+    pub fn total(&self) -> &RowOf<N> {
         &self.total
     }
+}
 
+impl<N: Copy + fmt::Display> SheetOf<N> {
     /// The sheet for a program: a line of names, and a line for each input and the total, with commas between.
     pub fn csv(&self) -> String {
         let names = COLUMNS.map(|name| name.replace(' ', "_"));
@@ -178,20 +199,22 @@ impl Sheet {
         let _ = self.print(&mut text, |row| Some(began.get(row).copied().unwrap_or(total).map_or("-".into(), |record| record.to_string())));
         text
     }
+}
 
+impl<N: Copy + Default + PartialEq + fmt::Display> SheetOf<N> {
     /// Inputs that did nothing are left out, and the total comes last. `began` says what stands behind the greatest wait of a row.
     fn print(&self, f: &mut impl fmt::Write, began: impl Fn(usize) -> Option<String>) -> fmt::Result {
         line(f, "input", COLUMNS.iter().map(|name| name.to_string()), began(INPUTS).map(|_| BEGAN.into()))?;
         for (input, row) in self.inputs.iter().enumerate().filter(|(_, row)| !row.is_idle()) {
-            line(f, &input.to_string(), row.numbers().iter().map(u32::to_string), began(input))?;
+            line(f, &input.to_string(), row.numbers().iter().map(N::to_string), began(input))?;
         }
-        line(f, "total", self.total.numbers().iter().map(u32::to_string), began(INPUTS))?;
+        line(f, "total", self.total.numbers().iter().map(N::to_string), began(INPUTS))?;
         let idle = self.inputs.iter().filter(|row| row.is_idle()).count();
         write!(f, "records: {}; inputs that did nothing and are left out: {idle}", self.records)
     }
 }
 
-impl fmt::Display for Sheet {
+impl<N: Copy + Default + PartialEq + fmt::Display> fmt::Display for SheetOf<N> {
     /// A table for people: inputs that did nothing are left out, and the total comes last.
     fn fmt(&self, f: &mut fmt::Formatter<'_>) -> fmt::Result {
         self.print(f, |_| None)
@@ -201,6 +224,8 @@ impl fmt::Display for Sheet {
 #[cfg(test)]
 mod tests {
     use super::*;
+
+    const ROW_LEN: usize = 4 * COLUMNS.len();
 
     /// One block of one record, a raise of input 5, which is masked.
     const RAISED: [u8; 22] = [1, 0, 6, 0, 1, 0, 1, 5, 0, 0, 0, 0, 0, 0, 0, 0, 0, 0, 0, 0, 0, 0];
@@ -227,7 +252,7 @@ mod tests {
     #[test]
     fn numbers_have_their_names() {
         let bytes: Vec<u8> = (1..=10_u32).flat_map(|number| (number << 8).to_le_bytes()).collect();
-        let row = Row::from_bytes(&bytes);
+        let row = Row::from_bytes(&bytes, |number| number as u32);
         assert_eq!(row.numbers(), core::array::from_fn(|at| (at as u32 + 1) << 8));
         assert_eq!((row.raises, row.greatest_wait, row.open), (0x100, 0x800, 0xa00));
         assert!(Row::default().is_idle() && !row.is_idle());

@@ -6,8 +6,8 @@
 mod contents;
 
 use pch_pic::{
-    reg, Error, BLOCKS_MAX, DRAIN_ROOM, EVENTS, EVENT_LEN, IMAGE2_LEN, IMAGE2_NUMBERED_LEN, IMAGE_LEN, INPUTS, RECORDS_MAX, RECORD_LEN,
-    SHEET_LEN, TRACE_MAX, VECTORS,
+    reg, Error, BLOCKS_MAX, DRAIN_ROOM, EVENTS, EVENT_LEN, IMAGE2_LEN, IMAGE2_NUMBERED_LEN, IMAGE_LEN, INPUTS, LONG_SHEET_LEN, RECORDS_MAX,
+    RECORD_LEN, SHEET_LEN, TALLY_LEN, TRACE_MAX, VECTORS,
 };
 use std::collections::HashMap;
 
@@ -48,6 +48,8 @@ fn sizes() {
         ("SHEET_LEN", SHEET_LEN),
         ("SHEET_ROWS", INPUTS + 1),
         ("SHEET_TOTAL", INPUTS),
+        ("TALLY_LEN", TALLY_LEN),
+        ("LONG_SHEET_LEN", LONG_SHEET_LEN),
     ] {
         assert_eq!(header[name], value as u64, "{name}");
     }
@@ -76,6 +78,7 @@ fn refusals() {
         ("ALIGN", Error::Align),
         ("PROFILE", Error::Profile),
         ("EMPTY", Error::Empty),
+        ("TALLY", Error::Tally(0)),
     ] {
         assert_eq!(header[name], u64::from(error.number()), "{name}");
         // The crate's text tells the address, the place or the record too.
@@ -139,6 +142,7 @@ fn columns() {
         assert!(source.contains(&format!("[PCH_PIC_SHEET_{place}] = \"{name}\",")), "{place}");
     }
     assert_eq!((header["SHEET_COLUMNS"], header["SHEET_ROW_LEN"]), (COLUMNS.len() as u64, 4 * COLUMNS.len() as u64));
+    assert_eq!(header["LONG_ROW_LEN"], 8 * COLUMNS.len() as u64);
 }
 
 /// What a recorder refuses has one text in both hosts.

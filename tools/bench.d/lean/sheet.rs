@@ -1,200 +1,21 @@
-//! The sheet of a day (02, C-21): the device's lines are kept as words, the rows where they stand in the sheet. While the day lasts the column of open waits has
-//! the number of the record behind the one at which a wait began, and 0 where none is open.
+//! The sheet of a day (02, C-21), and the tally of several traces: the device's lines are kept as words, the rows where they stand in the sheet. While the day lasts the column of open
+//! waits has the number of the record behind the one at which a wait began, and 0 where none is open.
 
-use super::{number, offset_of, records_of, told, word};
+use super::{Form, Outcome, accepted, by_length, fault, records_of, told, word};
+use super::{Numbered, One, Two};
 
-// The columns of a row.
-const RAISES: usize = 0;
-const LOWERS: usize = 1;
-const ASSERTS: usize = 2;
-const DEASSERTS: usize = 3;
-const RETURNED: usize = 4;
-const OFFERED: usize = 5;
-const DROPPED: usize = 6;
-const GREATEST: usize = 7;
-const WITHDRAWN: usize = 8;
-const OPEN: usize = 9;
-
-type Row = [[u8; 4]; 10];
-
-#[inline(always)]
-fn cell(row: &Row, column: usize) -> u32 {
-    u32::from_le_bytes(row[column])
+mod short {
+    use super::super::{number, offset_of, word};
+    type Cell = u32;
+    const BYTES: usize = 4;
+    include!("day.rs");
 }
 
-#[inline(always)]
-fn add(row: &mut Row, column: usize, more: u32) {
-    row[column] = (cell(row, column) + more).to_le_bytes();
-}
-
-/// A day so far.
-struct Day<'a> {
-    rows: &'a mut [Row; 65],
-    mask: u64,
-    irr: u64,
-    isr: u64,
-    waiting: u32,
-    record: u32,
-}
-
-impl Day<'_> {
-    #[inline(always)]
-    fn assert(&mut self, input: usize, returned: bool) {
-        let row = &mut self.rows[input];
-        let since = cell(row, OPEN);
-        if since != 0 {
-            row[GREATEST] = cell(row, GREATEST).max(self.record + 1 - since).to_le_bytes();
-            row[OPEN] = [0; 4];
-        }
-        add(row, ASSERTS, 1);
-        self.told(input, returned);
-    }
-
-    #[inline(always)]
-    fn told(&mut self, input: usize, returned: bool) {
-        let row = &mut self.rows[input];
-        if returned {
-            return add(row, RETURNED, 1);
-        }
-        add(row, OFFERED, 1);
-        if self.waiting == 16 { add(row, DROPPED, 1) } else { self.waiting += 1 }
-    }
-
-    #[inline(always)]
-    fn withdraw(&mut self, input: usize) {
-        let row = &mut self.rows[input];
-        if cell(row, OPEN) != 0 {
-            row[OPEN] = [0; 4];
-            add(row, WITHDRAWN, 1);
-        }
-    }
-
-    #[inline(always)]
-    fn assert_lowest(&mut self, inputs: u64, returned: bool) {
-        let pending = inputs & self.irr & !self.mask & !self.isr;
-        if pending != 0 {
-            self.isr |= pending & pending.wrapping_neg();
-            self.assert(pending.trailing_zeros() as usize, returned);
-        }
-    }
-
-    #[inline(always)]
-    fn retract(&mut self, inputs: u64, returned: bool) {
-        let mut left = self.isr & inputs;
-        self.isr &= !inputs;
-        while left != 0 {
-            let input = left.trailing_zeros() as usize;
-            add(&mut self.rows[input], DEASSERTS, 1);
-            self.told(input, returned);
-            left &= left - 1;
-        }
-    }
-
-    #[inline(always)]
-    fn raise(&mut self, input: usize) {
-        let row = &mut self.rows[input];
-        add(row, RAISES, 1);
-        if (self.irr | self.isr) >> input & 1 == 0 {
-            row[OPEN] = (self.record + 1).to_le_bytes();
-        }
-        self.irr |= 1 << input;
-        self.assert_lowest(1 << input, true);
-    }
-
-    #[inline(always)]
-    fn lower(&mut self, input: usize) {
-        add(&mut self.rows[input], LOWERS, 1);
-        self.irr &= !(1 << input);
-        self.withdraw(input);
-        self.retract(1 << input, true);
-    }
-
-    #[inline(always)]
-    fn write_dword(&mut self, offset: u64, value: u32) {
-        let shift = 8 * (offset & 4);
-        let (placed, kept) = (u64::from(value) << shift, !(0xffff_ffff << shift));
-        match offset & !4 {
-            0x020 => {
-                let old = self.mask;
-                self.mask = old & kept | placed;
-                self.assert_lowest(old & !self.mask, false);
-                self.retract(!old & self.mask, false);
-            }
-            0x080 => {
-                // only a latched input can wait
-                let mut left = placed & self.irr;
-                while left != 0 {
-                    self.withdraw(left.trailing_zeros() as usize);
-                    left &= left - 1;
-                }
-                self.irr &= !placed;
-                self.retract(placed, false);
-            }
-            0x3a0 => self.isr = self.isr & kept | placed,
-            _ => {}
-        }
-    }
-
-    #[inline(always)]
-    fn write_byte(&mut self, offset: u64, value: u8) {
-        let register = match offset & !7 {
-            0x020 => self.mask,
-            0x080 => 0,
-            0x3a0 => self.isr & !self.mask,
-            _ => return,
-        };
-        let shift = 8 * (offset & 7);
-        let bytes = register & !(0xff << shift) | u64::from(value) << shift;
-        self.write_dword(offset & !3, (bytes >> (8 * (offset & 4))) as u32);
-    }
-
-    #[inline(always)]
-    fn write(&mut self, width: u64, offset: u64, value: u64) {
-        match width {
-            1 => self.write_byte(offset, value as u8),
-            2 => {
-                self.write_byte(offset, value as u8);
-                self.write_byte(offset + 1, (value >> 8) as u8);
-            }
-            4 => self.write_dword(offset, value as u32),
-            _ => {
-                self.write_dword(offset, value as u32);
-                self.write_dword(offset + 4, (value >> 32) as u32);
-            }
-        }
-    }
-
-    /// The call that a record is; a refused one does nothing.
-    #[inline(always)]
-    fn take(&mut self, record: &[u8; 16]) {
-        let (byte, offset) = (u64::from(record[1]), u64::from(number(record, 2)));
-        match record[0] {
-            1 if byte < 64 => self.raise(byte as usize),
-            2 if byte < 64 => self.lower(byte as usize),
-            3 if byte < 64 => self.assert_lowest(1 << byte, true),
-            1..=4 => {}
-            5 => {
-                if let Ok(offset) = offset_of(0, 0x1_0000, offset, byte) {
-                    self.write(byte, offset, word(record, 8));
-                }
-            }
-            _ => self.waiting = 0,
-        }
-    }
-
-    /// The column of open waits, and the total.
-    #[inline(always)]
-    fn end(&mut self) {
-        let [rows @ .., total] = self.rows;
-        let mut sums = [0; 10];
-        for row in rows {
-            row[OPEN] = u32::from(cell(row, OPEN) != 0).to_le_bytes();
-            for (column, sum) in sums.iter_mut().enumerate() {
-                *sum = if column == GREATEST { cell(row, column).max(*sum) } else { cell(row, column) + *sum };
-            }
-        }
-        *total = sums.map(u32::to_le_bytes);
-    }
+mod wide {
+    use super::super::{number, offset_of, word};
+    type Cell = u64;
+    const BYTES: usize = 8;
+    include!("day.rs");
 }
 
 #[inline(never)]
@@ -204,16 +25,75 @@ pub fn sheet(trace: &[u8], sheet: &mut [u8], answer: &mut [u8]) -> u8 {
         Ok(records) => records,
         Err(refused) => return told(answer, refused),
     };
-    let rows: &mut [Row; 65] = sheet.as_chunks_mut().0.as_chunks_mut().0.try_into().unwrap();
+    let rows: &mut [short::Row; 65] = sheet.as_chunks_mut().0.as_chunks_mut().0.try_into().unwrap();
     // In parts: a fill of 2,048 bytes or more is one instruction that counts as many.
     for part in rows.chunks_mut(13) {
         part.fill([[0; 4]; 10]);
     }
-    let mut day = Day { rows, mask: !0, irr: 0, isr: 0, waiting: 0, record: 0 };
+    let mut day = short::Day { rows, mask: !0, irr: 0, isr: 0, waiting: 0, record: 0 };
     for record in records {
         day.take(record);
         day.record += 1;
     }
     day.end();
     told(answer, (0, Some(records.len() as u64)))
+}
+
+/// 17 with the place of the first number of a tally that none can have.
+#[inline(always)]
+fn wrong_number(rows: &[wide::Row; 65]) -> Option<Outcome> {
+    let counted = wide::cell(&rows[64], 0);
+    let wrong = |k: usize| {
+        let number = wide::cell(&rows[k / 10], k % 10);
+        number >> 63 != 0 || (k % 10 == wide::OPEN && k < 640 && number > counted)
+    };
+    (0..650).find(|&k| wrong(k)).map(|k| (17, Some(8 * k as u64)))
+}
+
+#[inline(always)]
+fn add_in<F: Form<N>, const N: usize>(image: &[u8], trace: &[u8], tally: &mut [u8; 5200]) -> Outcome {
+    let image: &[u8; N] = image.try_into().unwrap();
+    if !accepted::<F, N>(image) {
+        return fault::<F, N>(image);
+    }
+    let records = match records_of(trace) {
+        Ok(records) => records,
+        Err(refused) => return refused,
+    };
+    let rows: &mut [wide::Row; 65] = tally.as_chunks_mut().0.as_chunks_mut().0.try_into().unwrap();
+    if let Some(wrong) = wrong_number(rows) {
+        return wrong;
+    }
+    let (mask, irr, isr) = (word(image, F::MASK), word(image, F::IRR), word(image, F::ISR));
+    let record = wide::cell(&rows[64], 0);
+    let mut day = wide::Day { rows, mask, irr, isr, waiting: u32::from(image[F::COUNT]), record };
+    for record in records {
+        day.take(record);
+        day.record += 1;
+    }
+    day.rows[64][0] = day.record.to_le_bytes();
+    (0, None)
+}
+
+#[inline(never)]
+pub fn tally_add(trace: &[u8], image: &[u8], tally: &mut [u8], answer: &mut [u8]) -> u8 {
+    let (Some(answer), Some(tally)) = (answer.first_chunk_mut(), tally.first_chunk_mut()) else { return 7 };
+    told(answer, by_length!(image, add_in, trace, tally))
+}
+
+#[inline(never)]
+pub fn tally_sheet(tally: &[u8], sheet: &mut [u8], answer: &mut [u8]) -> u8 {
+    let (Some(answer), Some(tally), Some(sheet)) = (answer.first_chunk_mut(), tally.first_chunk::<5200>(), sheet.first_chunk_mut::<5200>()) else {
+        return 7;
+    };
+    let counted: &[wide::Row; 65] = tally.as_chunks().0.as_chunks().0.try_into().unwrap();
+    if let Some(wrong) = wrong_number(counted) {
+        return told(answer, wrong);
+    }
+    let rows: &mut [wide::Row; 65] = sheet.as_chunks_mut().0.as_chunks_mut().0.try_into().unwrap();
+    for (to, row) in rows.iter_mut().zip(counted) {
+        *to = *row;
+    }
+    wide::Day { rows, mask: 0, irr: 0, isr: 0, waiting: 0, record: 0 }.end();
+    told(answer, (0, None))
 }

@@ -1,6 +1,8 @@
-//! The sheet of a day (02, C-21): the device's lines are kept as words, the rows as a struct that is written out at the end.
+//! The sheet of a day (02, C-21), and the tally of several traces: the device's lines are kept as words, the rows as a struct that is written out at the end.
 
-use super::{Refusal, Width, fields, input_of, offset_of, records_of, told};
+use std::ops::{Add, AddAssign, Sub};
+
+use super::{Outcome, Refusal, State, Width, broken, fields, input_of, looked, offset_of, records_of, told};
 
 // The columns of a row.
 const RAISES: usize = 0;
@@ -14,29 +16,35 @@ const GREATEST: usize = 7;
 const WITHDRAWN: usize = 8;
 const OPEN: usize = 9;
 
+/// A number of four bytes or eight.
+trait Number: Copy + Ord + From<u8> + Add<Output = Self> + AddAssign + Sub<Output = Self> {}
+
+impl Number for u32 {}
+impl Number for u64 {}
+
 /// A day so far.
-struct Day {
+struct Day<N> {
     mask: u64,
     irr: u64,
     isr: u64,
     waiting: u32,
     /// The number of the record.
-    record: u32,
-    rows: [[u32; 10]; 64],
+    record: N,
+    rows: [[N; 10]; 64],
     /// The record at which an input's wait began that is not over.
-    since: [Option<u32>; 64],
+    since: [Option<N>; 64],
 }
 
-impl Day {
+impl<N: Number> Day<N> {
     fn event(&mut self, input: usize, asserted: bool, returned: bool) {
         let row = &mut self.rows[input];
-        row[if asserted { ASSERTS } else { DEASSERTS }] += 1;
+        row[if asserted { ASSERTS } else { DEASSERTS }] += N::from(1);
         if returned {
-            row[RETURNED] += 1;
+            row[RETURNED] += N::from(1);
         } else {
-            row[OFFERED] += 1;
+            row[OFFERED] += N::from(1);
             if self.waiting == 16 {
-                row[DROPPED] += 1;
+                row[DROPPED] += N::from(1);
             } else {
                 self.waiting += 1;
             }
@@ -48,7 +56,7 @@ impl Day {
 
     fn withdraw(&mut self, input: usize) {
         if self.since[input].take().is_some() {
-            self.rows[input][WITHDRAWN] += 1;
+            self.rows[input][WITHDRAWN] += N::from(1);
         }
     }
 
@@ -73,7 +81,7 @@ impl Day {
     }
 
     fn raise(&mut self, input: usize) {
-        self.rows[input][RAISES] += 1;
+        self.rows[input][RAISES] += N::from(1);
         if (self.irr | self.isr) >> input & 1 == 0 {
             self.since[input] = Some(self.record);
         }
@@ -82,7 +90,7 @@ impl Day {
     }
 
     fn lower(&mut self, input: usize) {
-        self.rows[input][LOWERS] += 1;
+        self.rows[input][LOWERS] += N::from(1);
         self.irr &= !(1 << input);
         self.withdraw(input);
         self.retract(1 << input, true);
@@ -158,6 +166,16 @@ impl Day {
         Ok(())
     }
 
+    /// All records; a refused one counts as none.
+    fn follow(&mut self, records: &[[u8; 16]]) {
+        for record in records {
+            let _ = self.take(record);
+            self.record += N::from(1);
+        }
+    }
+}
+
+impl Day<u32> {
     /// The rows, and the total behind them.
     fn put(&mut self, sheet: &mut [u8; 2600]) {
         let mut total = [0; 10];
@@ -184,10 +202,71 @@ pub fn sheet(trace: &[u8], sheet: &mut [u8], answer: &mut [u8]) -> u8 {
         Err(refused) => return told(answer, Err(refused)),
     };
     let mut day = Day { mask: !0, irr: 0, isr: 0, waiting: 0, record: 0, rows: [[0; 10]; 64], since: [None; 64] };
-    for record in records {
-        let _ = day.take(record);
-        day.record += 1;
-    }
+    day.follow(records);
     day.put(sheet);
     told(answer, Ok(Some(records.len() as u64)))
+}
+
+/// The 650 numbers of a tally; or 17 and the place of the first that none can have.
+fn numbers_of(tally: &[u8; 5200]) -> Result<[u64; 650], Refusal> {
+    let mut numbers = [0; 650];
+    for (number, bytes) in numbers.iter_mut().zip(tally.as_chunks().0) {
+        *number = u64::from_le_bytes(*bytes);
+    }
+    let counted = numbers[640];
+    match (0..650).find(|&k| numbers[k] >> 63 != 0 || (k % 10 == OPEN && k < 640 && numbers[k] > counted)) {
+        Some(k) => Err(broken(17, 8 * k)),
+        None => Ok(numbers),
+    }
+}
+
+fn put_numbers(numbers: &[u64; 650], to: &mut [u8; 5200]) {
+    for (number, bytes) in numbers.iter().zip(to.as_chunks_mut().0) {
+        *bytes = number.to_le_bytes();
+    }
+}
+
+/// The records of the trace counted, from the state on.
+fn add_to(tally: &mut [u8; 5200], trace: &[u8], state: &State) -> Outcome {
+    let records = records_of(trace)?;
+    let mut numbers = numbers_of(tally)?;
+    let &State { mask, irr, isr, waiting, .. } = state;
+    let mut day = Day { mask, irr, isr, waiting: waiting as u32, record: numbers[640], rows: [[0; 10]; 64], since: [None; 64] };
+    for (input, row) in day.rows.iter_mut().enumerate() {
+        row.copy_from_slice(&numbers[10 * input..10 * input + 10]);
+        day.since[input] = row[OPEN].checked_sub(1);
+    }
+    day.follow(records);
+    for (input, row) in day.rows.iter().enumerate() {
+        numbers[10 * input..10 * input + 10].copy_from_slice(row);
+        numbers[10 * input + OPEN] = day.since[input].map_or(0, |since| since + 1);
+    }
+    numbers[640] = day.record;
+    put_numbers(&numbers, tally);
+    Ok(None)
+}
+
+#[inline(never)]
+pub fn tally_add(trace: &[u8], image: &[u8], tally: &mut [u8], answer: &mut [u8]) -> u8 {
+    let (Some(answer), Some(tally)) = (answer.first_chunk_mut(), tally.first_chunk_mut()) else { return 7 };
+    told(answer, looked(image, |state| add_to(tally, trace, state)))
+}
+
+#[inline(never)]
+pub fn tally_sheet(tally: &[u8], sheet: &mut [u8], answer: &mut [u8]) -> u8 {
+    let (Some(answer), Some(tally), Some(sheet)) = (answer.first_chunk_mut(), tally.first_chunk(), sheet.first_chunk_mut()) else { return 7 };
+    let mut numbers = match numbers_of(tally) {
+        Ok(numbers) => numbers,
+        Err(refused) => return told(answer, Err(refused)),
+    };
+    let (rows, total) = numbers.split_at_mut(640);
+    total.fill(0);
+    for row in rows.chunks_exact_mut(10) {
+        row[OPEN] = u64::from(row[OPEN] != 0);
+        for (column, (sum, &cell)) in total.iter_mut().zip(&*row).enumerate() {
+            *sum = if column == GREATEST { cell.max(*sum) } else { cell.wrapping_add(*sum) };
+        }
+    }
+    put_numbers(&numbers, sheet);
+    told(answer, Ok(None))
 }

@@ -1,8 +1,8 @@
 -- A drain: as many events as wait or as there is room for come out, and the others are left.
 use Rattle.basics.proofs.Prelude.{_≡_, refl, sym, ap, subst, _∙_, List, [], _∷_, _++_, ℕ, zero, suc, _-_, _*_, _/_, _≤_, min, arith, length, take, drop, getD, length-take, drop-of-length-le, take-all, leb, leb-true, leb-false, putMid, test}
 use Rattle.rules.specs.{Ring.Event, Ring.drawn, Device.Device, Device.withRing, Numbering.Numbers, Numbering.withNumbers, Numbering.quadsOf, Numbering.fewer}
-use Rattle.images.{specs.Form.Form, specs.Form.count, specs.Form.place, specs.Form.formLength, specs.Image.countIn, specs.Image.numbersIn, proofs.laws.Saved.count-stands}
-use Rattle.fields.{specs.inplace.Held.Holds, proofs.inplace.Doing.holds-as}
+use Rattle.images.{specs.Form.Form, specs.Form.count, specs.Form.place, specs.Form.formLength, specs.Image.numbersIn}
+use Rattle.fields.{specs.inplace.Held.Holds, proofs.ring.Counts.counted}
 use Rattle.drain.specs.{shifts.Shifted.Shifts, events_out.Out.CopiesOut, drains.Drained.Drains}
 
 -- ---- as many as wait or as are asked for
@@ -29,8 +29,8 @@ module _ (m k n : ℕ) (e : n ≡ min m k) where
 -- ---- a drain
 
 module _ (f : Form) (i : List ℕ) (long : length i ≡ formLength f) {at m n : ℕ} (g : at ≡ place f count) (c : m ≡ getD i at 0) (entry : List ℕ) (e : n ≡ min m (length entry / 4)) where
-  counted : (d : Device) (s : Numbers) → Holds i d s → m ≡ length (d .ring .waiting)
-  counted d s h = c ∙ ap (λ a. getD i a 0) g ∙ ap (countIn f) (holds-as f i long h) ∙ count-stands d (h .well) s (h .numbered) f
+  waits : (d : Device) (s : Numbers) → Holds i d s → m ≡ length (d .ring .waiting)
+  waits d s h = counted f i long g c d s h
 
   pub drains : {j ys : List ℕ} → CopiesOut i ys n → Shifts i j m n → Drains i j entry (putMid 0 (4 * n - 0) entry ys) n
   unfolding drawn
@@ -39,11 +39,11 @@ module _ (f : Form) (i : List ℕ) (long : length i ≡ formLength f) {at m n : 
       let none : 4 * n - 0 ≡ 4 * n = omega arith in
       record {
         does = record {
-          becomes = λ d s h. let q = counted d s h in
+          becomes = λ d s h. let q = waits d s h in
               subst (λ es. Holds j (withRing d (record { waiting = es; drops = d .ring .drops })) (fewer s k)) (drop-fewer m k n e (d .ring .waiting) (sym q))
               (subst (λ ns. Holds j (withRing d (drawn (d .ring) n .after)) (record { next = s .next; waiting = ns })) (drop-fewer m k n e (s .waiting) (h .numbered .waiting ∙ sym q)) (l d s h q));
-          gives = λ d s h. omega (arith, e, counted d s h, length-take k (d .ring .waiting));
+          gives = λ d s h. omega (arith, e, waits d s h, length-take k (d .ring .waiting));
         };
-        events = λ d s h. let q = counted d s h in
+        events = λ d s h. let q = waits d s h in
             λ t. (o d s h (omega (arith, e, q)) ∙ ap quadsOf (take-fewer m k n e (d .ring .waiting) (numbersIn i .waiting) (sym q))) t ++ drop (none t) entry;
       }

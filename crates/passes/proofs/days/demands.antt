@@ -6,3 +6,4 @@ pub mod TakenBack
 pub mod Fits
 pub mod Exact
 pub mod Played
+pub mod Tallied

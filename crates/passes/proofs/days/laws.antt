@@ -2,3 +2,4 @@
 pub mod Balance
 pub mod Flow
 pub mod Inputs
+pub mod Carrying

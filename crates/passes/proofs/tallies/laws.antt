@@ -3,3 +3,4 @@ pub mod Grids
 pub mod Taking
 pub mod Turning
 pub mod Quiet
+pub mod Sound

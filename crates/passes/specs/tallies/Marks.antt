@@ -1,5 +1,5 @@
--- What an act of the device brings to the sheet, mark by mark, and what a mark does to the numbers. Column 9 has, while the pass goes on, the number of the record behind
--- the raise at which a wait began that is not over, or 0.
+-- What an act of the device brings to the sheet, mark by mark, and what a mark does to the numbers. Column 9 has, while the pass goes on, 1 + the
+-- number of the raise at which a wait began that is not over, or 0.
 use mathlib.Core.Bool.{Bool, true, false, cond, not, _&&_}
 use mathlib.Core.List.{List, [], _∷_, _++_, map}
 use Prim.Native.Nat.{ℕ, _+_, _-_, max}

@@ -1,19 +1,11 @@
 -- What is made of a trace: a number and a value that are told, and the bytes of the sheet.
-use mathlib.Core.Path.{_≡_}
 use mathlib.Core.List.{List}
-use Prim.Native.Nat.{ℕ, _+_, _*_, _≤_}
-use lib.ListN.{length}
+use Prim.Native.Nat.{ℕ}
 use Rattle.rules.specs.Device.{Value, some}
-use Rattle.traces.specs.Trace.{mostRecords, recordLength, firstPlace, TraceTest, good, wrongContents, badRecord, traceNumber, traceValue, traceTest}
+use Rattle.traces.specs.Trace.{TraceTest, good, wrongContents, badRecord, traceNumber, traceValue, traceTest}
 use Rattle.sheets.specs.Sheeting.{withSheet}
 use Rattle.answer.specs.Given.{valueView}
 use Rattle.answer.specs.declared.Told.{Told}
-
--- n records from the first place on stand in the trace
-pub record Reaches (l : List ℕ) (first n : ℕ) : Type 0 where
-  pub place : first ≡ firstPlace l
-  pub few : n ≤ mostRecords
-  pub fits : first + recordLength * n ≤ length l
 
 pub record Made : Type 0 where
   pub number : ℕ

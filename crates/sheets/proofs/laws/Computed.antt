@@ -92,6 +92,6 @@ unfolding sheeted
 total-of-all = refl
 
 -- the last of the 65 rows is the total
-last-row : drop 2560 (sheetBytes some) ≡ bytesOfRow (totalBelow 64 some)
+last-row : drop 2560 (sheetBytes 4 some) ≡ bytesOfRow 4 (totalBelow 64 some)
 unfolding sheeted
 last-row = refl

@@ -25,6 +25,8 @@ mod for_pch_pic_hoist;
 #[path = "text/mod.rs"]
 mod for_pch_pic_sheet;
 #[path = "text/mod.rs"]
+mod for_pch_pic_tally;
+#[path = "text/mod.rs"]
 mod for_pch_pic_table;
 
 /// Every call that a host makes. It may use some of them only.
@@ -38,5 +40,6 @@ pub mod calls {
     pub use super::for_pch_pic_board::pch_pic_board::{pch_pic_board_drain, pch_pic_board_event, pch_pic_board_level, pch_pic_board_poll, pch_pic_board_read, pch_pic_board_reset, pch_pic_board_write};
     pub use super::for_pch_pic_hoist::pch_pic_hoist::{pch_pic_hoist_end_startup, pch_pic_hoist_read, pch_pic_hoist_reset, pch_pic_hoist_write};
     pub use super::for_pch_pic_sheet::pch_pic_sheet::pch_pic_sheet;
+    pub use super::for_pch_pic_tally::pch_pic_tally::{pch_pic_tally_add, pch_pic_tally_begin, pch_pic_tally_sheet};
     pub use super::for_pch_pic_table::pch_pic_table::{pch_pic_table_read, pch_pic_table_write};
 }

@@ -23,6 +23,7 @@ pub mod difference;
 pub mod drain;
 pub mod fields;
 pub mod image;
+pub mod ledger;
 pub mod lines;
 pub mod pch_pic;
 pub mod pch_pic_board;
@@ -31,6 +32,7 @@ pub mod pch_pic_hoist;
 pub mod pch_pic_salvage;
 pub mod pch_pic_sheet;
 pub mod pch_pic_table;
+pub mod pch_pic_tally;
 pub mod pch_pic_trace;
 pub mod six_calls;
 pub mod stored;
@@ -48,5 +50,6 @@ pub mod calls {
     pub use super::pch_pic_board::{pch_pic_board_drain, pch_pic_board_event, pch_pic_board_level, pch_pic_board_poll, pch_pic_board_read, pch_pic_board_reset, pch_pic_board_write};
     pub use super::pch_pic_hoist::{pch_pic_hoist_end_startup, pch_pic_hoist_read, pch_pic_hoist_reset, pch_pic_hoist_write};
     pub use super::pch_pic_sheet::pch_pic_sheet;
+    pub use super::pch_pic_tally::{pch_pic_tally_add, pch_pic_tally_begin, pch_pic_tally_sheet};
     pub use super::pch_pic_table::{pch_pic_table_read, pch_pic_table_write};
 }

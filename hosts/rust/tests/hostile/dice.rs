@@ -114,12 +114,12 @@ impl Dice {
         }
     }
 
-    /// A length beside what matters: that of an answer, of a board, of a form, of a sheet.
+    /// A length beside what matters: that of an answer, of a board, of a form, of a sheet, of a tally.
     pub fn len(&mut self) -> usize {
         match self.below(4) {
             0 => self.of(&[0, 1, 4, 15, 16, 17, 63, 64, 65]),
             1 => 250 + self.below(43),
-            2 => self.of(&[2_599, 2_600, 2_601]),
+            2 => self.of(&[2_599, 2_600, 2_601, 5_199, 5_200, 5_201]),
             _ => self.below(300),
         }
     }

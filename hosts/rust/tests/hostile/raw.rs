@@ -3,10 +3,10 @@
 use crate::dice::{Dice, FORMS};
 use crate::{proved, rounds};
 use pch_pic::calls::{self, pch_pic_difference, pch_pic_read, pch_pic_reset, pch_pic_write};
-use pch_pic::{SHEET_LEN, VECTORS};
+use pch_pic::{LONG_SHEET_LEN, SHEET_LEN, TALLY_LEN, VECTORS};
 
 /// The numbers that a call may hand back.
-const NUMBERS: [u8; 16] = [0, 1, 2, 3, 4, 5, 7, 8, 9, 10, 11, 12, 13, 14, 15, 16];
+const NUMBERS: [u8; 17] = [0, 1, 2, 3, 4, 5, 7, 8, 9, 10, 11, 12, 13, 14, 15, 16, 17];
 
 /// A call that is lent these areas and one for its answer.
 trait Call<const N: usize>: FnOnce(&mut [Vec<u8>; N], &mut [u8]) -> u8 {}
@@ -25,7 +25,7 @@ struct Bench {
     /// An accepted image of each form, as the last done call left it.
     good: Vec<Vec<u8>>,
     /// How many calls were done, and how many gave each refusal.
-    told: [usize; 17],
+    told: [usize; 18],
 }
 
 impl Bench {
@@ -35,7 +35,7 @@ impl Bench {
             assert_eq!(pch_pic_reset(&mut image, &mut [0; 16]), 0);
             image
         });
-        Bench { dice: Dice(seed), good: good.to_vec(), told: [0; 17] }
+        Bench { dice: Dice(seed), good: good.to_vec(), told: [0; 18] }
     }
 
     fn image(&mut self) -> Vec<u8> {
@@ -146,6 +146,21 @@ impl Bench {
         (0..len).map(|_| self.dice.of(&[0, 0, 1, 0xff])).collect()
     }
 
+    /// Any bytes, or numbers of which most are sound.
+    fn tally(&mut self) -> Vec<u8> {
+        if self.dice.once_in(4) {
+            return self.dice.area(TALLY_LEN);
+        }
+        let mut numbers: Vec<u64> = (0..TALLY_LEN / 8).map(|_| self.dice.any() >> 2).collect();
+        let counted = (1 << 62) + (self.dice.any() >> 2);
+        numbers[640] = counted;
+        if self.dice.once_in(2) {
+            let place = self.dice.below(numbers.len());
+            numbers[place] = self.dice.of(&[counted, counted + 1, u64::MAX, 1 << 63, (1 << 63) - 1]);
+        }
+        numbers.into_iter().flat_map(u64::to_le_bytes).collect()
+    }
+
     fn whole_calls(&mut self) {
         let trace = if self.dice.once_in(8) { self.image() } else { self.dice.trace() };
         let (image, target) = (self.image(), self.dice.of(&FORMS));
@@ -158,6 +173,11 @@ impl Bench {
         twice!(self, "play on", on, |[image, answers, events], answer| pch_pic_play_on(&trace, image, answers, events, answer));
         twice!(self, "salvage", salvaged, |[kept, list], answer| pch_pic_salvage(&trace, kept, list, answer));
         twice!(self, "sheet", sheet, |[sheet], answer| pch_pic_sheet(&trace, sheet, answer));
+        let (begun, added, summed) = ([self.dice.area(TALLY_LEN)], [self.tally()], [self.dice.area(LONG_SHEET_LEN)]);
+        let (image, tally) = (self.image(), self.tally());
+        twice!(self, "tally_begin", begun, |[tally], answer| pch_pic_tally_begin(tally, answer));
+        twice!(self, "tally_add", added, |[tally], answer| pch_pic_tally_add(&trace, &image, tally, answer));
+        twice!(self, "tally_sheet", summed, |[sheet], answer| pch_pic_tally_sheet(&tally, sheet, answer));
         let (later, earlier) = (self.dice.any() as u16, self.dice.any() as u16);
         assert_eq!(pch_pic_difference(later, earlier), later.wrapping_sub(earlier) as i16);
     }

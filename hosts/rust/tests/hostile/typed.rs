@@ -218,7 +218,7 @@ fn any_event() {
 mod days {
     use super::*;
     use pch_pic::history::{End, Wait};
-    use pch_pic::{file, Record, RecordError, Recorded, Recorder, Trace, RECORDS_MAX};
+    use pch_pic::{file, Record, RecordError, Recorded, Recorder, Tally, Trace, RECORDS_MAX, TALLY_LEN};
     use std::fs;
 
     /// What can be asked of a good trace: it agrees with itself.
@@ -237,6 +237,40 @@ mod days {
         assert_eq!(history.moments().last().map(|last| last.latched), Some(trace.play().pic().latched()));
         assert_eq!(sheet.csv().lines().count(), 66);
         assert!(format!("{trace:?} {sheet}").contains("records"));
+        // A tally of the trace alone has the same numbers, and goes on from what was played.
+        let mut tally = Tally::new();
+        tally.add(trace, &PchPic::new()).unwrap();
+        let long = tally.sheet().unwrap();
+        assert_eq!((long.records(), long.to_string(), long.csv()), (sheet.records(), sheet.to_string(), sheet.csv()));
+        tally.add(trace, &trace.play().pic()).unwrap();
+        assert_eq!(tally.records(), 2 * trace.records().len() as u64);
+        assert_eq!(Tally::from_bytes(tally.as_bytes()).as_ref(), Ok(&tally));
+        assert_eq!(Tally::from_bytes(&tally.as_bytes()[1..]), Err(Error::Room));
+    }
+
+    fn day_of(records: &[Record]) -> Trace {
+        let mut recorder = Recorder::new();
+        records.iter().for_each(|record| recorder.take(*record).unwrap());
+        recorder.finish().unwrap()
+    }
+
+    /// A tally at its end is refused, and stays as it was.
+    #[test]
+    fn any_bytes_as_a_tally() {
+        let mut dice = Dice(9);
+        let trace = day_of(&[Record::Raise(5), Record::Drain]);
+        for _ in 0..rounds() / 4 {
+            let bytes = dice.bytes(TALLY_LEN);
+            assert!(matches!(Tally::from_bytes(&bytes), Err(Error::Tally(place)) if place % 8 == 0 && place < 5_200));
+        }
+        let mut bytes = *Tally::new().as_bytes();
+        bytes[8 * 640..8 * 641].copy_from_slice(&(u64::MAX / 2).to_le_bytes());
+        let mut tally = Tally::from_bytes(&bytes).unwrap();
+        tally.add(&trace, &PchPic::new()).unwrap();
+        assert_eq!((tally.sheet(), tally.records()), (Err(Error::Tally(5_120)), (1 << 63) + trace.records().len() as u64 - 1));
+        let stood = tally.clone();
+        assert_eq!(tally.add(&trace, &PchPic::new()), Err(Error::Tally(5_120)));
+        assert_eq!(tally, stood);
     }
 
     #[test]

@@ -1,6 +1,6 @@
 -- 02, C-21, in exact numbers: every number of the sheet of a good trace is below 2 ^ 32, so that its four bytes tell it.
 use Rattle.basics.proofs.Prelude.{_≡_, refl, ap, subst, Bool, true, false, List, [], _∷_, ℕ, zero, suc, _+_, _*_, _^_, _<_, _≤_, arith, length, length-append, byteOf, half, test}
-use Rattle.passes.proofs.laws.{Finishing.max-small, Passing.no-load-well, Passing.great-small, Days.items-loadless, Days.items-length}
+use Rattle.passes.proofs.laws.{Passing.no-load-well, Passing.great-few, Days.items-loadless, Days.items-length}
 use Rattle.rules.specs.{Lines.Made, Ring.Ring, Core.Core, Core.poll, Core.turns, Access.byte, Access.word, Access.dword, Access.qword, Access.dwordActs, Access.byteActs, Access.writeActs}
 use Rattle.rules.specs.{Account.tally, Device.Call, Device.level, Device.read, Device.write, Device.drain, Device.reset, Device.actsOf, Device.step}
 use Rattle.laws.proofs.laws.{Images.reset-well-formed, Losses.acts-few, Losses.dword-short, Losses.byte-short}
@@ -137,14 +137,17 @@ module _ (l : List ℕ) {first k : ℕ} (e : traceTest l ≡ good first k) where
       let z : j * most + most ≡ suc j * most = omega arith in
       subst (λ b. Below b (totalBelow (suc j) (rowOf (dayOf l)))) z (together-below (j * most) most (totalBelow j (rowOf (dayOf l))) (rowOf (dayOf l) j) (total-below j) (row-below j))
 
+  great-row : (n : ℕ) → n < 64 → rowOf (dayOf l) n .greatest < 2 ^ 32
+  great-row n p = let g = great-few (items l) loadless (λ n c. 0) n p in omega (arith, few, g)
+
   great-total : (j : ℕ) → j ≤ 64 → totalBelow j (rowOf (dayOf l)) .greatest < 2 ^ 32
   unfolding totalBelow
   great-total zero h = omega arith
-  great-total (suc j) h = max-small _ _ (great-total j (omega arith)) (great-small (items l) loadless few (λ n c. 0) j (omega arith))
+  great-total (suc j) h = let g = great-row j (omega arith) in let t = great-total j (omega arith) in omega (arith, g, t)
 
   -- Of a good trace: the counts of each input are at most 2,080,000, those of the total 64 times as many, and the greatest waits fit too.
   pub rows-fit : (n : ℕ) → n < 64 → Below (520 * 4000) (rowOf (dayOf l) n) × (rowOf (dayOf l) n .greatest < 2 ^ 32)
-  rows-fit n p = (row-below n, great-small (items l) loadless few (λ n c. 0) n p)
+  rows-fit n p = (row-below n, great-row n p)
 
   pub total-fits : Below (64 * (520 * 4000)) (totalBelow 64 (rowOf (dayOf l))) × (totalBelow 64 (rowOf (dayOf l)) .greatest < 2 ^ 32)
   total-fits = (total-below 64, great-total 64 (omega arith))

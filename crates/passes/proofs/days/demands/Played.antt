@@ -7,13 +7,13 @@ use Rattle.calls.specs.Calls.{pass, refuse, Asked, afresh, calls, askedBy, perf
 use Rattle.laws.proofs.laws.Images.{reset-well-formed, reset-numbered, decode-encode, encode-as}
 use Rattle.histories.specs.exported.Exported.{Exported, isDone, isReset, isLoad, carriedOn, doneCall, atLoad, current}
 use Rattle.histories.proofs.exported.laws.Chains.{refused-not-done, faithful-at-load, faithful-kept, carried-on, left-holds, left-last}
-use Rattle.plain.specs.Sequence.{call, loadOf, shown, Ported, portedFollows, portedAfter, plainAfter}
+use Rattle.plain.specs.Sequence.{Item, call, load, refused, loadOf, shown, Ported, portedFollows, portedAfter, plainAfter}
 use Rattle.plain.proofs.demands.History.{shows-device}
 use Rattle.traces.specs.{Trace.Record, Trace.nth, Played.requestOf, Played.playedOn, Played.recordsFrom, Played.outcomes, Played.gathered, plays.Playing.playedTo}
 use Rattle.traces.proofs.{demands.Play.plays-from-reset, plays.laws.Drained.asked-ends, plays.laws.Keeps.no-reset, plays.laws.Keeps.in-front, plays.laws.Keeps.keeps-accepted}
 use Rattle.traces.proofs.plays.demands.Accepted.{afresh-fits, each-fits}
 use Rattle.sheets.specs.Day.{asItem, itemOf, begun}
-use Rattle.passes.specs.days.Accounts.{isMade}
+use Rattle.passes.specs.{days.Accounts.isMade, Finish.afterItems}
 use Rattle.passes.proofs.laws.{Passing.no-load-well, Days.items-loadless}
 use Rattle.calls.specs.Calls as request
 use Rattle.traces.specs.Played as played
@@ -64,6 +64,18 @@ through [] j b e p same = same
 through (r ∷ rs) j b e p same =
     let q = keeps-accepted j b e r in
     through rs (playedOn j r .image) (q .0) (q .1) (portedFollows p (itemOf r)) (followed j b e r p same)
+
+-- the device of the ported engine is the one that the items leave
+ported-items : (xs : List Item) (p : Ported) → portedAfter p xs .device ≡ afterItems (p .device) xs
+unfolding portedAfter afterItems
+ported-items [] p = refl
+ported-items (call c ∷ xs) p = ported-items xs (portedFollows p (call c))
+ported-items (load d ∷ xs) p = ported-items xs (portedFollows p (load d))
+ported-items (refused ∷ xs) p = ported-items xs (portedFollows p refused)
+
+-- Records played on an accepted image leave one that holds the device after them: so a day is handed on from trace to trace.
+pub hands-on : (rs : List Record) (j : List ℕ) → Bytes j → imageTest j ≡ accepted → decode (gathered j (outcomes j rs) .image) ≡ afterItems (decode j) (map itemOf rs)
+hands-on rs j b e = through rs j b e (record { device = decode j; call = 0; history = [] }) refl ∙ ported-items (map itemOf rs) (record { device = decode j; call = 0; history = [] })
 
 module _ (i : List ℕ) {f : Form} (k : formOf (length i) ≡ known f) where
   start : decode (played.afresh i) ≡ reset

@@ -10,11 +10,11 @@ use Rattle.passes.proofs.tallies.laws.Taking.{takes-none, takes-then, t
 
 -- ---- events
 
-pub offers-none : (b : List ℕ) (k w : ℕ) → Offers b b k w w (λ vs. [])
+pub offers-none : {wide : Bool} (b : List ℕ) (k w : ℕ) → Offers wide b b k w w (λ vs. [])
 unfolding offers ringRun notesOf
 offers-none b k w vs r h = (h, takes-none b)
 
-pub offers-then : {b c a : List ℕ} (k : ℕ) {w u v : ℕ} (g h : List ℕ → List Made) → Offers b c k w u g → Offers c a k u v h → Offers b a k w v (λ vs. g vs ++ h vs)
+pub offers-then : {wide : Bool} {b c a : List ℕ} (k : ℕ) {w u v : ℕ} (g h : List ℕ → List Made) → Offers wide b c k w u g → Offers wide c a k u v h → Offers wide b a k w v (λ vs. g vs ++ h vs)
 offers-then k g h s t vs r e =
     let one = s vs r e in
     let middle = ringRun r (offers (g vs)) .after in
@@ -26,36 +26,36 @@ offers-then k g h s t vs r e =
     (ap (λ (q : Ring). length (q .waiting)) after ∙ two .0, takes-same (sym notes) (takes-then _ _ (one .1) (two .1)))
 
 -- one event is offered, and kept or dropped; or returned
-module _ {b a : List ℕ} (n k : ℕ) (t : Bool) where
-  pub offers-kept : {w : ℕ} → w < 16 → Takes b a (happened (record { input = n; call = k; vector = 0; asserted = t; fate = kept }) ∷ []) → Offers b a k w (w + 1) (λ vs. event vs true t n ∷ [])
+module _ {wide : Bool} {b a : List ℕ} (n k : ℕ) (t : Bool) where
+  pub offers-kept : {w : ℕ} → w < 16 → Takes wide b a (happened (record { input = n; call = k; vector = 0; asserted = t; fate = kept }) ∷ []) → Offers wide b a k w (w + 1) (λ vs. event vs true t n ∷ [])
   unfolding offers ringRun ringStep notesOf allMarked
   offers-kept {w} room s vs r e =
       let lt : length (r .waiting) < 16 = omega (arith, e) in
       let grown = ap (λ (q : Ring). length (q .waiting)) (offered-room r _ lt) ∙ length-append (r .waiting) _ in
       (grown ∙ ap (λ j. j + 1) e, rw (lt-ltb (length (r .waiting)) 16 lt) s)
 
-  pub offers-dropped : {w : ℕ} → 16 ≤ w → Takes b a (happened (record { input = n; call = k; vector = 0; asserted = t; fate = dropped }) ∷ []) → Offers b a k w w (λ vs. event vs true t n ∷ [])
+  pub offers-dropped : {w : ℕ} → 16 ≤ w → Takes wide b a (happened (record { input = n; call = k; vector = 0; asserted = t; fate = dropped }) ∷ []) → Offers wide b a k w w (λ vs. event vs true t n ∷ [])
   unfolding offers ringRun ringStep notesOf allMarked
   offers-dropped {w} full s vs r e =
       let ge : 16 ≤ length (r .waiting) = omega (arith, e) in
       (ap (λ (q : Ring). length (q .waiting)) (offered-full r _ ge) ∙ e, rw (le-ltb (length (r .waiting)) 16 ge) s)
 
-  pub offers-returned : (w : ℕ) → Takes b a (happened (record { input = n; call = k; vector = 0; asserted = t; fate = returned }) ∷ []) → Offers b a k w w (λ vs. event vs false t n ∷ [])
+  pub offers-returned : (w : ℕ) → Takes wide b a (happened (record { input = n; call = k; vector = 0; asserted = t; fate = returned }) ∷ []) → Offers wide b a k w w (λ vs. event vs false t n ∷ [])
   unfolding offers ringRun notesOf allMarked
   offers-returned w s vs r e = (e, s)
 
-pub offers-same : {b a : List ℕ} (k : ℕ) {w u : ℕ} (g h : List ℕ → List Made) → ((vs : List ℕ) → g vs ≡ h vs) → Offers b a k w u g → Offers b a k w u h
-offers-same {b} {a} k {w} {u} g h e s vs r z = subst (λ (ms : List Made). (length (ringRun r (offers ms) .after .waiting) ≡ u) × Takes b a (map happened (notesOf k r ms))) (e vs) (s vs r z)
+pub offers-same : {wide : Bool} {b a : List ℕ} (k : ℕ) {w u : ℕ} (g h : List ℕ → List Made) → ((vs : List ℕ) → g vs ≡ h vs) → Offers wide b a k w u g → Offers wide b a k w u h
+offers-same {wide} {b} {a} k {w} {u} g h e s vs r z = subst (λ (ms : List Made). (length (ringRun r (offers ms) .after .waiting) ≡ u) × Takes wide b a (map happened (notesOf k r ms))) (e vs) (s vs r z)
 
 -- ---- turns
 
-pub turns-same : {m : Lines} {b a : List ℕ} (k : ℕ) {w u : ℕ} (g h : List ℕ → Turn) → ((vs : List ℕ) → g vs ≡ h vs) → Turns m b a k w u g → Turns m b a k w u h
+pub turns-same : {wide : Bool} {m : Lines} {b a : List ℕ} (k : ℕ) {w u : ℕ} (g h : List ℕ → Turn) → ((vs : List ℕ) → g vs ≡ h vs) → Turns wide m b a k w u g → Turns wide m b a k w u h
 turns-same k g h e t = record {
   lines = λ vs. ap (λ (x : Turn). x .after) (sym (e vs)) ∙ t .lines vs;
   events = offers-same k (λ vs. g vs .made) (λ vs. h vs .made) (λ vs. ap (λ (x : Turn). x .made) (e vs)) (t .events);
 }
 
-pub turns-then : {m n : Lines} {b c a : List ℕ} (k : ℕ) {w u v : ℕ} (g : List ℕ → Turn) (h : List ℕ → Lines → Turn) → Turns m b c k w u g → Turns n c a k u v (λ vs. h vs m) → Turns n b a k w v (λ vs. andThen (g vs) (h vs))
+pub turns-then : {wide : Bool} {m n : Lines} {b c a : List ℕ} (k : ℕ) {w u v : ℕ} (g : List ℕ → Turn) (h : List ℕ → Lines → Turn) → Turns wide m b c k w u g → Turns wide n c a k u v (λ vs. h vs m) → Turns wide n b a k w v (λ vs. andThen (g vs) (h vs))
 turns-then {m} k g h s t = record {
   lines = λ vs. ap (λ (l : Lines). h vs l .after) (s .lines vs) ∙ t .lines vs;
   events = offers-then k (λ vs. g vs .made) (λ vs. h vs (g vs .after) .made) (s .events) (offers-same k (λ vs. h vs m .made) (λ vs. h vs (g vs .after) .made) (λ vs. ap (λ (l : Lines). h vs l .made) (sym (s .lines vs))) (t .events));
@@ -63,7 +63,7 @@ turns-then {m} k g h s t = record {
 
 -- ---- acts
 
-pub follows-move : (x : Move) {l m : Lines} {b c a : List ℕ} (k : ℕ) {w u : ℕ} → Takes b c (besides k l (move x)) → Turns m c a k w u (λ vs. moved vs l x) → Follows l w m u b a k (λ _. move x ∷ [])
+pub follows-move : {wide : Bool} (x : Move) {l m : Lines} {b c a : List ℕ} (k : ℕ) {w u : ℕ} → Takes wide b c (besides k l (move x)) → Turns wide m c a k w u (λ vs. moved vs l x) → Follows wide l w m u b a k (λ _. move x ∷ [])
 unfolding lineTurn
 follows-move x {l} {m} {b} {c} {a} k {w} {u} s t d h =
     let vs = d .core .vectors in

@@ -3,11 +3,6 @@
 //! the crates below test the trace and make the sheet.
 
 pub mod sheet;
-pub mod tally;
-pub mod totals;
-pub mod watch;
-pub mod watch_record;
-pub mod watch_write;
 
 use self::sheet::make;
 use super::answer;

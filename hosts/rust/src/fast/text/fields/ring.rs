@@ -3,10 +3,25 @@
 
 use super::super::bits::bytes::number;
 use super::super::bits::bytes::put_bytes;
+use super::super::bits::bytes::wide;
 use super::super::image::form;
 use super::super::image::form::places_of;
 use super::super::image::form::Form;
 use super::event_numbers;
+
+/// How many events wait.
+///
+/// ```text
+/// requires { ⌜ length (now image) ≡ formLength (formView form) ⌝ }
+/// ensures { λ r. ⌜ Reads (now (image .entry)) r (λ d. length (d .ring .waiting)) ⌝ }
+/// ```
+#[inline]
+pub fn waiting<const N: usize>(image: &[u8; N]) -> u64 {
+    let form = const { super::super::image::form::form_at(N) };
+    let p = places_of(form);
+    let at = p.count;
+    wide(image[at])
+}
 
 /// The drops with one more, up to their stop.
 ///

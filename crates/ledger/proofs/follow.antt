@@ -1,0 +1,4 @@
+-- The laws that the proofs of this module cite, and those above it.
+pub mod Loops
+pub mod Rounds
+pub mod Reaching

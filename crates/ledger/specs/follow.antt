@@ -1,0 +1,2 @@
+-- Records that stand in a trace.
+pub mod Reached

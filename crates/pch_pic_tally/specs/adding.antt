@@ -1,0 +1,2 @@
+-- How adding and summing end.
+pub mod Ended

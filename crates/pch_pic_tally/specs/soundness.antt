@@ -1,0 +1,2 @@
+-- What the test of a tally finds.
+pub mod Found
