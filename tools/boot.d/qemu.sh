@@ -90,7 +90,7 @@ qemu_build() {
         sleep 1
         [ $((SECONDS - since)) -ge 30 ] || continue
         since=$SECONDS
-        echo "$tool: building QEMU, step $(tail -n 1 "$log" | sed -n 's/^\[\([0-9]*\)\/\([0-9]*\)\].*/\1 of \2/p')" >&2
+        echo "$tool: building QEMU$(tail -n 1 "$log" | sed -n 's/^\[\([0-9]*\)\/\([0-9]*\)\].*/, step \1 of \2/p')" >&2
     done
     wait $pid && return 0
     why="QEMU does not build: $(grep -m 1 -E 'error[: ]|undefined' "$log" || tail -n 1 "$log")"
