@@ -6,9 +6,9 @@
 #   debian_deb FOLDER PACKAGE    fetches a package of any of the suites, the newest there is, and prints its file
 #   debian_source FOLDER PACKAGE SUITE  fetches the original tar file of a source package, and prints its file
 #
-# Each ends with 1 where it cannot be had, and sets why, or prints nothing.
+# Each ends with 1 where it cannot be had, and sets why, or prints nothing. debian_kind says for which kind of machine, as loong64, where it is not this one's.
 
-why=''
+why='' debian_kind=''
 
 debian_cache() { echo "${PCH_PIC_CACHE:-${XDG_CACHE_HOME:-${HOME:-/tmp}/.cache}/pch-pic}/$1"; }
 
@@ -28,6 +28,7 @@ debian_apt=()
 debian_options() {
     debian_apt=(-o "Dir::State=$1/state" -o "Dir::State::status=$1/status" -o "Dir::Cache=$1/cache" -o "Dir::Etc::sourcelist=$1/sources.list"
         -o Dir::Etc::sourceparts=- -o APT::Sandbox::User=root -o Acquire::Languages=none -o Acquire::http::Timeout=30 -o Acquire::Retries=2 -qq)
+    [ -z "$debian_kind" ] || debian_apt+=(-o "APT::Architecture=$debian_kind" -o "APT::Architectures::=$debian_kind")
 }
 
 debian_open() {
