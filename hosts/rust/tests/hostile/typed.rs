@@ -267,9 +267,9 @@ mod days {
         bytes[8 * 640..8 * 641].copy_from_slice(&(u64::MAX / 2).to_le_bytes());
         let mut tally = Tally::from_bytes(&bytes).unwrap();
         tally.add(&trace, &PchPic::new()).unwrap();
-        assert_eq!((tally.sheet(), tally.records()), (Err(Error::Tally(5_120)), (1 << 63) + trace.records().len() as u64 - 1));
+        assert_eq!((tally.sheet(), tally.records()), (Err(Error::Tally(472)), (1 << 63) + trace.records().len() as u64 - 1));
         let stood = tally.clone();
-        assert_eq!(tally.add(&trace, &PchPic::new()), Err(Error::Tally(5_120)));
+        assert_eq!(tally.add(&trace, &PchPic::new()), Err(Error::Tally(472)));
         assert_eq!(tally, stood);
     }
 
