@@ -1,7 +1,9 @@
 //! The files of recorded cases, tests/recorded; their form is told at the top of tools/harness/case_records.rs.
 
 use crate::Score;
-use crate::areas::{ANSWER, ANSWERS, Area, Areas, BOARD, DIFFERENCE, EVENTS, IMAGE, KEPT, LIST, LONGEST, PHASE, SHEET, TALLY, TARGET, TRACE};
+use crate::areas::{
+    ANSWER, ANSWERS, Area, Areas, BOARD, DIFFERENCE, EVENTS, IMAGE, KEPT, LIST, LONGEST, PHASE, SHEET, TALLY, TARGET, TRACE,
+};
 use crate::bytes::Bytes;
 use crate::library::*;
 

@@ -37,10 +37,11 @@ pub fn by_hand() -> Vec<ByHand> {
             vec![(9, [2, 1, 1, 0, 0, 1, 0, 2, 1, 0])],
         ),
         // two inputs wait on; a second raise begins nothing
-        ("open", vec![vec![raise(0), raise(63)], vec![raise(63), drain]], vec![
-            (0, [1, 0, 0, 0, 0, 0, 0, 0, 0, 1]),
-            (63, [2, 0, 0, 0, 0, 0, 0, 0, 0, 1]),
-        ]),
+        (
+            "open",
+            vec![vec![raise(0), raise(63)], vec![raise(63), drain]],
+            vec![(0, [1, 0, 0, 0, 0, 0, 0, 0, 0, 1]), (63, [2, 0, 0, 0, 0, 0, 0, 0, 0, 1])],
+        ),
         // in service when the second begins: its lowering is returned
         ("in service", vec![vec![unmask(3), raise(3)], vec![lower(3)]], vec![(3, [1, 1, 1, 1, 2, 0, 0, 0, 0, 0])]),
     ]
@@ -201,7 +202,9 @@ fn lengths(bench: &mut Bench, cases: &mut Cases) {
 pub fn limits(bench: &mut Bench, cases: &mut Cases, step: usize) {
     let good = trace::bytes(&some(6), &[4, 2]);
     for k in (0..650).step_by(step) {
-        for (counted, number) in [(4000, LIMIT - 1), (4000, LIMIT), (LIMIT - 1, LIMIT - 1), (4000, 4000), (4000, 4001), (0, 1), (4000, u64::MAX)] {
+        for (counted, number) in
+            [(4000, LIMIT - 1), (4000, LIMIT), (LIMIT - 1, LIMIT - 1), (4000, 4000), (4000, 4001), (0, 1), (4000, u64::MAX)]
+        {
             let mut tally = vec![0; LENGTH];
             put(&mut tally, COUNTED, counted);
             put(&mut tally, k, number);

@@ -83,7 +83,8 @@ pub fn tally_add(trace: &[u8], image: &[u8], tally: &mut [u8], answer: &mut [u8]
 
 #[inline(never)]
 pub fn tally_sheet(tally: &[u8], sheet: &mut [u8], answer: &mut [u8]) -> u8 {
-    let (Some(answer), Some(tally), Some(sheet)) = (answer.first_chunk_mut(), tally.first_chunk::<5200>(), sheet.first_chunk_mut::<5200>()) else {
+    let (Some(answer), Some(tally), Some(sheet)) = (answer.first_chunk_mut(), tally.first_chunk::<5200>(), sheet.first_chunk_mut::<5200>())
+    else {
         return 7;
     };
     let counted: &[wide::Row; 65] = tally.as_chunks().0.as_chunks().0.try_into().unwrap();

@@ -254,7 +254,9 @@ pub fn tally_add(trace: &[u8], image: &[u8], tally: &mut [u8], answer: &mut [u8]
 
 #[inline(never)]
 pub fn tally_sheet(tally: &[u8], sheet: &mut [u8], answer: &mut [u8]) -> u8 {
-    let (Some(answer), Some(tally), Some(sheet)) = (answer.first_chunk_mut(), tally.first_chunk(), sheet.first_chunk_mut()) else { return 7 };
+    let (Some(answer), Some(tally), Some(sheet)) = (answer.first_chunk_mut(), tally.first_chunk(), sheet.first_chunk_mut()) else {
+        return 7;
+    };
     let mut numbers = match numbers_of(tally) {
         Ok(numbers) => numbers,
         Err(refused) => return told(answer, Err(refused)),
