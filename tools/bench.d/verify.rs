@@ -4,7 +4,9 @@ use crate::call::Call;
 use crate::chance::Chance;
 use crate::kinds::{BASE, Kind, LENGTH, LENGTHS, NUMBERED, Prepared, SIZE, Slot, count_at, moved};
 use crate::plays::{self, Lent, Play, Way, blocks};
-use crate::sides::{Lean, Library, Plain, Portable, Side, converted, make, one_by_one, play, play_on, salvage, sheet, tally_add, tally_sheet};
+use crate::sides::{
+    Lean, Library, Plain, Portable, Side, converted, make, one_by_one, play, play_on, salvage, sheet, tally_add, tally_sheet,
+};
 
 /// What a side hands back, and the target of a conversion.
 fn by<S: Side>(call: &Call, slot: &mut Slot, image_len: usize, answer_len: usize) -> (u8, [u8; NUMBERED]) {

@@ -97,9 +97,8 @@ pub fn front_line(case: &Case, failure: u64) -> String {
 pub fn parse_front(words: &[String]) -> Option<Result<Case, String>> {
     let (name, words) = words.split_first()?;
     let known = match name.as_str() {
-        "salvage" | "sheet" | "waiting" | "hoist-end" | "board-event" | "front-convert" | "front-difference" | "front-play" | "front-play-on" => {
-            name.as_str()
-        }
+        "salvage" | "sheet" | "waiting" | "hoist-end" | "board-event" | "front-convert" | "front-difference" | "front-play"
+        | "front-play-on" => name.as_str(),
         "tally-begin" | "tally-add" | "tally-sheet" => name.as_str(),
         name => name.split_once('-').filter(|(front, _)| ["plain", "board", "hoist"].contains(front))?.1,
     };
