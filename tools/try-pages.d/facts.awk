@@ -1,14 +1,12 @@
 # Reads pages, and tells of each what can be tried: a line for each fact, 'KIND TAB PAGE TAB LINE TAB VALUE'.
 #
-#   path      a file or folder of the repository that the page names
+#   path      a file or folder of the repository that the page names in plain text; code is for names.awk
 #   link      where a link leads, as it is written
-#   edit      an edit that must be refused, as CRATE/EDIT
-#   theorem   THEOREM FILE, of a list item that ends with 'In `FILE`.'
 #   sentence  a sentence with too many words, and how many
 #   cell      how many characters a cell of a table in PROMISES.md has, where they are more than WIDEST
 #   crate     the name in the first cell of a row of ARCHITECTURE.md's tables of crates, and then its modules
 #
-# crates is a list of the crates' names with blanks around each; a sentence has at most long words, in LOAD-SAMPLES.md at most short.
+# A sentence has at most long words, in LOAD-SAMPLES.md at most short.
 
 BEGIN { WIDEST = 120 }
 
@@ -44,44 +42,24 @@ function tell(kind, value) { printf "%s\t%s\t%d\t%s\n", kind, page, FNR, value }
 function flush() {
     if (text == "") return
     sentences(text)
-    theorems(text)
     text = ""
 }
 
-# names LINE: the paths, links and edits in it.
-function names(line,    rest, found, parts) {
+# names LINE: the links in it, and the paths outside code.
+function names(line,    rest, found) {
     rest = line
     while (match(rest, /\]\([^)]+\)/)) {
         tell("link", substr(rest, RSTART + 2, RLENGTH - 3))
         rest = substr(rest, RSTART + RLENGTH)
     }
     rest = line
-    gsub(/\]\([^)]+\)/, "]", rest)
+    gsub(/\]\([^)]+\)|`[^`]*`/, "]", rest)
     while (match(rest, /(^|[^A-Za-z0-9_.\/-])(crates|docs|tools|hosts|tests|include)\/[A-Za-z0-9_.\/-]+/)) {
         found = substr(rest, RSTART, RLENGTH)
         rest = substr(rest, RSTART + RLENGTH)
         sub(/^[^a-z]/, "", found)
         sub(/[.\/]+$/, "", found)
         if (found !~ /NAME|EDIT/) tell("path", found)
-    }
-    rest = line
-    while (match(rest, /`[a-z_]+\/[a-z0-9_]+`/)) {
-        found = substr(rest, RSTART + 1, RLENGTH - 2)
-        rest = substr(rest, RSTART + RLENGTH)
-        split(found, parts, "/")
-        if (index(crates, " " parts[1] " ")) tell("edit", found)
-    }
-}
-
-# theorems ITEM: what it names, where its last words are a file.
-function theorems(item,    file, rest) {
-    if (!match(item, /In `crates\/[^`]+\.antt`\. *$/)) return
-    file = substr(item, RSTART + 4)
-    sub(/`\. *$/, "", file)
-    rest = substr(item, 1, RSTART - 1)
-    while (match(rest, /`[a-z0-9]+(-[a-z0-9]+)*`/)) {
-        if (substr(rest, RSTART, RLENGTH) ~ /-/) tell("theorem", substr(rest, RSTART + 1, RLENGTH - 2) " " file)
-        rest = substr(rest, RSTART + RLENGTH)
     }
 }
 

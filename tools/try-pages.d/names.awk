@@ -1,9 +1,9 @@
 # Holds the names in pages to what is there. It is given the files of the repository, one a line, then the sources, then the pages, each after a word that
 # says what they are:
 #
-#   of=files LIST of=proof FILES.. of=code FILES.. of=tool FILES.. of=entries FILES.. of=others LIST of=gone PAGES.. of=page PAGES..
+#   of=files LIST of=proof FILES.. of=code FILES.. of=aside FILES.. of=tool FILES.. of=entries FILES.. of=others LIST of=gone PAGES.. of=page PAGES..
 #
-# It tells of each name that is not there 'name TAB PAGE TAB LINE TAB WHY'. The last line is 'held', three tabs, and how many are.
+# It tells of each name that is not there 'name TAB PAGE TAB LINE TAB WHY'. The last line is 'held TAB - TAB 0 TAB N', of the N names that are.
 #
 # A name is what stands on a page as code: a theorem or definition, a function, a type, a module, a file or folder, an edit, a word of a command line. Where a
 # page says in which file or module it stands, it has to stand there. Names of others, as Rust's or Linux's, are listed in others.txt.
@@ -16,7 +16,7 @@ BEGIN { FILE_END = "[.](md|antt|rt|rs|c|h|sh|awk|txt|bin|trace|in|out|csv|sheet|
 FNR == 1 { page_ends(); opens() }
 of == "files" { a_file($0); next }
 of == "proof" { if ($1 == "use") imported(); else if ($0 !~ /^ *--/) a_declaration(); next }
-of == "code" { some_code($0); next }
+of == "code" || of == "aside" { some_code($0); next }
 of == "tool" { some_tool($0); next }
 of == "entries" { if ($0 !~ /^#/) known[$1] = 1; next }
 of == "others" { if ($0 !~ /^#/) for (i = 1; i <= NF; i++) others[$i] = FILENAME "\t" FNR; next }
@@ -29,7 +29,7 @@ fenced { if (of == "page") { a_command($0, FNR); named_in_text($0) } next }
 /^#/ || NF == 0 { unit_ends(); if (NF) joined($0); unit_ends(); next }
 /^ *([-*]|[0-9]+\.) / { unit_ends() }
 { joined($0) }
-END { page_ends(); unused_others(); printf "held\t\t\t%d\n", held }
+END { page_ends(); unused_others(); printf "held\t-\t0\t%d\n", held }
 
 # ---- what is there
 
@@ -66,7 +66,7 @@ function imported(    list, words, n, at) {
     for (at = 1; at <= n; at++) known[words[at]] = 1
 }
 
-# some_code LINE: its words are names, and belong to the file's module and to the type around them.
+# some_code LINE: its words are names, in code aside only where a page says the file, and belong to the file's module and to the type around them.
 function some_code(line,    words, n, at) {
     if (line ~ /^ *(\/\/|\/?\*( |$|\*|\/))/) return
     sub(/ \/\/ .*/, "", line)
@@ -74,7 +74,7 @@ function some_code(line,    words, n, at) {
     n = split(line, words, /[^A-Za-z0-9_]+/)
     for (at = 1; at <= n; at++) {
         if (words[at] == "") continue
-        known[words[at]] = 1
+        if (of == "code") known[words[at]] = 1
         pair[base, words[at]] = 1
         if (owner != "") pair[owner, words[at]] = 1
     }
@@ -101,15 +101,19 @@ function some_tool(line,    found) {
     }
 }
 
-# opens: a file begins. Of a crate's root the module is the crate.
+# opens: a file begins.
 function opens() {
-    base = FILENAME
-    if (base ~ /^crates\/.*\/(lib|main)\.rt$/) { sub(/^crates\//, "", base); sub(/\/.*/, "", base) }
-    if (base == "hosts/rust/src/lib.rs") base = "pch_pic"
-    sub(/\/mod\.rs$/, "", base)
-    sub(/^.*\//, "", base)
-    base = without_end(base)
+    base = module_of(FILENAME)
     owner = table = ""
+}
+
+# module_of PATH: the file's name; of a crate's root the crate.
+function module_of(path) {
+    if (path ~ /^crates\/.*\/(lib|main)\.rt$/) { sub(/^crates\//, "", path); sub(/\/.*/, "", path) }
+    if (path == "hosts/rust/src/lib.rs") path = "pch_pic"
+    sub(/\/mod\.rs$/, "", path)
+    sub(/^.*\//, "", path)
+    return without_end(path)
 }
 
 # ---- what pages say
@@ -279,12 +283,13 @@ function crate_row(    at, column) {
     }
 }
 
-# in_file AT FILE: a name that proofs or definitions declare is declared in this file, or below this folder. A definition that a theorem speaks of may stand
-# elsewhere.
+# in_file AT FILE: a name that proofs or definitions declare is declared in this file, or below this folder; but a definition that a theorem speaks of may
+# stand elsewhere. A name of code is in the file's code.
 function in_file(at, file,    name, path, files, n, i) {
     name = span[at]
-    if (!(name in declared)) return
     path = file in file_at ? file_at[file] : file
+    if (path ~ /[.](rt|c|h|rs)$/ && name ~ /^[A-Za-z_0-9]+$/) { counted(there(within(module_of(path), name)), span_line[at], "`" name "` is not in " file); return }
+    if (is_there(name) == "no" || path !~ /^crates\// || name in module || !(name in declared) && path !~ /[.]antt$/ || name ~ /[^A-Za-z0-9_-]/) return
     n = split(declared[name], files, " ")
     for (i = 1; i <= n; i++) if (index(files[i], path) == 1) { held++; return }
     if (name ~ /-/ || file ~ /\/specs/ || declared[name] !~ /\/specs\//) tell(span_line[at], "`" name "` is not in " file)
