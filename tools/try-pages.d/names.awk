@@ -139,8 +139,9 @@ function unit_ends(    rest, line) {
     gsub(/\n */, " ", rest)
     gap[spans + 1] = rest
     if (unit ~ /^\| Former(ly| crates) \| Today/) table = unit ~ /crate/ ? "crates gone" : "gone"
+    else if (unit ~ /^\| File \| Where it stands/) table = "files"
     else if (unit ~ /^\| Crate \|.*Modules/) { table = "crates"; modules_at = column_of(unit, "Modules") }
-    else if (unit_of == "gone") gone_in()
+    else if (unit_of == "gone") { gone_in(); if (table == "files") legend() }
     else { judge_all(); pairs(); if (table == "crates") crate_row() }
     unit = ""
 }
@@ -180,6 +181,22 @@ function is_gone(name) { return ((page, name) in gone) || page ~ /^docs\/landing
 
 function is_crate(name) { return ("crates/" name) in folder }
 
+# legend: a row of the page's table of files, each with the folder where it stands. A page that has such a table has in it each file that it names as `File.name`.
+function legend(    at, path) {
+    has_legend[page] = 1
+    for (at = 1; at < spans; at++) {
+        listed[page, span[at]] = 1
+        path = span[spans] "/" span[at] ".antt"
+        counted(there(path in file_at), span_line[at], "there is no `" path "`")
+    }
+}
+
+# in_legend AT
+function in_legend(at,    parts) {
+    if (!(page in has_legend) || span[at] !~ /^[A-Z][A-Za-z]+\.[A-Za-z]+$/ || split(span[at], parts, ".") != 2 || !(parts[1] in module)) return
+    counted(there((page, parts[1]) in listed), span_line[at], "the table of files has no `" parts[1] "`")
+}
+
 function tell(line, why) { printf "name\t%s\t%d\t%s\n", page, line, why }
 
 function counted(is, line, why) {
@@ -195,6 +212,7 @@ function judge_all(    at, words, n, i, full) {
         if (span[at] ~ /^_[a-z]/) { sub(/_[a-z]+$/, "", full); counted(there((full span[at]) in known), span_line[at], "there is no `" full span[at] "`"); full = full span[at]; continue }
         full = span[at]
         if (gap[at] ~ /[Cc]rates? $/ && span[at] ~ /^[a-z_]+$/) { counted(there(is_crate(span[at])), span_line[at], "there is no crate `" span[at] "`"); continue }
+        in_legend(at)
         if (counted(is_there(span[at]), span_line[at], "there is no `" span[at] "`")) continue
         a_command(span[at], span_line[at])
         if (span[at] ~ /^[0-9]/) continue
