@@ -211,7 +211,7 @@ function judge_all(    at, words, n, i, full) {
         if (table ~ /gone/ ? is_formerly(at) : is_gone(span[at]) && is_there(span[at]) != "yes") continue
         if (span[at] ~ /^_[a-z]/) { sub(/_[a-z]+$/, "", full); counted(there((full span[at]) in known), span_line[at], "there is no `" full span[at] "`"); full = full span[at]; continue }
         full = span[at]
-        if (gap[at] ~ /[Cc]rates? $/ && span[at] ~ /^[a-z_]+$/) { counted(there(is_crate(span[at])), span_line[at], "there is no crate `" span[at] "`"); continue }
+        if (gap[at] ~ /[Cc]rates? $/ && span[at] ~ /^[a-z_]+$/ && !is_gone(span[at])) { counted(there(is_crate(span[at])), span_line[at], "there is no crate `" span[at] "`"); continue }
         in_legend(at)
         if (counted(is_there(span[at]), span_line[at], "there is no `" span[at] "`")) continue
         a_command(span[at], span_line[at])
