@@ -205,21 +205,26 @@ function counted(is, line, why) {
     return is != ""
 }
 
-# judge_all: each name by itself; in what is more than a name, each part of it that can be nothing else.
-function judge_all(    at, words, n, i, full) {
+# judge_all: each name by itself; of what is more than a name, each part of it that can be nothing else.
+function judge_all(    at, full) {
     for (at = 1; at <= spans; at++) {
         if (table ~ /gone/ ? is_formerly(at) : is_gone(span[at]) && is_there(span[at]) != "yes") continue
-        if (span[at] ~ /^_[a-z]/) { sub(/_[a-z]+$/, "", full); counted(there((full span[at]) in known), span_line[at], "there is no `" full span[at] "`"); full = full span[at]; continue }
-        full = span[at]
-        if (gap[at] ~ /[Cc]rates? $/ && span[at] ~ /^[a-z_]+$/ && !is_gone(span[at])) { counted(there(is_crate(span[at])), span_line[at], "there is no crate `" span[at] "`"); continue }
+        # `_read` after `pch_pic_board_reset` is the same with another ending.
+        if (span[at] ~ /^_[a-z]/) { sub(/_[a-z]+$/, "", full); full = full span[at] }
+        else full = span[at]
+        if (gap[at] ~ /[Cc]rates? $/ && full ~ /^[a-z_]+$/ && !is_gone(full)) counted(there(is_crate(full)), span_line[at], "there is no crate `" full "`")
+        else if (!counted(is_there(full), span_line[at], "there is no `" full "`")) parts_of(at)
         in_legend(at)
-        if (counted(is_there(span[at]), span_line[at], "there is no `" span[at] "`")) continue
-        a_command(span[at], span_line[at])
-        if (span[at] ~ /^[0-9]/) continue
-        n = split(span[at], words, /[^A-Za-z0-9_:-]+/)
-        for (i = 1; i <= n; i++) if (words[i] ~ /^[a-z]+[A-Z]|[A-Za-z]_[A-Za-z]|^[a-z]+(-[a-z0-9]+)+$|[a-z]::[a-z]/)
-            counted(is_there(words[i]), span_line[at], "there is no `" words[i] "`, in `" span[at] "`")
     }
+}
+
+# parts_of AT: of what is more than a name, a command or a formula.
+function parts_of(at,    words, n, i) {
+    a_command(span[at], span_line[at])
+    if (span[at] ~ /^[0-9]/) return
+    n = split(span[at], words, /[^A-Za-z0-9_:-]+/)
+    for (i = 1; i <= n; i++) if (words[i] ~ /^[a-z]+[A-Z]|[A-Za-z]_[A-Za-z]|^[a-z]+(-[a-z0-9]+)+$|[a-z]::[a-z]/)
+        counted(is_there(words[i]), span_line[at], "there is no `" words[i] "`, in `" span[at] "`")
 }
 
 # is_there NAME: yes, no, or nothing where it does not look like a name of anything here.
@@ -267,7 +272,7 @@ function a_command(text, line,    words, n, at, tool) {
     }
 }
 
-# named_in_text LINE: of an example of code, the library's names and the hosts', and files.
+# named_in_text LINE: of an example of code, the library's names and the hosts', what belongs to a type, and files.
 function named_in_text(line,    words, n, at) {
     page = FILENAME
     n = split(line, words, /[^A-Za-z0-9_.\/-]+/)
@@ -275,6 +280,10 @@ function named_in_text(line,    words, n, at) {
         sub(/[.\/]+$/, "", words[at])
         if (words[at] ~ /^(crates|docs|tools|hosts|tests|include)\// || words[at] ~ /^(pch_pic|pic|PCH_PIC|PIC)_[A-Za-z_]+$/)
             counted(is_there(words[at]), FNR, "there is no `" words[at] "`")
+    }
+    while (match(line, /[A-Z][A-Za-z]*::[A-Za-z_]+/)) {
+        counted(is_there(substr(line, RSTART, RLENGTH)), FNR, "there is no `" substr(line, RSTART, RLENGTH) "`")
+        line = substr(line, RSTART + RLENGTH)
     }
 }
 
