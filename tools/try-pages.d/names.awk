@@ -228,8 +228,14 @@ function parts_of(at,    words, n, i) {
 }
 
 # is_there NAME: yes, no, or nothing where it does not look like a name of anything here.
-function is_there(name,    parts, n, at) {
-    if (name in others) { used[name] = 1; return "yes" }
+function is_there(name) {
+    if (!(name in others)) return in_tree(name)
+    used[name] = 1
+    return "yes"
+}
+
+# in_tree NAME: the same, where others' names do not count.
+function in_tree(name,    parts, n, at) {
     sub(/\(\)$/, "", name)
     sub(/\/$/, "", name)
     if (name ~ /^--[a-z-]+$/) return there(name in known)
@@ -322,7 +328,10 @@ function in_file(at, file,    name, path, files, n, i) {
     if (name ~ /-/ || file ~ /\/specs/ || declared[name] !~ /\/specs\//) tell(span_line[at], "`" name "` is not in " file)
 }
 
-# unused_others: names of others that no page has.
+# unused_others: names of others that no page has, or that are not others'.
 function unused_others(    name) {
-    for (name in others) if (!(name in used)) printf "name\t%s\tno page names `%s`\n", others[name], name
+    for (name in others) {
+        if (!(name in used)) printf "name\t%s\tno page names `%s`\n", others[name], name
+        else if (in_tree(name) == "yes") printf "name\t%s\t`%s` is of this repository\n", others[name], name
+    }
 }
