@@ -296,6 +296,7 @@ function named_in_text(line,    words, n, at) {
 # pairs: names that are said to stand in a file, a folder or a module.
 function pairs(    at, back, end) {
     for (at = 2; at <= spans; at++) {
+        belongs(at)
         if (span[at] ~ /\// && !an_edit(span[at]) && gap[at] ~ /^ (\(|of |in |\(in )$/) for (back = at - 1; back >= 1; back--) {
             in_file(back, span[at])
             if (gap[back] !~ /^(, | and |, and )$/) break
@@ -305,6 +306,28 @@ function pairs(    at, back, end) {
     }
     if (spans < 2 || gap[spans] !~ /(^|[^A-Za-z])In $/ || gap[spans + 1] !~ /^\. *$/ || span[spans] !~ /\.antt$/) return
     for (at = 1; at < spans; at++) if (span[at] ~ /^[a-z0-9]+(-[a-z0-9]+)*$/ && gap[at + 1] !~ /^ (\(|of |in )$/) in_file(at, span[spans])
+}
+
+# belongs TO: the names before this one are said to be 'of' or 'in' it, a crate or a module of one.
+function belongs(to,    back) {
+    if (gap[to] !~ /^ (of|in) $/ || !is_crate(first_part(span[to]))) return
+    for (back = to - 1; back >= 1; back--) {
+        if (span[back] ~ /^[A-Za-z0-9_-]+$/ && !is_crate(span[back]))
+            counted(there(in_crate(span[back], span[to])), span_line[back], "`" span[back] "` is not in `" span[to] "`")
+        if (gap[back] !~ /^(, | and |, and )$/) break
+    }
+}
+
+function first_part(name) { sub(/::.*/, "", name); return name }
+
+function last_part(name) { sub(/^.*::/, "", name); return name }
+
+# in_crate NAME PLACE: its code has it, or its proofs and definitions declare it there.
+function in_crate(name, place,    files, n, i) {
+    if (within(last_part(place), name)) return 1
+    n = split(declared[name], files, " ")
+    for (i = 1; i <= n; i++) if (index(files[i], "crates/" first_part(place) "/") == 1 && (place !~ /::/ || files[i] ~ "/" last_part(place) "[/.]")) return 1
+    return 0
 }
 
 # crate_row: of a table of crates, the names in the column of modules are modules of the crate; a row without a crate goes on with the one above.
