@@ -223,6 +223,7 @@ function parts_of(at,    words, n, i) {
     a_command(span[at], span_line[at])
     if (span[at] ~ /^[0-9]/) return
     n = split(span[at], words, /[^A-Za-z0-9_:-]+/)
+    if (words[1] ~ /^--[a-z]/) counted(is_there(words[1]), span_line[at], "there is no `" words[1] "`")
     for (i = 1; i <= n; i++) if (words[i] ~ /^[a-z]+[A-Z]|[A-Za-z]_[A-Za-z]|^[a-z]+(-[a-z0-9]+)+$|[a-z]::[a-z]/)
         counted(is_there(words[i]), span_line[at], "there is no `" words[i] "`, in `" span[at] "`")
 }
@@ -268,7 +269,7 @@ function a_command(text, line,    words, n, at, tool) {
     if (text !~ / --[a-z]/) return
     n = split(text, words, /[ \t`'"()\[\],;]+/)
     for (at = 1; at <= n; at++) {
-        if (words[at] ~ /^(\.\/)?(tools\/([a-z]+\/)?[a-z-]+|\.ci\/run|run)$/ && words[at] ~ /\//) { tool = words[at]; sub(/^.*\//, "", tool) }
+        if (words[at] ~ /^((\.\/)?tools\/([a-z]+\/)?[a-z-]+|\.ci\/run|\.\/run|load_sample)$/) { tool = words[at]; sub(/^.*\//, "", tool) }
         else if (words[at] ~ /^(cargo|gcc|cc|rt|rustc|[|]+|&&)$/) tool = ""
         else if (tool != "" && words[at] ~ /^--[a-z]/) {
             sub(/=.*/, "", words[at])
