@@ -23,7 +23,7 @@ of == "others" { if ($0 !~ /^#/) for (i = 1; i <= NF; i++) others[$i] = FILENAME
 
 # Pages. A unit is a paragraph, an item of a list, a heading or a row of a table.
 /^ *```/ { unit_ends(); fenced = !fenced; next }
-fenced { if (of == "page") { a_command($0, FNR); named_in_text($0) } next }
+fenced { if (of == "page") { page = FILENAME; a_command($0, FNR); named_in_text($0) } next }
 /^\|/ { unit_ends(); joined($0); unit_ends(); next }
 { table = "" }
 /^#/ || NF == 0 { unit_ends(); if (NF) joined($0); unit_ends(); next }
@@ -59,10 +59,9 @@ function a_declaration(    at, typed) {
 }
 
 # imported: names of the prover's own library, which it has looked up.
-function imported(    list, words, n, at) {
+function imported(    words, n, at) {
     if ($2 ~ /^Rattle·/ && $2 !~ /Prelude/) return
-    list = $0
-    n = split(list, words, /[^A-Za-z0-9_-]+/)
+    n = split($0, words, /[^A-Za-z0-9_-]+/)
     for (at = 1; at <= n; at++) known[words[at]] = 1
 }
 
@@ -70,6 +69,8 @@ function imported(    list, words, n, at) {
 function some_code(line,    words, n, at) {
     if (line ~ /^ *(\/\/|\/?\*( |$|\*|\/))/) return
     sub(/ \/\/ .*/, "", line)
+    # Of texts in it, only the names of what is read of the surroundings.
+    gsub(/"[^"]*[^A-Z_"][^"]*"/, "", line)
     if (match(line, /^(pub )?(unsafe )?(impl|enum|struct|trait)(<[^>]*>)? /)) owner = owner_in(substr(line, RSTART + RLENGTH))
     n = split(line, words, /[^A-Za-z0-9_]+/)
     for (at = 1; at <= n; at++) {
@@ -208,7 +209,8 @@ function counted(is, line, why) {
 # judge_all: each name by itself; of what is more than a name, each part of it that can be nothing else.
 function judge_all(    at, full) {
     for (at = 1; at <= spans; at++) {
-        if (table ~ /gone/ ? is_formerly(at) : is_gone(span[at]) && is_there(span[at]) != "yes") continue
+        span_formerly[at] = is_formerly(at)
+        if (table ~ /gone/ ? span_formerly[at] : is_gone(span[at]) && is_there(span[at]) != "yes") continue
         # `_read` after `pch_pic_board_reset` is the same with another ending.
         if (span[at] ~ /^_[a-z]/) { sub(/_[a-z]+$/, "", full); full = full span[at] }
         else full = span[at]
@@ -224,7 +226,7 @@ function parts_of(at,    words, n, i) {
     if (span[at] ~ /^[0-9]/) return
     n = split(span[at], words, /[^A-Za-z0-9_:-]+/)
     if (words[1] ~ /^--[a-z]/) counted(is_there(words[1]), span_line[at], "there is no `" words[1] "`")
-    for (i = 1; i <= n; i++) if (words[i] ~ /^[a-z]+[A-Z]|[A-Za-z]_[A-Za-z]|^[a-z]+(-[a-z0-9]+)+$|[a-z]::[a-z]/)
+    for (i = 1; i <= n; i++) if (words[i] !~ /_$/ && words[i] ~ /^[a-z]+[A-Z]|[A-Za-z]_[A-Za-z]|^[a-z]+(-[a-z0-9]+)+$|[a-z]::[a-z]/)
         counted(is_there(words[i]), span_line[at], "there is no `" words[i] "`, in `" span[at] "`")
 }
 
@@ -273,7 +275,6 @@ function a_command(text, line,    words, n, at, tool) {
         else if (words[at] ~ /^(cargo|gcc|cc|rt|rustc|[|]+|&&)$/) tool = ""
         else if (tool != "" && words[at] ~ /^--[a-z]/) {
             sub(/=.*/, "", words[at])
-            if (page == "") page = FILENAME
             counted(there((tool, words[at]) in option), line, tool " has no word `" words[at] "`")
         }
     }
@@ -281,7 +282,6 @@ function a_command(text, line,    words, n, at, tool) {
 
 # named_in_text LINE: of an example of code, the library's names and the hosts', what belongs to a type, and files.
 function named_in_text(line,    words, n, at) {
-    page = FILENAME
     n = split(line, words, /[^A-Za-z0-9_.\/-]+/)
     for (at = 1; at <= n; at++) {
         sub(/[.\/]+$/, "", words[at])
@@ -336,7 +336,7 @@ function crate_row(    at, column) {
     for (at = 1; at <= spans; at++) {
         column += gsub(/\|/, "|", gap[at])
         if (column == 1) row_crate = span[at]
-        if (column == modules_at && span[at] ~ /^[a-z_]+$/) counted(there((row_crate, span[at]) in pair), span_line[at], "`" span[at] "` is no module of `" row_crate "`")
+        if (column == modules_at && span[at] ~ /^[A-Za-z_]+$/) counted(there((row_crate, span[at]) in pair), span_line[at], "`" span[at] "` is no module of `" row_crate "`")
     }
 }
 
