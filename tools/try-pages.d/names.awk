@@ -242,7 +242,8 @@ function in_tree(name,    parts, n, at) {
     sub(/\(\)$/, "", name)
     sub(/\/$/, "", name)
     if (name ~ /^--[a-z-]+$/) return there(name in known)
-    if (name ~ /[^A-Za-z0-9_.:\/-]/ || name !~ /[A-Za-z][A-Za-z_]/ || name ~ /^[.0-9-]|[:-]$/ || name ~ /NAME|EDIT/) return ""
+    sub(/^\.\//, "", name)
+    if (name ~ /[^A-Za-z0-9_.:\/-]/ || name !~ /[A-Za-z][A-Za-z_]/ || (name ~ /^[.0-9-]|[:-]$/ && name !~ /^\.ci\//) || name ~ /NAME|EDIT/) return ""
     if (name ~ /\//) return there(name ~ /^target\// || (name in file_at) || (name in folder) || an_edit(name))
     if (name ~ /::/) {
         n = split(name, parts, "::")
@@ -313,7 +314,7 @@ function pairs(    at, back, end) {
 function belongs(to,    back) {
     if (gap[to] !~ /^ (of|in) $/ || !is_crate(first_part(span[to]))) return
     for (back = to - 1; back >= 1; back--) {
-        if (span[back] ~ /^[A-Za-z0-9_-]+$/ && !is_crate(span[back]))
+        if (span[back] ~ /^[A-Za-z0-9_-]+$/ && !is_crate(span[back]) && is_there(span[back]) != "no")
             counted(there(in_crate(span[back], span[to])), span_line[back], "`" span[back] "` is not in `" span[to] "`")
         if (gap[back] !~ /^(, | and |, and )$/) break
     }
@@ -323,10 +324,13 @@ function first_part(name) { sub(/::.*/, "", name); return name }
 
 function last_part(name) { sub(/^.*::/, "", name); return name }
 
+# files_of NAME FILES: where it is declared. A name that is not must not become one by being asked for.
+function files_of(name, files) { return name in declared ? split(declared[name], files, " ") : 0 }
+
 # in_crate NAME PLACE: its code has it, or its proofs and definitions declare it there.
 function in_crate(name, place,    files, n, i) {
     if (within(last_part(place), name)) return 1
-    n = split(declared[name], files, " ")
+    n = files_of(name, files)
     for (i = 1; i <= n; i++) if (index(files[i], "crates/" first_part(place) "/") == 1 && (place !~ /::/ || files[i] ~ "/" last_part(place) "[/.]")) return 1
     return 0
 }
@@ -342,14 +346,17 @@ function crate_row(    at, column) {
 
 # in_file AT FILE: a name that proofs or definitions declare is declared in this file, or below this folder; but a definition that a theorem speaks of may
 # stand elsewhere. A name of code is in the file's code.
-function in_file(at, file,    name, path, files, n, i) {
+function in_file(at, file,    name, path, files, n, i, defined) {
     name = span[at]
     path = file in file_at ? file_at[file] : file
     if (path ~ /[.](rt|c|h|rs)$/ && name ~ /^[A-Za-z_0-9]+$/) { counted(there(within(module_of(path), name)), span_line[at], "`" name "` is not in " file); return }
     if (is_there(name) == "no" || path !~ /^crates\// || name in module || !(name in declared) && path !~ /[.]antt$/ || name ~ /[^A-Za-z0-9_-]/) return
-    n = split(declared[name], files, " ")
-    for (i = 1; i <= n; i++) if (index(files[i], path) == 1) { held++; return }
-    if (name ~ /-/ || file ~ /\/specs/ || declared[name] !~ /\/specs\//) tell(span_line[at], "`" name "` is not in " file)
+    n = files_of(name, files)
+    for (i = 1; i <= n; i++) {
+        if (index(files[i], path) == 1) { held++; return }
+        if (files[i] ~ /\/specs\//) defined = 1
+    }
+    if (name ~ /-/ || file ~ /\/specs/ || !defined) tell(span_line[at], "`" name "` is not in " file)
 }
 
 # unused_others: names of others that no page has, or that are not others'.
