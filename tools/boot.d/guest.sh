@@ -1,4 +1,4 @@
-# Debian's Linux for LoongArch, unpacked: kernel, a module, busybox and firmware. Sourced by tools/boot-linux, after suites.sh and qemu.sh.
+# Debian's Linux for LoongArch, unpacked: kernel, a module, busybox and firmware. Sourced by tools/boot-linux, after suites.sh, newc.sh and qemu.sh.
 #
 #   guest_files         sets guest to a folder of the user's cache folder with linux, virtio_blk.ko, busybox, QEMU_EFI.fd and package
 #   guest_initrd TO     makes the first file system: busybox, the module, and tools/boot.d/init
@@ -72,19 +72,6 @@ guest_files() {
     rm -rf "$new"
     half_made=''
     return $status
-}
-
-# member NAME MODE FILE: a member of an archive of form newc: thirteen numbers, the name and the file, each to a multiple of four bytes.
-member() {
-    local name=$1 mode=$((8#$2)) file=$3 size=0
-    [ -z "$file" ] || size=$(stat -c %s "$file")
-    members=$((members + 1))
-    printf 070701
-    printf '%08x' $members $mode 0 0 1 0 "$size" 0 0 0 0 $((${#name} + 1)) 0
-    printf '%s\0' "$name"
-    head -c $(((4 - (110 + ${#name} + 1) % 4) % 4)) /dev/zero
-    [ -z "$file" ] || cat "$file"
-    head -c $(((4 - size % 4) % 4)) /dev/zero
 }
 
 guest_initrd() {
