@@ -109,6 +109,10 @@ mod board;
 mod built;
 pub mod calls;
 mod contents;
+#[cfg(feature = "std")]
+mod cut;
+#[cfg(feature = "std")]
+pub mod days;
 mod device;
 mod error;
 mod event;
@@ -118,6 +122,7 @@ mod fast;
 #[cfg(feature = "std")]
 pub mod file;
 mod form;
+mod guest;
 #[cfg(feature = "std")]
 pub mod history;
 mod hoist;
@@ -127,6 +132,8 @@ mod outcome;
 #[cfg(all(feature = "plain", not(feature = "archive")))]
 #[rustfmt::skip]
 mod proved;
+#[cfg(feature = "std")]
+mod recorded;
 #[cfg(feature = "std")]
 mod recorder;
 pub mod reg;
@@ -143,13 +150,18 @@ mod wires;
 pub use access::{Width, Window};
 pub use board::Board;
 pub use built::{built, linked_version, version, Built};
+#[cfg(feature = "std")]
+pub use days::DayRecorder;
 pub use device::PchPic;
 pub use error::Error;
 pub use event::{difference, Event, Events, Returned};
 pub use form::{Form, Image};
+pub use guest::GuestDevice;
 pub use hoist::{Hoist, Phase};
 #[cfg(feature = "std")]
-pub use recorder::{monotonic, RecordError, Recorded, Recorder};
+pub use recorded::{Recordable, Recorded};
+#[cfg(feature = "std")]
+pub use recorder::{monotonic, RecordError, Recorder, Recording};
 #[cfg(feature = "std")]
 pub use sheet::Sheet;
 #[cfg(feature = "std")]
