@@ -326,8 +326,8 @@ impl Recording for DayRecorder {
         Ok(())
     }
 
-    fn is_empty(&self) -> bool {
-        self.records() == 0
+    fn records(&self) -> u64 {
+        DayRecorder::records(self)
     }
 
     fn close_block(&mut self) -> Result<(), RecordError> {

@@ -99,8 +99,13 @@ pub trait Recording: sealed::Sealed {
     /// A [`RecordError`], and so for all that take a call.
     fn take(&mut self, record: Record) -> Result<(), RecordError>;
 
-    /// Whether no record was taken.
-    fn is_empty(&self) -> bool;
+    /// How many records were taken.
+    fn records(&self) -> u64;
+
+    /// Whether none was.
+    fn is_empty(&self) -> bool {
+        self.records() == 0
+    }
 
     /// Ends the block that is open; the next record begins another. Where the blocks are planned this is not asked for.
     ///
@@ -177,8 +182,8 @@ impl Recording for Recorder {
         Recorder::take(self, record)
     }
 
-    fn is_empty(&self) -> bool {
-        Recorder::is_empty(self)
+    fn records(&self) -> u64 {
+        self.len() as u64
     }
 
     fn close_block(&mut self) -> Result<(), RecordError> {
