@@ -38,12 +38,12 @@
 //! # What is lost, and when
 //!
 //! [Planned](DayRecorder::planned) days are for where power may be lost. Each record is in the trace's file when the call that takes it comes back, and each full block
-//! is on the disk. So a process that is killed loses no record, and lost power at most the block that is open. Times are written when their trace ends, and those of the open one go with the process.
+//! is on the disk; its time is written before it. So a process that is killed loses no record, and lost power at most the block that is open.
 //!
 //! A day that is [held](DayRecorder::held) has its open trace in memory, and writes it when it is full or ended. There a lost process loses the open trace, and so does
 //! a recorder that is dropped before [`end`](DayRecorder::end).
 
-use crate::recorder::sealed::Sealed;
+use crate::recorder::{sealed::Sealed, times_beside};
 use crate::{cut, holes, replace, Record, RecordError, Recorder, Recording, BLOCKS_MAX, RECORDS_MAX};
 use std::fs::{self, File, OpenOptions};
 use std::io::{self, Seek, SeekFrom, Write};
@@ -140,6 +140,17 @@ fn new_list(folder: &Path) -> Result<File, RecordError> {
     Ok(list)
 }
 
+/// Takes a trace away that got no record, and its times.
+fn take_away(path: &Path) -> io::Result<()> {
+    for file in [path.to_path_buf(), times_beside(path)] {
+        match fs::remove_file(file) {
+            Err(why) if why.kind() != io::ErrorKind::NotFound => return Err(why),
+            _ => {}
+        }
+    }
+    Ok(())
+}
+
 impl DayRecorder {
     /// A day that is kept as it goes, for where power may be lost: in blocks of so many records, as many in a trace as it has room for. [`BLOCK`] is a good number.
     /// A smaller one loses less with the power, and waits for the disk more often.
@@ -168,7 +179,7 @@ impl DayRecorder {
         Ok(DayRecorder { folder, plan, clock: None, list, list_len, traces: 0, records: 0, open: None, ending: false, ended: false })
     }
 
-    /// Keeps the time of each record too, by one clock for the whole day, as [`Recorder::with_clock`] does. They are saved beside each trace when it ends.
+    /// Keeps the time of each record too, by one clock for the whole day, as [`Recorder::with_clock`] does. They stand beside each trace.
     ///
     /// # Errors
     ///
@@ -217,15 +228,19 @@ impl DayRecorder {
     ///
     /// # Errors
     ///
-    /// [`RecordError::Io`]: the day has not ended, no record is lost, and it can be tried again.
+    /// [`RecordError::Empty`] where there is no record at all; [`RecordError::Io`]. Then the day has not ended, no record is lost, and it can be tried again.
     pub fn end(&mut self) -> Result<(), RecordError> {
         if self.ended {
             return Ok(());
         }
         self.end_trace()?;
-        if self.open.take().is_some() && !self.plan.is_empty() {
+        if self.is_empty() {
+            return Err(RecordError::Empty);
+        }
+        if self.open.is_some() {
             // Its first record could not be written: a trace without one is none.
-            fs::remove_file(self.path())?;
+            take_away(&self.path())?;
+            self.open = None;
         }
         self.add_line(&format!("end {} {}\n", self.traces, self.records))?;
         self.ended = true;
@@ -249,17 +264,22 @@ impl DayRecorder {
             return Err(RecordError::Full);
         }
         // The folder was empty: what is there now is another's.
-        if path.symlink_metadata().is_ok() {
+        if path.symlink_metadata().is_ok() || times_beside(&path).symlink_metadata().is_ok() {
             return Err(RecordError::NotEmpty);
         }
+        self.begun(&path).inspect_err(|_| drop(take_away(&path)))
+    }
+
+    fn begun(&self, path: &Path) -> Result<Recorder, RecordError> {
         let recorder = match self.plan.is_empty() {
             true => Recorder::new(),
-            false => Recorder::kept(&self.plan, &path).inspect_err(|_| drop(fs::remove_file(&path)))?,
+            false => Recorder::kept(&self.plan, path)?,
         };
         cut::between();
         match self.clock {
-            Some(clock) => recorder.with_clock(clock),
             None => Ok(recorder),
+            Some(clock) if self.plan.is_empty() => recorder.with_clock(clock),
+            Some(clock) => recorder.with_clock(clock)?.keep_times(path),
         }
     }
 
@@ -270,13 +290,14 @@ impl DayRecorder {
         self.ending = true;
         let (path, trace) = (self.path(), open.finish()?);
         cut::between();
-        match self.plan.is_empty() || !open.is_full() {
-            true => trace.save(&path)?,
-            false => open.sync()?,
-        }
-        cut::between();
-        if self.clock.is_some() {
-            open.save_times(&path)?;
+        if !self.plan.is_empty() && open.is_full() {
+            open.sync()?;
+        } else {
+            // The times go first: a good trace never stands without them.
+            if self.clock.is_some() {
+                open.save_times(&path)?;
+            }
+            trace.save(&path)?;
         }
         cut::between();
         let records = trace.records().len();
@@ -433,11 +454,10 @@ mod tests {
             let records = trace.records().len();
             assert_eq!(*line, format!("{:05} {records} {}", traces + 1, holes::digest(trace.as_bytes())));
             assert!(trace.records().eq((stands.listed..stands.listed + records).map(record)));
-            let timed = fs::read(path.with_extension("trace.times")).map_or(0, |bytes| bytes.len());
-            assert_eq!(timed, if times { 8 * records } else { 0 });
+            assert_eq!(timed(&path), if times { records } else { 0 });
             (traces, stands.listed) = (traces + 1, stands.listed + records);
         }
-        stands.open = opened(&folder.join(format!("{:05}.trace", traces + 1)), stands.listed);
+        stands.open = opened(&folder.join(format!("{:05}.trace", traces + 1)), stands.listed, times);
         assert!(!stands.ended || stands.open == 0);
         let found =
             fs::read_dir(folder).unwrap().filter(|entry| entry.as_ref().unwrap().path().extension().is_some_and(|end| end == "trace"));
@@ -445,12 +465,26 @@ mod tests {
         stands
     }
 
-    /// The whole records that an unlisted trace begins with.
-    fn opened(path: &Path, first: usize) -> usize {
+    /// How many times there are beside a trace; each is not before the one before it.
+    fn timed(path: &Path) -> usize {
+        let bytes = fs::read(times_beside(path)).unwrap_or_default();
+        let times: Vec<_> = bytes.chunks_exact(8).map(|time| u64::from_le_bytes(time.try_into().unwrap())).collect();
+        assert!(times.windows(2).all(|pair| pair[0] <= pair[1]));
+        times.len()
+    }
+
+    /// The whole records that an unlisted trace begins with. Each has its time, and a trace that is good as it stands no time more.
+    fn opened(path: &Path, first: usize, times: bool) -> usize {
         let Ok(bytes) = fs::read(path) else { return 0 };
         let whole = match Trace::try_from(bytes.clone()) {
-            Ok(trace) => trace.records().len(),
-            Err(Error::Record(bad)) => bad as usize,
+            Ok(trace) => {
+                assert_eq!(timed(path), if times { trace.records().len() } else { 0 });
+                trace.records().len()
+            }
+            Err(Error::Record(bad)) => {
+                assert!(!times || timed(path) >= bad as usize);
+                bad as usize
+            }
             Err(why) => panic!("{}: {why}", path.display()),
         };
         if whole > 0 {

@@ -5,7 +5,7 @@ use crate::{cut, replace, Record, Trace, Width, Window, BLOCKS_MAX, EVENTS, PLAY
 use core::fmt;
 use std::fs::File;
 use std::io::{self, Seek, SeekFrom, Write};
-use std::path::Path;
+use std::path::{Path, PathBuf};
 use std::sync::OnceLock;
 use std::time::Instant;
 
@@ -218,12 +218,16 @@ pub struct Recorder {
     open: u16,
     /// How many each block is to have, where that is planned.
     plan: Vec<u16>,
-    /// Where a planned day is kept as it goes.
+    /// Where a planned day is kept as it goes, and its times.
     file: Option<File>,
+    times_file: Option<File>,
     /// What tells the time of a record, and what it told of each.
     clock: Option<fn() -> u64>,
     times: Vec<u64>,
 }
+
+/// The bytes of a time.
+const TIME_LEN: usize = 8;
 
 /// Nanoseconds by the system's own clock that never goes back, for [`Recorder::with_clock`]. They count from the first call on.
 pub fn monotonic() -> u64 {
@@ -240,7 +244,16 @@ impl Default for Recorder {
 impl Recorder {
     /// A day whose blocks are closed as it goes.
     pub fn new() -> Self {
-        Recorder { records: Vec::new(), blocks: Vec::new(), open: 0, plan: Vec::new(), file: None, clock: None, times: Vec::new() }
+        Recorder {
+            records: Vec::new(),
+            blocks: Vec::new(),
+            open: 0,
+            plan: Vec::new(),
+            file: None,
+            times_file: None,
+            clock: None,
+            times: Vec::new(),
+        }
     }
 
     /// A day with its blocks planned: how many records each is to have. Each is closed when it has them.
@@ -314,11 +327,15 @@ impl Recorder {
     /// [`RecordError::Empty`] where there is no record, or no clock; else [`RecordError::Io`].
     pub fn save_times(&self, path: impl AsRef<Path>) -> Result<(), RecordError> {
         let times = self.times().filter(|times| !times.is_empty()).ok_or(RecordError::Empty)?;
-        let mut name = path.as_ref().as_os_str().to_owned();
-        name.push(".times");
         let bytes: Vec<u8> = times.iter().flat_map(|time| time.to_le_bytes()).collect();
-        replace::replace(Path::new(&name), &bytes)?;
+        replace::replace(&times_beside(path.as_ref()), &bytes)?;
         Ok(())
+    }
+
+    /// Keeps the times of a day that is [kept](Recorder::kept) at `path` beside it, as it goes: the file grows, and is on the disk up to each full block.
+    pub(crate) fn keep_times(self, path: &Path) -> Result<Self, RecordError> {
+        let times_file = Some(replace::replace(&times_beside(path), &[])?);
+        Ok(Recorder { times_file, ..self })
     }
 
     /// How many records were taken.
@@ -413,9 +430,10 @@ impl Recorder {
             return Err(RecordError::Blocks);
         }
         let full = self.plan.get(self.blocks.len()) == Some(&(self.open + 1));
-        self.keep(record, full)?;
+        let time = self.clock.map(|clock| clock());
+        self.keep(record, time, full)?;
         self.records.extend(record.to_bytes());
-        self.times.extend(self.clock.map(|clock| clock()));
+        self.times.extend(time);
         self.open += 1;
         if full {
             self.end_block();
@@ -423,18 +441,15 @@ impl Recorder {
         Ok(())
     }
 
-    /// Writes a record at its place in the file; a full block goes to the disk, so that it outlasts a lost power.
-    fn keep(&self, record: Record, full: bool) -> io::Result<()> {
-        let Some(mut file) = self.file.as_ref() else { return Ok(()) };
-        // Each time from the start of the file: of a record that was written in part nothing may stay between two others.
-        file.seek(SeekFrom::Start((contents_len(self.plan.len()) + self.records.len()) as u64))?;
-        file.write_all(&record.to_bytes())?;
-        cut::taken();
-        if full {
-            file.sync_data()?;
-            cut::synced(file);
+    /// Writes a record at its place in the file, and its time before it; a full block goes to the disk, so that it outlasts a lost power.
+    fn keep(&self, record: Record, time: Option<u64>, full: bool) -> io::Result<()> {
+        if let (Some(file), Some(time)) = (&self.times_file, time) {
+            put(file, TIME_LEN * self.times.len(), &time.to_le_bytes(), full)?;
         }
-        Ok(())
+        match &self.file {
+            Some(file) => put(file, contents_len(self.plan.len()) + self.records.len(), &record.to_bytes(), full),
+            None => Ok(()),
+        }
     }
 
     fn end_block(&mut self) {
@@ -464,7 +479,7 @@ impl Recorder {
     ///
     /// Those of the file system.
     pub fn sync(&self) -> io::Result<()> {
-        if let Some(file) = &self.file {
+        for file in [&self.times_file, &self.file].into_iter().flatten() {
             file.sync_all()?;
             cut::synced(file);
         }
@@ -488,6 +503,25 @@ impl Recorder {
         debug_assert!(bytes.len() <= TRACE_MAX);
         Ok(Trace::try_from(bytes).expect("what a recorder takes is a good trace"))
     }
+}
+
+/// The name of a trace's times.
+pub(crate) fn times_beside(path: &Path) -> PathBuf {
+    let mut name = path.as_os_str().to_owned();
+    name.push(".times");
+    name.into()
+}
+
+/// Each time from the start of the file: of bytes that were written in part nothing may stay between two others.
+fn put(mut file: &File, place: usize, bytes: &[u8], synced: bool) -> io::Result<()> {
+    file.seek(SeekFrom::Start(place as u64))?;
+    file.write_all(bytes)?;
+    cut::taken();
+    if synced {
+        file.sync_data()?;
+        cut::synced(file);
+    }
+    Ok(())
 }
 
 fn byte(number: u64) -> Result<u8, RecordError> {

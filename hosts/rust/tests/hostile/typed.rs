@@ -373,7 +373,10 @@ mod days {
                 lived(&mut dice, &mut day);
                 day.next_trace().unwrap();
             }
-            day.end().unwrap();
+            match day.end() {
+                Err(RecordError::Empty) => assert_eq!(day.recorder().records(), 0),
+                ended => ended.unwrap(),
+            }
             let mut image = PchPic::new().save(Form::Numbered);
             for trace in 1..=day.recorder().traces() {
                 image = Trace::load(folder.join(format!("{trace:05}.trace"))).unwrap().play_on(&image).image().clone();
