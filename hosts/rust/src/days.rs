@@ -505,8 +505,12 @@ mod tests {
 
     /// Records a day in a process that ends itself at this step.
     fn ends_at(step: usize, way: usize, folder: &Path) -> Output {
-        let mut child = Command::new(env::current_exe().unwrap());
-        child.args(["--exact", "days::tests::a_day_in_another_process", "--nocapture", "--test-threads=1"]);
+        // Where tests run in an emulator, the process that they start does too.
+        let runner = env::var("CARGO_TARGET_X86_64_UNKNOWN_LINUX_GNU_RUNNER").unwrap_or_default();
+        let mut words =
+            runner.split_whitespace().filter(|_| cfg!(target_arch = "x86_64")).map(Into::into).chain([env::current_exe().unwrap()]);
+        let mut child = Command::new(words.next().unwrap());
+        child.args(words).args(["--exact", "days::tests::a_day_in_another_process", "--nocapture", "--test-threads=1"]);
         child.env("PCH_PIC_DAY", folder).env("PCH_PIC_WAY", way.to_string()).env(cut::END_AT, step.to_string());
         child.output().unwrap()
     }

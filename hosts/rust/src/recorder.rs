@@ -276,7 +276,7 @@ impl Recorder {
     ///
     /// The file has the planned contents from the start and zeros for its records, which are bad ones; each record is written at its place as it is
     /// taken, and each full block is then put on the disk. So a day that is cut short leaves a file whose contents are right: loading it gives
-    /// [`Error::Record`] with the number of the first record that is not there, and every block that was full is whole. The file is made whole or not at
+    /// [`Error::Record`](crate::Error::Record) with the number of the first record that is not there, and every block that was full is whole. The file is made whole or not at
     /// all, and one that was there is replaced. [`Recorder::sync`] ends the day.
     ///
     /// # Errors
