@@ -66,7 +66,8 @@
 //! # A day recorded and played back
 //!
 //! A [`Trace`] has the calls of a day from a reset on, and [playing](Trace::play) it gives every byte again. [`Recorded`] is a device whose calls are recorded
-//! as they are made, and [`Recorder`] takes calls one by one. [`DayRecorder`] goes on with the next trace when one is full, so that a day of any length is a folder of them. Of a damaged trace [`holes::lead`] keeps what comes before the first hole, which is the day;
+//! as they are made, and [`Recorder`] takes calls one by one. [`DayRecorder`] goes on with the next trace when one is full: a day of any length is a folder of them.
+//! Of a damaged trace [`holes::lead`] keeps what comes before the first hole, which is the day;
 //! [`Trace::salvage`] keeps every whole block, and what comes behind a hole does not play as the day did. [`Trace::sheet`] counts the day in ten exact numbers for
 //! each input, and [`Trace::history`] tells where in the day they come from. A [`Tally`] counts a day that is longer than one trace. They are there with
 //! feature `std`.
