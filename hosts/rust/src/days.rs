@@ -1,7 +1,8 @@
 //! A bench day of any length, recorded into a folder.
 //!
-//! A trace has at most 4,000 records. A [`DayRecorder`] goes on with the next one when one is full, or when [`next_trace`](DayRecorder::next_trace) is called. The first plays from
-//! a reset, and each other on the image that the one before left ([`Trace::play_on`](crate::Trace::play_on)). Whatever the day's length, memory holds one trace.
+//! A trace has at most 4,000 records. A [`DayRecorder`] goes on with the next one when one is full, or when [`next_trace`](DayRecorder::next_trace) is called. The first
+//! plays from a reset, and each other on the image that the one before left ([`Trace::play_on`](crate::Trace::play_on)). Whatever the day's length, memory holds one
+//! trace.
 //!
 //! ```
 //! use pch_pic::days::BLOCK;
@@ -30,8 +31,8 @@
 //! # The folder
 //!
 //! - `00001.trace`, `00002.trace` and so on are plain traces. Where a [clock](DayRecorder::with_clock) is kept, `00001.trace.times` stands beside each.
-//! - `day.list` is text. Its first line is `pch-pic day 1`. Each trace that has ended has a line: its number, its records and its SHA-256. A day that was ended has a last line,
-//!   `end`, with the number of traces and of all records.
+//! - `day.list` is text. Its first line is `pch-pic day 1`. Each trace that has ended has a line: its number, its records and its SHA-256. A day that was ended has
+//!   a last line, `end`, with the number of traces and of all records.
 //!
 //! A trace without a line is the one that was open when the day was cut short.
 //!
