@@ -1,11 +1,15 @@
 //! A day at the test bench, recorded: a hoist's guest starts up by aligned Dwords, and makes some lifts.
 //!
-//! `lifts DAY FILE` records it to FILE, a trace. DAY is `quiet`, two lifts on which nothing is late; `rough`, four lifts: samples that wait while the guest
+//! `bench_days DAY FILE` records it to FILE, a trace. DAY is `quiet`, two lifts on which nothing is late; `rough`, four lifts: samples that wait while the guest
 //! has them masked, some that are taken back, a host that drains too late, and lines that are up at the end; or `long`, as many lifts as a trace has room for.
 //! The days in tests/days are made so, and are the same bytes each time. docs/BENCH-DAY.md goes on from there.
+//!
+//! `bench_days DAY FOLDER/` records it into a folder, which has room for a day of any length: a name that ends in `/`, or a folder that is there and empty. Then `long` has as
+//! many lifts as make 20,000 records, or so many as a third word says.
 
-use pch_pic::{reg, Error, Event, RecordError, Recorded, Width, Window, EVENTS};
-use std::ffi::OsString;
+use pch_pic::days::BLOCK;
+use pch_pic::{reg, DayRecorder, Error, Event, PchPic, RecordError, Recorded, Recorder, Recording, Width, Window, EVENTS};
+use std::ffi::{OsStr, OsString};
 use std::path::Path;
 use std::process::ExitCode;
 
@@ -31,17 +35,23 @@ fn bits(inputs: &[u64]) -> u64 {
     inputs.iter().map(|input| 1 << input).sum()
 }
 
-struct Bench {
-    day: Recorded,
+/// The records of a long day in a folder.
+const LONG: u64 = 20_000;
+
+struct Bench<R> {
+    day: Recorded<PchPic, R>,
     high: u64,
     masked: u64,
     late: bool,
     chance: u64,
+    /// A long day ends with the lift that makes so many records.
+    enough: u64,
 }
 
-impl Bench {
-    fn new() -> Self {
-        Bench { day: Recorded::new(), high: 0, masked: bits(&WIRED), late: false, chance: 0x9e37_79b9_7f4a_7c15 }
+impl<R: Recording> Bench<R> {
+    fn new(recorder: R, enough: u64) -> Result<Self, RecordError> {
+        let day = Recorded::with_recorder(recorder)?;
+        Ok(Bench { day, high: 0, masked: bits(&WIRED), late: false, chance: 0x9e37_79b9_7f4a_7c15, enough })
     }
 
     /// A small generator, so that each run makes the same day.
@@ -228,10 +238,10 @@ impl Bench {
         self.sleeps()
     }
 
-    /// Until the recorder is full: then it takes no more, and the device goes on.
+    /// Until there are records enough, or the recorder is full: then it takes no more, and the device goes on.
     fn long(&mut self) -> Result<(), Error> {
         self.starts_up()?;
-        while self.day.stopped().is_none() {
+        while self.day.stopped().is_none() && self.day.recorder().records() < self.enough {
             let (limit, masked) = ([UPPER_LIMIT, LOWER_LIMIT][self.any(2)], 4 + self.any(60));
             self.lift(limit, 60, masked)?;
             match self.any(8) {
@@ -246,31 +256,60 @@ impl Bench {
     }
 }
 
-fn record(day: fn(&mut Bench) -> Result<(), Error>, file: &Path) -> Result<(), Box<dyn std::error::Error>> {
-    let mut bench = Bench::new();
-    day(&mut bench)?;
-    if let Some(why) = bench.day.stopped().filter(|why| !matches!(why, RecordError::Full)) {
-        return Err(why.to_string().into());
+impl<R: Recording> Bench<R> {
+    /// The day of this name, and why it stopped where it did.
+    fn does(mut self, day: &str) -> Result<Recorded<PchPic, R>, Box<dyn std::error::Error>> {
+        match day {
+            "quiet" => self.quiet()?,
+            "rough" => self.rough()?,
+            _ => self.long()?,
+        }
+        match self.day.stopped() {
+            Some(why) if !matches!(why, RecordError::Full) => Err(why.to_string().into()),
+            _ => Ok(self.day),
+        }
     }
-    bench.day.recorder().finish()?.save(file).map_err(|why| format!("{}: {why}", file.display()).into())
+}
+
+fn record(day: &str, file: &Path) -> Result<(), Box<dyn std::error::Error>> {
+    let day = Bench::new(Recorder::new(), u64::MAX)?.does(day)?;
+    Ok(day.recorder().finish()?.save(file)?)
+}
+
+/// Into a folder, as a bench does it where power may be lost.
+fn record_long(day: &str, folder: &Path, enough: u64) -> Result<(), Box<dyn std::error::Error>> {
+    let mut day = Bench::new(DayRecorder::planned(folder, BLOCK)?, enough)?.does(day)?;
+    Ok(day.end()?)
+}
+
+fn is_folder(name: &OsStr) -> bool {
+    name.as_encoded_bytes().ends_with(b"/") || Path::new(name).is_dir()
+}
+
+/// How many records a long day is to have; none where the word is no number.
+fn enough(words: &[OsString]) -> Option<u64> {
+    words.get(2).map_or(Some(LONG), |word| word.to_str()?.parse().ok())
 }
 
 fn main() -> ExitCode {
     let words: Vec<OsString> = std::env::args_os().skip(1).collect();
-    let text: Vec<Option<&str>> = words.iter().map(|word| word.to_str()).collect();
-    let done = match text[..] {
-        [Some("quiet"), _] => record(Bench::quiet, Path::new(&words[1])),
-        [Some("rough"), _] => record(Bench::rough, Path::new(&words[1])),
-        [Some("long"), _] => record(Bench::long, Path::new(&words[1])),
+    let day = words.first().and_then(|word| word.to_str()).filter(|day| ["quiet", "rough", "long"].contains(day));
+    let done = match (day, words.get(1), enough(&words)) {
+        (Some(day), Some(name), Some(enough)) if is_folder(name) && (words.len() == 2 || (day == "long" && words.len() == 3)) => {
+            record_long(day, Path::new(name), enough)
+        }
+        (Some(day), Some(name), _) if words.len() == 2 => record(day, Path::new(name)),
         _ => {
-            eprintln!("usage: bench_days quiet|rough|long FILE");
+            eprintln!(
+                "usage: bench_days quiet|rough|long FILE\n       bench_days quiet|rough FOLDER/\n       bench_days long FOLDER/ [RECORDS]"
+            );
             return ExitCode::from(2);
         }
     };
     match done {
         Ok(()) => ExitCode::SUCCESS,
         Err(why) => {
-            eprintln!("bench_days: {why}");
+            eprintln!("bench_days: {}: {why}", Path::new(&words[1]).display());
             ExitCode::FAILURE
         }
     }

@@ -55,8 +55,14 @@ impl Hoist {
         self.pic.count();
     }
 
+    /// A read of so many bytes.
+    pub(crate) fn get(&self, window: Window, address: u64, bytes: usize) -> Result<u64, Error> {
+        let value = outcome::hoist_read(&self.pic.image, window, address, bytes)?;
+        Ok(value.expect("a done read has a value"))
+    }
+
     /// A write of so many bytes; the board follows it.
-    fn put(&mut self, window: Window, address: u64, bytes: usize, value: u64) -> Result<u32, Error> {
+    pub(crate) fn put(&mut self, window: Window, address: u64, bytes: usize, value: u64) -> Result<u32, Error> {
         let dropped = outcome::hoist_write(&mut self.pic.image, &self.phase, window, address, bytes, value).map(device::lost)?;
         self.pic.count();
         Ok(dropped)
@@ -88,8 +94,7 @@ impl Hoist {
     ///
     /// [`Error::Outside`] where the access is not wholly inside the window, else [`Error::Align`].
     pub fn read(&self, window: Window, address: u64, width: Width) -> Result<u64, Error> {
-        let value = outcome::hoist_read(&self.pic.image, window, address, width.bytes())?;
-        Ok(value.expect("a done read has a value"))
+        self.get(window, address, width.bytes())
     }
 
     /// As [`PchPic::write`], of an aligned Dword alone, not to ISR, and to the vectors in start-up alone, where no byte changes whose input is in service.
@@ -107,7 +112,7 @@ impl Hoist {
     ///
     /// [`Error::Width`] where `data` has not 1, 2, 4 or 8 bytes, else as [`Hoist::read`]. `data` then stays as it was.
     pub fn mmio_read(&self, window: Window, address: u64, data: &mut [u8]) -> Result<(), Error> {
-        let value = outcome::hoist_read(&self.pic.image, window, address, data.len())?.expect("a done read has a value");
+        let value = self.get(window, address, data.len())?;
         data.copy_from_slice(&value.to_le_bytes()[..data.len()]);
         Ok(())
     }

@@ -58,10 +58,16 @@
 //! A guest whose driver uses aligned Dwords alone, and leaves ISR and, once it runs, the vectors alone, is held to that by [`Hoist`]: what it lets through
 //! is the same device in every byte, and nothing that the guest does can then part a vector's asserts from its deasserts.
 //!
+//! # Written once
+//!
+//! [`GuestDevice`] is a device of any kind as its guest and its host reach it: plain, under the hoist profile, and either of them recorded. A bus or a guest loop over
+//! it serves all of them.
+//!
 //! # A day recorded and played back
 //!
 //! A [`Trace`] has the calls of a day from a reset on, and [playing](Trace::play) it gives every byte again. [`Recorded`] is a device whose calls are recorded
-//! as they are made, and [`Recorder`] takes calls one by one. Of a damaged trace [`holes::lead`] keeps what comes before the first hole, which is the day;
+//! as they are made, and [`Recorder`] takes calls one by one. [`DayRecorder`] goes on with the next trace when one is full: a day of any length is a folder of them.
+//! Of a damaged trace [`holes::lead`] keeps what comes before the first hole, which is the day;
 //! [`Trace::salvage`] keeps every whole block, and what comes behind a hole does not play as the day did. [`Trace::sheet`] counts the day in ten exact numbers for
 //! each input, and [`Trace::history`] tells where in the day they come from. A [`Tally`] counts a day that is longer than one trace. They are there with
 //! feature `std`.
@@ -109,6 +115,10 @@ mod board;
 mod built;
 pub mod calls;
 mod contents;
+#[cfg(feature = "std")]
+mod cut;
+#[cfg(feature = "std")]
+pub mod days;
 mod device;
 mod error;
 mod event;
@@ -118,6 +128,7 @@ mod fast;
 #[cfg(feature = "std")]
 pub mod file;
 mod form;
+mod guest;
 #[cfg(feature = "std")]
 pub mod history;
 mod hoist;
@@ -127,6 +138,8 @@ mod outcome;
 #[cfg(all(feature = "plain", not(feature = "archive")))]
 #[rustfmt::skip]
 mod proved;
+#[cfg(feature = "std")]
+mod recorded;
 #[cfg(feature = "std")]
 mod recorder;
 pub mod reg;
@@ -143,13 +156,18 @@ mod wires;
 pub use access::{Width, Window};
 pub use board::Board;
 pub use built::{built, linked_version, version, Built};
+#[cfg(feature = "std")]
+pub use days::DayRecorder;
 pub use device::PchPic;
 pub use error::Error;
 pub use event::{difference, Event, Events, Returned};
 pub use form::{Form, Image};
+pub use guest::GuestDevice;
 pub use hoist::{Hoist, Phase};
 #[cfg(feature = "std")]
-pub use recorder::{monotonic, RecordError, Recorded, Recorder};
+pub use recorded::{Recordable, Recorded};
+#[cfg(feature = "std")]
+pub use recorder::{monotonic, RecordError, Recorder, Recording};
 #[cfg(feature = "std")]
 pub use sheet::Sheet;
 #[cfg(feature = "std")]

@@ -1,14 +1,11 @@
-//! A day recorded as a trace: call by call, or by a device whose calls are recorded as they are made.
+//! A day recorded as a trace, call by call.
 
 use crate::trace::{contents_len, contents_of};
-use crate::{
-    replace, Device, Error, Event, PchPic, Record, Returned, Trace, Width, Window, BLOCKS_MAX, EVENTS, PLAYED, RECORDS_MAX, RECORD_LEN,
-    TRACE_MAX,
-};
+use crate::{cut, replace, Record, Trace, Width, Window, BLOCKS_MAX, EVENTS, PLAYED, RECORDS_MAX, RECORD_LEN, TRACE_MAX};
 use core::fmt;
 use std::fs::File;
 use std::io::{self, Seek, SeekFrom, Write};
-use std::path::Path;
+use std::path::{Path, PathBuf};
 use std::sync::OnceLock;
 use std::time::Instant;
 
@@ -18,7 +15,7 @@ use std::time::Instant;
 #[derive(Debug)]
 #[non_exhaustive]
 pub enum RecordError {
-    /// There are 4,000 records, or as many as are planned.
+    /// There are 4,000 records, or as many as are planned. Of a day in a folder: there are 99,999 traces.
     Full,
     /// There are 64 blocks, and the last is closed.
     Blocks,
@@ -44,6 +41,10 @@ pub enum RecordError {
     Loaded,
     /// There are records already, and a trace begins with a reset.
     Started,
+    /// There is something in the folder that a day is to be recorded in, and a day is never overwritten.
+    NotEmpty,
+    /// The day was ended.
+    Ended,
 }
 
 impl fmt::Display for RecordError {
@@ -62,6 +63,8 @@ impl fmt::Display for RecordError {
             RecordError::Again => "no record can say it: a reset",
             RecordError::Loaded => "no record can say it: a load",
             RecordError::Started => "the device or the recorder is not at its start, and a trace begins with a reset",
+            RecordError::NotEmpty => "the folder is not empty, and a day is never overwritten",
+            RecordError::Ended => "the day was ended",
         })
     }
 }
@@ -78,6 +81,113 @@ impl std::error::Error for RecordError {
 impl From<io::Error> for RecordError {
     fn from(why: io::Error) -> Self {
         RecordError::Io(why)
+    }
+}
+
+/// Closed to other crates: later versions may ask more of who is behind it.
+pub(crate) mod sealed {
+    pub trait Sealed {}
+}
+
+/// What takes the calls of a day: a [`Recorder`], in one trace, or a [`DayRecorder`](crate::DayRecorder), in a folder of them. A [`Recorded`](crate::Recorded)
+/// device takes either. It takes what a record can say, and refuses all else.
+pub trait Recording: sealed::Sealed {
+    /// Takes a record as it is.
+    ///
+    /// # Errors
+    ///
+    /// A [`RecordError`], and so for all that take a call.
+    fn take(&mut self, record: Record) -> Result<(), RecordError>;
+
+    /// How many records were taken.
+    fn records(&self) -> u64;
+
+    /// Whether none was.
+    fn is_empty(&self) -> bool {
+        self.records() == 0
+    }
+
+    /// Ends the block that is open; the next record begins another. Where the blocks are planned this is not asked for.
+    ///
+    /// # Errors
+    ///
+    /// [`RecordError::Planned`], or [`RecordError::Empty`] where no record is in it.
+    fn close_block(&mut self) -> Result<(), RecordError>;
+
+    /// An input's line goes up.
+    ///
+    /// # Errors
+    ///
+    /// A [`RecordError`].
+    fn raise(&mut self, input: u64) -> Result<(), RecordError> {
+        self.take(Record::Raise(byte(input)?))
+    }
+
+    /// An input's line goes down.
+    ///
+    /// # Errors
+    ///
+    /// A [`RecordError`].
+    fn lower(&mut self, input: u64) -> Result<(), RecordError> {
+        self.take(Record::Lower(byte(input)?))
+    }
+
+    /// An input is asked for.
+    ///
+    /// # Errors
+    ///
+    /// A [`RecordError`].
+    fn poll(&mut self, input: u64) -> Result<(), RecordError> {
+        self.take(Record::Poll(byte(input)?))
+    }
+
+    /// The guest reads `width` bytes. What is recorded is the offset in the window; a call that this window refuses is taken only where playing gives the
+    /// same refusal.
+    ///
+    /// # Errors
+    ///
+    /// A [`RecordError`].
+    fn read(&mut self, window: Window, address: u64, width: u64) -> Result<(), RecordError> {
+        let (offset, width) = access(window, address, width)?;
+        self.take(Record::Read { offset, width })
+    }
+
+    /// The guest writes.
+    ///
+    /// # Errors
+    ///
+    /// A [`RecordError`].
+    fn write(&mut self, window: Window, address: u64, width: u64, value: u64) -> Result<(), RecordError> {
+        let (offset, width) = access(window, address, width)?;
+        self.take(Record::Write { offset, width, value })
+    }
+
+    /// Waiting events are drained, with room for so many. A record can say a drain of all, and [`EVENTS`] are all.
+    ///
+    /// # Errors
+    ///
+    /// A [`RecordError`].
+    fn drain(&mut self, room: usize) -> Result<(), RecordError> {
+        if room < EVENTS {
+            return Err(RecordError::Some);
+        }
+        self.take(Record::Drain)
+    }
+}
+
+impl sealed::Sealed for Recorder {}
+
+impl Recording for Recorder {
+    fn take(&mut self, record: Record) -> Result<(), RecordError> {
+        Recorder::take(self, record)
+    }
+
+    fn records(&self) -> u64 {
+        self.len() as u64
+    }
+
+    fn close_block(&mut self) -> Result<(), RecordError> {
+        Recorder::close_block(self)
     }
 }
 
@@ -108,12 +218,16 @@ pub struct Recorder {
     open: u16,
     /// How many each block is to have, where that is planned.
     plan: Vec<u16>,
-    /// Where a planned day is kept as it goes.
+    /// Where a planned day is kept as it goes, and its times.
     file: Option<File>,
+    times_file: Option<File>,
     /// What tells the time of a record, and what it told of each.
     clock: Option<fn() -> u64>,
     times: Vec<u64>,
 }
+
+/// The bytes of a time.
+const TIME_LEN: usize = 8;
 
 /// Nanoseconds by the system's own clock that never goes back, for [`Recorder::with_clock`]. They count from the first call on.
 pub fn monotonic() -> u64 {
@@ -130,7 +244,16 @@ impl Default for Recorder {
 impl Recorder {
     /// A day whose blocks are closed as it goes.
     pub fn new() -> Self {
-        Recorder { records: Vec::new(), blocks: Vec::new(), open: 0, plan: Vec::new(), file: None, clock: None, times: Vec::new() }
+        Recorder {
+            records: Vec::new(),
+            blocks: Vec::new(),
+            open: 0,
+            plan: Vec::new(),
+            file: None,
+            times_file: None,
+            clock: None,
+            times: Vec::new(),
+        }
     }
 
     /// A day with its blocks planned: how many records each is to have. Each is closed when it has them.
@@ -153,7 +276,7 @@ impl Recorder {
     ///
     /// The file has the planned contents from the start and zeros for its records, which are bad ones; each record is written at its place as it is
     /// taken, and each full block is then put on the disk. So a day that is cut short leaves a file whose contents are right: loading it gives
-    /// [`Error::Record`] with the number of the first record that is not there, and every block that was full is whole. The file is made whole or not at
+    /// [`Error::Record`](crate::Error::Record) with the number of the first record that is not there, and every block that was full is whole. The file is made whole or not at
     /// all, and one that was there is replaced. [`Recorder::sync`] ends the day.
     ///
     /// # Errors
@@ -204,11 +327,15 @@ impl Recorder {
     /// [`RecordError::Empty`] where there is no record, or no clock; else [`RecordError::Io`].
     pub fn save_times(&self, path: impl AsRef<Path>) -> Result<(), RecordError> {
         let times = self.times().filter(|times| !times.is_empty()).ok_or(RecordError::Empty)?;
-        let mut name = path.as_ref().as_os_str().to_owned();
-        name.push(".times");
         let bytes: Vec<u8> = times.iter().flat_map(|time| time.to_le_bytes()).collect();
-        replace::replace(Path::new(&name), &bytes)?;
+        replace::replace(&times_beside(path.as_ref()), &bytes)?;
         Ok(())
+    }
+
+    /// Keeps the times of a day that is [kept](Recorder::kept) at `path` beside it, as it goes: the file grows, and is on the disk up to each full block.
+    pub(crate) fn keep_times(self, path: &Path) -> Result<Self, RecordError> {
+        let times_file = Some(replace::replace(&times_beside(path), &[])?);
+        Ok(Recorder { times_file, ..self })
     }
 
     /// How many records were taken.
@@ -230,13 +357,18 @@ impl Recorder {
         }
     }
 
+    /// Whether it takes no more: all records are there, or all blocks are closed.
+    pub(crate) fn is_full(&self) -> bool {
+        self.len() == self.most() || self.blocks.len() == BLOCKS_MAX
+    }
+
     /// An input's line goes up.
     ///
     /// # Errors
     ///
     /// A [`RecordError`], and so for all that take a call.
     pub fn raise(&mut self, input: u64) -> Result<(), RecordError> {
-        self.take(Record::Raise(byte(input)?))
+        Recording::raise(self, input)
     }
 
     /// An input's line goes down.
@@ -245,7 +377,7 @@ impl Recorder {
     ///
     /// A [`RecordError`].
     pub fn lower(&mut self, input: u64) -> Result<(), RecordError> {
-        self.take(Record::Lower(byte(input)?))
+        Recording::lower(self, input)
     }
 
     /// An input is asked for.
@@ -254,7 +386,7 @@ impl Recorder {
     ///
     /// A [`RecordError`].
     pub fn poll(&mut self, input: u64) -> Result<(), RecordError> {
-        self.take(Record::Poll(byte(input)?))
+        Recording::poll(self, input)
     }
 
     /// The guest reads `width` bytes. What is recorded is the offset in the window; a call that this window refuses is taken only where playing gives the
@@ -264,8 +396,7 @@ impl Recorder {
     ///
     /// A [`RecordError`].
     pub fn read(&mut self, window: Window, address: u64, width: u64) -> Result<(), RecordError> {
-        let (offset, width) = access(window, address, width)?;
-        self.take(Record::Read { offset, width })
+        Recording::read(self, window, address, width)
     }
 
     /// The guest writes.
@@ -274,8 +405,7 @@ impl Recorder {
     ///
     /// A [`RecordError`].
     pub fn write(&mut self, window: Window, address: u64, width: u64, value: u64) -> Result<(), RecordError> {
-        let (offset, width) = access(window, address, width)?;
-        self.take(Record::Write { offset, width, value })
+        Recording::write(self, window, address, width, value)
     }
 
     /// Waiting events are drained, with room for so many. A record can say a drain of all, and [`EVENTS`] are all.
@@ -284,10 +414,7 @@ impl Recorder {
     ///
     /// A [`RecordError`].
     pub fn drain(&mut self, room: usize) -> Result<(), RecordError> {
-        if room < EVENTS {
-            return Err(RecordError::Some);
-        }
-        self.take(Record::Drain)
+        Recording::drain(self, room)
     }
 
     /// Takes a record as it is.
@@ -303,9 +430,10 @@ impl Recorder {
             return Err(RecordError::Blocks);
         }
         let full = self.plan.get(self.blocks.len()) == Some(&(self.open + 1));
-        self.keep(record, full)?;
+        let time = self.clock.map(|clock| clock());
+        self.keep(record, time, full)?;
         self.records.extend(record.to_bytes());
-        self.times.extend(self.clock.map(|clock| clock()));
+        self.times.extend(time);
         self.open += 1;
         if full {
             self.end_block();
@@ -313,16 +441,15 @@ impl Recorder {
         Ok(())
     }
 
-    /// Writes a record at its place in the file; a full block goes to the disk, so that it outlasts a lost power.
-    fn keep(&self, record: Record, full: bool) -> io::Result<()> {
-        let Some(mut file) = self.file.as_ref() else { return Ok(()) };
-        // Each time from the start of the file: of a record that was written in part nothing may stay between two others.
-        file.seek(SeekFrom::Start((contents_len(self.plan.len()) + self.records.len()) as u64))?;
-        file.write_all(&record.to_bytes())?;
-        if full {
-            file.sync_data()?;
+    /// Writes a record at its place in the file, and its time before it; a full block goes to the disk, so that it outlasts a lost power.
+    fn keep(&self, record: Record, time: Option<u64>, full: bool) -> io::Result<()> {
+        if let (Some(file), Some(time)) = (&self.times_file, time) {
+            put(file, TIME_LEN * self.times.len(), &time.to_le_bytes(), full)?;
         }
-        Ok(())
+        match &self.file {
+            Some(file) => put(file, contents_len(self.plan.len()) + self.records.len(), &record.to_bytes(), full),
+            None => Ok(()),
+        }
     }
 
     fn end_block(&mut self) {
@@ -352,7 +479,11 @@ impl Recorder {
     ///
     /// Those of the file system.
     pub fn sync(&self) -> io::Result<()> {
-        self.file.as_ref().map_or(Ok(()), File::sync_all)
+        for file in [&self.times_file, &self.file].into_iter().flatten() {
+            file.sync_all()?;
+            cut::synced(file);
+        }
+        Ok(())
     }
 
     /// The trace of what was taken so far. A block that is open ends with its last record, and blocks that are planned and not begun are left out, so this is
@@ -372,6 +503,25 @@ impl Recorder {
         debug_assert!(bytes.len() <= TRACE_MAX);
         Ok(Trace::try_from(bytes).expect("what a recorder takes is a good trace"))
     }
+}
+
+/// The name of a trace's times.
+pub(crate) fn times_beside(path: &Path) -> PathBuf {
+    let mut name = path.as_os_str().to_owned();
+    name.push(".times");
+    name.into()
+}
+
+/// Each time from the start of the file: of bytes that were written in part nothing may stay between two others.
+fn put(mut file: &File, place: usize, bytes: &[u8], synced: bool) -> io::Result<()> {
+    file.seek(SeekFrom::Start(place as u64))?;
+    file.write_all(bytes)?;
+    cut::taken();
+    if synced {
+        file.sync_data()?;
+        cut::synced(file);
+    }
+    Ok(())
 }
 
 fn byte(number: u64) -> Result<u8, RecordError> {
@@ -395,213 +545,5 @@ fn access(window: Window, address: u64, width: u64) -> Result<(u16, u8), RecordE
         Ok((offset, width))
     } else {
         Err(RecordError::Refused)
-    }
-}
-
-/// A device whose calls are recorded as they are made, from reset on.
-///
-/// The calls are made as ever, whether they can be recorded or not: what the recorder cannot take stops the recording, and never the device. Then
-/// [`stopped`](Recorded::stopped) says why, and what was recorded is the day up to there. Each call is recorded before it is made, so what is in a file says
-/// what a host was at when it ended. [`Wires`](crate::Wires) takes it as it takes a [`PchPic`], and its sweeps and drains are recorded too.
-///
-/// ```
-/// use pch_pic::{reg, Recorded, Width, Window, Wires};
-///
-/// let (mut day, mut wires, window) = (Recorded::new(), Wires::new(), Window::at(0x1000_0000));
-/// day.write(window, window.base + reg::MASK, Width::Dword, 0)?;
-/// wires.settle(&mut day, |change| println!("{change}"));
-/// wires.line(&mut day, 5, true, |change| println!("{change}"))?;
-/// assert!(day.stopped().is_none());
-/// let trace = day.recorder().finish()?;
-/// assert_eq!(trace.play().pic(), *day.pic());
-/// # Ok::<(), Box<dyn std::error::Error>>(())
-/// ```
-#[derive(Debug)]
-pub struct Recorded {
-    pic: PchPic,
-    recorder: Recorder,
-    stopped: Option<RecordError>,
-}
-
-impl Default for Recorded {
-    fn default() -> Self {
-        Recorded::new()
-    }
-}
-
-impl Recorded {
-    /// The device after reset, recorded from there on.
-    pub fn new() -> Self {
-        Recorded { pic: PchPic::new(), recorder: Recorder::new(), stopped: None }
-    }
-
-    /// The device after reset, recorded by this recorder: a planned one, or one that keeps a file.
-    ///
-    /// # Errors
-    ///
-    /// [`RecordError::Started`] where the recorder has records already.
-    pub fn with_recorder(recorder: Recorder) -> Result<Self, RecordError> {
-        if recorder.is_empty() {
-            Ok(Recorded { recorder, ..Recorded::new() })
-        } else {
-            Err(RecordError::Started)
-        }
-    }
-
-    /// The device, to be looked at. What is read there is not recorded.
-    pub fn pic(&self) -> &PchPic {
-        &self.pic
-    }
-
-    /// The recorder, with what it has taken so far.
-    pub fn recorder(&self) -> &Recorder {
-        &self.recorder
-    }
-
-    /// Why the recording stopped; none while it goes on.
-    pub fn stopped(&self) -> Option<&RecordError> {
-        self.stopped.as_ref()
-    }
-
-    /// The device, which goes on unrecorded, and the recorder.
-    pub fn into_parts(self) -> (PchPic, Recorder) {
-        (self.pic, self.recorder)
-    }
-
-    /// A call that is left out would make all that follows play otherwise, so the first that is not taken is the end.
-    fn note(&mut self, taken: impl FnOnce(&mut Recorder) -> Result<(), RecordError>) {
-        if self.stopped.is_none() {
-            self.stopped = taken(&mut self.recorder).err();
-        }
-    }
-
-    /// Ends the block that is open, unless the recording has stopped.
-    ///
-    /// # Errors
-    ///
-    /// Those of [`Recorder::close_block`].
-    pub fn close_block(&mut self) -> Result<(), RecordError> {
-        if self.stopped.is_some() {
-            return Ok(());
-        }
-        self.recorder.close_block()
-    }
-
-    /// As [`PchPic::read`].
-    ///
-    /// # Errors
-    ///
-    /// [`Error::Outside`] where the access is not wholly inside the window.
-    pub fn read(&mut self, window: Window, address: u64, width: Width) -> Result<u64, Error> {
-        self.note(|recorder| recorder.read(window, address, width.bytes() as u64));
-        self.pic.read(window, address, width)
-    }
-
-    /// As [`PchPic::write`].
-    ///
-    /// # Errors
-    ///
-    /// [`Error::Outside`] where the access is not wholly inside the window.
-    pub fn write(&mut self, window: Window, address: u64, width: Width, value: u64) -> Result<u32, Error> {
-        self.note(|recorder| recorder.write(window, address, width.bytes() as u64, value));
-        self.pic.write(window, address, width, value)
-    }
-
-    /// As [`PchPic::table_read`]; the record is that of a read, which answers the same.
-    ///
-    /// # Errors
-    ///
-    /// [`Error::Outside`] where the access is not wholly inside the window.
-    pub fn table_read(&mut self, window: Window, address: u64, width: Width) -> Result<u64, Error> {
-        self.note(|recorder| recorder.read(window, address, width.bytes() as u64));
-        self.pic.table_read(window, address, width)
-    }
-
-    /// As [`PchPic::table_write`]; the record is that of a write, which does the same.
-    ///
-    /// # Errors
-    ///
-    /// [`Error::Outside`] where the access is not wholly inside the window.
-    pub fn table_write(&mut self, window: Window, address: u64, width: Width, value: u64) -> Result<u32, Error> {
-        self.note(|recorder| recorder.write(window, address, width.bytes() as u64, value));
-        self.pic.table_write(window, address, width, value)
-    }
-
-    /// As [`PchPic::mmio_read`]. A width that is refused is recorded too.
-    ///
-    /// # Errors
-    ///
-    /// [`Error::Width`] where `data` has not 1, 2, 4 or 8 bytes, else [`Error::Outside`].
-    pub fn mmio_read(&mut self, window: Window, address: u64, data: &mut [u8]) -> Result<(), Error> {
-        self.note(|recorder| recorder.read(window, address, data.len() as u64));
-        self.pic.mmio_read(window, address, data)
-    }
-
-    /// As [`PchPic::mmio_write`]. A width that is refused is recorded too.
-    ///
-    /// # Errors
-    ///
-    /// [`Error::Width`] where `data` has not 1, 2, 4 or 8 bytes, else [`Error::Outside`].
-    pub fn mmio_write(&mut self, window: Window, address: u64, data: &[u8]) -> Result<u32, Error> {
-        let value = data.iter().take(8).rev().fold(0, |value, byte| value << 8 | u64::from(*byte));
-        self.note(|recorder| recorder.write(window, address, data.len() as u64, value));
-        self.pic.mmio_write(window, address, data)
-    }
-
-    /// As [`PchPic::set_level`].
-    ///
-    /// # Errors
-    ///
-    /// [`Error::Input`] where the input is 64 or more.
-    pub fn set_level(&mut self, input: u64, level: bool) -> Result<Returned, Error> {
-        self.note(|recorder| if level { recorder.raise(input) } else { recorder.lower(input) });
-        self.pic.set_level(input, level)
-    }
-
-    /// As [`PchPic::poll`].
-    ///
-    /// # Errors
-    ///
-    /// [`Error::Input`] where the input is 64 or more.
-    pub fn poll(&mut self, input: u64) -> Result<Returned, Error> {
-        self.note(|recorder| recorder.poll(input));
-        self.pic.poll(input)
-    }
-
-    /// As [`PchPic::drain`]. With room for less than [`EVENTS`] it stops the recording.
-    #[must_use = "the events are out of the device, and the count says how many there are"]
-    pub fn drain(&mut self, events: &mut [Event]) -> usize {
-        self.note(|recorder| recorder.drain(events.len()));
-        self.pic.drain(events)
-    }
-
-    /// As [`PchPic::reset`]. It stops the recording.
-    pub fn reset(&mut self) {
-        self.note(|_| Err(RecordError::Again));
-        self.pic.reset();
-    }
-
-    /// Another device takes the place of this one, as after a load. It stops the recording.
-    pub fn replace(&mut self, pic: PchPic) {
-        self.note(|_| Err(RecordError::Loaded));
-        self.pic = pic;
-    }
-}
-
-impl Device for Recorded {
-    fn pic(&self) -> &PchPic {
-        Recorded::pic(self)
-    }
-
-    fn set_level(&mut self, input: u64, level: bool) -> Result<Returned, Error> {
-        Recorded::set_level(self, input, level)
-    }
-
-    fn poll(&mut self, input: u64) -> Result<Returned, Error> {
-        Recorded::poll(self, input)
-    }
-
-    fn drain(&mut self, events: &mut [Event]) -> usize {
-        Recorded::drain(self, events)
     }
 }

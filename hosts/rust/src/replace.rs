@@ -1,5 +1,6 @@
 //! A file that is replaced whole or not at all, by however many at once. `hosts/c/pic_file.c` does the same.
 
+use crate::cut;
 use std::fs::{self, File, Metadata, OpenOptions};
 use std::io::{self, Write};
 use std::path::{Path, PathBuf};
@@ -10,7 +11,7 @@ const MOST_LINKS: usize = 40;
 const MOST_NAMES: usize = 100;
 
 /// The folder that a file stands in.
-fn folder(path: &Path) -> &Path {
+pub(crate) fn folder(path: &Path) -> &Path {
     path.parent().filter(|folder| !folder.as_os_str().is_empty()).unwrap_or(Path::new("."))
 }
 
@@ -76,21 +77,25 @@ fn write_and_sync(mut file: &File, bytes: &[u8], old: Option<&Metadata>) -> io::
     if let Some(old) = old {
         dress(file, old)?;
     }
-    file.sync_all()
+    file.sync_all()?;
+    cut::synced(file);
+    Ok(())
 }
 
 /// The new name is on the disk only when the folder is. Some file systems cannot sync a folder, and say so.
 #[cfg(unix)]
-fn sync_folder(folder: &Path) -> io::Result<()> {
+pub(crate) fn sync_folder(folder: &Path) -> io::Result<()> {
     match File::open(folder)?.sync_all() {
-        Err(why) if why.kind() == io::ErrorKind::InvalidInput => Ok(()),
-        synced => synced,
+        Err(why) if why.kind() == io::ErrorKind::InvalidInput => {}
+        synced => synced?,
     }
+    cut::named(folder);
+    Ok(())
 }
 
 /// Elsewhere a folder cannot be opened, and the system alone says when the new name is on the disk.
 #[cfg(not(unix))]
-fn sync_folder(_: &Path) -> io::Result<()> {
+pub(crate) fn sync_folder(_: &Path) -> io::Result<()> {
     Ok(())
 }
 
@@ -104,7 +109,12 @@ pub(crate) fn replace(path: &Path, bytes: &[u8]) -> io::Result<File> {
     }
     let folder = folder(&whole);
     let (file, beside) = create(folder, old.as_ref())?;
-    let written = write_and_sync(&file, bytes, old.as_ref()).and_then(|()| fs::rename(&beside, &whole));
+    cut::between();
+    let written = write_and_sync(&file, bytes, old.as_ref()).and_then(|()| {
+        cut::between();
+        fs::rename(&beside, &whole)
+    });
+    cut::between();
     if written.is_err() {
         let _ = fs::remove_file(&beside);
     }

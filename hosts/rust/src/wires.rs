@@ -180,7 +180,7 @@ impl Wires {
     /// assert!(wires.vectors_on().eq([3, 9, 40]));
     /// # Ok::<(), pch_pic::Error>(())
     /// ```
-    pub fn settle(&mut self, pic: &mut impl Device, mut route: impl FnMut(Change)) {
+    pub fn settle(&mut self, pic: &mut (impl Device + ?Sized), mut route: impl FnMut(Change)) {
         let edges = edge_inputs(pic.pic());
         let levels_again = self.edges & !edges;
         self.edges = edges;
@@ -202,7 +202,7 @@ impl Wires {
     /// # Errors
     ///
     /// [`Error::Input`] where the input is 64 or more.
-    pub fn line(&mut self, pic: &mut impl Device, input: u64, high: bool, mut route: impl FnMut(Change)) -> Result<(), Error> {
+    pub fn line(&mut self, pic: &mut (impl Device + ?Sized), input: u64, high: bool, mut route: impl FnMut(Change)) -> Result<(), Error> {
         if input >= INPUTS as u64 {
             return Err(Error::Input);
         }
@@ -221,7 +221,7 @@ impl Wires {
     ///
     /// An edge that was latched stays so, whatever its line, and one that is high makes no new edge. So `high` is best the lines as they were at the save: those
     /// that moved since are then moved by [`line`](Wires::line), and a rise among them is told.
-    pub fn resume(&mut self, pic: &mut impl Device, high: u64, route: impl FnMut(Change)) {
+    pub fn resume(&mut self, pic: &mut (impl Device + ?Sized), high: u64, route: impl FnMut(Change)) {
         // A line that was high when the device was saved may have gone low since: then its input is still latched. Not so an edge: it stays until it is cleared.
         for input in inputs(pic.pic().latched() & !high & !edge_inputs(pic.pic())) {
             // What it returns is left to the count.
@@ -232,7 +232,7 @@ impl Wires {
     }
 
     /// Passes on what waits, and then what no event told: a drop, a vector changed in service, a write of ISR, a load.
-    fn catch_up(&mut self, pic: &mut impl Device, route: &mut impl FnMut(Change)) {
+    fn catch_up(&mut self, pic: &mut (impl Device + ?Sized), route: &mut impl FnMut(Change)) {
         let mut events = [Event::default(); EVENTS];
         let count = pic.drain(&mut events);
         let board = pic.pic().board();
@@ -249,7 +249,7 @@ impl Wires {
 
     /// One sweep: each input that waits is polled, lowest first. Whatever the guest did, every latched and unmasked input is in service then, and each was
     /// asserted at most once; polls of all 64 would come to the same.
-    fn sweep(&mut self, pic: &mut impl Device, route: &mut impl FnMut(Change)) {
+    fn sweep(&mut self, pic: &mut (impl Device + ?Sized), route: &mut impl FnMut(Change)) {
         for input in inputs(pic.pic().waiting_inputs()) {
             for event in pic.poll(input).into_iter().flatten() {
                 self.pass_on(pic.pic().board(), event, route);
@@ -257,7 +257,7 @@ impl Wires {
         }
     }
 
-    fn shift(&mut self, pic: &mut impl Device, input: u64, high: bool, route: &mut impl FnMut(Change)) {
+    fn shift(&mut self, pic: &mut (impl Device + ?Sized), input: u64, high: bool, route: &mut impl FnMut(Change)) {
         for event in pic.set_level(input, high).into_iter().flatten() {
             self.pass_on(pic.pic().board(), event, route);
         }

@@ -1,6 +1,6 @@
 //! The hoist profile: what passes is the full device in every byte, and what does not changes nothing.
 
-use pch_pic::{reg, Device, Error, Form, Hoist, PchPic, Phase, Width, Window, Wires};
+use pch_pic::{reg, Device, Error, Form, GuestDevice, Hoist, PchPic, Phase, Width, Window, Wires};
 
 const WINDOW: Window = Window::at(0x1000_0000);
 
@@ -113,4 +113,33 @@ fn wires_and_a_save() {
     assert!(wires.is_on(21));
     let (pic, phase) = hoist.clone().into_parts();
     assert_eq!(Hoist::from_parts(PchPic::from(pic.save(Form::Numbered)), phase), hoist);
+}
+
+/// A guest that is written once: start-up by aligned Dwords, an interrupt, and what comes of it.
+fn one_guest(pic: &mut dyn GuestDevice) -> Vec<String> {
+    let (mut wires, mut told) = (Wires::new(), Vec::new());
+    pic.reset();
+    pic.write(WINDOW, at(reg::VECTORS + 4), Width::Dword, 0x4746_4544).unwrap();
+    pic.mmio_write(WINDOW, at(reg::MASK), &[0; 4]).unwrap();
+    wires.settle(pic, |change| told.push(change.to_string()));
+    pic.end_startup().unwrap();
+    wires.line(pic, 5, true, |change| told.push(change.to_string())).unwrap();
+    let mut data = [0; 4];
+    pic.mmio_read(WINDOW, at(reg::ISR), &mut data).unwrap();
+    assert_eq!((data, pic.read(WINDOW, at(reg::ISR), Width::Dword)), ([1 << 5, 0, 0, 0], Ok(1 << 5)));
+    assert_eq!((pic.raise(64).unwrap_err(), pic.lower(64).unwrap_err(), pic.waiting_inputs()), (Error::Input, Error::Input, 0));
+    wires.line(pic, 5, false, |change| told.push(change.to_string())).unwrap();
+    told
+}
+
+#[test]
+fn one_guest_for_both() {
+    let (mut pic, mut hoist) = (PchPic::new(), in_service());
+    assert_eq!(one_guest(&mut pic), ["assert vector 0x45", "deassert vector 0x45"]);
+    assert_eq!(one_guest(&mut hoist), ["assert vector 0x45", "deassert vector 0x45"]);
+    assert_eq!((hoist.pic(), hoist.phase()), (&pic, Phase::Running));
+    // A plain device has no phases, and what the profile refuses is its own.
+    let both: [&mut dyn GuestDevice; 2] = [&mut pic, &mut hoist];
+    let refused = both.map(|pic| (pic.end_startup(), pic.write(WINDOW, at(reg::MASK), Width::Byte, 0)));
+    assert_eq!(refused, [(Ok(()), Ok(0)), (Err(Error::Profile), Err(Error::Align))]);
 }

@@ -218,7 +218,10 @@ fn any_event() {
 mod days {
     use super::*;
     use pch_pic::history::{End, Wait};
-    use pch_pic::{file, Record, RecordError, Recorded, Recorder, Tally, Trace, RECORDS_MAX, TALLY_LEN};
+    use pch_pic::{
+        file, DayRecorder, GuestDevice, Record, RecordError, Recordable, Recorded, Recorder, Recording, Tally, Trace, RECORDS_MAX,
+        TALLY_LEN,
+    };
     use std::fs;
 
     /// What can be asked of a good trace: it agrees with itself.
@@ -307,36 +310,80 @@ mod days {
         assert!((20..180).contains(&loaded), "{loaded}");
     }
 
+    /// A call on a device of any kind.
+    fn called(dice: &mut Dice, day: &mut dyn GuestDevice) {
+        let ((window, address), width, value, input) = (access(dice), width(dice), dice.any(), dice.input());
+        let mut data = dice.area(8);
+        let _ = match dice.below(9) {
+            0 => day.read(window, address, width).map(drop),
+            1 => day.write(window, address, width, value).map(drop),
+            2 => day.mmio_read(window, address, &mut data),
+            3 => day.mmio_write(window, address, &data).map(drop),
+            4 | 5 => day.set_level(input, value & 1 == 1).map(drop),
+            6 => day.poll(input).map(drop),
+            7 => day.end_startup(),
+            _ => {
+                assert!(day.drain(&mut [Event::default(); EVENTS]) <= EVENTS);
+                Ok(())
+            }
+        };
+    }
+
+    fn lived<D: Recordable, R: Recording>(dice: &mut Dice, day: &mut Recorded<D, R>) {
+        for _ in 0..dice.below(200) {
+            called(dice, day);
+            if dice.once_in(9) {
+                let _ = day.close_block();
+            }
+        }
+    }
+
+    /// What was recorded of a device is a good trace, and where nothing stopped it, that is the device.
+    fn recorded_or_refused<D: Recordable>(dice: &mut Dice, mut day: Recorded<D>) {
+        lived(dice, &mut day);
+        match day.recorder().finish() {
+            Ok(trace) if day.stopped().is_none() => assert_eq!(trace.play().pic(), *day.pic()),
+            Ok(trace) => went_through(dice, &trace),
+            Err(why) => assert!(matches!(why, RecordError::Empty)),
+        }
+    }
+
     #[test]
     fn any_day_is_recorded_or_refused() {
         let mut dice = Dice(8);
-        for _ in 0..rounds() / 100 {
+        for _ in 0..rounds() / 200 {
             let plan: Vec<u16> = (0..dice.below(70)).map(|_| dice.number() as u16 >> dice.below(17).min(15)).collect();
-            let recorder = Recorder::planned(&plan).unwrap_or_default();
-            let mut day = Recorded::with_recorder(recorder).unwrap();
-            for _ in 0..dice.below(200) {
-                let ((window, address), width, value, input) = (access(&mut dice), width(&mut dice), dice.any(), dice.input());
-                let mut data = dice.area(8);
-                let _ = match dice.below(9) {
-                    0 => day.read(window, address, width).map(drop),
-                    1 => day.write(window, address, width, value).map(drop),
-                    2 => day.mmio_read(window, address, &mut data),
-                    3 => day.mmio_write(window, address, &data).map(drop),
-                    4 | 5 => day.set_level(input, value & 1 == 1).map(drop),
-                    6 => day.poll(input).map(drop),
-                    7 => day.close_block().map_err(|_| Error::Empty),
-                    _ => {
-                        assert!(day.drain(&mut [Event::default(); EVENTS]) <= EVENTS);
-                        Ok(())
-                    }
-                };
-            }
-            match day.recorder().finish() {
-                Ok(trace) if day.stopped().is_none() => assert_eq!(trace.play().pic(), *day.pic()),
-                Ok(trace) => went_through(&mut dice, &trace),
-                Err(why) => assert!(matches!(why, RecordError::Empty)),
-            }
+            let recorder = || Recorder::planned(&plan).unwrap_or_default();
+            recorded_or_refused(&mut dice, Recorded::with_recorder(recorder()).unwrap());
+            recorded_or_refused(&mut dice, Recorded::hoist(recorder()).unwrap());
         }
+    }
+
+    #[test]
+    fn any_day_in_a_folder() {
+        let mut dice = Dice(10);
+        let home = std::path::PathBuf::from(concat!(env!("CARGO_TARGET_TMPDIR"), "/hostile-days"));
+        let _ = fs::remove_dir_all(&home);
+        fs::create_dir_all(&home).unwrap();
+        for number in 0..8 {
+            let folder = home.join(number.to_string());
+            let Ok(recorder) = DayRecorder::planned(&folder, dice.number() as u16 >> dice.below(17).min(15)) else { continue };
+            let mut day = Recorded::hoist(recorder).unwrap();
+            for _ in 0..dice.below(4) {
+                lived(&mut dice, &mut day);
+                day.next_trace().unwrap();
+            }
+            match day.end() {
+                Err(RecordError::Empty) => assert_eq!(day.recorder().records(), 0),
+                ended => ended.unwrap(),
+            }
+            let mut image = PchPic::new().save(Form::Numbered);
+            for trace in 1..=day.recorder().traces() {
+                image = Trace::load(folder.join(format!("{trace:05}.trace"))).unwrap().play_on(&image).image().clone();
+            }
+            assert!(day.stopped().is_some() || image == day.pic().save(Form::Numbered));
+        }
+        fs::remove_dir_all(&home).unwrap();
     }
 
     #[test]
