@@ -65,12 +65,21 @@ function imported(    words, n, at) {
     for (at = 1; at <= n; at++) known[words[at]] = 1
 }
 
+# without_texts LINE: of the texts in it only the names of what is read of the surroundings, as "PCH_PIC_SOURCE".
+function without_texts(line,    out, text) {
+    while (match(line, /"[^"]*"/)) {
+        text = substr(line, RSTART, RLENGTH)
+        out = out substr(line, 1, RSTART - 1) (text ~ /^"[A-Z_]+"$/ ? text : " ")
+        line = substr(line, RSTART + RLENGTH)
+    }
+    return out line
+}
+
 # some_code LINE: its words are names, in code aside only where a page says the file, and belong to the file's module and to the type around them.
 function some_code(line,    words, n, at) {
     if (line ~ /^ *(\/\/|\/?\*( |$|\*|\/))/) return
     sub(/ \/\/ .*/, "", line)
-    # Of texts in it, only the names of what is read of the surroundings.
-    gsub(/"[^"]*[^A-Z_"][^"]*"/, "", line)
+    line = without_texts(line)
     if (match(line, /^(pub )?(unsafe )?(impl|enum|struct|trait)(<[^>]*>)? /)) owner = owner_in(substr(line, RSTART + RLENGTH))
     n = split(line, words, /[^A-Za-z0-9_]+/)
     for (at = 1; at <= n; at++) {
