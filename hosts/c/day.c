@@ -712,7 +712,8 @@ static void print_day(const struct pic_day_kept *kept, const char *to)
     hole.first += kept->before;
     hole.last += kept->before;
     print_hole(&hole, true);
-    printf("kept %" PRIu64 " of %" PRIu64 " records in %u traces, those before the hole: they are the day's, exactly\n", day->records, day->records + lost, day->traces);
+    printf("kept %" PRIu64 " of %" PRIu64 "%s records in %u traces, those before the hole: they are the day's, exactly\n", day->records, day->records + lost,
+           kept->more ? " or more" : "", day->traces);
     pic_day_name(to, day->traces, name);
     printf("%s.holes says what is missing\n", name);
 }

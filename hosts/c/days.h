@@ -101,6 +101,7 @@ struct pic_day_kept {
     struct pic_holes holes;           /* none, or one at the end of the last trace, in that trace's own count */
     unsigned untimed;                 /* traces whose times were not as many as their records, and are left out */
     bool ended;                       /* the list of what is salvaged says that this was all */
+    bool more;                        /* more may be missing than the hole says: where the day ended is not known */
     uint8_t trace[PCH_PIC_TRACE_MAX]; /* what is read */
     uint8_t times[8 * PCH_PIC_RECORDS_MAX];
     char text[PIC_DAY_TEXT];          /* what ends it, in a line, or empty; after PIC_NO_DAY why nothing is kept */

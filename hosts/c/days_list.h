@@ -19,6 +19,9 @@ enum pic_day_met { PIC_DAY_TRACE_LINE, PIC_DAY_END_LINE, PIC_DAY_BAD_LINE, PIC_D
 /* Opens the list of a day, behind its first line: 0, PIC_FILE, or PIC_NO_DAY with a text. */
 int pic_day_list_open(const char *folder, FILE **list, char text[PIC_DAY_TEXT]);
 
+/* Goes back to behind its first line. */
+void pic_day_list_rewind(FILE *list);
+
 /* The next line, where so many traces with so many records were met before it. */
 enum pic_day_met pic_day_list_next(FILE *list, unsigned traces, uint64_t records, struct pic_day_line *found);
 

@@ -122,6 +122,7 @@ static int add_listed(struct pic_day_kept *kept, const char *folder, FILE *list,
         pic_day_wrong(kept->text, "day.list, line %u: it is not the line of trace %u, nor the right end of the list", traces + 2, traces + 1);
     }
     kept->ended = met == PIC_DAY_END_LINE;
+    kept->more = !kept->ended && kept->text[0] != 0;
     *lost = records - kept->day.records + (met == PIC_DAY_BAD_LINE);
     return number;
 }
@@ -158,7 +159,7 @@ static int tell_lost(struct pic_day_kept *kept, uint64_t lost)
     }
     size_t records = pic_trace_records(kept->last.trace);
     struct pic_hole hole = {records, records, records + (size_t)lost - 1, ""};
-    snprintf(hole.why, sizeof hole.why, "%.*s", PIC_TEXT_LEN - 1, kept->text);
+    snprintf(hole.why, sizeof hole.why, "%s%.*s", kept->more ? "or more; " : "", PIC_TEXT_LEN - 10, kept->text);
     kept->holes.count = 1;
     kept->holes.of[0] = hole;
     return pic_day_name(kept->day.folder, kept->day.traces, path) ? pic_holes_save(path, &kept->last, &kept->holes) : PIC_FILE;
