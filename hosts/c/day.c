@@ -700,7 +700,7 @@ static void print_day(const struct pic_day_kept *kept, const char *to)
     char name[PIC_DAY_PATH];
     const struct pic_day *day = &kept->day;
     if (kept->untimed > 0) {
-        printf("the times of %u traces are not as many as their records, and are left out\n", kept->untimed);
+        printf("traces whose times are not as many as their records, or go back, so that they are left out: %u\n", kept->untimed);
     }
     if (kept->holes.count == 0) {
         printf("kept all %" PRIu64 " records in %u traces: nothing is missing%s\n", day->records, day->traces, kept->ended ? "" : ", and the day was not ended");

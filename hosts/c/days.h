@@ -99,7 +99,8 @@ struct pic_day_kept {
     struct pic_salvaged last;         /* its last trace, perhaps a part of one */
     uint64_t before;                  /* the records before that */
     struct pic_holes holes;           /* none, or one at the end of the last trace, in that trace's own count */
-    unsigned untimed;                 /* traces whose times were not as many as their records, and are left out */
+    unsigned untimed;                 /* traces whose times were not as many as their records, or went back, and are left out */
+    uint64_t time;                    /* the last one that was kept */
     bool ended;                       /* the list of what is salvaged says that this was all */
     bool more;                        /* more may be missing than the hole says: where the day ended is not known */
     uint8_t trace[PCH_PIC_TRACE_MAX]; /* what is read */

@@ -45,6 +45,24 @@ static bool inside(const char *path, const struct stat *folder)
     return false;
 }
 
+/* Whether so many times go on from those before: lost power may leave zeros in the place of the last ones. */
+static bool times_go_on(struct pic_day_kept *kept, size_t records)
+{
+    uint64_t last = kept->time;
+    for (size_t record = 0; record < records; record++) {
+        uint64_t time = 0;
+        for (size_t i = TIME_LEN; i > 0; i--) {
+            time = time << 8 | kept->times[TIME_LEN * record + i - 1];
+        }
+        if (time < last) {
+            return false;
+        }
+        last = time;
+    }
+    kept->time = last;
+    return true;
+}
+
 /* The times beside a trace, for so many records of it; NULL where there are none. A trace that is good has just as many, and one that was open at least. */
 static const uint8_t *times_of(struct pic_day_kept *kept, const char *trace, size_t records, bool open)
 {
@@ -58,6 +76,7 @@ static const uint8_t *times_of(struct pic_day_kept *kept, const char *trace, siz
     size_t len = fread(kept->times, 1, sizeof kept->times, file);
     bool more = getc(file) != EOF, right = open ? len >= TIME_LEN * records : len == TIME_LEN * records && !more;
     fclose(file);
+    right = right && times_go_on(kept, records);
     kept->untimed += !right;
     return right ? kept->times : NULL;
 }
