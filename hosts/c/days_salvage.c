@@ -45,8 +45,8 @@ static bool inside(const char *path, const struct stat *folder)
     return false;
 }
 
-/* Whether so many times go on from those before: lost power may leave zeros in the place of the last ones. */
-static bool times_go_on(struct pic_day_kept *kept, size_t records)
+/* Whether so many times go on from those before. Lost power may leave zeros in the place of times, and in a trace that was open none is taken for a time. */
+static bool times_go_on(struct pic_day_kept *kept, size_t records, bool open)
 {
     uint64_t last = kept->time;
     for (size_t record = 0; record < records; record++) {
@@ -54,7 +54,7 @@ static bool times_go_on(struct pic_day_kept *kept, size_t records)
         for (size_t i = TIME_LEN; i > 0; i--) {
             time = time << 8 | kept->times[TIME_LEN * record + i - 1];
         }
-        if (time < last) {
+        if (time < last || (open && time == 0)) {
             return false;
         }
         last = time;
@@ -76,7 +76,7 @@ static const uint8_t *times_of(struct pic_day_kept *kept, const char *trace, siz
     size_t len = fread(kept->times, 1, sizeof kept->times, file);
     bool more = getc(file) != EOF, right = open ? len >= TIME_LEN * records : len == TIME_LEN * records && !more;
     fclose(file);
-    right = right && times_go_on(kept, records);
+    right = right && times_go_on(kept, records, open);
     kept->untimed += !right;
     return right ? kept->times : NULL;
 }

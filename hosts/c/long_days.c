@@ -380,6 +380,24 @@ static uint64_t by_calls(void *unused)
     return 1000 * (day.recorder.before + day.recorder.count);
 }
 
+/* Whether each record of the trace that was read last has its time. */
+static bool timed(const char *folder)
+{
+    char name[PIC_DAY_PATH], times[PIC_DAY_PATH + 8];
+    uint8_t bytes[TIME_LEN];
+    pic_day_name(folder, reader.number, name);
+    snprintf(times, sizeof times, "%s.times", name);
+    FILE *file = fopen(times, "rb");
+    bool right = file != NULL;
+    for (size_t i = 0; right && i < reader.of_trace; i++) {
+        right = fread(bytes, 1, TIME_LEN, file) == TIME_LEN && get(bytes, TIME_LEN) == 1000 * (reader.before + i);
+    }
+    if (file != NULL) {
+        fclose(file);
+    }
+    return right;
+}
+
 /* The day is played trace by trace to the device that lived it, and counted as by hand. */
 static void plays_and_counts(const char *folder, const struct pic *pic)
 {
@@ -391,6 +409,7 @@ static void plays_and_counts(const char *folder, const struct pic *pic)
     pch_pic_reset(played.image, sizeof played.image, answer, sizeof answer);
     number = pic_tally_begin(&tally);
     while (number == PCH_PIC_DONE && pic_day_trace(&reader) == PCH_PIC_DONE) {
+        expect("times go on from trace to trace", timed(folder));
         number = pic_tally_add(&tally, reader.trace, reader.len, played.image, sizeof played.image, NULL);
         if (number == PCH_PIC_DONE) {
             number = reader.number == 1 ? pic_trace_play(reader.trace, reader.len, &played, NULL) : pic_trace_play_on(reader.trace, reader.len, &played, NULL);
@@ -614,8 +633,9 @@ static void without_room(unsigned long times)
     in_folder("full", folder);
     for (unsigned long i = 0; i < times; i++) {
         clear(folder);
-        expect("a recorder goes on behind a full disk", child_ends(folder, 600, 5 + chance() % 400, FAILS, 1 + chance() % 1600));
-        expect("and has every record", seen->taken == 600 && is_the_beginning(folder, 600, 600));
+        unsigned long calls = i % 2 == 0 ? 600 : 40;
+        expect("a recorder goes on behind a full disk", child_ends(folder, calls, i % 2 == 0 ? 5 + chance() % 400 : 3, FAILS, 1 + chance() % (i % 2 == 0 ? 1600 : 240)));
+        expect("and has every record", seen->taken == calls && is_the_beginning(folder, calls, calls));
     }
     clear(folder);
 }
@@ -798,6 +818,9 @@ static void damaged_lists(void)
     refused("day.list, line 3: it says 200 records, and 00002.trace has 300", 300);
     make_day(damaged, 0);
     damage(damaged, "day.list", 0, 14 + 3 * 75 + 4);
+    refused("day.list, line 5: it is not the line of trace 4, nor the right end of the list", 900);
+    make_day(damaged, 0);
+    damage(damaged, "day.list", 0, 14 + 3 * 75 + 6);
     refused("day.list, line 5: it is not the line of trace 4, nor the right end of the list", 900);
     make_day(damaged, 0);
     damage(damaged, "day.list", 14 + 75, -1);
