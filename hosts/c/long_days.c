@@ -1,10 +1,10 @@
 /* Days longer than a trace: a guest's long day that plays to the same bytes and is counted by hand; recorders that are killed, lose their power or get no room at any call of
  * the system; and folders that are damaged in every way that the format names.
- *     long_days FOLDER [INTERRUPTS KILLS]   with its files in FOLDER, 2,000 interrupts and 200 kills where nothing is said; the last line is 'N passed, M failed'
+ *     long_days FOLDER [INTERRUPTS KILLS]   with its files in FOLDER, 5,000 interrupts and 200 kills where nothing is said; the last line is 'N passed, M failed'
  * The linker leads calls of the library and of the system through here (--wrap; tools/try-hosts has the list): those of the library are counted by hand, and of the system's
  * any can be the last. */
 #define _GNU_SOURCE
-#include "days.h"
+#include "days_list.h"
 #include "sheet.h"
 
 #include <dirent.h>
@@ -577,6 +577,35 @@ static bool is_the_beginning(const char *folder, uint64_t least, uint64_t most)
     return same;
 }
 
+/* Whether the times of the trace that was open are on the disk as far as its records are. */
+static bool times_are_safe(const char *folder, uint64_t safe)
+{
+    struct pic_day_line line;
+    char name[PIC_DAY_PATH], times[PIC_DAY_PATH + 8];
+    uint8_t bytes[TIME_LEN];
+    FILE *list;
+    unsigned traces = 0;
+    uint64_t record = 0;
+    if (pic_day_list_open(folder, &list, reader.text) != PCH_PIC_DONE) {
+        return safe == 0;
+    }
+    for (; pic_day_list_next(list, traces, record, &line) == PIC_DAY_TRACE_LINE; traces++) {
+        record += line.records;
+    }
+    fclose(list);
+    pic_day_name(folder, traces + 1, name);
+    snprintf(times, sizeof times, "%s.times", name);
+    FILE *file = record < safe ? fopen(times, "rb") : NULL;
+    bool right = file != NULL || record >= safe;
+    for (; right && record < safe; record++) {
+        right = fread(bytes, 1, TIME_LEN, file) == TIME_LEN && get(bytes, TIME_LEN) == 1000 * record + 7;
+    }
+    if (file != NULL) {
+        fclose(file);
+    }
+    return right;
+}
+
 /* What is left of a recorder that has ended anyhow: at least so many records, and none that was not. It is read as it stands, or told that it has to be salvaged. */
 static void what_is_left(const char *folder, uint64_t least)
 {
@@ -605,7 +634,7 @@ static void killed(unsigned long kills)
     char folder[PATH_LEN];
     unsigned long died = 0;
     in_folder("killed", folder);
-    for (unsigned long i = 0; i < kills; i++) {
+    for (unsigned long i = 0; died < kills && i < 4 * kills; i++) {
         enum what how = chance() % 2 == 0 ? DIES_BEFORE : DIES_AFTER;
         uint64_t next_each = chance() % 3 == 0 ? 5 + chance() % 300 : UINT64_MAX;
         unsigned long calls = 1 + chance() % 700, at = 1 + chance() % (4 * calls + 16);
@@ -618,11 +647,12 @@ static void killed(unsigned long kills)
             what_is_left(folder, seen->taken);
         } else {
             lose_power(folder);
+            expect("the times of full blocks are there", times_are_safe(folder, seen->taken - seen->open));
             what_is_left(folder, seen->taken - seen->open);
         }
     }
-    printf("%lu recorders, %lu of them killed, every second one without power too\n", kills, died);
-    expect("most were killed on their way", died > kills / 3);
+    printf("%lu recorders were killed, every second one without power too\n", died);
+    expect("so many were killed on their way", died == kills);
     clear(folder);
 }
 
@@ -912,7 +942,7 @@ static void beginnings(void)
 
 int main(int argc, char **argv)
 {
-    unsigned long interrupts = argc == 4 ? strtoul(argv[2], NULL, 10) : 2000, kills = argc == 4 ? strtoul(argv[3], NULL, 10) : 200;
+    unsigned long interrupts = argc == 4 ? strtoul(argv[2], NULL, 10) : 5000, kills = argc == 4 ? strtoul(argv[3], NULL, 10) : 200;
     if ((argc != 2 && argc != 4) || strlen(argv[1]) > PATH_LEN / 2 || interrupts == 0 || kills == 0) {
         fprintf(stderr, "usage: long_days FOLDER [INTERRUPTS KILLS]\n");
         return 2;
