@@ -29,7 +29,7 @@ enum {
     PIC_DAY_TEXT = 320          /* room for a line that says what is wrong */
 };
 
-/* A day that is recorded; 100 KB, so not for a small stack, and it stays where it is. Calls go to the recorder, by pic_recorder_watch or pic_recorder_raise and so on,
+/* A day that is recorded; 100 KB, so not for a small stack, and it stays where it is; a call that begins the next trace takes some 128 KB of stack. Calls go to the recorder, by pic_recorder_watch or pic_recorder_raise and so on,
  * and a clock before the first of them by pic_recorder_clock. Where its trace is full it goes on with the next one by itself. */
 struct pic_day {
     struct pic_recorder recorder;
