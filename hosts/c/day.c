@@ -699,11 +699,12 @@ static void print_day(const struct pic_day_kept *kept, const char *to)
 {
     char name[PIC_DAY_PATH];
     const struct pic_day *day = &kept->day;
+    const char *traces = day->traces == 1 ? "trace" : "traces";
     if (kept->untimed > 0) {
         printf("traces whose times are not as many as their records, or go back, so that they are left out: %u\n", kept->untimed);
     }
     if (kept->holes.count == 0) {
-        printf("kept all %" PRIu64 " records in %u traces: nothing is missing%s\n", day->records, day->traces, kept->ended ? "" : ", and the day was not ended");
+        printf("kept all %" PRIu64 " records in %u %s: nothing is missing%s\n", day->records, day->traces, traces, kept->ended ? "" : ", and the day was not ended");
         return;
     }
     struct pic_hole hole = kept->holes.of[0];
@@ -712,8 +713,8 @@ static void print_day(const struct pic_day_kept *kept, const char *to)
     hole.first += kept->before;
     hole.last += kept->before;
     print_hole(&hole, true);
-    printf("kept %" PRIu64 " of %" PRIu64 "%s records in %u traces, those before the hole: they are the day's, exactly\n", day->records, day->records + lost,
-           kept->more ? " or more" : "", day->traces);
+    printf("kept %" PRIu64 " of %" PRIu64 "%s records in %u %s, those before the hole: they are the day's, exactly\n", day->records, day->records + lost,
+           kept->more ? " or more" : "", day->traces, traces);
     pic_day_name(to, day->traces, name);
     printf("%s.holes says what is missing\n", name);
 }
