@@ -168,8 +168,8 @@
  *
  * pch_pic_tally_sheet writes the sheet of all records so far, PCH_PIC_LONG_SHEET_LEN bytes: the rows and columns of a sheet in numbers of eight bytes, waits that are
  * not over as open ones, and the total. Of one trace from a reset these are the numbers of pch_pic_sheet. Waits are in records of the whole day. A host that keeps a
- * day in files keeps the tally and the image beside them. Any bytes get an answer: 17 says that they cannot be counted on from, and other bytes that are no
- * tally are not found out.
+ * day in files keeps the tally and the image beside them; hosts/c/days.h records a day of any length as a folder of traces. Any bytes get an answer: 17 says that
+ * they cannot be counted on from, and other bytes that are no tally are not found out.
  *
  * THE STACK. Nothing is on the heap. Below its caller a call of the proved archive uses so many bytes of stack, the return address included, as tools/bench
  * --stack measured them (docs/PERFORMANCE.md says on what); a difference uses the return address alone:

@@ -1,13 +1,15 @@
-/* A day as a trace: session lines recorded; a trace played and printed, each record with its number and its answer; its numbers; a damaged trace salvaged.
+/* A day as a trace, or as a folder of them: session lines recorded; a day played and printed, each record with its number and its answer; its numbers; a damaged one salvaged.
  *     day --record FILE [LINES]   makes the trace FILE of the lines, which docs/DEVICE.md tells; - or no word is standard input
- *     day --play FILE             prints each record of the trace and what it gave, and how many events were dropped; - is standard input
- *     day --sheet FILE            prints the day's numbers, input by input, as a table
- *     day --csv FILE              the same for a program, with commas
+ *     day --record DAY/ [LINES]   makes the folder of a day of them, however many there are (days.h)
+ *     day --play FILE..           prints each record of the trace and what it gave, and how many events were dropped; - is standard input
+ *     day --sheet FILE..          prints the day's numbers, input by input, as a table
+ *     day --csv FILE..            the same for a program, with commas
  *     day --salvage FILE TO       makes the trace TO of what comes before the first hole of FILE: the day, exactly, as far as it goes
  *     day --salvage FILE TO --all makes it of all blocks of FILE that have no bad record; behind a hole it does not play as the day did
- * Where something is missing, TO.holes says what (holes.h), and the others find it there. It ends with 0; with 1 where something cannot be read or written, a line is no record or a trace is refused; and with 2 where its words are wrong. */
+ * Several FILEs are traces of one day, one after another; a folder is a day of its own. Where something is missing, TO.holes says what (holes.h), and the others find it there.
+ * It ends with 0; with 1 where something cannot be read or written, a line is no record or a trace is refused; and with 2 where its words are wrong. */
 #define _POSIX_C_SOURCE 200809L
-#include "holes.h"
+#include "days.h"
 #include "sheet.h"
 
 #include <errno.h>
@@ -16,16 +18,53 @@
 #include <stdlib.h>
 #include <string.h>
 #include <sys/stat.h>
+#include <time.h>
+#include <unistd.h>
 
-/* The longest line of a session has 25 bytes. A block of 64 records has 1 KiB, and 63 blocks take the longest day. */
-enum { LINE_LEN = 64, LIST_LEN = 4096, BLOCK = 64 };
+/* The longest line of a session has 25 bytes. A block of 64 records has 1 KiB, and 63 blocks take the longest trace. How far a long work is goes to file 3, where that is a
+ * terminal, since ./run keeps standard error for what is wrong. */
+enum { LINE_LEN = 64, LIST_LEN = 4096, BLOCK = 64, PROGRESS = 3, PROGRESS_SECONDS = 2 };
 
 static uint8_t trace[PCH_PIC_TRACE_MAX];
+static struct pic_day_read reading;
+static struct pic_played played;
+
+/* A day that is being made. It is taken away again where it cannot be made to its end. */
+static struct pic_day recording;
+static bool begun;
+
+static void leave(void)
+{
+    if (begun) {
+        pic_day_undo(&recording);
+    }
+    exit(1);
+}
 
 static void fail(const char *what, const char *why)
 {
     fprintf(stderr, "day: %s: %s\n", what, why);
-    exit(1);
+    leave();
+}
+
+/* How far it is, every now and then. */
+static void progress(const char *doing, unsigned trace_number, unsigned traces)
+{
+    static time_t told;
+    time_t now = time(NULL);
+    if (told == 0) {
+        told = now;
+    }
+    if (now - told >= PROGRESS_SECONDS && isatty(PROGRESS)) {
+        dprintf(PROGRESS, traces == 0 ? "run: %s trace %u\n" : "run: %s trace %u of %u\n", doing, trace_number, traces);
+        told = now;
+    }
+}
+
+static bool is_folder(const char *name)
+{
+    struct stat found;
+    return strcmp(name, "-") != 0 && stat(name, &found) == 0 && S_ISDIR(found.st_mode);
 }
 
 /* A name as it is to be told and opened. */
@@ -115,7 +154,18 @@ static void refuse(const char *name, unsigned long number, const char *line, siz
     }
     shown[len] = 0;
     fprintf(stderr, "day: %s, line %lu: '%s': %s\n", told(name), number, shown, why);
-    exit(1);
+    leave();
+}
+
+/* Why a line is not taken; where a trace is full, what takes more. */
+static const char *why_not(int number)
+{
+    static char text[PIC_TEXT_LEN];
+    if (number != PIC_FULL) {
+        return number < 0 ? "it is no call" : pic_recorder_why(number);
+    }
+    snprintf(text, sizeof text, "%s; a folder takes more, as --record DAY/", pic_recorder_why(number));
+    return text;
 }
 
 static void record_lines(struct pic_recorder *recorder, const char *name)
@@ -129,10 +179,11 @@ static void record_lines(struct pic_recorder *recorder, const char *name)
     for (unsigned long number = 1; next_line(lines, line, &len); number++) {
         int refused = record_line(recorder, line, len);
         if (refused != PCH_PIC_DONE) {
-            refuse(name, number, line, len, refused < 0 ? "it is no call" : pic_recorder_why(refused));
+            refuse(name, number, line, len, why_not(refused));
         }
         if (number % BLOCK == 0) {
             pic_recorder_close(recorder);
+            progress("recording,", recording.traces + 1, 0);
         }
     }
     if (ferror(lines)) {
@@ -158,6 +209,13 @@ static void apart(const char *name, const char *file)
     }
 }
 
+static void no_call(const char *name, int number)
+{
+    if (number == PIC_EMPTY) {
+        fail(told(name), "there is no call in it, and a trace has one at least");
+    }
+}
+
 static void record(const char *file, const char *name)
 {
     static struct pic_recorder recorder;
@@ -165,10 +223,22 @@ static void record(const char *file, const char *name)
     pic_recorder_begin(&recorder);
     record_lines(&recorder, name);
     int number = pic_recorder_save(&recorder, file);
-    if (number == PIC_EMPTY) {
-        fail(told(name), "there is no call in it, and a trace has one at least");
-    }
+    no_call(name, number);
     saved(file, number);
+}
+
+/* The folder of a day: each trace is written when it is full. */
+static void record_day(const char *folder, const char *name)
+{
+    int number = pic_day_begin(&recording, folder, 0);
+    if (number != PCH_PIC_DONE) {
+        fail(folder, pic_day_why(number));
+    }
+    begun = true;
+    record_lines(&recording.recorder, name);
+    number = pic_day_end(&recording);
+    no_call(name, number);
+    saved(folder, number);
 }
 
 static uint64_t number_at(const uint8_t *bytes, size_t len)
@@ -274,6 +344,120 @@ static void find_holes(const char *name, size_t len, struct pic_holes *holes)
     }
 }
 
+/* What is read: traces of one day, one after another, or the folder of a day. All of it is tested before anything is printed. */
+struct source {
+    char **names;          /* of traces, or of one folder */
+    unsigned count;        /* how many traces these are */
+    bool folder;
+    unsigned at;           /* the trace that is in memory, counted from 1; 0 before the first */
+    size_t len, records;   /* its bytes and its records */
+    uint64_t before;       /* the records before it */
+    struct pic_holes last; /* the holes of the last one, in records of the whole day */
+};
+
+/* The name of the trace that is in memory. */
+static const char *name_of(const struct source *source)
+{
+    static char name[PIC_DAY_PATH];
+    if (!source->folder) {
+        return source->names[source->at - 1];
+    }
+    pic_day_name(source->names[0], source->at, name);
+    return name;
+}
+
+static void day_read(const struct source *source, int number)
+{
+    if (number != PCH_PIC_DONE) {
+        fail(source->names[0], number == PIC_NO_DAY ? reading.text : pic_day_why(number));
+    }
+}
+
+/* Loads the next trace, which is good; false where there is none. One that comes alone, perhaps by a pipe, is loaded once. */
+static bool next_trace(struct source *source)
+{
+    uint64_t bad = 0;
+    if (source->at == source->count) {
+        return false;
+    }
+    source->at++;
+    source->before += source->records;
+    if (source->folder) {
+        day_read(source, pic_day_trace(&reading));
+        memcpy(trace, reading.trace, reading.len);
+        source->len = reading.len;
+    } else if (source->count > 1 || source->len == 0) {
+        source->len = load(name_of(source));
+        int number = pic_trace_test(trace, source->len, &bad);
+        taken(name_of(source), source->len, number, bad);
+    }
+    source->records = pic_trace_records(trace);
+    return true;
+}
+
+static void from_the_start(struct source *source)
+{
+    source->at = 0;
+    source->before = source->records = 0;
+    if (source->folder) {
+        pic_day_rewind(&reading);
+    }
+}
+
+/* Several traces are files that can be read twice, and no two are one. */
+static void test_names(char **names, unsigned count)
+{
+    struct stat one, other;
+    for (unsigned i = 0; i < count; i++) {
+        if (strcmp(names[i], "-") == 0) {
+            fail(told(names[i]), "it is one trace, and stands alone");
+        }
+        if (is_folder(names[i])) {
+            fail(names[i], "a folder is a day of its own, and stands alone");
+        }
+        for (unsigned j = 0; j < i && stat(names[i], &one) == 0; j++) {
+            if (stat(names[j], &other) == 0 && one.st_dev == other.st_dev && one.st_ino == other.st_ino) {
+                fail(names[i], "it is there twice, and a day has each trace once");
+            }
+        }
+    }
+}
+
+static void open_source(struct source *source, char **names, unsigned count)
+{
+    memset(source, 0, sizeof *source);
+    source->names = names;
+    source->count = count;
+    source->folder = count == 1 && is_folder(names[0]);
+    if (source->folder) {
+        day_read(source, pic_day_open(&reading, names[0]));
+        source->count = reading.traces;
+    } else if (count > 1) {
+        test_names(names, count);
+    }
+    while (next_trace(source)) {
+        find_holes(name_of(source), source->len, &source->last);
+        if (source->last.count > 0 && source->at < source->count) {
+            fail(name_of(source), "it has a hole, and is not the last trace: behind a hole nothing is the day's");
+        }
+        progress("testing", source->at, source->count);
+    }
+    for (size_t hole = 0; hole < source->last.count; hole++) {
+        source->last.of[hole].at += source->before;
+        source->last.of[hole].first += source->before;
+        source->last.of[hole].last += source->before;
+    }
+    from_the_start(source);
+}
+
+/* Plays the trace that is in memory on what the ones before left. */
+static void play_next(const struct source *source)
+{
+    uint64_t bad = 0;
+    int number = source->at == 1 ? pic_trace_play(trace, source->len, &played, &bad) : pic_trace_play_on(trace, source->len, &played, &bad);
+    taken(name_of(source), source->len, number, bad);
+}
+
 /* A hole, and what it means for what comes behind it. */
 static void print_hole(const struct pic_hole *hole, bool last)
 {
@@ -283,7 +467,7 @@ static void print_hole(const struct pic_hole *hole, bool last)
 }
 
 /* The holes that stand before a record, from the first that was not printed yet. */
-static size_t print_holes(const struct pic_holes *holes, size_t from, size_t record, size_t records)
+static size_t print_holes(const struct pic_holes *holes, size_t from, uint64_t record, uint64_t records)
 {
     while (from < holes->count && holes->of[from].at <= record) {
         print_hole(&holes->of[from], holes->of[from].at == records);
@@ -300,59 +484,116 @@ static void written(void)
     }
 }
 
-static void play(const char *name)
+static void play(char **names, unsigned count)
 {
-    static struct pic_played played;
-    struct pic_step step = {0};
-    struct pic_holes holes;
+    struct source source;
     char line[LINE_LEN];
-    uint64_t bad = 0;
-    size_t len = load(name), hole = 0;
-    int number = pic_trace_play(trace, len, &played, &bad);
-    taken(name, len, number, bad);
-    find_holes(name, len, &holes);
-    while (pic_trace_step(trace, &played, &step)) {
-        hole = print_holes(&holes, hole, step.number, played.records);
-        print_line(step.record, line);
-        printf("%7zu  %-30s  ", step.number, line);
-        print_answer(&step);
+    size_t hole = 0;
+    open_source(&source, names, count);
+    while (next_trace(&source)) {
+        struct pic_step step = {0};
+        uint64_t end = source.before + source.records;
+        play_next(&source);
+        while (pic_trace_step(trace, &played, &step)) {
+            hole = print_holes(&source.last, hole, source.before + step.number, end);
+            print_line(step.record, line);
+            printf("%7" PRIu64 "  %-30s  ", source.before + step.number, line);
+            print_answer(&step);
+        }
+        progress("playing", source.at, source.count);
     }
-    print_holes(&holes, hole, played.records, played.records);
+    print_holes(&source.last, hole, source.before + source.records, source.before + source.records);
     printf("%7s  %-30s  drops %lu\n", "end", "", drops_of(played.image, sizeof played.image));
     written();
 }
 
-static void sheet(const char *name)
+/* The device as a reset leaves it, and nothing counted. */
+static void begin_count(struct pic_tally *tally)
 {
-    static struct pic_sheet sheet;
-    struct pic_holes holes;
-    size_t began[PCH_PIC_SHEET_ROWS], len = load(name);
+    uint8_t answer[PCH_PIC_ANSWER_LEN];
+    pch_pic_reset(played.image, sizeof played.image, answer, sizeof answer);
+    pic_tally_begin(tally);
+}
+
+static void count_next(const struct source *source, struct pic_tally *tally, struct pic_long_sheet *sheet)
+{
     uint64_t bad = 0;
-    int number = pic_trace_sheet(trace, len, &sheet, &bad);
-    taken(name, len, number, bad);
-    find_holes(name, len, &holes);
-    taken(name, len, pic_sheet_began(trace, len, &sheet, began), 0);
-    print_holes(&holes, 0, sheet.records, sheet.records);
-    pic_sheet_print_began(&sheet, began, stdout);
-    if (holes.count > 0 && holes.of[0].at < sheet.records) {
-        printf("NOT THE DAY'S: these numbers go over a hole; only what comes before record %zu is the day's\n", holes.of[0].at);
+    int number = pic_tally_add(tally, trace, source->len, played.image, sizeof played.image, &bad);
+    taken(name_of(source), source->len, number, bad);
+    taken(name_of(source), source->len, pic_tally_sheet(tally, sheet), 0);
+    play_next(source);
+    progress("counting", source->at, source->count);
+}
+
+/* Counts the day; reached has the trace in which each row's greatest wait ended, the first of several that are as long. */
+static void count_day(struct source *source, struct pic_long_sheet *sheet, unsigned reached[PCH_PIC_SHEET_ROWS])
+{
+    static struct pic_tally tally;
+    uint64_t waits[PCH_PIC_SHEET_ROWS] = {0};
+    begin_count(&tally);
+    while (next_trace(source)) {
+        count_next(source, &tally, sheet);
+        for (size_t row = 0; row < PCH_PIC_SHEET_ROWS; row++) {
+            if (sheet->of[row][PCH_PIC_SHEET_WAIT] > waits[row]) {
+                waits[row] = sheet->of[row][PCH_PIC_SHEET_WAIT];
+                reached[row] = source->at;
+            }
+        }
+    }
+    from_the_start(source);
+}
+
+/* Where each row's greatest wait began: the traces in which they ended are looked through as the day goes by again. */
+static void find_began(struct source *source, const struct pic_long_sheet *sheet, const unsigned reached[PCH_PIC_SHEET_ROWS], uint64_t began[PCH_PIC_SHEET_ROWS])
+{
+    static struct pic_tally tally;
+    static struct pic_long_sheet here;
+    begin_count(&tally);
+    while (next_trace(source)) {
+        for (size_t row = 0; row < PCH_PIC_SHEET_ROWS; row++) {
+            if (reached[row] == source->at) {
+                int number = pic_tally_began(&tally, trace, source->len, played.image, sizeof played.image, row, sheet->of[row][PCH_PIC_SHEET_WAIT], &began[row]);
+                taken(name_of(source), source->len, number, 0);
+            }
+        }
+        count_next(source, &tally, &here);
+    }
+}
+
+static void sheet(char **names, unsigned count)
+{
+    static struct pic_long_sheet sheet;
+    struct source source;
+    unsigned reached[PCH_PIC_SHEET_ROWS] = {0};
+    uint64_t began[PCH_PIC_SHEET_ROWS];
+    for (size_t row = 0; row < PCH_PIC_SHEET_ROWS; row++) {
+        began[row] = PIC_NO_WAIT;
+    }
+    open_source(&source, names, count);
+    count_day(&source, &sheet, reached);
+    if (sheet.of[PCH_PIC_SHEET_TOTAL][PCH_PIC_SHEET_WAIT] != 0) {
+        find_began(&source, &sheet, reached, began);
+    }
+    print_holes(&source.last, 0, sheet.records, sheet.records);
+    pic_long_sheet_print(&sheet, began, stdout);
+    if (source.last.count > 0 && source.last.of[0].at < sheet.records) {
+        printf("NOT THE DAY'S: these numbers go over a hole; only what comes before record %zu is the day's\n", source.last.of[0].at);
     }
     written();
 }
 
 /* Behind the numbers a row of its own for each hole, as wide as the others. */
-static void csv(const char *name)
+static void csv(char **names, unsigned count)
 {
-    static struct pic_sheet sheet;
-    struct pic_holes holes;
-    uint64_t bad = 0;
-    size_t len = load(name);
-    int number = pic_trace_sheet(trace, len, &sheet, &bad);
-    taken(name, len, number, bad);
-    find_holes(name, len, &holes);
-    pic_sheet_csv(&sheet, stdout);
-    for (size_t hole = 0; hole < holes.count; hole++) {
-        printf("hole at record %zu: records %zu to %zu are missing,,,,,,,,,,\n", holes.of[hole].at, holes.of[hole].first, holes.of[hole].last);
+    static struct pic_long_sheet sheet;
+    struct source source;
+    unsigned reached[PCH_PIC_SHEET_ROWS] = {0};
+    open_source(&source, names, count);
+    count_day(&source, &sheet, reached);
+    pic_long_sheet_csv(&sheet, stdout);
+    for (size_t hole = 0; hole < source.last.count; hole++) {
+        const struct pic_hole *of = &source.last.of[hole];
+        printf("hole at record %zu: records %zu to %zu are missing,,,,,,,,,,\n", of->at, of->first, of->last);
     }
     written();
 }
@@ -453,26 +694,106 @@ static void salvage(const char *name, const char *file, bool all)
     written();
 }
 
+/* What is kept of a damaged day, in records of the whole day. */
+static void print_day(const struct pic_day_kept *kept, const char *to)
+{
+    char name[PIC_DAY_PATH];
+    const struct pic_day *day = &kept->day;
+    const char *traces = day->traces == 1 ? "trace" : "traces";
+    if (kept->untimed > 0) {
+        printf("traces whose times are not as many as their records, or go back, so that they are left out: %u\n", kept->untimed);
+    }
+    if (kept->holes.count == 0) {
+        printf("kept all %" PRIu64 " records in %u %s: nothing is missing%s\n", day->records, day->traces, traces, kept->ended ? "" : ", and the day was not ended");
+        return;
+    }
+    struct pic_hole hole = kept->holes.of[0];
+    uint64_t lost = hole.last - hole.first + 1;
+    hole.at += kept->before;
+    hole.first += kept->before;
+    hole.last += kept->before;
+    print_hole(&hole, true);
+    printf("kept %" PRIu64 " of %" PRIu64 "%s records in %u %s, those before the hole: they are the day's, exactly\n", day->records, day->records + lost,
+           kept->more ? " or more" : "", day->traces, traces);
+    pic_day_name(to, day->traces, name);
+    printf("%s.holes says what is missing\n", name);
+}
+
+static void salvage_day(const char *folder, const char *to, bool all)
+{
+    static struct pic_day_kept kept;
+    if (all) {
+        fail(folder, "it is a day, and --all is for one trace: without it all that comes before the first damage is kept");
+    }
+    int number = pic_day_salvage(folder, to, &kept);
+    if (number == PIC_NO_DAY) {
+        char text[PIC_DAY_TEXT + 32];
+        snprintf(text, sizeof text, "nothing of it can be kept: %s", kept.text);
+        fail(folder, text);
+    }
+    if (number != PCH_PIC_DONE) {
+        fail(to, pic_day_why(number));
+    }
+    print_day(&kept, kept.day.folder);
+    written();
+}
+
+/* The words of a salvage, and of a recording. A name that ends with a slash is a folder, be it there or not. */
+static bool salvaged(int argc, char **argv)
+{
+    bool all = argc == 5 && strcmp(argv[4], "--all") == 0;
+    if (argc != 4 && !all) {
+        return false;
+    }
+    if (is_folder(argv[2])) {
+        salvage_day(argv[2], argv[3], all);
+    } else {
+        salvage(argv[2], argv[3], all);
+    }
+    return true;
+}
+
+static bool recorded(int argc, char **argv)
+{
+    const char *name = argc == 4 ? argv[3] : "-";
+    if (argc > 4 || argv[2][0] == 0) {
+        return false;
+    }
+    if (argv[2][strlen(argv[2]) - 1] == '/' || is_folder(argv[2])) {
+        record_day(argv[2], name);
+    } else {
+        record(argv[2], name);
+    }
+    return true;
+}
+
+/* Whether the words were understood, and done. */
+static bool done(int argc, char **argv)
+{
+    const char *word = argc >= 3 ? argv[1] : "";
+    unsigned count = argc >= 3 ? (unsigned)argc - 2 : 0;
+    if (strcmp(word, "--play") == 0) {
+        play(argv + 2, count);
+    } else if (strcmp(word, "--sheet") == 0) {
+        sheet(argv + 2, count);
+    } else if (strcmp(word, "--csv") == 0) {
+        csv(argv + 2, count);
+    } else if (strcmp(word, "--record") == 0) {
+        return recorded(argc, argv);
+    } else {
+        return strcmp(word, "--salvage") == 0 && salvaged(argc, argv);
+    }
+    return true;
+}
+
 int main(int argc, char **argv)
 {
     if (!pic_fits()) {
         fprintf(stderr, "day: compiled for version %s of pch_pic, and linked with %s\n", PCH_PIC_VERSION, pch_pic_version());
         return 1;
     }
-    if (argc == 3 && strcmp(argv[1], "--play") == 0) {
-        play(argv[2]);
-    } else if (argc == 3 && strcmp(argv[1], "--sheet") == 0) {
-        sheet(argv[2]);
-    } else if (argc == 3 && strcmp(argv[1], "--csv") == 0) {
-        csv(argv[2]);
-    } else if ((argc == 3 || argc == 4) && strcmp(argv[1], "--record") == 0) {
-        record(argv[2], argc == 4 ? argv[3] : "-");
-    } else if (argc == 4 && strcmp(argv[1], "--salvage") == 0) {
-        salvage(argv[2], argv[3], false);
-    } else if (argc == 5 && strcmp(argv[1], "--salvage") == 0 && strcmp(argv[4], "--all") == 0) {
-        salvage(argv[2], argv[3], true);
-    } else {
-        fprintf(stderr, "usage: day --play FILE | day --sheet FILE | day --csv FILE | day --record FILE [LINES] | day --salvage FILE TO [--all]\n");
+    if (!done(argc, argv)) {
+        fprintf(stderr, "usage: day --play FILE.. | day --sheet FILE.. | day --csv FILE.. | day --record FILE [LINES] | day --record DAY/ [LINES] | day --salvage FILE TO [--all]\n");
         return 2;
     }
     return 0;

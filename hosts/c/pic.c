@@ -40,10 +40,18 @@ static void announce(const struct pic *pic, int kind, uint64_t of, uint64_t addr
     }
 }
 
+/* The same of a call that may change the device, and it is counted. */
+static void announce_change(struct pic *pic, int kind, uint64_t of, uint64_t address, uint64_t value)
+{
+    announce(pic, kind, of, address, value);
+    pic->changes++;
+}
+
 int pic_init(struct pic *pic, uint64_t base)
 {
     pic->base = base;
     pic->size = PCH_PIC_WINDOW_LEN;
+    pic->changes = 0;
     pic->watch = NULL;
     pic->watcher = NULL;
     return pic_reset(pic);
@@ -52,7 +60,7 @@ int pic_init(struct pic *pic, uint64_t base)
 int pic_reset(struct pic *pic)
 {
     uint8_t answer[PCH_PIC_ANSWER_LEN];
-    announce(pic, PIC_CALL_RESET, 0, 0, 0);
+    announce_change(pic, PIC_CALL_RESET, 0, 0, 0);
     return pch_pic_board_reset(pic->image, sizeof pic->image, pic->board, sizeof pic->board, answer, sizeof answer);
 }
 
@@ -76,7 +84,7 @@ int pic_read(const struct pic *pic, uint64_t address, uint64_t width, uint64_t *
 int pic_write(struct pic *pic, uint64_t address, uint64_t width, uint64_t value, uint64_t *dropped)
 {
     uint8_t answer[PCH_PIC_ANSWER_LEN];
-    announce(pic, PCH_PIC_WRITE, width, address, value);
+    announce_change(pic, PCH_PIC_WRITE, width, address, value);
     int number = pch_pic_board_write(pic->image, sizeof pic->image, pic->board, sizeof pic->board, pic->base, pic->size, address, width, value,
                                      answer, sizeof answer);
     if (dropped != NULL)
@@ -96,7 +104,7 @@ int pic_table_read(const struct pic *pic, uint64_t address, uint64_t width, uint
 int pic_table_write(struct pic *pic, uint64_t address, uint64_t width, uint64_t value, uint64_t *dropped)
 {
     uint8_t answer[PCH_PIC_ANSWER_LEN];
-    announce(pic, PCH_PIC_WRITE, width, address, value);
+    announce_change(pic, PCH_PIC_WRITE, width, address, value);
     int number = pch_pic_table_write(pic->image, sizeof pic->image, pic->base, pic->size, address, width, value, answer, sizeof answer);
     recount(pic);
     if (dropped != NULL)
@@ -107,7 +115,7 @@ int pic_table_write(struct pic *pic, uint64_t address, uint64_t width, uint64_t 
 int pic_level(struct pic *pic, uint64_t input, bool high, struct pic_event *event)
 {
     uint8_t answer[PCH_PIC_ANSWER_LEN];
-    announce(pic, high ? PCH_PIC_RAISE : PCH_PIC_LOWER, input, 0, 0);
+    announce_change(pic, high ? PCH_PIC_RAISE : PCH_PIC_LOWER, input, 0, 0);
     int number = pch_pic_board_level(pic->image, sizeof pic->image, pic->board, sizeof pic->board, input, high, answer, sizeof answer);
     *event = event_of(number, answer, high ? PIC_ASSERT : PIC_DEASSERT);
     return number;
@@ -116,7 +124,7 @@ int pic_level(struct pic *pic, uint64_t input, bool high, struct pic_event *even
 int pic_poll(struct pic *pic, uint64_t input, struct pic_event *event)
 {
     uint8_t answer[PCH_PIC_ANSWER_LEN];
-    announce(pic, PCH_PIC_POLL, input, 0, 0);
+    announce_change(pic, PCH_PIC_POLL, input, 0, 0);
     int number = pch_pic_board_poll(pic->image, sizeof pic->image, pic->board, sizeof pic->board, input, answer, sizeof answer);
     *event = event_of(number, answer, PIC_ASSERT);
     return number;
@@ -133,7 +141,7 @@ int pic_waiting_inputs(const struct pic *pic, uint64_t *inputs)
 int pic_drain(struct pic *pic, struct pic_event events[PCH_PIC_EVENTS], size_t *count)
 {
     uint8_t answer[PCH_PIC_ANSWER_LEN], drained[PCH_PIC_EVENTS * PCH_PIC_EVENT_LEN];
-    announce(pic, PCH_PIC_DRAIN, 0, 0, 0);
+    announce_change(pic, PCH_PIC_DRAIN, 0, 0, 0);
     int number = pch_pic_board_drain(pic->image, sizeof pic->image, pic->board, sizeof pic->board, drained, sizeof drained, 0, answer, sizeof answer);
     *count = number == PCH_PIC_DONE ? (size_t)value_of(answer) : 0;
     for (size_t i = 0; i < *count; i++) {
@@ -197,7 +205,7 @@ int pic_take(struct pic *pic, const uint8_t *image, size_t image_len, uint64_t *
     int number = pch_pic_convert(image, image_len, pic->image, sizeof pic->image, answer, sizeof answer);
     if (number == PCH_PIC_DONE) {
         recount(pic);
-        announce(pic, PIC_CALL_LOAD, 0, 0, 0);
+        announce_change(pic, PIC_CALL_LOAD, 0, 0, 0);
     }
     if (place != NULL && number >= PCH_PIC_COPY && number <= PCH_PIC_UNUSED) {
         *place = value_of(answer);

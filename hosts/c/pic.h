@@ -40,11 +40,12 @@ struct pic_call {
  * vector how many inputs in service carry it, after every call here, a load too.
  * watch, where it is not NULL, is told of each call before it is made, of those of pic_settle, pic_line and pic_resume too; of a load, once it is done.
  * recorder.h records a day by it. So a struct pic is all zeros or made by pic_init before anything is called on it. A copy of one is watched as well,
- * until its watch is set to NULL; and watched reads do not run side by side. */
+ * until its watch is set to NULL, and its first call ends a recording; and watched reads do not run side by side. */
 struct pic {
     uint8_t image[PCH_PIC_IMAGE2_NUMBERED_LEN];
     uint8_t board[PCH_PIC_BOARD_LEN];
     uint64_t base, size;
+    uint64_t changes; /* how many calls that may change it were made since pic_init: a copy that is put back is seen by it */
     void (*watch)(void *watcher, const struct pic *pic, const struct pic_call *call);
     void *watcher;
 };

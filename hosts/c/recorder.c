@@ -51,7 +51,23 @@ void pic_recorder_begin(struct pic_recorder *recorder)
 {
     memset(recorder, 0, sizeof *recorder);
     recorder->most = PCH_PIC_RECORDS_MAX;
-    recorder->file = NO_FILE;
+    recorder->file = recorder->times_file = NO_FILE;
+}
+
+static size_t planned_records(const struct pic_recorder *recorder)
+{
+    size_t records = 0;
+    for (size_t block = 0; block < recorder->planned; block++) {
+        records += recorder->plan[block];
+    }
+    return records;
+}
+
+void pic_recorder_next(struct pic_recorder *recorder)
+{
+    recorder->before += recorder->count;
+    recorder->count = recorder->open = recorder->closed = 0;
+    recorder->most = recorder->planned != 0 ? planned_records(recorder) : PCH_PIC_RECORDS_MAX;
 }
 
 int pic_recorder_plan(struct pic_recorder *recorder, const uint16_t *blocks, size_t count)
@@ -73,9 +89,14 @@ int pic_recorder_plan(struct pic_recorder *recorder, const uint16_t *blocks, siz
     return PCH_PIC_DONE;
 }
 
+static bool started(const struct pic_recorder *recorder)
+{
+    return recorder->count != 0 || recorder->before != 0;
+}
+
 int pic_recorder_clock(struct pic_recorder *recorder, uint64_t clock(void *of), void *of)
 {
-    if (recorder->count != 0) {
+    if (started(recorder)) {
         return PIC_STARTED;
     }
     recorder->clock = clock;
@@ -91,16 +112,22 @@ uint64_t pic_recorder_monotonic(void *unused)
     return (uint64_t)now.tv_sec * 1000000000 + (uint64_t)now.tv_nsec;
 }
 
+/* The name of the file that the times go to. */
+static bool times_name(const char *path, char name[PATH_LEN])
+{
+    int len = snprintf(name, PATH_LEN, "%s.times", path);
+    errno = ENAMETOOLONG;
+    return len > 0 && len < PATH_LEN;
+}
+
 int pic_recorder_save_times(const struct pic_recorder *recorder, const char *path)
 {
     uint8_t bytes[TIME_LEN * PCH_PIC_RECORDS_MAX];
     char name[PATH_LEN];
-    int len = snprintf(name, sizeof name, "%s.times", path);
     if (recorder->count == 0 || recorder->clock == NULL) {
         return PIC_EMPTY;
     }
-    if (len < 0 || len >= PATH_LEN) {
-        errno = ENAMETOOLONG;
+    if (!times_name(path, name)) {
         return PIC_FILE;
     }
     for (size_t record = 0; record < recorder->count; record++) {
@@ -127,18 +154,42 @@ int pic_recorder_keep(struct pic_recorder *recorder, const char *path)
     return PCH_PIC_DONE;
 }
 
-/* Writes a record at its place in the file; a full block goes to the disk, so that it outlasts a lost power. */
-static bool keep(const struct pic_recorder *recorder, const uint8_t *record, bool full)
+int pic_recorder_keep_times(struct pic_recorder *recorder, const char *path)
 {
-    off_t place = (off_t)(contents_len(recorder->planned) + PCH_PIC_RECORD_LEN * recorder->count);
-    for (size_t done = 0; done < PCH_PIC_RECORD_LEN;) {
-        ssize_t more = pwrite(recorder->file, record + done, PCH_PIC_RECORD_LEN - done, place + (off_t)done);
+    char name[PATH_LEN];
+    if (recorder->file == NO_FILE || recorder->clock == NULL) {
+        return PIC_PLAN;
+    }
+    if (recorder->count != 0 || recorder->times_file != NO_FILE) {
+        return PIC_STARTED;
+    }
+    recorder->times_file = times_name(path, name) ? pic_replace_open(name, NULL, 0) : NO_FILE;
+    return recorder->times_file != NO_FILE ? PCH_PIC_DONE : PIC_FILE;
+}
+
+static bool write_at(int file, const uint8_t *bytes, size_t len, size_t place)
+{
+    for (size_t done = 0; done < len;) {
+        ssize_t more = pwrite(file, bytes + done, len - done, (off_t)(place + done));
         if (more == 0 || (more < 0 && errno != EINTR)) {
             return false;
         }
         done += more > 0 ? (size_t)more : 0;
     }
-    return !full || fdatasync(recorder->file) == 0;
+    return true;
+}
+
+/* Writes a record at its place in the file, and its time before it; a full block goes to the disk, so that it outlasts a lost power. */
+static bool keep(const struct pic_recorder *recorder, const uint8_t *record, uint64_t time, bool full)
+{
+    uint8_t bytes[TIME_LEN];
+    bool timed = recorder->times_file != NO_FILE;
+    put(bytes, TIME_LEN, time);
+    if (timed && (!write_at(recorder->times_file, bytes, TIME_LEN, TIME_LEN * recorder->count) || (full && fdatasync(recorder->times_file) != 0))) {
+        return false;
+    }
+    size_t place = contents_len(recorder->planned) + PCH_PIC_RECORD_LEN * recorder->count;
+    return write_at(recorder->file, record, PCH_PIC_RECORD_LEN, place) && (!full || fdatasync(recorder->file) == 0);
 }
 
 static void close_block(struct pic_recorder *recorder)
@@ -148,21 +199,29 @@ static void close_block(struct pic_recorder *recorder)
     recorder->open = 0;
 }
 
-/* Room is tested before anything is taken. In a planned day the plan has room for most records, each in its block. */
+/* Whether there is room for a record: 0, or why not. In a planned day the plan has room for most records, each in its block. */
+static int room(const struct pic_recorder *recorder)
+{
+    return recorder->count == recorder->most ? PIC_FULL : recorder->closed == PCH_PIC_BLOCKS_MAX ? PIC_BLOCKS : PCH_PIC_DONE;
+}
+
+/* Room is made or missed before anything is taken. */
 static int take(struct pic_recorder *recorder, const uint8_t record[PCH_PIC_RECORD_LEN])
 {
-    if (recorder->count == recorder->most) {
-        return PIC_FULL;
+    int number = room(recorder);
+    if (number != PCH_PIC_DONE && recorder->more != NULL) {
+        number = recorder->more(recorder->more_of);
     }
-    if (recorder->closed == PCH_PIC_BLOCKS_MAX) {
-        return PIC_BLOCKS;
+    if (number != PCH_PIC_DONE) {
+        return number;
     }
     bool full = recorder->planned != 0 && recorder->open + 1 == recorder->plan[recorder->closed];
-    if (recorder->file != NO_FILE && !keep(recorder, record, full)) {
+    uint64_t time = recorder->clock != NULL ? recorder->clock(recorder->clock_of) : 0;
+    if (recorder->file != NO_FILE && !keep(recorder, record, time, full)) {
         return PIC_FILE;
     }
     memcpy(recorder->records + PCH_PIC_RECORD_LEN * recorder->count, record, PCH_PIC_RECORD_LEN);
-    recorder->times[recorder->count] = recorder->clock != NULL ? recorder->clock(recorder->clock_of) : 0;
+    recorder->times[recorder->count] = time;
     recorder->count++;
     recorder->open++;
     if (full) {
@@ -255,7 +314,7 @@ int pic_recorder_close(struct pic_recorder *recorder)
     return PCH_PIC_DONE;
 }
 
-static int take_watched(struct pic_recorder *recorder, const struct pic *pic, const struct pic_call *call)
+int pic_recorder_call(struct pic_recorder *recorder, const struct pic *pic, const struct pic_call *call)
 {
     switch (call->kind) {
     case PCH_PIC_RAISE: return pic_recorder_raise(recorder, call->of);
@@ -269,13 +328,16 @@ static int take_watched(struct pic_recorder *recorder, const struct pic *pic, co
     }
 }
 
-/* A call that is left out would make all that follows play otherwise, so the first that is not taken is the end. */
+/* A call that is left out would make all that follows play otherwise, so the first that is not taken is the end; so is one of another device than the one that is
+ * watched, or of that one as it was before. A recorder that was begun anew hears nothing until it watches. */
 static void watched(void *watcher, const struct pic *pic, const struct pic_call *call)
 {
     struct pic_recorder *recorder = watcher;
-    if (recorder->stopped == PCH_PIC_DONE) {
-        recorder->stopped = take_watched(recorder, pic, call);
+    if (recorder->stopped == PCH_PIC_DONE && recorder->device != NULL) {
+        bool same = pic == recorder->device && pic->changes == recorder->changes;
+        recorder->stopped = same ? pic_recorder_call(recorder, pic, call) : PIC_COPIED;
         recorder->error = recorder->stopped == PIC_FILE ? errno : 0;
+        recorder->changes += call->kind != PCH_PIC_READ;
     }
 }
 
@@ -286,12 +348,24 @@ int pic_recorder_watch(struct pic_recorder *recorder, struct pic *pic)
     if (number != PCH_PIC_DONE) {
         return number;
     }
-    if (recorder->count != 0 || memcmp(fresh, pic->image, sizeof fresh) != 0) {
+    if (started(recorder) || memcmp(fresh, pic->image, sizeof fresh) != 0) {
         return PIC_STARTED;
     }
     pic->watch = watched;
     pic->watcher = recorder;
+    recorder->device = pic;
+    recorder->changes = pic->changes;
+    recorder->stopped = PCH_PIC_DONE;
     return PCH_PIC_DONE;
+}
+
+/* A host that ends it by NULL for watch leaves the watcher; a device that is set up anew has neither. */
+int pic_recorder_stopped(struct pic_recorder *recorder)
+{
+    if (recorder->stopped == PCH_PIC_DONE && recorder->device != NULL && recorder->device->watcher != recorder) {
+        recorder->stopped = PIC_SET_UP;
+    }
+    return recorder->stopped;
 }
 
 int pic_recorder_finish(const struct pic_recorder *recorder, uint8_t trace[PCH_PIC_TRACE_MAX], size_t *len)
@@ -320,21 +394,33 @@ int pic_recorder_save(const struct pic_recorder *recorder, const char *path)
     return number == PCH_PIC_DONE ? pic_replace(path, trace, len) : number;
 }
 
-int pic_recorder_end(struct pic_recorder *recorder)
+/* Whether a file is on the disk; it is closed whatever comes. */
+static bool sync_and_close(int file)
 {
-    int file = recorder->file;
-    if (file == NO_FILE) {
-        return PCH_PIC_DONE;
-    }
-    recorder->file = NO_FILE;
-    recorder->most = recorder->count;
     bool synced = fsync(file) == 0;
     int why = errno;
     bool closed = close(file) == 0;
     if (!synced) {
         errno = why;
     }
-    return synced && closed ? PCH_PIC_DONE : PIC_FILE;
+    return synced && closed;
+}
+
+int pic_recorder_end(struct pic_recorder *recorder)
+{
+    int file = recorder->file, times = recorder->times_file;
+    if (file == NO_FILE) {
+        return PCH_PIC_DONE;
+    }
+    recorder->file = recorder->times_file = NO_FILE;
+    recorder->most = recorder->count;
+    bool timed = times == NO_FILE || sync_and_close(times);
+    int why = errno;
+    bool ended = sync_and_close(file);
+    if (!timed) {
+        errno = why;
+    }
+    return timed && ended ? PCH_PIC_DONE : PIC_FILE;
 }
 
 int pic_trace_load(const char *path, uint8_t trace[PCH_PIC_TRACE_MAX], size_t *len)
@@ -451,6 +537,8 @@ const char *pic_recorder_why(int number)
     case PIC_AGAIN: return "no record can say it: a reset";
     case PIC_LOADED: return "no record can say it: a load";
     case PIC_STARTED: return "the device or the recorder is not at its start, and a trace begins with a reset";
+    case PIC_COPIED: return "the device was copied, or is not as its last recorded call left it: a recording is of one device";
+    case PIC_SET_UP: return "the device was set up anew while it was watched, or another watches it";
     default: return pic_why(number);
     }
 }

@@ -25,7 +25,10 @@ enum {
     PIC_SOME = 118,      /* a drain with room for some events only */
     PIC_AGAIN = 119,     /* a reset: a trace has one, at its start */
     PIC_LOADED = 120,    /* a load */
-    PIC_STARTED = 121    /* there are records already, or the device is not as a reset leaves it: a trace begins there */
+    PIC_STARTED = 121,   /* there are records already, or the device is not as a reset leaves it: a trace begins there */
+    /* A recording is of one device, from its start on. */
+    PIC_COPIED = 122,    /* a copy of the device was called or put in its place, or calls were made while nobody watched */
+    PIC_SET_UP = 123     /* the device was set up anew (pic_init), or another watches it */
 };
 
 /* 96 KiB, so not for a small stack. All of it belongs to the functions below, but for stopped, which a host reads. */
@@ -35,12 +38,17 @@ struct pic_recorder {
     uint16_t plan[PCH_PIC_BLOCKS_MAX];    /* how many each is to have, where that is planned */
     size_t closed, planned;               /* blocks closed; blocks planned, 0 where they are closed as the day goes */
     size_t count, open, most;             /* records; those behind the last closed block; and how many there may be */
-    int file;                             /* where the day is kept as it goes, or -1 */
+    uint64_t before;                      /* records of the day's traces before this one (days.h) */
+    int file, times_file;                 /* where the day is kept as it goes, and its times; or -1 */
     int stopped;                          /* 0 while a watched device is recorded; else why it is no longer */
     int error;                            /* errno of a PIC_FILE that stopped it */
     uint64_t (*clock)(void *of);          /* tells the time of a record in nanoseconds, or NULL */
     void *clock_of;
     uint64_t times[PCH_PIC_RECORDS_MAX];  /* what it told of each record */
+    int (*more)(void *of);                /* asked where there is no room for a record: it begins the next trace; or NULL */
+    void *more_of;
+    const struct pic *device;             /* the one that is watched, or NULL */
+    uint64_t changes;                     /* that device's, as they have to be */
 };
 
 /* Begins a day whose blocks are closed as it goes: at most 4000 records in at most 64 blocks. */
@@ -64,6 +72,10 @@ int pic_recorder_save_times(const struct pic_recorder *recorder, const char *pat
  * whole. The file is made whole or not at all, and one that was there is replaced. */
 int pic_recorder_keep(struct pic_recorder *recorder, const char *path);
 
+/* Keeps the times of such a day too, where there is a clock: to path.times, each as its record is taken, just before it. So a day that is cut short has at least as
+ * many times as records. */
+int pic_recorder_keep_times(struct pic_recorder *recorder, const char *path);
+
 /* Takes one call. A read's and a write's window is that of the call itself: what is recorded is the offset, and a call that this window refuses is
  * taken only where playing gives the same refusal. room says how many bytes a drain's buffer has from its place on: 64 are a drain of all. */
 int pic_recorder_raise(struct pic_recorder *recorder, uint64_t input);
@@ -77,8 +89,20 @@ int pic_recorder_drain(struct pic_recorder *recorder, size_t room);
 int pic_recorder_close(struct pic_recorder *recorder);
 
 /* Records every call of a device from here on; it has to be as a reset leaves it. The calls are made as ever: what the recorder cannot take stops the
- * recording, and never the device. Then stopped says why, and what was recorded is the day up to there. NULL for pic->watch ends it too. */
+ * recording, and never the device. Then stopped says why, and what was recorded is the day up to there. NULL for pic->watch ends it too. A call of a copy of the
+ * device stops it, and so does a copy that was put in its place. Where a recording has stopped before its first record, as by a reset, it may be watched again. */
 int pic_recorder_watch(struct pic_recorder *recorder, struct pic *pic);
+
+/* Why the recording has stopped, or 0. A device that is set up anew forgets who watches it, so nobody is told of that: this looks at the device, which has to be
+ * there still, and it is PIC_SET_UP. Ask it at the end of a day. */
+int pic_recorder_stopped(struct pic_recorder *recorder);
+
+/* Takes a call as a watch is told of it: 0, or why it cannot. */
+int pic_recorder_call(struct pic_recorder *recorder, const struct pic *pic, const struct pic_call *call);
+
+/* Begins the next trace of a day: plan, clock and device stay, and so does what stopped it. It is played on what the one before left (pic_trace_play_on). What was not
+ * saved of that one is gone; its file has to be ended. days.h does all this. */
+void pic_recorder_next(struct pic_recorder *recorder);
 
 /* The trace of what was taken so far. A block that is open ends with its last record, and blocks that are planned and not begun are left out, so this is a
  * good trace at any time from the first record on; the recorder may go on. */

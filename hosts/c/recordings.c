@@ -551,6 +551,76 @@ static void a_recording_that_stops(void)
     }
 }
 
+/* A recording is of one device: a call of a copy ends it, and so does a copy that is put back; the device's own calls do not. */
+static void a_device_that_is_copied(void)
+{
+    struct pic pic, copy;
+    struct pic_event event;
+    uint64_t value;
+    for (int way = 0; way < 4; way++) {
+        pic_recorder_begin(&recorder);
+        expect("watched", pic_init(&pic, BASE) == 0 && pic_recorder_watch(&recorder, &pic) == 0 && pic_level(&pic, 7, true, &event) == 0);
+        copy = pic;
+        expect("a copy that is not called changes nothing", pic_level(&pic, 9, true, &event) == 0 && recorder.count == 2 && pic_recorder_stopped(&recorder) == 0);
+        if (way == 0) {
+            copy = pic;
+            expect("a copy goes on", pic_level(&copy, 8, true, &event) == 0);
+        } else if (way == 1) {
+            expect("by itself, with a read", pic_read(&copy, BASE, 4, &value) == 0);
+        } else if (way == 2) {
+            pic = copy;
+            expect("one that is put back is the device", pic_poll(&pic, 7, &event) == 0);
+        } else {
+            pic.watch = NULL;
+            expect("calls that nobody is told of", pic_level(&pic, 3, true, &event) == 0);
+            pic.watch = copy.watch;
+            expect("are not gone on from", pic_level(&pic, 4, true, &event) == 0);
+        }
+        expect("the recording has ended, and says why", recorder.stopped == PIC_COPIED && recorder.count == 2 && pic_recorder_stopped(&recorder) == PIC_COPIED);
+    }
+    pic_recorder_begin(&recorder);
+    expect("a copy put back behind reads alone", pic_init(&pic, BASE) == 0 && pic_recorder_watch(&recorder, &pic) == 0 && pic_level(&pic, 7, true, &event) == 0);
+    copy = pic;
+    expect("is as the device was", pic_read(&pic, BASE, 4, &value) == 0 && (pic = copy, pic_level(&pic, 8, true, &event)) == 0 && recorder.stopped == 0 && recorder.count == 3);
+}
+
+/* A device that is set up anew forgets who watched it, and the recorder sees that when it is asked. */
+static void a_device_that_is_set_up(void)
+{
+    static struct pic_recorder other;
+    struct pic pic;
+    struct pic_event event;
+    pic_recorder_begin(&recorder);
+    expect("watched", pic_init(&pic, BASE) == 0 && pic_recorder_watch(&recorder, &pic) == 0 && pic_level(&pic, 7, true, &event) == 0 && pic_recorder_stopped(&recorder) == 0);
+    expect("set up anew", pic_init(&pic, BASE) == 0 && pic_level(&pic, 8, true, &event) == 0);
+    expect("is told", pic_recorder_stopped(&recorder) == PIC_SET_UP && recorder.stopped == PIC_SET_UP && recorder.count == 1);
+    pic_recorder_begin(&recorder);
+    pic_recorder_begin(&other);
+    expect("another that watches it", pic_init(&pic, BASE) == 0 && pic_recorder_watch(&recorder, &pic) == 0 && pic_recorder_watch(&other, &pic) == 0);
+    expect("is told too", pic_recorder_stopped(&recorder) == PIC_SET_UP && pic_recorder_stopped(&other) == 0);
+    pic.watch = NULL;
+    expect("NULL ends it, and is no fault", pic_level(&pic, 8, true, &event) == 0 && pic_recorder_stopped(&other) == 0 && other.count == 0);
+    pic_recorder_begin(&recorder);
+    expect("without a device there is nothing to see", pic_recorder_stopped(&recorder) == 0);
+}
+
+/* Behind a reset a day may begin anew, whatever ended the one before. */
+static void watched_again(void)
+{
+    struct pic pic;
+    struct pic_event event;
+    size_t len = 0;
+    pic_recorder_begin(&recorder);
+    expect("watched", pic_init(&pic, BASE) == 0 && pic_recorder_watch(&recorder, &pic) == 0);
+    expect("a reset before the first record ends it", pic_reset(&pic) == 0 && recorder.stopped == PIC_AGAIN);
+    expect("and it may be watched again", pic_recorder_watch(&recorder, &pic) == 0 && recorder.stopped == 0 && pic_level(&pic, 5, true, &event) == 0 && recorder.count == 1);
+    expect("with records it is not", pic_reset(&pic) == 0 && recorder.stopped == PIC_AGAIN && pic_recorder_watch(&recorder, &pic) == PIC_STARTED);
+    pic_recorder_begin(&recorder);
+    expect("begun anew it hears nothing", pic_level(&pic, 5, true, &event) == 0 && recorder.count == 0 && pic_reset(&pic) == 0);
+    expect("until it watches", pic_recorder_watch(&recorder, &pic) == 0 && pic_level(&pic, 6, true, &event) == 0 && recorder.count == 1 && recorder.stopped == 0);
+    expect("and that is the day", pic_recorder_finish(&recorder, trace, &len) == 0 && pic_trace_play(trace, len, &played, NULL) == 0 && memcmp(played.image, pic.image, IMAGE_LEN) == 0);
+}
+
 /* The numbers of a recorded day: one input that waits for its unmask and one that is lowered before. */
 static void a_sheet(void)
 {
@@ -660,11 +730,11 @@ static void holes(void)
 
 static void texts(void)
 {
-    for (int number = PIC_FULL; number <= PIC_STARTED; number++) {
+    for (int number = PIC_FULL; number <= PIC_SET_UP; number++) {
         expect("each number has its text", strcmp(pic_recorder_why(number), "unknown number") != 0);
     }
     expect("so have those of the library", strcmp(pic_recorder_why(PCH_PIC_RECORD), pch_pic_why(13)) == 0);
-    expect("and no other", strcmp(pic_recorder_why(PIC_STARTED + 1), "unknown number") == 0 && strcmp(pch_pic_why(99), "unknown number") == 0);
+    expect("and no other", strcmp(pic_recorder_why(PIC_SET_UP + 1), "unknown number") == 0 && strcmp(pch_pic_why(99), "unknown number") == 0);
 }
 
 int main(int argc, char **argv)
@@ -685,6 +755,9 @@ int main(int argc, char **argv)
     a_watched_device();
     a_watched_hoist();
     a_recording_that_stops();
+    a_device_that_is_copied();
+    a_device_that_is_set_up();
+    watched_again();
     a_sheet();
     times();
     holes();

@@ -1,0 +1,224 @@
+/* What is left of a damaged day: all that comes before the first damage, as a day of its own. It is the day, exactly, as far as it goes. */
+#define _POSIX_C_SOURCE 200809L
+#include "days_list.h"
+
+#include <errno.h>
+#include <string.h>
+#include <sys/stat.h>
+
+enum { TIME_LEN = 8 };
+
+static bool same_folder(const char *path, const struct stat *as)
+{
+    struct stat found;
+    return stat(path, &found) == 0 && found.st_dev == as->st_dev && found.st_ino == as->st_ino;
+}
+
+/* Whether a path is that folder or in it, be it there or not: its folder and those above are looked at, up to the root. */
+static bool inside(const char *path, const struct stat *folder)
+{
+    char up[PIC_DAY_PATH];
+    struct stat here, above;
+    size_t len = strlen(path);
+    if (same_folder(path, folder)) {
+        return true;
+    }
+    while (len > 0 && path[len - 1] == '/') {
+        len--;
+    }
+    while (len > 0 && path[len - 1] != '/') {
+        len--;
+    }
+    snprintf(up, sizeof up, "%.*s", (int)len, path);
+    if (len == 0) {
+        strcpy(up, ".");
+    }
+    for (size_t end = strlen(up); end + 4 < sizeof up && stat(up, &here) == 0; end += 3) {
+        if (here.st_dev == folder->st_dev && here.st_ino == folder->st_ino) {
+            return true;
+        }
+        strcpy(up + end, "/..");
+        if (stat(up, &above) != 0 || (above.st_dev == here.st_dev && above.st_ino == here.st_ino)) {
+            break;
+        }
+    }
+    return false;
+}
+
+/* Whether so many times go on from those before. Lost power may leave zeros in the place of times, and in a trace that was open none is taken for a time. */
+static bool times_go_on(struct pic_day_kept *kept, size_t records, bool open)
+{
+    uint64_t last = kept->time;
+    for (size_t record = 0; record < records; record++) {
+        uint64_t time = 0;
+        for (size_t i = TIME_LEN; i > 0; i--) {
+            time = time << 8 | kept->times[TIME_LEN * record + i - 1];
+        }
+        if (time < last || (open && time == 0)) {
+            return false;
+        }
+        last = time;
+    }
+    kept->time = last;
+    return true;
+}
+
+/* The times beside a trace, for so many records of it; NULL where there are none. A trace that is good has just as many, and one that was open at least. */
+static const uint8_t *times_of(struct pic_day_kept *kept, const char *trace, size_t records, bool open)
+{
+    char name[PIC_DAY_PATH + 8];
+    snprintf(name, sizeof name, "%s.times", trace);
+    FILE *file = fopen(name, "rb");
+    if (file == NULL) {
+        kept->untimed += errno != ENOENT;
+        return NULL;
+    }
+    size_t len = fread(kept->times, 1, sizeof kept->times, file);
+    bool more = getc(file) != EOF, right = open ? len >= TIME_LEN * records : len == TIME_LEN * records && !more;
+    fclose(file);
+    right = right && times_go_on(kept, records, open);
+    kept->untimed += !right;
+    return right ? kept->times : NULL;
+}
+
+/* Takes the last trace that was kept to the new day. What is missing behind it stands beside it first. */
+static int add(struct pic_day_kept *kept, const uint8_t *times)
+{
+    uint64_t records = kept->day.records;
+    char path[PIC_DAY_PATH];
+    if (kept->holes.count > 0) {
+        int number = pic_day_name(kept->day.folder, kept->day.traces + 1, path) ? pic_holes_save(path, &kept->last, &kept->holes) : PIC_FILE;
+        if (number != PCH_PIC_DONE) {
+            return number;
+        }
+    }
+    int number = pic_day_add(&kept->day, kept->last.trace, kept->last.len, times);
+    kept->before = number == PCH_PIC_DONE ? records : kept->before;
+    return number;
+}
+
+/* Of a trace what comes before its first hole, known or found; nothing is added where there is nothing. */
+static int add_lead(struct pic_day_kept *kept, const char *folder, unsigned number, size_t len, bool open)
+{
+    char path[PIC_DAY_PATH], cause[PIC_TEXT_LEN];
+    struct pic_holes holes;
+    pic_day_name(folder, number, path);
+    int got = pic_holes_load(path, kept->trace, len, &holes);
+    if (got != PCH_PIC_DONE) {
+        pic_day_wrong(kept->text, "%05u.trace.holes: %s", number, pic_holes_why(got));
+        return PCH_PIC_DONE;
+    }
+    got = pic_trace_lead(kept->trace, open ? pic_trace_fill(kept->trace, len) : len, &kept->last, &holes);
+    if (got != PCH_PIC_DONE) {
+        bool known = got == PCH_PIC_TRACE && pic_trace_cause(kept->trace, len, cause);
+        pic_day_wrong(kept->text, "%05u.trace has no whole record%s%s", number, known ? ": " : "", known ? cause : "");
+        return PCH_PIC_DONE;
+    }
+    kept->holes = holes;
+    if (holes.count > 0) {
+        pic_day_wrong(kept->text, "%05u.trace has %zu whole records before its first hole", number, pic_trace_records(kept->last.trace));
+    }
+    return add(kept, times_of(kept, path, pic_trace_records(kept->last.trace), open));
+}
+
+/* What the list names, up to the first trace that is not as it says; lost gets the records of those from there on. */
+static int add_listed(struct pic_day_kept *kept, const char *folder, FILE *list, uint64_t *lost)
+{
+    struct pic_day_line line;
+    unsigned traces = 0;
+    uint64_t records = 0;
+    size_t len = 0;
+    int number = PCH_PIC_DONE;
+    enum pic_day_met met = pic_day_list_next(list, traces, records, &line);
+    for (; number == PCH_PIC_DONE && met == PIC_DAY_TRACE_LINE; met = pic_day_list_next(list, traces, records, &line)) {
+        traces++;
+        records += line.records;
+        if (kept->text[0] == 0 && pic_day_listed(folder, traces, &line, kept->trace, &len, kept->text) == PCH_PIC_DONE) {
+            number = add_lead(kept, folder, traces, len, false);
+        }
+    }
+    if (number == PCH_PIC_DONE && met == PIC_DAY_BAD_LINE && kept->text[0] == 0) {
+        pic_day_wrong(kept->text, "day.list, line %u: it is not the line of trace %u, nor the right end of the list", traces + 2, traces + 1);
+    }
+    kept->ended = met == PIC_DAY_END_LINE;
+    kept->more = !kept->ended && kept->text[0] != 0;
+    *lost = records - kept->day.records + (met == PIC_DAY_BAD_LINE);
+    return number;
+}
+
+/* The trace that was open when a day was not ended. Where something before it is damaged already, its records are lost. */
+static int add_open(struct pic_day_kept *kept, const char *folder, uint64_t *lost)
+{
+    char path[PIC_DAY_PATH], cause[PIC_TEXT_LEN], text[PIC_DAY_TEXT];
+    bool open = false;
+    size_t len = 0;
+    unsigned traces = kept->day.traces;
+    pic_day_scan(folder, traces, false, &open, text);
+    if (!open || !pic_day_name(folder, traces + 1, path)) {
+        return PCH_PIC_DONE;
+    }
+    if (pic_trace_load(path, kept->trace, &len) == PIC_FILE) {
+        pic_day_wrong(kept->text, "%05u.trace: %s", traces + 1, strerror(errno));
+        *lost = 1;
+        return PCH_PIC_DONE;
+    }
+    int number = add_lead(kept, folder, traces + 1, len, true);
+    if (number == PCH_PIC_DONE && kept->text[0] != 0 && kept->holes.count == 0) {
+        *lost = pic_trace_cause(kept->trace, pic_trace_fill(kept->trace, len), cause) ? 1 : pic_trace_records(kept->trace);
+    }
+    return number;
+}
+
+/* What was lost behind a trace that was kept whole stands beside it too. */
+static int tell_lost(struct pic_day_kept *kept, uint64_t lost)
+{
+    char path[PIC_DAY_PATH];
+    if (lost == 0 || kept->holes.count > 0) {
+        return PCH_PIC_DONE;
+    }
+    size_t records = pic_trace_records(kept->last.trace);
+    struct pic_hole hole = {records, records, records + (size_t)lost - 1, ""};
+    snprintf(hole.why, sizeof hole.why, "%s%.*s", kept->more ? "or more; " : "", PIC_TEXT_LEN - 10, kept->text);
+    kept->holes.count = 1;
+    kept->holes.of[0] = hole;
+    return pic_day_name(kept->day.folder, kept->day.traces, path) ? pic_holes_save(path, &kept->last, &kept->holes) : PIC_FILE;
+}
+
+static int keep(struct pic_day_kept *kept, const char *folder, FILE *list)
+{
+    uint64_t lost = 0;
+    int number = add_listed(kept, folder, list, &lost);
+    if (number == PCH_PIC_DONE && kept->text[0] == 0 && !kept->ended) {
+        number = add_open(kept, folder, &lost);
+    }
+    if (number == PCH_PIC_DONE && kept->day.traces == 0) {
+        return kept->text[0] != 0 ? PIC_NO_DAY : pic_day_wrong(kept->text, "there is no trace in it yet");
+    }
+    number = number == PCH_PIC_DONE ? tell_lost(kept, lost) : number;
+    kept->ended = kept->ended && kept->text[0] == 0;
+    return number == PCH_PIC_DONE && kept->ended ? pic_day_end(&kept->day) : number;
+}
+
+int pic_day_salvage(const char *folder, const char *to, struct pic_day_kept *kept)
+{
+    struct stat from;
+    FILE *list;
+    memset(kept, 0, sizeof *kept);
+    int number = pic_day_list_open(folder, &list, kept->text);
+    if (number != PCH_PIC_DONE) {
+        return number == PIC_FILE ? pic_day_wrong(kept->text, "%s", strerror(errno)) : number;
+    }
+    number = stat(folder, &from) == 0 && inside(to, &from) ? PIC_INSIDE : pic_day_begin(&kept->day, to, 0);
+    if (number == PCH_PIC_DONE) {
+        number = keep(kept, folder, list);
+        int why = errno;
+        if (number == PCH_PIC_DONE) {
+            pic_day_leave(&kept->day);
+        } else {
+            pic_day_undo(&kept->day);
+        }
+        errno = why;
+    }
+    fclose(list);
+    return number;
+}
