@@ -105,6 +105,7 @@
   function widen(by, record) {
     zoom = Math.max(1, Math.min(zoom * by, Math.max(1, Math.ceil(Math.min(24 * records, 4e6) / scroller.clientWidth))));
     picture.style.width = zoom * 100 + "%";
+    picture.style.setProperty("--wide", zoom);
     document.querySelector(".zoom output").textContent = zoom === 1 ? "whole day" : Math.round(10 * zoom) / 10 + " times";
     show(record);
   }

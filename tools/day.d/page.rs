@@ -201,7 +201,8 @@ fn told(day: &Day) -> String {
 
 pub fn page(asked: &Asked, day: &mut Day, source: &mut dyn Source) -> Result<String, String> {
     let picture = drawn(day);
-    let (day, listed) = (&*day, listed(asked, day));
+    let (day, findings) = (&*day, findings::section(asked, day));
+    let listed = listed(asked, day, ROOM.saturating_sub(picture.len() + findings.len()) / LINE);
     let total = day.sheet.total();
     let all = listed.len() == day.part.len();
     let records = plural(day.part.len(), "record", "records");
@@ -224,7 +225,7 @@ pub fn page(asked: &Asked, day: &mut Day, source: &mut dyn Source) -> Result<Str
         ("names", names(asked, day)),
         ("picture", picture),
         ("ends", if day.traces.len() == 1 { "" } else { ENDS }.to_string()),
-        ("findings", findings::section(asked, day)),
+        ("findings", findings),
         ("title", escaped(&asked.title)),
         ("traces", traces(day)),
         ("all", escaped(&lines(day, &listed, source)?)),
@@ -240,14 +241,17 @@ const ENDS: &str = "<li><svg class=\"key\"><path class=\"ends\" d=\"M16 0v16\"/>
 const LINES: usize = 4000;
 /// How far around a place.
 const AROUND: usize = 12;
+/// The bytes that a page of several traces has for picture, findings and lines, and how many of them a line takes, as a rule.
+const ROOM: usize = 2_800_000;
+const LINE: usize = 130;
 
-/// The records that the page has as text: all, or on a long day the first and the last ones, and those around what stands out.
-fn listed(asked: &Asked, day: &Day) -> Vec<usize> {
-    let part = &day.part;
-    if day.unit == 1 && part.len() <= 4 * LINES {
+/// The records that the page has as text: all, or on a long day the first and the last ones, and those around what stands out, as far as there is room for lines.
+fn listed(asked: &Asked, day: &Day, room: usize) -> Vec<usize> {
+    let (part, one) = (&day.part, day.is_one());
+    if day.unit == 1 && part.len() <= 4 * LINES && (one || part.len() <= room) {
         return part.clone().collect();
     }
-    let most = LINES.min((part.len() / day.unit).max(200));
+    let most = LINES.min(if one { (part.len() / day.unit).max(200) } else { room });
     let around = |record: usize| record.saturating_sub(AROUND).max(part.start)..(record + AROUND + 1).min(part.end);
     let mut listed = BTreeSet::new();
     for record in [part.start, part.end - 1].into_iter().chain(findings::places(asked, day)).flat_map(around) {
@@ -285,6 +289,11 @@ fn steps(asked: &Asked, day: &Day, all: bool) -> String {
     } else {
         format!(" A step of the picture is {} records: what was in one of them is drawn in all of the step.", counted(day.unit))
     };
+    let rows = if day.unit == 1 {
+        ""
+    } else {
+        " Marks stand in rows of their own, so that none hides another: dropped asserts above the waits, dropped deasserts on the latch, withdrawn waits at the foot of the lane."
+    };
     let exact = if day.unit > 1 && !day.is_one() {
         " tools/day --from N --to M draws a part of the day, record by record where it is short."
     } else {
@@ -295,7 +304,7 @@ fn steps(asked: &Asked, day: &Day, all: bool) -> String {
         false if day.is_one() => " As text it has the records around what stands out; ./run --play prints all.".into(),
         false => format!(" As text it has the records around what stands out; ./run --play {} prints all.", escaped(&asked.play)),
     };
-    step + exact + &left
+    step + &left + rows + exact
 }
 
 /// A text with each `[name]` replaced by its part. What the parts themselves have in brackets stays.

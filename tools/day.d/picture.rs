@@ -4,7 +4,7 @@
 //! do not grow with it. A run of records is a piece of a path, so a lane has a handful of elements, however long the day is. Where even the pieces are too many, a step
 //! of the picture is several records, and what was in one of them is drawn in all of the step.
 
-use crate::lanes::{Day, Lane, Run, ends};
+use crate::lanes::{Day, Lane, Run, ends, push_step};
 use crate::text::counted;
 use pch_pic::EVENTS;
 use std::fmt::Write;
@@ -49,9 +49,10 @@ fn write_lane(out: &mut String, day: &Day, lane: &Lane, top: usize) {
     path(out, "latched", &boxes(&day.drawn(&lane.latched), LATCH.0, LATCH.1));
     path(out, "served", &boxes(&day.drawn(&lane.served), BAND.0, BAND.1));
     let waits = &lane.boxes;
-    // What was withdrawn or is open is over the limit by its edge alone.
-    for (class, runs) in [("wait", &waits.wait), ("over", &waits.over), ("gone", &waits.gone), ("open", &waits.open), ("edge", &waits.edge)]
-    {
+    // What was withdrawn or is open is over the limit by its edge alone. Where a step has several records, boxes may lie on each other, and those with no mark of their own come last.
+    let mut kinds = [("wait", &waits.wait), ("over", &waits.over), ("gone", &waits.gone), ("open", &waits.open), ("edge", &waits.edge)];
+    kinds[1..4].rotate_left(usize::from(day.unit > 1));
+    for (class, runs) in kinds {
         path(out, class, &boxes(&day.drawn(runs), BAND.0, BAND.1));
     }
     let middle = BAND.0 + BAND.1 / 2;
@@ -59,17 +60,21 @@ fn write_lane(out: &mut String, day: &Day, lane: &Lane, top: usize) {
     out.push_str("</g>\n");
 }
 
-/// So many crosses are drawn as such at most: each is an element of its own, and thousands of them make a page slow. More are drawn as dots in one path.
+/// So many crosses are drawn as such at most: each is an element of its own, and thousands of them make a page slow.
 const CROSSES: usize = 1500;
 
-fn crosses(day: &Day) -> bool {
-    day.lanes.iter().map(|lane| lane.crosses.len()).sum::<usize>() <= CROSSES
+/// Whether marks stand in rows of their own, as small dots in one path each: where a step has several records, or there are too many crosses. So none hides another, nor a wait.
+fn in_rows(day: &Day) -> bool {
+    day.unit > 1 || (!day.is_plain() && day.lanes.iter().map(|lane| lane.crosses.len()).sum::<usize>() > CROSSES)
 }
+
+/// The rows of a lane: dropped asserts above the waits, dropped deasserts on the latch, withdrawn waits at the foot.
+const ROWS: [usize; 3] = [2, 22, 27];
 
 /// What keeps its size: the numbers and marks of waits.
 fn write_marks(out: &mut String, day: &Day, lane: &Lane, top: usize) {
     let middle = top + BAND.0 + BAND.1 / 2;
-    for record in lane.crosses.iter().filter(|_| crosses(day)) {
+    for record in lane.crosses.iter().filter(|_| !in_rows(day)) {
         let _ = writeln!(out, "<use href=\"#gone\" x=\"{}\" y=\"{middle}\"/>", across(*record, day));
     }
     if lane.open.is_some() && day.part.end == day.records {
@@ -98,6 +103,8 @@ fn write_axis(out: &mut String, day: &Day) {
         let x = across(record, day);
         // At the day's end a number stands left of its tick, so that it is not cut.
         let side = if day.place(record) * 20 > day.part.len() * 19 { " end" } else { "" };
+        // Where numbers are long, a narrow window has one of three.
+        let side = if !day.is_plain() && record / step % 3 != 0 { format!("{side} more") } else { side.into() };
         let _ = writeln!(
             out,
             "<line class=\"tick\" x1=\"{x}\" x2=\"{x}\" y1=\"{}\" y2=\"{AXIS}\"/><text class=\"at{side}\" x=\"{x}\" y=\"14\">{}</text>",
@@ -128,18 +135,25 @@ fn write_ring(out: &mut String, day: &Day) {
 /// Dropped events: a piece of no length with round ends is a dot, whatever the width of the day. Of a deassert it is a ring, with the ground in its middle.
 fn write_dots(out: &mut String, day: &Day, lane: &Lane, top: usize) {
     let middle = top + BAND.0 + BAND.1 / 2;
-    let dots = |steps: &[usize]| steps.iter().map(|step| format!("M{}.5 {middle}h0", day.place(*step))).collect::<String>();
-    if !crosses(day) {
-        path(out, "taken", &dots(&lane.crosses));
+    let dots = |steps: &[usize], y: usize| steps.iter().map(|step| format!("M{}.5 {y}h0", day.place(*step))).collect::<String>();
+    let rows = in_rows(day);
+    let [above, latch, foot] = if rows { ROWS.map(|row| top + row) } else { [middle; 3] };
+    let (asserts, deasserts) = (dots(&lane.unannounced, above), dots(&lane.left_on, latch));
+    if rows {
+        out.push_str("<g class=\"rows\">\n");
+        path(out, "taken", &dots(&lane.crosses, foot));
+    } else {
+        path(out, "halo", &format!("{asserts}{deasserts}"));
     }
-    let (asserts, deasserts) = (dots(&lane.unannounced), dots(&lane.left_on));
-    path(out, "halo", &format!("{asserts}{deasserts}"));
     for (class, dots) in [("drop", &asserts), ("left", &deasserts)] {
         if !dots.is_empty() {
             let _ = writeln!(out, "<path class=\"{class}\" data-input=\"{}\" d=\"{dots}\"/>", lane.input);
         }
     }
     path(out, "core", &deasserts);
+    if rows {
+        out.push_str("</g>\n");
+    }
 }
 
 /// A hole is a heavy line, with what is lost above it; what comes behind the first one is washed out, as far as there is something.
@@ -166,30 +180,27 @@ fn write_holes(out: &mut String, day: &Day, height: usize) {
     }
 }
 
-/// So many ends of traces are drawn through all lanes at most, and so many are told by their number; more go through the ring's lane alone.
+/// More ends of traces than these are drawn faintly, and more clearly as the day is drawn wider; and so many are told by their number.
 const ENDS: usize = 40;
 const NUMBERED: usize = 12;
 
 /// Where the traces of the day begin, but for the first: a line, and which one it is.
 fn write_ends(out: &mut String, day: &Day, height: usize) {
-    let starts: Vec<(usize, usize)> = day
-        .traces
-        .iter()
-        .enumerate()
-        .skip(1)
-        .map(|(at, told)| (at + 1, told.first))
-        .filter(|(_, first)| day.part.contains(first))
-        .collect();
-    let foot = if starts.len() <= ENDS { height } else { AXIS + RING };
+    let starts = day.traces.iter().enumerate().skip(1).map(|(at, told)| (at + 1, told.first));
+    let starts: Vec<(usize, usize)> = starts.filter(|(_, first)| day.part.contains(first)).collect();
     let mut drawn = Vec::new();
-    starts.iter().for_each(|(_, first)| crate::lanes::push_step(&mut drawn, day.unit, *first));
-    let d: String = drawn.iter().map(|first| format!("M{} {AXIS}V{foot}", day.place(*first))).collect();
-    if !d.is_empty() {
+    starts.iter().for_each(|(_, first)| push_step(&mut drawn, day.unit, *first));
+    let down = |foot: usize| drawn.iter().map(|first| format!("M{} {AXIS}V{foot}", day.place(*first))).collect::<String>();
+    if !drawn.is_empty() {
+        let class = if drawn.len() <= ENDS { "ends" } else { "ends many" };
         let _ = writeln!(
             out,
-            "<svg width=\"100%\" height=\"{height}\" viewBox=\"0 0 {} {height}\" preserveAspectRatio=\"none\"><path class=\"ends\" d=\"{d}\"/></svg>",
+            "<svg width=\"100%\" height=\"{height}\" viewBox=\"0 0 {} {height}\" preserveAspectRatio=\"none\">",
             day.part.len()
         );
+        path(out, class, &down(height));
+        path(out, "ends", &down(AXIS + 5));
+        out.push_str("</svg>\n");
     }
     for (number, first) in starts.iter().filter(|_| starts.len() <= NUMBERED) {
         let _ = writeln!(out, "<text class=\"of\" x=\"{}\" y=\"{}\">trace {number}</text>", across(*first, day), AXIS + 24);

@@ -77,9 +77,9 @@ impl Bench {
     fn next(&mut self) -> Record {
         while self.pending.is_empty() {
             self.lifts += 1;
-            self.pending = match self.lifts % 400 {
+            self.pending = match self.lifts % 9000 {
                 0 => self.storm(),
-                lift if lift % 50 == 0 => self.late(),
+                lift if lift % 400 == 60 => self.late(),
                 _ => self.sample(),
             };
             self.pending.reverse();
