@@ -69,7 +69,7 @@
 //! as they are made, and [`Recorder`] takes calls one by one. [`DayRecorder`] goes on with the next trace when one is full: a day of any length is a folder of them.
 //! Of a damaged trace [`holes::lead`] keeps what comes before the first hole, which is the day;
 //! [`Trace::salvage`] keeps every whole block, and what comes behind a hole does not play as the day did. [`Trace::sheet`] counts the day in ten exact numbers for
-//! each input, and [`Trace::history`] tells where in the day they come from. A [`Tally`] counts a day that is longer than one trace. They are there with
+//! each input, and [`Trace::history`] tells where in the day they come from. A [`Tally`] counts a day that is longer than one trace, and [`day`] reads such a day from its folder. They are there with
 //! feature `std`.
 //!
 //! # What does the work
@@ -118,6 +118,8 @@ mod contents;
 #[cfg(feature = "std")]
 mod cut;
 #[cfg(feature = "std")]
+pub mod day;
+#[cfg(feature = "std")]
 pub mod days;
 mod device;
 mod error;
@@ -134,6 +136,8 @@ pub mod history;
 mod hoist;
 #[cfg(feature = "std")]
 pub mod holes;
+#[cfg(feature = "std")]
+pub mod list;
 mod outcome;
 #[cfg(all(feature = "plain", not(feature = "archive")))]
 #[rustfmt::skip]
