@@ -7,7 +7,7 @@
 //! `bench_days DAY FOLDER/` records it into a folder, which has room for a day of any length: a name that ends in `/`, or a folder that is there and empty. Then `long` has as
 //! many lifts as make 20,000 records, or so many as a third word says.
 
-use pch_pic::days::BLOCK;
+use pch_pic::day_recorder::BLOCK;
 use pch_pic::{reg, DayRecorder, Error, Event, PchPic, RecordError, Recorded, Recorder, Recording, Width, Window, EVENTS};
 use std::ffi::{OsStr, OsString};
 use std::path::Path;

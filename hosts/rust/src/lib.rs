@@ -120,7 +120,7 @@ mod cut;
 #[cfg(feature = "std")]
 pub mod day;
 #[cfg(feature = "std")]
-pub mod days;
+pub mod day_recorder;
 mod device;
 mod error;
 mod event;
@@ -161,7 +161,7 @@ pub use access::{Width, Window};
 pub use board::Board;
 pub use built::{built, linked_version, version, Built};
 #[cfg(feature = "std")]
-pub use days::DayRecorder;
+pub use day_recorder::DayRecorder;
 pub use device::PchPic;
 pub use error::Error;
 pub use event::{difference, Event, Events, Returned};

@@ -1,11 +1,12 @@
 //! A day recorded as a trace, call by call.
 
+use crate::day::times_beside;
 use crate::trace::{contents_len, contents_of};
 use crate::{cut, replace, Record, Trace, Width, Window, BLOCKS_MAX, EVENTS, PLAYED, RECORDS_MAX, RECORD_LEN, TRACE_MAX};
 use core::fmt;
 use std::fs::File;
 use std::io::{self, Seek, SeekFrom, Write};
-use std::path::{Path, PathBuf};
+use std::path::Path;
 use std::sync::OnceLock;
 use std::time::Instant;
 
@@ -63,7 +64,7 @@ impl fmt::Display for RecordError {
             RecordError::Again => "no record can say it: a reset",
             RecordError::Loaded => "no record can say it: a load",
             RecordError::Started => "the device or the recorder is not at its start, and a trace begins with a reset",
-            RecordError::NotEmpty => "the folder is not empty, and a day is never overwritten",
+            RecordError::NotEmpty => "there is something in the folder already, and a day is never written over",
             RecordError::Ended => "the day was ended",
         })
     }
@@ -503,13 +504,6 @@ impl Recorder {
         debug_assert!(bytes.len() <= TRACE_MAX);
         Ok(Trace::try_from(bytes).expect("what a recorder takes is a good trace"))
     }
-}
-
-/// The name of a trace's times.
-pub(crate) fn times_beside(path: &Path) -> PathBuf {
-    let mut name = path.as_os_str().to_owned();
-    name.push(".times");
-    name.into()
 }
 
 /// Each time from the start of the file: of bytes that were written in part nothing may stay between two others.

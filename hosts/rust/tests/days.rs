@@ -1,7 +1,7 @@
 //! Days of any length in a folder: what is there afterwards, what is refused, and a guest that is written once for every device, counted call by call.
 #![cfg(feature = "std")]
 
-use pch_pic::days::BLOCK;
+use pch_pic::day_recorder::BLOCK;
 use pch_pic::sheet::LongRow;
 use pch_pic::{
     monotonic, reg, DayRecorder, Device, Error, Event, Form, GuestDevice, Hoist, Image, PchPic, Phase, Record, RecordError, Recordable,

@@ -145,13 +145,13 @@ fn columns() {
     assert_eq!(header["LONG_ROW_LEN"], 8 * COLUMNS.len() as u64);
 }
 
-/// What a recorder refuses has one text in both hosts.
+/// What a recorder refuses has one text in both hosts. In Rust no device is copied or set up anew while it is recorded: its recorder owns it.
 #[cfg(feature = "std")]
 #[test]
 fn recorders() {
-    use pch_pic::RecordError::{Again, Blocks, Byte, Empty, Full, Loaded, Offset, Plan, Planned, Refused, Some as Few, Started};
-    let source = include_str!("../../c/recorder.c");
-    let told = source.lines().filter_map(|line| line.trim().strip_prefix("case PIC_")?.split_once(": return \""));
+    use pch_pic::RecordError::{Again, Blocks, Byte, Empty, Full, Loaded, NotEmpty, Offset, Plan, Planned, Refused, Some as Few, Started};
+    let sources = [include_str!("../../c/recorder.c"), include_str!("../../c/days.c")];
+    let told = sources.iter().flat_map(|source| source.lines()).filter_map(|line| line.trim().strip_prefix("case PIC_")?.split_once(": return \""));
     let told: HashMap<_, _> = told.filter_map(|(name, rest)| Some((name, rest.strip_suffix("\";")?.to_string()))).collect();
     let ours = [
         ("FULL", Full),
@@ -166,8 +166,11 @@ fn recorders() {
         ("AGAIN", Again),
         ("LOADED", Loaded),
         ("STARTED", Started),
+        ("OCCUPIED", NotEmpty),
     ];
-    assert_eq!(told.len(), ours.len());
+    let in_c_alone = ["COPIED", "SET_UP", "NO_DAY", "INSIDE"];
+    assert!(in_c_alone.iter().all(|name| told.contains_key(name)));
+    assert_eq!(told.len(), ours.len() + in_c_alone.len());
     for (name, error) in ours {
         assert_eq!(told[name], error.to_string(), "{name}");
     }

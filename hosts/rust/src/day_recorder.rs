@@ -5,7 +5,7 @@
 //! trace.
 //!
 //! ```
-//! use pch_pic::days::BLOCK;
+//! use pch_pic::day_recorder::BLOCK;
 //! use pch_pic::{reg, DayRecorder, GuestDevice, Recorded, Trace, Width, Window};
 //!
 //! # let home = std::env::temp_dir().join(format!("pch-pic-days-{}", std::process::id()));
@@ -44,18 +44,15 @@
 //! A day that is [held](DayRecorder::held) has its open trace in memory, and writes it when it is full or ended. There a lost process loses the open trace, and so does
 //! a recorder that is dropped before [`end`](DayRecorder::end).
 
-use crate::recorder::{sealed::Sealed, times_beside};
-use crate::{cut, holes, replace, Record, RecordError, Recorder, Recording, BLOCKS_MAX, RECORDS_MAX};
+use crate::day::times_beside;
+use crate::recorder::sealed::Sealed;
+use crate::{cut, holes, list, replace, Record, RecordError, Recorder, Recording, BLOCKS_MAX, RECORDS_MAX};
 use std::fs::{self, File, OpenOptions};
 use std::io::{self, Seek, SeekFrom, Write};
 use std::path::{Path, PathBuf};
 
 /// The records of a block where nothing speaks for another number: a trace then has 62 of them.
 pub const BLOCK: u16 = 64;
-
-/// The list of a day's traces, and its first line.
-const LIST: &str = "day.list";
-const HEAD: &str = "pch-pic day 1\n";
 
 /// The number of a trace has five digits.
 const TRACES_MAX: usize = 99_999;
@@ -128,12 +125,12 @@ fn empty_folder(folder: &Path) -> Result<PathBuf, RecordError> {
 
 /// The list with its first line. Of two that begin a day in one folder at once, one makes it.
 fn new_list(folder: &Path) -> Result<File, RecordError> {
-    let mut list = match OpenOptions::new().write(true).create_new(true).open(folder.join(LIST)) {
+    let mut list = match OpenOptions::new().write(true).create_new(true).open(folder.join(list::NAME)) {
         Err(why) if why.kind() == io::ErrorKind::AlreadyExists => return Err(RecordError::NotEmpty),
         opened => opened?,
     };
     cut::between();
-    list.write_all(HEAD.as_bytes())?;
+    list.write_all(format!("{}\n", list::HEAD).as_bytes())?;
     list.sync_all()?;
     cut::synced(&list);
     replace::sync_folder(folder)?;
@@ -176,7 +173,7 @@ impl DayRecorder {
     fn begin(folder: &Path, plan: Vec<u16>) -> Result<Self, RecordError> {
         let folder = empty_folder(folder)?;
         let list = new_list(&folder)?;
-        let list_len = HEAD.len() as u64;
+        let list_len = list::HEAD.len() as u64 + 1;
         Ok(DayRecorder { folder, plan, clock: None, list, list_len, traces: 0, records: 0, open: None, ending: false, ended: false })
     }
 
@@ -209,7 +206,7 @@ impl DayRecorder {
 
     /// The file of the trace that is open, or that comes next.
     fn path(&self) -> PathBuf {
-        self.folder.join(format!("{:05}.trace", self.traces + 1))
+        self.folder.join(list::name(self.traces + 1))
     }
 
     /// Ends the open trace: the next record begins another. A planned one that is short of its plan becomes a good shorter trace. Where no record was taken since the
@@ -438,7 +435,7 @@ mod tests {
 
     /// Reads a folder by the words of its format. Every record is held against the day's, and every line against its file.
     fn stands(folder: &Path, times: bool) -> Stands {
-        let list = fs::read_to_string(folder.join(LIST)).unwrap_or_default();
+        let list = fs::read_to_string(folder.join(list::NAME)).unwrap_or_default();
         let (mut stands, mut traces) = (Stands { listed: 0, open: 0, ended: false }, 0);
         // A last line without its end is not there.
         let lines: Vec<&str> = list.split_inclusive('\n').filter(|line| line.ends_with('\n')).map(str::trim_end).collect();
@@ -511,7 +508,7 @@ mod tests {
         let mut words =
             runner.split_whitespace().filter(|_| cfg!(target_arch = "x86_64")).map(Into::into).chain([env::current_exe().unwrap()]);
         let mut child = Command::new(words.next().unwrap());
-        child.args(words).args(["--exact", "days::tests::a_day_in_another_process", "--nocapture", "--test-threads=1"]);
+        child.args(words).args(["--exact", "day_recorder::tests::a_day_in_another_process", "--nocapture", "--test-threads=1"]);
         child.env("PCH_PIC_DAY", folder).env("PCH_PIC_WAY", way.to_string()).env(cut::END_AT, step.to_string());
         child.output().unwrap()
     }
