@@ -151,7 +151,10 @@ fn columns() {
 fn recorders() {
     use pch_pic::RecordError::{Again, Blocks, Byte, Empty, Full, Loaded, NotEmpty, Offset, Plan, Planned, Refused, Some as Few, Started};
     let sources = [include_str!("../../c/recorder.c"), include_str!("../../c/days.c")];
-    let told = sources.iter().flat_map(|source| source.lines()).filter_map(|line| line.trim().strip_prefix("case PIC_")?.split_once(": return \""));
+    let told = sources
+        .iter()
+        .flat_map(|source| source.lines())
+        .filter_map(|line| line.trim().strip_prefix("case PIC_")?.split_once(": return \""));
     let told: HashMap<_, _> = told.filter_map(|(name, rest)| Some((name, rest.strip_suffix("\";")?.to_string()))).collect();
     let ours = [
         ("FULL", Full),
