@@ -1,0 +1,190 @@
+// Hands files over to the WebAssembly in this page, and shows what it tells: the page of tools/day, and the device record by record. All words and numbers come from there.
+(function () {
+  "use strict";
+  const by = (id) => document.getElementById(id);
+  // A trace is read as far as shows that it is too long; nothing of a day is longer than its list may be.
+  const MOST = { trace: 65537, list: 8000000, other: 1000000 };
+  let module = null, calls = null, page = "", name = "", record = 0, records = 0;
+
+  function say(text, bad) {
+    by("said").textContent = text;
+    by("said").classList.toggle("bad", Boolean(bad));
+  }
+  function told() {
+    return new TextDecoder().decode(new Uint8Array(calls.memory.buffer, calls.told(), calls.told_length()));
+  }
+  function hand(bytes) {
+    const at = calls.room(bytes.length);
+    new Uint8Array(calls.memory.buffer, at, bytes.length).set(bytes);
+  }
+
+  async function start() {
+    if (typeof WebAssembly !== "object" || typeof DecompressionStream !== "function") throw new Error("this browser is too old; it takes one of 2023 or newer");
+    const packed = Uint8Array.from(atob(by("wasm").textContent.replace(/\s/g, "")), (letter) => letter.charCodeAt(0));
+    const bytes = await new Response(new Blob([packed]).stream().pipeThrough(new DecompressionStream("gzip"))).arrayBuffer();
+    module = await WebAssembly.compile(bytes);
+    await fresh();
+  }
+  async function fresh() {
+    calls = (await WebAssembly.instantiate(module, {})).exports;
+  }
+
+  // The files of a folder that was dropped; a browser gives some of them at a time.
+  function within(folder) {
+    const reader = folder.createReader(), found = [];
+    return new Promise((done, failed) => {
+      const more = () => reader.readEntries((some) => (some.length === 0 ? done(found) : (found.push(...some), more())), failed);
+      more();
+    });
+  }
+  async function dropped(entries) {
+    const found = [];
+    const add = (entry, path) => new Promise((done, failed) => entry.file((file) => { found.push({ path: path, file: file }); done(); }, failed));
+    for (const entry of entries) {
+      if (entry.isFile) await add(entry, entry.name);
+      else for (const inner of await within(entry)) if (inner.isFile) await add(inner, entry.name + "/" + inner.name);
+    }
+    return found;
+  }
+  // Of files that were chosen with their folder those that stand right in it.
+  function chosen(files) {
+    return Array.from(files, (file) => ({ path: file.webkitRelativePath || file.name, file: file })).filter((one) => one.path.split("/").length < 3);
+  }
+
+  async function taken(one) {
+    const end = one.path.replace(/^.*[./]/, ""), most = one.path.endsWith("day.list") ? MOST.list : end === "times" || end === "holes" || end === "names" || end === "txt" ? MOST.other : MOST.trace;
+    let bytes;
+    try {
+      bytes = new Uint8Array(await one.file.slice(0, most).arrayBuffer());
+    } catch (why) {
+      throw new Error(one.path + ": it cannot be read");
+    }
+    const path = new TextEncoder().encode(one.path), both = new Uint8Array(path.length + bytes.length);
+    both.set(path);
+    both.set(bytes, path.length);
+    hand(both);
+    calls.take(path.length);
+  }
+
+  // Whatever goes wrong is one line, and no day is shown then.
+  async function tried(work) {
+    try {
+      await work();
+    } catch (why) {
+      by("day").hidden = true;
+      by("drop").hidden = false;
+      by("save").disabled = true;
+      records = 0;
+      const trapped = why instanceof WebAssembly.RuntimeError;
+      say(trapped ? "the device stopped, which no file should bring about: " + why.message : why.message, true);
+      if (trapped) await fresh();
+    }
+  }
+  const settled = () => new Promise((done) => setTimeout(done, 20));
+
+  async function open(files) {
+    if (files.length === 0) return;
+    say("Reading " + files.length + (files.length === 1 ? " file." : " files."));
+    await settled();
+    await tried(async () => {
+      calls.forget();
+      for (const one of files) await taken(one);
+      if (calls.open() !== 0) throw new Error(told());
+      name = told();
+      records = calls.records();
+      for (const id of ["title", "date", "limit", "limit-ms", "from", "to"]) by(id).value = "";
+      by("number").max = by("slider").max = records - 1;
+      by("of").textContent = "of 0 to " + (records - 1);
+      draw();
+      go(0);
+      by("drop").hidden = true;
+      by("day").hidden = false;
+      by("save").disabled = false;
+    });
+  }
+
+  function draw() {
+    const version = document.querySelector("footer").dataset.version;
+    const words = [version, ...["title", "date", "limit", "limit-ms", "from", "to"].map((id) => by(id).value.replace(/\n/g, " "))];
+    hand(new TextEncoder().encode(words.join("\n")));
+    if (calls.draw() !== 0) throw new Error(told());
+    page = told();
+    by("page").srcdoc = page;
+    say(name + ": " + records.toLocaleString("en") + (records === 1 ? " record." : " records."));
+  }
+
+  function go(to) {
+    if (records === 0 || Number.isNaN(to)) return;
+    record = Math.min(Math.max(Math.trunc(to), 0), records - 1);
+    if (calls.step(record) !== 0) throw new Error(told());
+    by("state").innerHTML = told();
+    by("number").value = by("slider").value = record;
+  }
+  const stepped = (to) => tried(async () => go(to));
+
+  function show(step) {
+    by("step").hidden = !step;
+    by("page").hidden = step;
+    by("asked").hidden = step;
+    by("to-step").setAttribute("aria-pressed", step);
+    by("to-page").setAttribute("aria-pressed", !step);
+  }
+
+  by("to-page").onclick = () => show(false);
+  by("to-step").onclick = () => show(true);
+  by("files").onchange = by("folder").onchange = (event) => {
+    open(chosen(event.target.files));
+    event.target.value = "";
+  };
+  by("asked").onsubmit = (event) => {
+    event.preventDefault();
+    // What cannot be drawn leaves what is shown.
+    try {
+      draw();
+    } catch (why) {
+      say(why.message, true);
+    }
+  };
+  by("save").onclick = () => {
+    const link = document.createElement("a");
+    link.href = URL.createObjectURL(new Blob([page], { type: "text/html" }));
+    link.download = name.replace(/[^\w.-]+/g, "-") + ".html";
+    link.click();
+    setTimeout(() => URL.revokeObjectURL(link.href), 10000);
+  };
+  for (const button of document.querySelectorAll(".steps button")) button.onclick = () => stepped(record + Number(button.dataset.by));
+  by("number").onchange = () => stepped(by("number").value === "" ? record : Number(by("number").value));
+  by("slider").oninput = () => stepped(Number(by("slider").value));
+  // A record that is clicked in the page is where the steps are too.
+  by("page").onload = () => {
+    const inner = by("page").contentDocument, tip = inner && inner.getElementById("tip");
+    if (tip) inner.addEventListener("click", () => stepped(Number((tip.textContent.match(/^Record (\d+)/) || [])[1])));
+    if (inner) droppable(inner);
+  };
+
+  const KEYS = { ArrowLeft: -1, ArrowRight: 1, PageUp: -100, PageDown: 100, Home: -Infinity, End: Infinity };
+  document.addEventListener("keydown", (event) => {
+    if (by("step").hidden || !(event.key in KEYS) || event.ctrlKey || event.altKey || event.metaKey || event.target.tagName === "INPUT") return;
+    event.preventDefault();
+    stepped(record + KEYS[event.key]);
+  });
+  // The page within takes what is dropped on it as this one does.
+  function droppable(page) {
+    const over = (is) => document.body.classList.toggle("over", is);
+    page.addEventListener("dragover", (event) => {
+      event.preventDefault();
+      over(true);
+    });
+    page.addEventListener("dragleave", () => over(false));
+    page.addEventListener("drop", (event) => {
+      event.preventDefault();
+      over(false);
+      const entries = Array.from(event.dataTransfer.items, (item) => item.webkitGetAsEntry && item.webkitGetAsEntry()).filter(Boolean);
+      const files = chosen(event.dataTransfer.files);
+      tried(async () => open(entries.length > 0 ? await dropped(entries) : files));
+    });
+  }
+  droppable(document);
+
+  start().then(() => say("No day is open yet."), (why) => say("It cannot start: " + why.message, true));
+})();
