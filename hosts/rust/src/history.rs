@@ -122,17 +122,82 @@ impl History {
 impl Trace {
     /// Goes through the day from a reset on, a call for each record.
     pub fn history(&self) -> History {
-        let (mut pic, mut open, mut waits) = (PchPic::new(), [None; INPUTS], Vec::new());
-        let moments = self.records().enumerate().map(|(number, record)| {
+        let mut walk = Walk::new();
+        let mut history = walk.through(self);
+        history.waits.extend(walk.open());
+        history
+    }
+}
+
+/// A day of several traces gone through, one after another: the device as it stands, and the waits that are open. Record numbers count over the whole day.
+///
+/// ```
+/// use pch_pic::history::{End, Wait, Walk};
+/// use pch_pic::{reg, Record, Recorder};
+///
+/// let trace = |record| {
+///     let mut recorder = Recorder::new();
+///     recorder.take(record)?;
+///     recorder.finish()
+/// };
+/// let mut walk = Walk::new();
+/// assert!(walk.through(&trace(Record::Raise(5))?).waits().is_empty()); // masked, so it waits
+/// assert_eq!(walk.open().next(), Some(Wait { input: 5, raised: 0, end: End::Open }));
+/// let second = walk.through(&trace(Record::Write { offset: reg::MASK as u16, width: 8, value: 0 })?);
+/// assert_eq!((second.moments()[0].number, second.waits()), (1, &[Wait { input: 5, raised: 0, end: End::Asserted(1) }][..]));
+/// # Ok::<(), pch_pic::RecordError>(())
+/// ```
+#[derive(Clone, Debug)]
+pub struct Walk {
+    pic: PchPic,
+    open: [Option<usize>; INPUTS],
+    records: usize,
+}
+
+impl Default for Walk {
+    fn default() -> Self {
+        Walk::new()
+    }
+}
+
+impl Walk {
+    /// A day that begins with a reset.
+    pub fn new() -> Self {
+        Walk { pic: PchPic::new(), open: [None; INPUTS], records: 0 }
+    }
+
+    /// A day that is taken up at this record, from the device as it was before it. Waits that began earlier are not known.
+    pub fn at(records: usize, pic: PchPic) -> Self {
+        Walk { pic, open: [None; INPUTS], records }
+    }
+
+    /// The device after the last record so far.
+    pub fn pic(&self) -> &PchPic {
+        &self.pic
+    }
+
+    /// How many records there were so far, which is the number of the next one.
+    pub fn records(&self) -> usize {
+        self.records
+    }
+
+    /// Goes through the next trace, a call for each record. Its waits are those that ended in it, wherever they began.
+    pub fn through(&mut self, trace: &Trace) -> History {
+        let (pic, open, first, mut waits) = (&mut self.pic, &mut self.open, self.records, Vec::new());
+        let moments = trace.records().enumerate().map(|(at, record)| {
             let before = pic.clone();
-            let moment = moment(number, record, &mut pic);
-            waited(&before, &moment, &mut open, &mut waits);
+            let moment = moment(first + at, record, pic);
+            waited(&before, &moment, open, &mut waits);
             moment
         });
-        let moments = moments.collect();
-        let still = open.iter().enumerate().filter_map(|(input, raised)| Some(Wait { input, raised: (*raised)?, end: End::Open }));
-        waits.extend(still);
+        let moments: Vec<Moment> = moments.collect();
+        self.records += moments.len();
         History { moments, waits }
+    }
+
+    /// The waits that no record has ended so far.
+    pub fn open(&self) -> impl Iterator<Item = Wait> + '_ {
+        self.open.iter().enumerate().filter_map(|(input, raised)| Some(Wait { input, raised: (*raised)?, end: End::Open }))
     }
 }
 

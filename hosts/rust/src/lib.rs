@@ -63,7 +63,7 @@
 //! A [`Trace`] has the calls of a day from a reset on, and [playing](Trace::play) it gives every byte again. [`Recorded`] is a device whose calls are recorded
 //! as they are made, and [`Recorder`] takes calls one by one. Of a damaged trace [`holes::lead`] keeps what comes before the first hole, which is the day;
 //! [`Trace::salvage`] keeps every whole block, and what comes behind a hole does not play as the day did. [`Trace::sheet`] counts the day in ten exact numbers for
-//! each input, and [`Trace::history`] tells where in the day they come from. A [`Tally`] counts a day that is longer than one trace. They are there with
+//! each input, and [`Trace::history`] tells where in the day they come from. A [`Tally`] counts a day that is longer than one trace, and [`day`] reads such a day from its folder. They are there with
 //! feature `std`.
 //!
 //! # What does the work
@@ -109,6 +109,8 @@ mod board;
 mod built;
 pub mod calls;
 mod contents;
+#[cfg(feature = "std")]
+pub mod day;
 mod device;
 mod error;
 mod event;
@@ -123,6 +125,8 @@ pub mod history;
 mod hoist;
 #[cfg(feature = "std")]
 pub mod holes;
+#[cfg(feature = "std")]
+pub mod list;
 mod outcome;
 #[cfg(all(feature = "plain", not(feature = "archive")))]
 #[rustfmt::skip]
