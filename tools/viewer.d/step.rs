@@ -70,37 +70,50 @@ fn registers(before: &PchPic, after: &PchPic) -> String {
     )
 }
 
-/// An input that is not as a reset leaves it, or was not before.
-fn at_work(pic: &PchPic, fresh: &PchPic, input: usize) -> bool {
-    let bits = |pic: &PchPic| REGISTERS.map(|(at, _, _)| register(pic, at) >> input & 1);
-    bits(pic) != bits(fresh) || [reg::ROUTES, reg::VECTORS].iter().any(|base| byte(pic, *base, input) != byte(fresh, *base, input))
+/// What is told of an input: an empty word for what it has not.
+fn told(pic: &PchPic, input: usize) -> [String; 6] {
+    let bit = |bits: u64, yes: &str| if bits >> input & 1 == 1 { yes.to_string() } else { String::new() };
+    [
+        bit(register(pic, reg::MASK), "masked"),
+        bit(register(pic, reg::IRR), "latched"),
+        bit(register(pic, reg::ISR), "in service"),
+        bit(pic.waiting_inputs(), "waits"),
+        byte(pic, reg::ROUTES, input).to_string(),
+        format!("{:#04x}", byte(pic, reg::VECTORS, input)),
+    ]
 }
 
+/// The inputs that are unmasked, latched or in service, and those that the record changed.
 fn lines(opened: &Opened, before: &PchPic, after: &PchPic) -> String {
-    let fresh = PchPic::new();
-    let shown: Vec<usize> = (0..INPUTS).filter(|input| at_work(after, &fresh, *input) || at_work(before, &fresh, *input)).collect();
+    let busy = !register(after, reg::MASK) | register(after, reg::IRR) | register(after, reg::ISR);
     let mut rows = String::new();
-    let cell = |old: String, new: String| format!("<td{}>{new}</td>", changed(old != new));
-    for input in &shown {
-        let bit = |pic: &PchPic, bits: u64, yes: &str| (if bits >> input & 1 == 1 { yes } else { "" }.to_string(), pic).0;
-        let of = |pic: &PchPic| {
-            [
-                bit(pic, register(pic, reg::MASK), "masked"),
-                bit(pic, register(pic, reg::IRR), "latched"),
-                bit(pic, register(pic, reg::ISR), "in service"),
-                bit(pic, pic.waiting_inputs(), "waits"),
-                byte(pic, reg::ROUTES, *input).to_string(),
-                format!("{:#04x}", byte(pic, reg::VECTORS, *input)),
-            ]
-        };
-        let cells: String = of(before).into_iter().zip(of(after)).map(|(old, new)| cell(old, new)).collect();
-        let name = opened.names().get(input).map_or(String::new(), |name| escaped(name));
+    for input in 0..INPUTS {
+        let (old, new) = (told(before, input), told(after, input));
+        if busy >> input & 1 == 0 && old == new {
+            continue;
+        }
+        let cells: String = old.iter().zip(&new).map(|(old, new)| format!("<td{}>{new}</td>", changed(old != new))).collect();
+        let name = opened.names().get(&input).map_or(String::new(), |name| escaped(name));
         let _ = write!(rows, "<tr><th scope=\"row\">{input}</th><td class=\"named\">{name}</td>{cells}</tr>\n");
     }
-    let rest = if shown.len() == INPUTS { "" } else { "<p class=\"quiet\">Every other input is as a reset leaves it: masked, neither latched nor in service, route 1, and its own number as its vector.</p>\n" };
     let head = "<th>input</th><th></th><th>MASK</th><th>IRR</th><th>ISR</th><th></th><th>route</th><th>vector</th>";
-    let table = if shown.is_empty() { String::new() } else { format!("<table class=\"lines\"><thead><tr>{head}</tr></thead><tbody>\n{rows}</tbody></table>\n") };
-    format!("<section><h3>Inputs</h3>\n{table}{rest}</section>\n")
+    let table = if rows.is_empty() {
+        "<p>Every input is masked, and neither latched nor in service.</p>\n".to_string()
+    } else {
+        format!("<table class=\"lines\"><thead><tr>{head}</tr></thead><tbody>\n{rows}</tbody></table>\n")
+    };
+    format!("<section><h3>Inputs that are unmasked, latched or in service</h3>\n{table}</section>\n")
+}
+
+/// The bytes that each input has, eight in a row.
+fn bytes(name: &str, base: u64, before: &PchPic, after: &PchPic) -> String {
+    let cell = |input: usize| {
+        let (old, new) = (byte(before, base, input), byte(after, base, input));
+        format!("<td{}>{new:02x}</td>", changed(old != new))
+    };
+    let row = |first: usize| format!("<tr><th scope=\"row\">{first}</th>{}</tr>\n", (first..first + 8).map(cell).collect::<String>());
+    let rows: String = (0..INPUTS).step_by(8).map(row).collect();
+    format!("<section><h3>{name}, hex, by input</h3>\n<table class=\"bytes\"><tbody>\n{rows}</tbody></table></section>\n")
 }
 
 fn event(event: &Event) -> String {
@@ -158,6 +171,13 @@ pub fn step(opened: &Opened, number: usize) -> Option<String> {
     let mut walk = Walk::at(number, before.clone());
     let history = walk.through(&one);
     let (moment, after) = (history.moments().first()?, walk.pic());
-    let states = [registers(&before, after), queue(&before, after), outputs(&before, after), lines(opened, &before, after)];
+    let states = [
+        registers(&before, after),
+        queue(&before, after),
+        outputs(&before, after),
+        lines(opened, &before, after),
+        bytes("Vectors", reg::VECTORS, &before, after),
+        bytes("Routes", reg::ROUTES, &before, after),
+    ];
     Some(heading(opened, moment, &before) + &states.concat())
 }
