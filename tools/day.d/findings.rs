@@ -1,11 +1,9 @@
 //! What stands out in a day: holes, refused records, the longest waits and all that are over the limit, drops, open waits and withdrawn ones, each in a sentence that
 //! leads to its place.
 
-use crate::lanes::{Day, Lane, ends};
+use crate::lanes::{Day, Drops, Found, Lane, Lost, Waited, ends};
 use crate::text::{Asked, counted, listed, milliseconds, plural};
-use pch_pic::Record;
-use pch_pic::history::{End, Wait};
-use std::collections::BTreeSet;
+use pch_pic::history::End;
 use std::fmt::Write;
 
 /// One thing that an engineer looks for: a sentence, and the record where it is to be seen, and the input if it is of one.
@@ -34,9 +32,9 @@ fn holes(day: &Day) -> Vec<Finding> {
 }
 
 /// How long a wait took: in records, and by the clock where there is one.
-fn took(day: &Day, wait: &Wait) -> String {
-    let records = plural(ends(wait, day.records) - wait.raised, "record", "records");
-    match day.took(wait) {
+fn took(day: &Day, waited: &Waited) -> String {
+    let records = plural(ends(&waited.wait, day.records) - waited.wait.raised, "record", "records");
+    match waited.took {
         Some(time) => format!("{records}, {}", milliseconds(time)),
         None => records,
     }
@@ -44,101 +42,80 @@ fn took(day: &Day, wait: &Wait) -> String {
 
 /// The longest wait of each input, longest first.
 fn long_waits(asked: &Asked, day: &Day) -> Vec<Finding> {
-    let mut longest: Vec<(&Lane, &Wait)> = day.lanes.iter().filter_map(|lane| Some((lane, lane.greatest()?))).collect();
-    longest.sort_by_key(|(_, wait)| std::cmp::Reverse(wait.length()));
-    let told = longest.into_iter().map(|(lane, wait)| {
-        let end = ends(wait, day.records);
-        let text = format!("{}: the longest wait took {}, from record {} to {end}.", asked.name(lane.input), took(day, wait), wait.raised);
-        Finding { input: Some(lane.input), record: wait.raised, last: end, text }
+    let mut longest: Vec<(&Lane, Waited)> = day.lanes.iter().filter_map(|lane| Some((lane, lane.greatest?))).collect();
+    longest.sort_by_key(|(_, waited)| std::cmp::Reverse(waited.wait.length()));
+    let told = longest.into_iter().map(|(lane, waited)| {
+        let (raised, end) = (waited.wait.raised, ends(&waited.wait, day.records));
+        let text = format!("{}: the longest wait took {}, from record {raised} to {end}.", asked.name(lane.input), took(day, &waited));
+        Finding { input: Some(lane.input), record: raised, last: end, text }
     });
     told.collect()
 }
 
 /// The longest wait by the clock, where another one is the longest in records.
 fn longest_in_time(asked: &Asked, day: &Day) -> Vec<Finding> {
-    let waits = || day.lanes.iter().flat_map(|lane| &lane.waits).filter(|wait| wait.length().is_some());
-    let Some(longest) = waits().max_by_key(|wait| (day.took(wait), std::cmp::Reverse(wait.raised))).filter(|wait| day.took(wait).is_some())
-    else {
-        return Vec::new();
-    };
-    if day.lanes.iter().filter_map(Lane::greatest).any(|wait| wait == longest) {
-        return Vec::new();
-    }
-    let end = ends(longest, day.records);
-    let text = format!(
-        "{}: the longest wait by the clock took {}, from record {} to {end}.",
-        asked.name(longest.input),
-        took(day, longest),
-        longest.raised
-    );
-    vec![Finding { input: Some(longest.input), record: longest.raised, last: end, text }]
+    let longest = day.longest_in_time.filter(|longest| !day.lanes.iter().any(|lane| lane.greatest == Some(*longest)));
+    let told = longest.map(|waited| {
+        let (input, raised, end) = (waited.wait.input, waited.wait.raised, ends(&waited.wait, day.records));
+        let took = took(day, &waited);
+        let text = format!("{}: the longest wait by the clock took {took}, from record {raised} to {end}.", asked.name(input));
+        Finding { input: Some(input), record: raised, last: end, text }
+    });
+    told.into_iter().collect()
 }
 
 /// All refused records in one sentence. It is of no input: what is refused may name none.
 fn refused(day: &Day) -> Vec<Finding> {
-    let records: Vec<usize> = day.history.moments().iter().filter(|moment| moment.outcome.is_err()).map(|moment| moment.number).collect();
+    let (count, records) = (day.refused.count, &day.refused.listed);
     let Some(&record) = records.first() else { return Vec::new() };
-    let were = plural(records.len(), "record was", "records were");
-    let word = if records.len() == 1 { "record" } else { "records" };
+    let were = plural(count, "record was", "records were");
+    let word = if count == 1 { "record" } else { "records" };
     let text = format!("{were} refused, and did nothing: {word} {}.", listed(records, 6));
     vec![Finding { input: None, record, last: record, text }]
 }
 
 /// All drops of a kind in one sentence: how many, whose, where the first ones are, and what was lost by it.
-fn dropped(asked: &Asked, day: &Day, of: fn(&Lane) -> &Vec<usize>, kind: [&str; 2], lost: [&str; 2]) -> Vec<Finding> {
-    let lanes: Vec<&Lane> = day.lanes.iter().filter(|lane| !of(lane).is_empty()).collect();
-    let records: BTreeSet<(usize, usize)> = lanes.iter().flat_map(|lane| of(lane).iter().map(|record| (*record, lane.input))).collect();
-    let Some(&(record, input)) = records.first() else { return Vec::new() };
-    let last = records.iter().map(|(record, _)| *record).max().unwrap_or(record);
-    let whose = match lanes[..] {
-        [one] => asked.name(one.input),
-        _ => format!("{} inputs ({})", lanes.len(), listed(lanes.iter().map(|lane| lane.input).collect(), 12)),
+fn dropped(asked: &Asked, drops: &Drops, kind: [&str; 2], lost: [&str; 2]) -> Vec<Finding> {
+    let Some((record, input)) = drops.first else { return Vec::new() };
+    let inputs: Vec<usize> = (0..pch_pic::INPUTS).filter(|input| drops.inputs >> input & 1 == 1).collect();
+    let whose = match inputs[..] {
+        [one] => asked.name(one),
+        _ => format!("{} inputs ({})", inputs.len(), listed(&inputs, 12)),
     };
-    let one = records.len() == 1;
-    let (events, were, lost) = (plural(records.len(), kind[0], kind[1]), if one { "was" } else { "were" }, lost[usize::from(!one)]);
-    let at: BTreeSet<usize> = records.iter().map(|(record, _)| *record).collect();
-    let word = if at.len() == 1 { "record" } else { "records" };
-    let text = format!("{events} of {whose} {were} dropped, at {word} {}: {lost}.", listed(at.into_iter().collect(), 6));
-    vec![Finding { input: Some(input), record, last, text }]
+    let one = drops.count == 1;
+    let (events, were, lost) = (plural(drops.count, kind[0], kind[1]), if one { "was" } else { "were" }, lost[usize::from(!one)]);
+    let word = if drops.at.len() == 1 { "record" } else { "records" };
+    let text = format!("{events} of {whose} {were} dropped, at {word} {}: {lost}.", listed(&drops.at, 6));
+    vec![Finding { input: Some(input), record, last: drops.last, text }]
 }
 
 fn unannounced(asked: &Asked, day: &Day) -> Vec<Finding> {
-    dropped(
-        asked,
-        day,
-        |lane| &lane.unannounced,
-        ["assert", "asserts"],
-        ["a sample that nobody announced", "samples that nobody announced"],
-    )
+    dropped(asked, &day.unannounced, ["assert", "asserts"], ["a sample that nobody announced", "samples that nobody announced"])
 }
 
 fn left_on(asked: &Asked, day: &Day) -> Vec<Finding> {
-    dropped(asked, day, |lane| &lane.left_on, ["deassert", "deasserts"], ["a line that was left on", "lines that were left on"])
+    dropped(asked, &day.left_on, ["deassert", "deasserts"], ["a line that was left on", "lines that were left on"])
 }
 
 fn open_waits(asked: &Asked, day: &Day) -> Vec<Finding> {
     let end = if day.went_on() { "where the trace ends" } else { "at the end" };
-    let open = day.lanes.iter().filter_map(|lane| lane.open());
-    let told = open.map(|wait| {
-        let text = format!("{} still waits {end}: raised at record {}, {} before.", asked.name(wait.input), wait.raised, took(day, wait));
-        Finding { input: Some(wait.input), record: wait.raised, last: day.records - 1, text }
+    let told = day.lanes.iter().filter_map(|lane| lane.open).map(|waited| {
+        let (input, raised) = (waited.wait.input, waited.wait.raised);
+        let text = format!("{} still waits {end}: raised at record {raised}, {} before.", asked.name(input), took(day, &waited));
+        Finding { input: Some(input), record: raised, last: day.records - 1, text }
     });
     told.collect()
 }
 
 fn withdrawn_waits(asked: &Asked, day: &Day) -> Vec<Finding> {
-    let first = day.lanes.iter().filter_map(|lane| Some((lane.withdrawn().count(), lane.withdrawn().next()?)));
-    let told = first.map(|(count, wait)| {
-        let end = ends(wait, day.records);
-        let how = match day.history.moments()[end].record {
-            Record::Lower(_) => "its line was lowered",
-            _ => "the guest cleared it",
-        };
+    let first = day.lanes.iter().filter_map(|lane| Some((lane.withdrawn, lane.first_withdrawn?)));
+    let told = first.map(|(count, waited)| {
+        let (input, raised, end) = (waited.wait.input, waited.wait.raised, ends(&waited.wait, day.records));
+        let how = if waited.lowered { "its line was lowered" } else { "the guest cleared it" };
         let which = if count == 1 { "" } else { "; the first" };
         let waits = plural(count, "wait", "waits");
-        let text =
-            format!("{}: {waits} withdrawn{which}, raised at record {}: at record {end} {how}.", asked.name(wait.input), wait.raised);
-        Finding { input: Some(wait.input), record: wait.raised, last: end, text }
+        let text = format!("{}: {waits} withdrawn{which}, raised at record {raised}: at record {end} {how}.", asked.name(input));
+        Finding { input: Some(input), record: raised, last: end, text }
     });
     told.collect()
 }
@@ -159,18 +136,20 @@ fn findings(asked: &Asked, day: &Day) -> (Vec<Finding>, Vec<Finding>) {
         withdrawn_waits(asked, day),
     ];
     for mut kind in kinds {
+        kind.retain(|finding| day.touches(finding.record, finding.last));
         folded.extend(kind.split_off(kind.len().min(SHOWN)));
         shown.extend(kind);
     }
     (shown, folded)
 }
 
-/// A link to a place in the picture.
-fn link(input: Option<usize>, record: usize, text: &str) -> String {
+/// A link to a place in the picture; to the nearest one that is drawn.
+fn link(day: &Day, input: Option<usize>, record: usize, text: &str) -> String {
     let (place, input) = match input {
         Some(input) => (format!("n{input}"), input.to_string()),
         None => ("picture".into(), String::new()),
     };
+    let record = record.clamp(day.part.start, day.part.end - 1);
     format!("<a href=\"#{place}\" data-input=\"{input}\" data-record=\"{record}\">{text}</a>")
 }
 
@@ -178,63 +157,105 @@ fn item(day: &Day, finding: &Finding) -> String {
     let mut text = finding.text.clone();
     text[..1].make_ascii_uppercase();
     let wrong = if day.is_wrong(finding.last) { " <strong>Behind a hole: not the day's.</strong>" } else { "" };
-    format!("<li>{}{wrong}</li>\n", link(finding.input, finding.record, &text))
+    format!("<li>{}{wrong}</li>\n", link(day, finding.input, finding.record, &text))
 }
 
-/// How many waits a page lists at most; how many more there are is told.
-const LISTED: usize = 2000;
+/// A table in a fold: its class, what it tells, the names of its columns, its rows, and how many more there are that are not listed.
+fn table<T>(day: &Day, class: &str, told: &str, columns: &[&str], found: &Found<T>, row: impl Fn(&T) -> String) -> String {
+    let rows: String = found.listed.iter().map(row).collect();
+    let more = match found.count.saturating_sub(found.listed.len()) {
+        0 => String::new(),
+        more if day.is_plain() => format!("<p>{} more are not listed.</p>\n", counted(more)),
+        more => format!("<p>{} more are not listed: tools/day --from N --to M lists those of a part of the day.</p>\n", counted(more)),
+    };
+    let columns: String = columns.iter().filter(|name| !name.is_empty()).map(|name| format!("<th scope=\"col\">{name}</th>")).collect();
+    format!(
+        "<details class=\"{class}\"{}><summary>{told}</summary>\n<table>\n<thead><tr>{columns}</tr></thead>\n<tbody>\n{rows}</tbody>\n</table>\n{more}</details>\n",
+        if found.count <= 12 { " open" } else { "" }
+    )
+}
 
 /// Every wait over the limit, however it ended, longest first.
 fn over_limit(asked: &Asked, day: &Day) -> String {
     let Some(limit) = asked.limits() else { return String::new() };
-    let mut over: Vec<&Wait> = day.lanes.iter().flat_map(|lane| &lane.waits).filter(|wait| day.too_long(asked, wait)).collect();
-    if over.is_empty() {
-        return format!("<p>No wait is over the limit of {limit}.</p>\n");
+    let here = if day.is_whole() { "" } else { " here" };
+    if day.over.count == 0 {
+        return format!("<p>No wait is over the limit of {limit}{here}.</p>\n");
     }
-    over.sort_by_key(|wait| (std::cmp::Reverse((day.took(wait), ends(wait, day.records) - wait.raised)), wait.raised));
-    let rows: String = over.iter().take(LISTED).map(|wait| over_row(asked, day, wait)).collect();
-    let more = match over.len().saturating_sub(LISTED) {
-        0 => String::new(),
-        more => format!("<p>{} more are not listed.</p>\n", counted(more)),
-    };
-    let clock = if day.times.is_some() { "<th scope=\"col\">by the clock</th>" } else { "" };
-    format!(
-        "<details class=\"over\"{}><summary>{} over the limit of {limit}</summary>\n<table>\n<thead><tr><th scope=\"col\">input</th><th scope=\"col\">from record</th>\
-         <th scope=\"col\">to</th><th scope=\"col\">records</th>{clock}<th scope=\"col\">its end</th></tr></thead>\n<tbody>\n{rows}</tbody>\n</table>\n{more}</details>\n",
-        if over.len() <= 12 { " open" } else { "" },
-        plural(over.len(), "wait", "waits")
-    )
+    let clock = if day.clock.is_some() { "by the clock" } else { "" };
+    let columns = ["input", "from record", "to", "records", clock, "its end"];
+    let told = format!("{} over the limit of {limit}{here}", plural(day.over.count, "wait", "waits"));
+    table(day, "over", &told, &columns, &day.over, |waited| wait_row(asked, day, waited))
 }
 
-fn over_row(asked: &Asked, day: &Day, wait: &Wait) -> String {
-    let end = ends(wait, day.records);
+fn wait_row(asked: &Asked, day: &Day, waited: &Waited) -> String {
+    let (wait, end) = (&waited.wait, ends(&waited.wait, day.records));
     let (to, how) = match wait.end {
         End::Asserted(record) => (record.to_string(), "asserted"),
         End::Withdrawn(record) => (record.to_string(), "withdrawn"),
         End::Open => ("-".into(), "open at the end"),
     };
     let wrong = if day.is_wrong(end.min(day.records - 1)) { ", behind a hole" } else { "" };
-    let mut name = asked.name(wait.input);
-    name[..1].make_ascii_uppercase();
-    let clock = day.took(wait).map_or(String::new(), |time| format!("<td>{}</td>", milliseconds(time)));
-    let (place, records) = (link(Some(wait.input), wait.raised, &name), end - wait.raised);
+    let clock = match (day.clock, waited.took) {
+        (Some(_), Some(time)) => format!("<td>{}</td>", milliseconds(time)),
+        (Some(_), None) => "<td>-</td>".into(),
+        (None, _) => String::new(),
+    };
+    let (place, records) = (link(day, Some(wait.input), wait.raised, &capital(asked, wait.input)), end - wait.raised);
     format!("<tr><th scope=\"row\">{place}</th><td>{}</td><td>{to}</td><td>{records}</td>{clock}<td>{how}{wrong}</td></tr>\n", wait.raised)
 }
 
-/// The records that the findings and the listed waits lead to, for the records that a long day's page has as text.
+/// An input's name as it begins a line.
+fn capital(asked: &Asked, input: usize) -> String {
+    let mut name = asked.name(input);
+    name[..1].make_ascii_uppercase();
+    name
+}
+
+/// Every dropped event and every withdrawn wait in its order, but on the page of one trace that draws each.
+fn each_one(asked: &Asked, day: &Day) -> String {
+    if day.is_plain() {
+        return String::new();
+    }
+    let (here, mut out) = (if day.is_whole() { "" } else { " here" }, String::new());
+    let lost = |lost: &Lost| {
+        let what = if lost.asserted { "assert: not announced" } else { "deassert: left on" };
+        let wrong = if day.is_wrong(lost.record) { ", behind a hole" } else { "" };
+        let place = link(day, Some(lost.input), lost.record, &capital(asked, lost.input));
+        format!("<tr><th scope=\"row\">{place}</th><td>{}</td><td>{what}{wrong}</td></tr>\n", lost.record)
+    };
+    if day.lost.count > 0 {
+        let told = format!("{} dropped{here}, each with its record", plural(day.lost.count, "event", "events"));
+        out += &table(day, "each", &told, &["input", "record", "what was dropped"], &day.lost, lost);
+    }
+    if day.withdrawn.count > 0 {
+        let clock = if day.clock.is_some() { "by the clock" } else { "" };
+        let columns = ["input", "from record", "to", "records", clock, "its end"];
+        let told = format!("{} withdrawn{here}, each with its records", plural(day.withdrawn.count, "wait", "waits"));
+        out += &table(day, "each", &told, &columns, &day.withdrawn, |waited| wait_row(asked, day, waited));
+    }
+    out
+}
+
+/// The records that the findings and the lists lead to, for the records that a long day's page has as text.
 pub fn places(asked: &Asked, day: &Day) -> Vec<usize> {
     let (shown, folded) = findings(asked, day);
     let found = shown.iter().chain(&folded).flat_map(|finding| [finding.record, finding.last]);
-    let lost = day.lanes.iter().flat_map(|lane| lane.unannounced.iter().chain(&lane.left_on)).copied();
-    let waits = day.lanes.iter().flat_map(|lane| &lane.waits).filter(|wait| day.too_long(asked, wait));
-    found.chain(lost).chain(waits.flat_map(|wait| [wait.raised, ends(wait, day.records)])).collect()
+    let lost = day.lost.listed.iter().map(|lost| lost.record);
+    let waits = day.over.listed.iter().chain(&day.withdrawn.listed);
+    found.chain(lost).chain(waits.flat_map(|waited| [waited.wait.raised, ends(&waited.wait, day.records)])).collect()
 }
+
+const NOTHING_HERE: &str = "<p>Nothing here. Other parts of the day may have something.</p>\n";
 
 /// The section of the page.
 pub fn section(asked: &Asked, day: &Day) -> String {
     let (shown, folded) = findings(asked, day);
     let mut out = String::new();
-    if shown.is_empty() {
+    let listed = day.over.count + day.lost.count + day.withdrawn.count;
+    if shown.is_empty() && !day.is_whole() {
+        out += if listed > 0 { "" } else { NOTHING_HERE };
+    } else if shown.is_empty() {
         out += "<p>Nothing. Each raise was asserted at once or needed no assert, no record was refused, no event was dropped, and nothing waits at the end.</p>\n";
     } else {
         let _ = write!(out, "<ul>\n{}</ul>\n", shown.iter().map(|finding| item(day, finding)).collect::<String>());
@@ -243,5 +264,5 @@ pub fn section(asked: &Asked, day: &Day) -> String {
         let items: String = folded.iter().map(|finding| item(day, finding)).collect();
         let _ = write!(out, "<details><summary>{} more</summary>\n<ul>\n{items}</ul>\n</details>\n", folded.len());
     }
-    out + &over_limit(asked, day)
+    out + &over_limit(asked, day) + &each_one(asked, day)
 }

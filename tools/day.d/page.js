@@ -3,18 +3,18 @@
 (function () {
   "use strict";
   const picture = document.getElementById("picture"), scroller = picture.parentNode, tip = document.getElementById("tip"), hair = document.getElementById("hair");
-  const records = Number(picture.dataset.records), unit = Number(picture.dataset.unit), top = Number(picture.dataset.top), height = Number(picture.dataset.lane);
+  const first = Number(picture.dataset.first || 0), records = Number(picture.dataset.records), unit = Number(picture.dataset.unit), top = Number(picture.dataset.top), height = Number(picture.dataset.lane);
   const lanes = Array.from(picture.querySelectorAll("g.lane")), lines = new Map();
   for (const line of document.getElementById("records").textContent.split("\n")) if (line !== "") lines.set(parseInt(line, 10), line);
   const kept = new Map(), links = Array.from(document.querySelectorAll(".findings a")), wrong = scroller.dataset.wrong;
-  let zoom = 1, pinned = false, now = { record: 0, lane: 0 }, found = -1;
+  let zoom = 1, pinned = false, now = { record: first, lane: 0 }, found = -1;
 
   // The runs of a path of a lane: where each begins and how long it is.
   function runs(lane, name) {
     const key = lane.dataset.input + name;
     if (!kept.has(key)) {
       const path = lane.querySelector("path." + name), found = [];
-      for (const m of path ? path.getAttribute("d").matchAll(/M(\d+) \d+h(\d+)v/g) : []) found.push([Number(m[1]), Number(m[2])]);
+      for (const m of path ? path.getAttribute("d").matchAll(/M(\d+) \d+h(\d+)v/g) : []) found.push([first + Number(m[1]), Number(m[2])]);
       kept.set(key, found);
     }
     return kept.get(key);
@@ -24,7 +24,7 @@
   }
   // Milliseconds from one record to another, where the page has times.
   function lasted(first, last) {
-    const at = (record) => ((lines.get(Math.min(record, records - 1)) || "").match(/^ *\d+ +([\d,.]+) ms  /) || [])[1];
+    const at = (record) => ((lines.get(Math.min(record, first + records - 1)) || "").match(/^ *\d+ +([\d,.]+) ms  /) || [])[1];
     const [from, to] = [at(first), at(last)].map((text) => text && Number(text.replace(/,/g, "")));
     return from === undefined || to === undefined ? "" : ", " + (to - from).toFixed(3) + " ms,";
   }
@@ -47,7 +47,7 @@
   function ringed(record) {
     const path = picture.querySelector("path.ring"), foot = Number(path.dataset.foot), unit = Number(path.dataset.unit);
     let count = 0;
-    for (const m of path.getAttribute("d").matchAll(/H(\d+)V([\d.]+)/g)) if (Number(m[1]) <= record) count = Math.round((foot - Number(m[2])) / unit);
+    for (const m of path.getAttribute("d").matchAll(/H(\d+)V([\d.]+)/g)) if (first + Number(m[1]) <= record) count = Math.round((foot - Number(m[2])) / unit);
     return count + (count === 1 ? " event waits" : " events wait") + " in the ring after it, of 16 at most.";
   }
   function name(input) {
@@ -61,7 +61,7 @@
   function tell(record, index) {
     const lane = lanes[index], parts = [];
     now = { record: record, lane: index };
-    const x = (100 * (record + 0.5)) / records + "%";
+    const x = (100 * (record - first + 0.5)) / records + "%";
     hair.setAttribute("x1", x);
     hair.setAttribute("x2", x);
     hair.style.visibility = "visible";
@@ -83,7 +83,7 @@
   }
   function place(index) {
     const box = picture.getBoundingClientRect();
-    const x = box.left + (box.width * (now.record + 0.5)) / records, y = box.top + top + height * (Math.max(index, 0) + 1);
+    const x = box.left + (box.width * (now.record - first + 0.5)) / records, y = box.top + top + height * (Math.max(index, 0) + 1);
     tip.style.left = Math.max(8, Math.min(x + 12, innerWidth - tip.offsetWidth - 12)) + "px";
     tip.style.top = (y + tip.offsetHeight + 12 < innerHeight ? y + 6 : Math.max(8, y - height - tip.offsetHeight - 6)) + "px";
   }
@@ -95,16 +95,17 @@
   }
   function under(event) {
     const box = picture.getBoundingClientRect();
-    const record = Math.floor(((event.clientX - box.left) / box.width) * records), index = Math.floor((event.clientY - box.top - top) / height);
-    if (record >= 0 && record < records && index < lanes.length) tell(record, index);
+    const record = first + Math.floor(((event.clientX - box.left) / box.width) * records), index = Math.floor((event.clientY - box.top - top) / height);
+    if (record >= first && record < first + records && index < lanes.length) tell(record, index);
   }
   // Brings a record to the middle of what is seen.
   function show(record) {
-    scroller.scrollLeft = (scroller.scrollWidth * (record + 0.5)) / records - scroller.clientWidth / 2;
+    scroller.scrollLeft = (scroller.scrollWidth * (record - first + 0.5)) / records - scroller.clientWidth / 2;
   }
   function widen(by, record) {
     zoom = Math.max(1, Math.min(zoom * by, Math.max(1, Math.ceil(Math.min(24 * records, 4e6) / scroller.clientWidth))));
     picture.style.width = zoom * 100 + "%";
+    picture.style.setProperty("--wide", zoom);
     document.querySelector(".zoom output").textContent = zoom === 1 ? "whole day" : Math.round(10 * zoom) / 10 + " times";
     show(record);
   }
@@ -119,13 +120,13 @@
     if (!move) return;
     event.preventDefault();
     pinned = true;
-    tell(Math.max(0, Math.min(records - 1, now.record + unit * move[0])), Math.max(0, Math.min(lanes.length - 1, now.lane + move[1])));
+    tell(Math.max(first, Math.min(first + records - 1, now.record + unit * move[0])), Math.max(0, Math.min(lanes.length - 1, now.lane + move[1])));
   });
   document.addEventListener("keydown", (event) => event.key === "Escape" && hide());
   document.addEventListener("click", (event) => event.target.closest("#picture, .findings, .zoom") || hide());
   for (const button of document.querySelectorAll(".zoom button")) {
     button.addEventListener("click", () => {
-      const middle = ((scroller.scrollLeft + scroller.clientWidth / 2) / scroller.scrollWidth) * records;
+      const middle = first + ((scroller.scrollLeft + scroller.clientWidth / 2) / scroller.scrollWidth) * records;
       widen(Number(button.dataset.by), pinned ? now.record : middle);
       if (!tip.hidden) place(now.lane);
     });

@@ -1,11 +1,16 @@
 //! What was asked for, and words and numbers as the page has them.
 
 use std::collections::BTreeMap;
+use std::ops::Range;
 
 /// What was asked for: the day's title and date as given, names of inputs, and how long a wait may be.
 pub struct Asked {
     pub title: String,
     pub file: String,
+    /// What ./run is to play for all records of the day.
+    pub play: String,
+    /// The SHA-256 of its list, where it has one.
+    pub list: Option<String>,
     pub date: Option<String>,
     pub version: String,
     pub names: BTreeMap<usize, String>,
@@ -15,6 +20,8 @@ pub struct Asked {
     pub limit_ms: Option<u64>,
     /// How many records a step of the picture has at least.
     pub coarse: usize,
+    /// Which records of the day are drawn; to its end where that comes first.
+    pub part: Range<usize>,
 }
 
 /// Text as it may stand in a page.
@@ -54,6 +61,12 @@ impl Asked {
         }
     }
 
+    /// Whether a wait of so many records, and of so many microseconds by the clock, is over a limit, if there is one.
+    pub fn too_long(&self, records: usize, took: Option<u64>) -> bool {
+        self.limit.is_some_and(|limit| records > limit)
+            || self.limit_ms.zip(took).is_some_and(|(limit, took)| took > limit.saturating_mul(1000))
+    }
+
     /// The limits in words, if there is one.
     pub fn limits(&self) -> Option<String> {
         let records = self.limit.map(|limit| plural(limit, "record", "records"));
@@ -64,7 +77,7 @@ impl Asked {
 }
 
 /// Numbers with commas, the first so many of them.
-pub fn listed(numbers: Vec<usize>, most: usize) -> String {
+pub fn listed(numbers: &[usize], most: usize) -> String {
     let first: Vec<String> = numbers.iter().take(most).map(usize::to_string).collect();
     first.join(", ") + if numbers.len() > most { " and on" } else { "" }
 }
