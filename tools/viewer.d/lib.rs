@@ -118,6 +118,11 @@ fn asked(opened: &Opened, words: &str) -> Result<Asked, String> {
     let number = |word: Option<&str>| word.map(|word| word.parse::<u64>().map_err(|_| format!("'{word}' is no number"))).transpose();
     let (version, title, date) = (given(), given(), given());
     let (limit, limit_ms, from, to) = (number(given())?, number(given())?, number(given())?, number(given())?);
+    if let (Some(from), Some(to)) = (from, to)
+        && to < from
+    {
+        return Err(format!("record {to} comes before record {from}: there is nothing to draw"));
+    }
     let place = |number: u64| usize::try_from(number).unwrap_or(usize::MAX);
     Ok(Asked {
         title: title.unwrap_or(&opened.name).into(),

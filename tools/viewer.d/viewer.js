@@ -29,20 +29,38 @@
     calls = (await WebAssembly.instantiate(module, {})).exports;
   }
 
-  // The files of a folder that was dropped; a browser gives some of them at a time.
-  function within(folder) {
-    const reader = folder.createReader(), found = [];
-    return new Promise((done, failed) => {
-      const more = () => reader.readEntries((some) => (some.length === 0 ? done(found) : (found.push(...some), more())), failed);
-      more();
+  // The files of a folder that was dropped. On a page from the disk some browsers list it by its handle alone, and others by its entry; one gives some at a time.
+  async function within(item) {
+    const found = [], handle = await item.handle;
+    if (handle) {
+      for await (const inner of handle.values()) if (inner.kind === "file") found.push(await inner.getFile());
+      return found;
+    }
+    const reader = item.entry.createReader(), some = () => new Promise((done, failed) => reader.readEntries(done, failed));
+    for (let entries = await some(); entries.length > 0; entries = await some()) {
+      for (const inner of entries) if (inner.isFile) found.push(await new Promise((done, failed) => inner.file(done, failed)));
+    }
+    return found;
+  }
+  // What a drop brings is known only while it lasts: so each item is asked at once for all that it has.
+  function items(transfer) {
+    return Array.from(transfer.items).filter((item) => item.kind === "file").map((item) => {
+      const entry = item.webkitGetAsEntry && item.webkitGetAsEntry(), folder = Boolean(entry && entry.isDirectory);
+      return { entry: entry, file: item.getAsFile(), folder: folder, handle: folder && item.getAsFileSystemHandle ? item.getAsFileSystemHandle().catch(() => null) : null };
     });
   }
-  async function dropped(entries) {
+  async function dropped(items) {
     const found = [];
-    const add = (entry, path) => new Promise((done, failed) => entry.file((file) => { found.push({ path: path, file: file }); done(); }, failed));
-    for (const entry of entries) {
-      if (entry.isFile) await add(entry, entry.name);
-      else for (const inner of await within(entry)) if (inner.isFile) await add(inner, entry.name + "/" + inner.name);
+    for (const item of items) {
+      if (!item.folder) {
+        found.push({ path: item.file.name, file: item.file });
+        continue;
+      }
+      try {
+        for (const file of await within(item)) found.push({ path: item.entry.name + "/" + file.name, file: file });
+      } catch (why) {
+        throw new Error(item.entry.name + ": this browser does not list a folder that is dropped; 'Open a folder' does");
+      }
     }
     return found;
   }
@@ -179,9 +197,8 @@
     page.addEventListener("drop", (event) => {
       event.preventDefault();
       over(false);
-      const entries = Array.from(event.dataTransfer.items, (item) => item.webkitGetAsEntry && item.webkitGetAsEntry()).filter(Boolean);
-      const files = chosen(event.dataTransfer.files);
-      tried(async () => open(entries.length > 0 ? await dropped(entries) : files));
+      const brought = items(event.dataTransfer);
+      tried(async () => open(await dropped(brought)));
     });
   }
   droppable(document);
