@@ -154,7 +154,7 @@ fn drained(moment: &Moment, before: &PchPic) -> String {
 fn heading(opened: &Opened, moment: &Moment, before: &PchPic) -> String {
     let (asked, gave) = words::parts(moment);
     let drained = drained(moment, before);
-    let gave = if gave.is_empty() { "nothing".to_string() } else { escaped(&gave) };
+    let gave = if gave.is_empty() { "nothing".to_string() } else { escaped(gave.strip_prefix("gave ").unwrap_or(&gave)) };
     let took = if drained.is_empty() { String::new() } else { format!("<ul>\n{drained}</ul>\n") };
     let time = opened.time(moment.number).map_or(String::new(), |time| format!("<dt>at</dt><dd>{}</dd>\n", milliseconds(time)));
     let wrong = if opened.is_wrong(moment.number) { "<p class=\"warning\">Behind a hole: not the day's.</p>\n" } else { "" };

@@ -112,7 +112,7 @@
       records = calls.records();
       for (const id of ["title", "date", "limit", "limit-ms", "from", "to"]) by(id).value = "";
       by("number").max = by("slider").max = records - 1;
-      by("of").textContent = "of 0 to " + (records - 1);
+      by("of").textContent = "of 0 to " + (records - 1).toLocaleString("en");
       draw();
       go(0);
       by("drop").hidden = true;
