@@ -1,6 +1,6 @@
 //! The program of tools/growth: makes a bench day of any length, and goes through it, one trace in memory at a time.
 //!
-//! `record N DAY` records N calls to the folder DAY, which is to be empty. `play DAY` plays it, and `sheet DAY` counts it.
+//! `record N DAY` records N calls to the folder DAY, which is to be empty. `play DAY` plays it, `sheet DAY` counts it, and `csv DAY` does with commas between its numbers.
 
 use pch_pic::day::Day;
 use pch_pic::holes::digest;
@@ -122,7 +122,8 @@ fn main() -> ExitCode {
         ["record", records, folder] => records.parse().map_err(Box::from).and_then(|records| record(records, Path::new(folder))),
         ["play", folder] => play(Path::new(folder)),
         ["sheet", folder] => Day::open(folder).and_then(|day| day.sheet()).map(|sheet| println!("{sheet}")).map_err(Box::from),
-        _ => Err("it wants record N DAY, play DAY or sheet DAY".into()),
+        ["csv", folder] => Day::open(folder).and_then(|day| day.sheet()).map(|sheet| print!("{}", sheet.csv())).map_err(Box::from),
+        _ => Err("it wants record N DAY, play DAY, sheet DAY or csv DAY".into()),
     };
     match done {
         Ok(()) => ExitCode::SUCCESS,

@@ -55,10 +55,12 @@ impl fmt::Display for DayError {
             DayError::Refused(path, why, Some(cause)) => write!(f, "{}: refused with {}: {cause}", path.display(), why.number()),
             DayError::Refused(path, why, None) => write!(f, "{}: refused with {}: {why}", path.display(), why.number()),
             DayError::Holes(path, why) => write!(f, "{}: {why}", path.display()),
-            DayError::Behind(path) => write!(f, "{}: it has holes, and only the last trace of a day may", path.display()),
+            DayError::Behind(path) => {
+                write!(f, "{}: it has a hole, and is not the last trace: behind a hole nothing is the day's", path.display())
+            }
             DayError::Times(path, why) => write!(f, "{}: {why}", path.display()),
-            DayError::Twice(path) => write!(f, "{}: it is named twice, and a trace is in a day once", path.display()),
-            DayError::Among(path) => write!(f, "{}: it is a folder, and so a day by itself", path.display()),
+            DayError::Twice(path) => write!(f, "{}: it is there twice, and a day has each trace once", path.display()),
+            DayError::Among(path) => write!(f, "{}: a folder is a day of its own, and stands alone", path.display()),
             DayError::Tally(why) => write!(f, "refused with {}: {why}", why.number()),
         }
     }

@@ -20,7 +20,7 @@
 //! # Ok::<(), Fault>(())
 //! ```
 
-use crate::{contents, holes, Error, Trace, RECORDS_MAX};
+use crate::{contents, holes, Trace, RECORDS_MAX};
 use core::fmt;
 
 /// The name of the list in its folder.
@@ -55,8 +55,12 @@ pub struct Listed {
 pub enum Fault {
     /// There is no list.
     NoList,
-    /// A line of the list, counted from 1, and what is wrong with it.
-    Line(usize, String),
+    /// The first line is another.
+    Head,
+    /// A line, counted from 1, is not that of the next trace, nor the right end of the list.
+    Line(usize),
+    /// A line, which says so many records, and its trace, which has so many.
+    Records(usize, usize, usize),
     /// It has no trace.
     Empty,
     /// A listed trace is not there.
@@ -84,16 +88,18 @@ pub enum Fault {
         /// How many whole records lead it.
         records: usize,
     },
-    /// What the list names is no good trace: [`Error::Trace`] or [`Error::Record`], and why.
-    Refused(usize, Error, Option<String>),
+    /// What the list names is no good trace.
+    Refused(usize),
 }
 
 impl fmt::Display for Fault {
     fn fmt(&self, f: &mut fmt::Formatter<'_>) -> fmt::Result {
         match self {
-            Fault::NoList => write!(f, "{NAME} is missing, so it is no day"),
-            Fault::Line(line, why) => write!(f, "{NAME}, line {line}: {why}"),
-            Fault::Empty => write!(f, "the day has no trace"),
+            Fault::NoList => write!(f, "there is no {NAME} in it, so it is no day"),
+            Fault::Head => write!(f, "{NAME}, line 1: it is not '{HEAD}'"),
+            Fault::Line(line) => write!(f, "{NAME}, line {line}: it is not the line of trace {}, nor the right end of the list", line - 1),
+            Fault::Records(line, says, has) => write!(f, "{NAME}, line {line}: it says {says} records, and {} has {has}", name(line - 1)),
+            Fault::Empty => write!(f, "there is no trace in it yet"),
             Fault::Missing(number) => write!(f, "{} is missing", name(*number)),
             Fault::Foreign { number, of } => write!(f, "{} is not of this day: {NAME} ends with trace {of}", name(*number)),
             Fault::Changed(number) => {
@@ -105,13 +111,7 @@ impl fmt::Display for Fault {
             Fault::Open { number, records } => {
                 write!(f, "the day was not ended: {} has {records} whole records; ./run --salvage DAY TO keeps them", name(*number))
             }
-            Fault::Refused(number, why, cause) => {
-                write!(f, "{}: refused with {}: ", name(*number), why.number())?;
-                match cause {
-                    Some(cause) => f.write_str(cause),
-                    None => why.fmt(f),
-                }
-            }
+            Fault::Refused(number) => write!(f, "{} is as it was listed, and no good trace", name(*number)),
         }
     }
 }
@@ -145,37 +145,32 @@ impl List {
     ///
     /// # Errors
     ///
-    /// [`Fault::Line`].
+    /// [`Fault::Head`] or [`Fault::Line`].
     pub fn parse(bytes: &[u8]) -> Result<Self, Fault> {
         let whole = bytes.iter().rposition(|byte| *byte == b'\n').unwrap_or(0);
         let mut lines = bytes[..whole].split(|byte| *byte == b'\n').map(|line| core::str::from_utf8(line).unwrap_or("\u{fffd}"));
         if lines.next() != Some(HEAD) {
-            return Err(Fault::Line(1, format!("it is not '{HEAD}'")));
+            return Err(Fault::Head);
         }
         let mut list = List::default();
         for (at, line) in lines.enumerate() {
-            list.take(line).map_err(|why| Fault::Line(at + 2, why))?;
+            list.take(line).ok_or(Fault::Line(at + 2))?;
         }
         Ok(list)
     }
 
-    fn take(&mut self, line: &str) -> Result<(), String> {
+    /// The next line: that of the next trace, or the end of the day, behind which no line comes.
+    fn take(&mut self, line: &str) -> Option<()> {
         if self.ended {
-            return Err("the day has ended above it".into());
+            return None;
         }
-        let next = self.listed.len() + 1;
-        if let Some(counts) = line.strip_prefix("end ") {
-            let wanted = format!("{} {}", self.listed.len(), self.records());
-            self.ended = counts == wanted;
-            let differ = || format!("it ends the day with other counts than the list's, which are '{wanted}'");
-            return if self.ended { Ok(()) } else { Err(differ()) };
+        if line == format!("end {} {}", self.listed.len(), self.records()) {
+            self.ended = true;
+            return Some(());
         }
-        let (number, listed) = listed(line).ok_or("it is no number of a trace, its records and its SHA-256")?;
-        if number != next {
-            return Err(format!("it is out of order: it names trace {number}, and trace {next} comes next"));
-        }
+        let (_, listed) = listed(line).filter(|(number, _)| *number == self.listed.len() + 1)?;
         self.listed.push(listed);
-        Ok(())
+        Some(())
     }
 
     /// The traces that it names, in their order.
@@ -220,7 +215,7 @@ impl List {
     ///
     /// # Errors
     ///
-    /// [`Fault::Changed`], [`Fault::Misplaced`], [`Fault::Refused`], [`Fault::Open`]; [`Fault::Line`] where the list says other records.
+    /// [`Fault::Changed`], [`Fault::Misplaced`], [`Fault::Refused`], [`Fault::Open`]; [`Fault::Records`] where the list says others.
     pub fn trace(&self, number: usize, bytes: Vec<u8>) -> Result<Trace, Fault> {
         let Some(listed) = number.checked_sub(1).and_then(|at| self.listed.get(at)) else { return open(number, bytes) };
         let digest = holes::digest(&bytes);
@@ -228,12 +223,10 @@ impl List {
             let other = self.listed.iter().position(|other| other.digest == digest);
             return Err(other.map_or(Fault::Changed(number), |at| Fault::Misplaced { number, is: at + 1 }));
         }
-        let cause = holes::cause(&bytes);
-        let trace = Trace::try_from(bytes).map_err(|why| Fault::Refused(number, why, cause.filter(|_| why == Error::Trace)))?;
+        let trace = Trace::try_from(bytes).map_err(|_| Fault::Refused(number))?;
         let records = trace.records().len();
         if records != listed.records {
-            let why = format!("it says {} records, and {} has {records}", listed.records, name(number));
-            return Err(Fault::Line(number + 1, why));
+            return Err(Fault::Records(number + 1, listed.records, records));
         }
         Ok(trace)
     }
@@ -295,7 +288,7 @@ mod tests {
             let lines = whole[..cut].matches('\n').count();
             match List::parse(&whole.as_bytes()[..cut]) {
                 Ok(list) => assert!(lines > 0 && list.listed().len() == lines.min(4) - 1 && list.ended() == (lines == 5)),
-                Err(why) => assert!(lines == 0 && matches!(why, Fault::Line(1, _))),
+                Err(why) => assert!(lines == 0 && why == Fault::Head),
             }
         }
     }
@@ -320,17 +313,16 @@ mod tests {
         let told = |text: &str| List::parse(text.as_bytes()).unwrap_err().to_string();
         let line = text("").lines().nth(1).unwrap().to_string();
         assert_eq!(told("pch-pic day 2\n"), "day.list, line 1: it is not 'pch-pic day 1'");
-        let wrong = "it is no number of a trace, its records and its SHA-256";
-        for other in
-            ["", " ", "00001", "00001 1", &line.replace(" 1 ", " 0 "), &line.replace(" 1 ", " 4001 "), &line.replace(" 1 ", " 01 ")]
-        {
-            assert_eq!(told(&format!("{HEAD}\n{other}\n")), format!("day.list, line 2: {wrong}"), "{other}");
+        let wrong = |line, trace| format!("day.list, line {line}: it is not the line of trace {trace}, nor the right end of the list");
+        for other in ["", " ", "00001", "00001 1", "end 0 1", "end 00 0", "end 0 0 ", &line.to_uppercase(), &format!("{line} ")] {
+            assert_eq!(told(&format!("{HEAD}\n{other}\n")), wrong(2, 1), "{other}");
         }
-        let twice = format!("{HEAD}\n{line}\n{line}\n");
-        assert_eq!(told(&twice), "day.list, line 3: it is out of order: it names trace 1, and trace 2 comes next");
-        let behind = text("end 3 3\nend 3 3\n");
-        assert_eq!(told(&behind), "day.list, line 6: the day has ended above it");
-        assert_eq!(told(&text("end 3 4\n")), "day.list, line 5: it ends the day with other counts than the list's, which are '3 3'");
+        for records in [" 0 ", " 4001 ", " 01 ", " +1 ", "  1 "] {
+            assert_eq!(told(&format!("{HEAD}\n{}\n", line.replace(" 1 ", records))), wrong(2, 1), "{records}");
+        }
+        assert_eq!(told(&format!("{HEAD}\n{line}\n{line}\n")), wrong(3, 2));
+        assert_eq!(told(&text("end 3 3\nend 3 3\n")), wrong(6, 5));
+        assert_eq!(told(&text("end 3 4\n")), wrong(5, 4));
         let many = List::parse(text("").replace("00002 1 ", "00002 2 ").as_bytes()).unwrap();
         let told = many.trace(2, trace(Record::Raise(4))).unwrap_err().to_string();
         assert_eq!(told, "day.list, line 3: it says 2 records, and 00002.trace has 1");
@@ -368,6 +360,6 @@ mod tests {
         let bad = vec![0, 0];
         let list = List::parse(format!("{HEAD}\n00001 1 {}\n", holes::digest(&bad)).as_bytes()).unwrap();
         let told = list.trace(1, bad).unwrap_err().to_string();
-        assert_eq!(told, "00001.trace: refused with 12: its contents are wrong: they say 0 blocks, and a trace has 1 to 64");
+        assert_eq!(told, "00001.trace is as it was listed, and no good trace");
     }
 }
