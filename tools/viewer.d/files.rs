@@ -62,15 +62,14 @@ pub struct Opened {
     names: BTreeMap<usize, String>,
 }
 
-/// The file of this name.
+/// The file of this name, of files that are sorted by it.
 fn named<'a>(files: &'a [File], name: &str) -> Option<&'a File> {
-    files.iter().find(|file| file.name == name)
+    files.binary_search_by(|file| file.name.as_str().cmp(name)).ok().map(|at| &files[at])
 }
 
 /// The day that these files are, or why they are none, in one line.
 pub fn open(mut files: Vec<File>) -> Result<Opened, String> {
-    // Whoever hands files over has no say in their order: it is that of their names.
-    files.sort_by(|one, other| in_order(&one.name).cmp(&in_order(&other.name)));
+    files.sort_by(|one, other| one.name.cmp(&other.name));
     let told = |why: DayError| why.to_string();
     if let Some(twice) = files.windows(2).find(|pair| pair[0].name == pair[1].name) {
         return Err(told(DayError::Twice(twice[1].name.clone().into())));
@@ -156,9 +155,10 @@ fn listed(files: &[File], folder: &str) -> Result<(Option<List>, Vec<String>), F
     Ok((Some(list), (1..=traces).map(|number| within(folder, &list::name(number))).collect()))
 }
 
-/// Traces that came without a list.
+/// Traces that came without a list. Whoever hands files over has no say in their order: it is that of their names.
 fn loose(files: &[File]) -> Result<Vec<String>, String> {
-    let traces: Vec<String> = files.iter().filter(|file| file.kind() == Some(Kind::Trace)).map(|file| file.name.clone()).collect();
+    let mut traces: Vec<String> = files.iter().filter(|file| file.kind() == Some(Kind::Trace)).map(|file| file.name.clone()).collect();
+    traces.sort_by(|one, other| in_order(one).cmp(&in_order(other)));
     let alone = |file: &&File| {
         let of = file.name.rsplit_once('.').map_or("", |(of, _)| of);
         file.kind() == Some(Kind::Beside) && !traces.iter().any(|trace| trace == of)
