@@ -126,7 +126,7 @@ function held() {
   process.exit(number > 0 && number === calls.records() && wrong === 0 ? 0 : 1);
 }
 
-// ---- damage
+// ---- damage: every fourth time none, so that pages are drawn too
 
 function hostile() {
   let seed = Number(words.shift()), opened = 0, refused = 0;
@@ -135,10 +135,10 @@ function hostile() {
   for (let round = 0; round < count; round++) {
     calls.forget();
     for (const { name, bytes } of files) {
-      const damaged = Buffer.from(chance(8) === 0 ? bytes.subarray(0, chance(bytes.length + 1)) : bytes);
-      for (let changes = chance(4); changes > 0 && damaged.length > 0; changes--) damaged[chance(chance(3) === 0 ? damaged.length : Math.min(damaged.length, 300))] = chance(256);
-      const as = Buffer.from(chance(12) === 0 ? ["day.list", "00002.trace", "x.holes", "x.times", "a/b", "", "\n.trace"][chance(7)] : name);
-      if (chance(10) > 0) (hand(Buffer.concat([as, damaged])), calls.take(as.length));
+      const spared = round % 4 === 0, damaged = Buffer.from(!spared && chance(8) === 0 ? bytes.subarray(0, chance(bytes.length + 1)) : bytes);
+      for (let changes = spared ? 0 : chance(4); changes > 0 && damaged.length > 0; changes--) damaged[chance(chance(3) === 0 ? damaged.length : Math.min(damaged.length, 300))] = chance(256);
+      const as = Buffer.from(!spared && chance(12) === 0 ? ["day.list", "00002.trace", "x.holes", "x.times", "a/b", "", "\n.trace"][chance(7)] : name);
+      if (spared || chance(10) > 0) (hand(Buffer.concat([as, damaged])), calls.take(as.length));
     }
     const good = calls.open() === 0;
     hand(Buffer.from(["", "t", "", String(chance(50)), chance(3) === 0 ? "5" : "", String(chance(2000)), String(chance(3000))].join("\n")));
