@@ -123,10 +123,10 @@ async function steps(name) {
 }
 
 async function good(name, file, files, index) {
-  const page = readFileSync(file, "utf8"), folder = files.length === 1 && statSync(files[0]).isDirectory();
+  const page = readFileSync(file, "utf8"), folder = statSync(files[0]).isDirectory();
   await fresh(1280, 900, false);
-  // Every other day is chosen and not dropped.
-  if (index % 2 === 0) await drop(files);
+  // Every other day is chosen and not dropped; a folder cannot be chosen together with a file.
+  if (index % 2 === 0 || (folder && files.length > 1)) await drop(files);
   else await choose(folder ? "folder" : "files", files);
   if (!(await until(OPEN, name + ": the day is opened"))) return;
   await shown(name, page);
@@ -134,11 +134,20 @@ async function good(name, file, files, index) {
   await saves(name, page);
 }
 async function bad(name, line, files) {
-  const before = await told("performance.now()");
+  await told("document.getElementById('said').className = ''");
   await drop(files);
   await until("document.getElementById('said').classList.contains('bad')", name + ": it is refused");
-  check(name + ": in one line", (await told(SAID)) === line, (await told(SAID)) + " after " + before);
+  check(name + ": in one line", (await told(SAID)) === line, await told(SAID));
   check(name + ": and no day is shown", !(await told(OPEN)));
+}
+// Of two days that are dropped right behind each other the second one is shown.
+async function twice(first, second) {
+  await fresh(1280, 900, false);
+  await drop(first);
+  await drop(second);
+  await until(OPEN, "two at once: a day is opened");
+  await pause(1000);
+  check("two at once: the second one is shown", (await told(SAID)).startsWith("quiet.trace: "), await told(SAID));
 }
 // Nothing is wider than the window, in three widths and in the dark.
 async function looked(name, files) {
@@ -167,7 +176,9 @@ async function all() {
     if (wanted.startsWith("!")) await bad(name, wanted.slice(1), files);
     else await good(name, wanted, files, index++);
   }
-  await looked("rough", lines.find(([name]) => name === "rough").slice(2));
+  const files = (name) => lines.find(([known]) => known === name).slice(2);
+  await twice(files("rough"), files("quiet"));
+  await looked("rough", files("rough"));
   // What the browser was asked for: this file, and what was made in it. And nothing was refused or thrown on the way.
   const asked = heard.filter((one) => one.method === "Network.requestWillBeSent").map((one) => one.params.request.url);
   const outside = asked.filter((address) => address !== url && !/^(blob:|about:|data:)/.test(address));

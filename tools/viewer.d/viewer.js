@@ -4,7 +4,8 @@
   const by = (id) => document.getElementById(id);
   // A trace is read as far as shows that it is too long; nothing of a day is longer than its list may be.
   const MOST = { trace: 65537, list: 8000000, other: 1000000 };
-  let module = null, calls = null, page = "", name = "", record = 0, records = 0;
+  const ASKED = ["title", "date", "limit", "limit-ms", "from", "to"];
+  let module = null, calls = null, page = "", name = "", record = 0, records = 0, turn = 0;
 
   function say(text, bad) {
     by("said").textContent = text;
@@ -69,61 +70,67 @@
     return Array.from(files, (file) => ({ path: file.webkitRelativePath || file.name, file: file })).filter((one) => one.path.split("/").length < 3);
   }
 
-  async function taken(one) {
-    const end = one.path.replace(/^.*[./]/, ""), most = one.path.endsWith("day.list") ? MOST.list : end === "times" || end === "holes" || end === "names" || end === "txt" ? MOST.other : MOST.trace;
-    let bytes;
+  async function read(one) {
+    const end = one.path.replace(/^.*[./]/, ""), most = one.path.endsWith("day.list") ? MOST.list : /^(times|holes|names|txt)$/.test(end) ? MOST.other : MOST.trace;
     try {
-      bytes = new Uint8Array(await one.file.slice(0, most).arrayBuffer());
+      return { path: new TextEncoder().encode(one.path), bytes: new Uint8Array(await one.file.slice(0, most).arrayBuffer()) };
     } catch (why) {
       throw new Error(one.path + ": it cannot be read");
     }
-    const path = new TextEncoder().encode(one.path), both = new Uint8Array(path.length + bytes.length);
-    both.set(path);
-    both.set(bytes, path.length);
+  }
+  function take(one) {
+    const both = new Uint8Array(one.path.length + one.bytes.length);
+    both.set(one.path);
+    both.set(one.bytes, one.path.length);
     hand(both);
-    calls.take(path.length);
+    calls.take(one.path.length);
   }
 
   // Whatever goes wrong is one line, and no day is shown then.
-  async function tried(work) {
+  async function failed(why) {
+    by("day").hidden = true;
+    by("drop").hidden = false;
+    by("save").disabled = true;
+    records = 0;
+    const trapped = why instanceof WebAssembly.RuntimeError;
+    say(trapped ? "the device stopped, which no file should bring about: " + why.message : why.message, true);
+    if (trapped) await fresh();
+  }
+
+  // Files are read first, which takes time; then the old day goes and the new one comes at once. What is opened meanwhile takes the turn of what was asked for before.
+  async function open(listed) {
+    const mine = (turn += 1), late = () => mine !== turn;
     try {
-      await work();
+      const files = await listed();
+      if (late() || files.length === 0) return;
+      say("Reading " + files.length + (files.length === 1 ? " file." : " files."));
+      await new Promise((done) => setTimeout(done, 20));
+      const contents = [];
+      for (const one of files) contents.push(await read(one));
+      if (!late()) begin(contents);
     } catch (why) {
-      by("day").hidden = true;
-      by("drop").hidden = false;
-      by("save").disabled = true;
-      records = 0;
-      const trapped = why instanceof WebAssembly.RuntimeError;
-      say(trapped ? "the device stopped, which no file should bring about: " + why.message : why.message, true);
-      if (trapped) await fresh();
+      if (!late()) await failed(why);
     }
   }
-  const settled = () => new Promise((done) => setTimeout(done, 20));
-
-  async function open(files) {
-    if (files.length === 0) return;
-    say("Reading " + files.length + (files.length === 1 ? " file." : " files."));
-    await settled();
-    await tried(async () => {
-      calls.forget();
-      for (const one of files) await taken(one);
-      if (calls.open() !== 0) throw new Error(told());
-      name = told();
-      records = calls.records();
-      for (const id of ["title", "date", "limit", "limit-ms", "from", "to"]) by(id).value = "";
-      by("number").max = by("slider").max = records - 1;
-      by("of").textContent = "of 0 to " + (records - 1).toLocaleString("en");
-      draw();
-      go(0);
-      by("drop").hidden = true;
-      by("day").hidden = false;
-      by("save").disabled = false;
-    });
+  function begin(contents) {
+    calls.forget();
+    contents.forEach(take);
+    if (calls.open() !== 0) throw new Error(told());
+    name = told();
+    records = calls.records();
+    for (const id of ASKED) by(id).value = "";
+    by("number").max = by("slider").max = records - 1;
+    by("of").textContent = "of 0 to " + (records - 1).toLocaleString("en");
+    draw();
+    go(0);
+    by("drop").hidden = true;
+    by("day").hidden = false;
+    by("save").disabled = false;
   }
 
   function draw() {
     const version = document.querySelector("footer").dataset.version;
-    const words = [version, ...["title", "date", "limit", "limit-ms", "from", "to"].map((id) => by(id).value.replace(/\n/g, " "))];
+    const words = [version, ...ASKED.map((id) => by(id).value.replace(/\n/g, " "))];
     hand(new TextEncoder().encode(words.join("\n")));
     if (calls.draw() !== 0) throw new Error(told());
     page = told();
@@ -138,7 +145,13 @@
     by("state").innerHTML = told();
     by("number").value = by("slider").value = record;
   }
-  const stepped = (to) => tried(async () => go(to));
+  function stepped(to) {
+    try {
+      go(to);
+    } catch (why) {
+      failed(why);
+    }
+  }
 
   function show(step) {
     by("step").hidden = !step;
@@ -151,8 +164,9 @@
   by("to-page").onclick = () => show(false);
   by("to-step").onclick = () => show(true);
   by("files").onchange = by("folder").onchange = (event) => {
-    open(chosen(event.target.files));
+    const files = chosen(event.target.files);
     event.target.value = "";
+    open(async () => files);
   };
   by("asked").onsubmit = (event) => {
     event.preventDefault();
@@ -198,7 +212,7 @@
       event.preventDefault();
       over(false);
       const brought = items(event.dataTransfer);
-      tried(async () => open(await dropped(brought)));
+      open(() => dropped(brought));
     });
   }
   droppable(document);
