@@ -160,7 +160,7 @@ fn item(day: &Day, finding: &Finding) -> String {
     format!("<li>{}{wrong}</li>\n", link(day, finding.input, finding.record, &text))
 }
 
-/// A table in a fold: its class, what it tells, the names of its columns, its rows, and how many more there are that are not listed.
+/// A table in a fold: its class, what it tells, the names of its columns, its rows, and how many more there are that are not listed. A short one over the limit is open.
 fn table<T>(day: &Day, class: &str, told: &str, columns: &[&str], found: &Found<T>, row: impl Fn(&T) -> String) -> String {
     let rows: String = found.listed.iter().map(row).collect();
     let more = match found.count.saturating_sub(found.listed.len()) {
@@ -168,10 +168,12 @@ fn table<T>(day: &Day, class: &str, told: &str, columns: &[&str], found: &Found<
         more if day.is_plain() => format!("<p>{} more are not listed.</p>\n", counted(more)),
         more => format!("<p>{} more are not listed: tools/day --from N --to M lists those of a part of the day.</p>\n", counted(more)),
     };
+    // On paper a long list stands in columns.
+    let (before, behind) = if class == "over" && !is_long(day) { ("", "") } else { ("<div class=\"columns\">", "</div>\n") };
     let columns: String = columns.iter().filter(|name| !name.is_empty()).map(|name| format!("<th scope=\"col\">{name}</th>")).collect();
     format!(
-        "<details class=\"{class}\"{}><summary>{told}</summary>\n<table>\n<thead><tr>{columns}</tr></thead>\n<tbody>\n{rows}</tbody>\n</table>\n{more}</details>\n",
-        if found.count <= 12 { " open" } else { "" }
+        "<details class=\"{class}\"{}><summary>{told}</summary>\n{before}<table>\n<thead><tr>{columns}</tr></thead>\n<tbody>\n{rows}</tbody>\n</table>\n{behind}{more}</details>\n",
+        if class == "over" && found.count <= 12 { " open" } else { "" }
     )
 }
 
@@ -264,5 +266,25 @@ pub fn section(asked: &Asked, day: &Day) -> String {
         let items: String = folded.iter().map(|finding| item(day, finding)).collect();
         let _ = write!(out, "<details><summary>{} more</summary>\n<ul>\n{items}</ul>\n</details>\n", folded.len());
     }
-    out + &over_limit(asked, day) + &each_one(asked, day)
+    if is_long(day) {
+        out += "<p>Each wait over the limit, dropped event and withdrawn wait is listed below the picture.</p>\n";
+        return out;
+    }
+    out + &over_limit(asked, day)
+}
+
+/// How many waits over the limit stand above the picture at most, but on the page of one trace that draws each record.
+const ABOVE: usize = 40;
+
+fn is_long(day: &Day) -> bool {
+    !day.is_plain() && day.over.count > ABOVE
+}
+
+/// What stands below the picture: the lists of a day that has more than the sentences tell.
+pub fn lists(asked: &Asked, day: &Day) -> String {
+    let over = if is_long(day) { over_limit(asked, day) } else { String::new() };
+    match over + &each_one(asked, day) {
+        lists if lists.is_empty() => lists,
+        lists => format!("<section class=\"findings lists\">\n<h2>Each of them</h2>\n{lists}</section>\n"),
+    }
 }

@@ -201,8 +201,8 @@ fn told(day: &Day) -> String {
 
 pub fn page(asked: &Asked, day: &mut Day, source: &mut dyn Source) -> Result<String, String> {
     let picture = drawn(day);
-    let (day, findings) = (&*day, findings::section(asked, day));
-    let listed = listed(asked, day, ROOM.saturating_sub(picture.len() + findings.len()) / LINE);
+    let (day, findings, lists) = (&*day, findings::section(asked, day), findings::lists(asked, day));
+    let listed = listed(asked, day, ROOM.saturating_sub(picture.len() + findings.len() + lists.len()) / LINE);
     let total = day.sheet.total();
     let all = listed.len() == day.part.len();
     let records = plural(day.part.len(), "record", "records");
@@ -226,6 +226,7 @@ pub fn page(asked: &Asked, day: &mut Day, source: &mut dyn Source) -> Result<Str
         ("picture", picture),
         ("ends", if day.traces.len() == 1 { "" } else { ENDS }.to_string()),
         ("findings", findings),
+        ("lists", lists),
         ("title", escaped(&asked.title)),
         ("traces", traces(day)),
         ("all", escaped(&lines(day, &listed, source)?)),

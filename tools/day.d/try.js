@@ -29,7 +29,9 @@
   // The two kinds of drops, in tile and picture: an assert is a filled dot, a deassert one with the ground in its middle.
   const tile = (name) => Number(all(".tiles div").find((tile) => tile.querySelector("dt").innerText === name).querySelector("dd").innerText.replace(/[*,]/g, ""));
   const sum = (name) => lanes.reduce((count, lane) => count + dots(name, lane.dataset.input), 0);
-  say("tiles", tile("asserts dropped") === sum("drop") && tile("deasserts dropped") === sum("left") && all("#picture path.core").length === all("path.left[data-input]").length);
+  // A part has some of them, and a coarse picture a dot for each step that has one.
+  const fits = (count, dots) => (begin === 0 && unit === 1 ? count === dots : dots <= count && (begin > 0 || count === 0 || dots > 0));
+  say("tiles", fits(tile("asserts dropped"), sum("drop")) && fits(tile("deasserts dropped"), sum("left")) && all("#picture path.core").length === all("path.left[data-input]").length);
 
   // What is drawn stands where it should, in pixels: a path's box on the screen is from its first record to its last.
   const box = picture.getBoundingClientRect(), x = (record) => box.left + (box.width * record) / records;

@@ -153,8 +153,9 @@ impl List {
             return Err(Fault::Head);
         }
         let mut list = List::default();
-        for (at, line) in lines.enumerate() {
-            list.take(line).ok_or(Fault::Line(at + 2))?;
+        for line in lines {
+            // Where lines come behind the end, the end is none.
+            list.take(line).ok_or(Fault::Line(list.listed.len() + 2))?;
         }
         Ok(list)
     }
@@ -321,7 +322,7 @@ mod tests {
             assert_eq!(told(&format!("{HEAD}\n{}\n", line.replace(" 1 ", records))), wrong(2, 1), "{records}");
         }
         assert_eq!(told(&format!("{HEAD}\n{line}\n{line}\n")), wrong(3, 2));
-        assert_eq!(told(&text("end 3 3\nend 3 3\n")), wrong(6, 5));
+        assert_eq!(told(&text("end 3 3\nend 3 3\n")), wrong(5, 4));
         assert_eq!(told(&text("end 3 4\n")), wrong(5, 4));
         let many = List::parse(text("").replace("00002 1 ", "00002 2 ").as_bytes()).unwrap();
         let told = many.trace(2, trace(Record::Raise(4))).unwrap_err().to_string();
