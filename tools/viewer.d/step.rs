@@ -57,9 +57,9 @@ fn registers(before: &PchPic, after: &PchPic) -> String {
         let (old, new) = (register(before, at), register(after, at));
         let means = if means.is_empty() { String::new() } else { format!(" <small>{means}</small>") };
         let class = changed(old != new);
-        let _ = write!(
+        let _ = writeln!(
             rows,
-            "<tr{class}><th scope=\"row\">{name}{means}</th><td class=\"hex\">{:08x} {:08x}</td><td>{}</td></tr>\n",
+            "<tr{class}><th scope=\"row\">{name}{means}</th><td class=\"hex\">{:08x} {:08x}</td><td>{}</td></tr>",
             new >> 32,
             new & 0xffff_ffff,
             inputs(new)
@@ -94,7 +94,7 @@ fn lines(opened: &Opened, before: &PchPic, after: &PchPic) -> String {
         }
         let cells: String = old.iter().zip(&new).map(|(old, new)| format!("<td{}>{new}</td>", changed(old != new))).collect();
         let name = opened.names().get(&input).map_or(String::new(), |name| escaped(name));
-        let _ = write!(rows, "<tr><th scope=\"row\">{input}</th><td class=\"named\">{name}</td>{cells}</tr>\n");
+        let _ = writeln!(rows, "<tr><th scope=\"row\">{input}</th><td class=\"named\">{name}</td>{cells}</tr>");
     }
     let head = "<th>input</th><th></th><th>MASK</th><th>IRR</th><th>ISR</th><th></th><th>route</th><th>vector</th>";
     let table = if rows.is_empty() {
