@@ -103,8 +103,9 @@ fn write_axis(out: &mut String, day: &Day) {
         let x = across(record, day);
         // At the day's end a number stands left of its tick, so that it is not cut.
         let side = if day.place(record) * 20 > day.part.len() * 19 { " end" } else { "" };
-        // Where numbers are long, a narrow window has one of three.
-        let side = if !day.is_plain() && matches!(record / step % 3, 1 | 2) { format!("{side} more") } else { side.into() };
+        // Where numbers are long, a narrow window has one of three, and none that would be cut at the end.
+        let more = !day.is_plain() && (matches!(record / step % 3, 1 | 2) || day.place(record) * 20 > day.part.len() * 16);
+        let side = if more { format!("{side} more") } else { side.into() };
         let _ = writeln!(
             out,
             "<line class=\"tick\" x1=\"{x}\" x2=\"{x}\" y1=\"{}\" y2=\"{AXIS}\"/><text class=\"at{side}\" x=\"{x}\" y=\"14\">{}</text>",
