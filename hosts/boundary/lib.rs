@@ -5,20 +5,25 @@
 #![no_std]
 #![deny(unsafe_op_in_unsafe_fn)]
 
+// Where the boundary is part of a program with crate pch-pic, as in the WebAssembly of docs/viewer.html, the text is that crate's, and the rest is std's.
+#[cfg(not(over_crate))]
 mod memory;
+#[cfg(not(over_crate))]
 mod stop;
+#[cfg(over_crate)]
+use pch_pic::calls as text;
 
 // The text made fast, or where that is asked for the plain copy, which is shorter. Both forbid unsafe code.
-#[cfg(not(plain))]
+#[cfg(not(any(plain, over_crate)))]
 #[path = "../rust/src/fast/mod.rs"]
 mod fast;
-#[cfg(plain)]
+#[cfg(all(plain, not(over_crate)))]
 #[path = "../rust/src/proved/mod.rs"]
 mod proved;
 
-#[cfg(not(plain))]
+#[cfg(not(any(plain, over_crate)))]
 use fast::calls as text;
-#[cfg(plain)]
+#[cfg(all(plain, not(over_crate)))]
 use proved::calls as text;
 
 /// PCH_PIC_BUILT_BY_RUSTC: what is linked is rustc's code of the proved text. The proved archive has a 1 here.

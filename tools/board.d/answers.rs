@@ -138,7 +138,7 @@ fn make(record: &[u8; RECORD], areas: &mut [Area]) -> Result<u8, &'static str> {
             3 => pch_pic_write(i, il, one, two, three, four, five, a, al),
             4 => pch_pic_level(i, il, one, two, a, al),
             5 => pch_pic_poll(i, il, one, a, al),
-            _ => pch_pic_drain(i, il, e, el, one as usize, a, al),
+            _ => pch_pic_drain(i, il, e, el, usize::try_from(one).unwrap_or(usize::MAX), a, al),
         }
     })
 }

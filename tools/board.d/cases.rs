@@ -185,6 +185,11 @@ fn told(bytes: &mut Bytes, stood: &[u8], into: &mut [u8]) -> Option<usize> {
     Some(length)
 }
 
+/// A place in the room for events. What is no usize on this machine is a place that no room has.
+fn place(number: u64) -> usize {
+    usize::try_from(number).unwrap_or(usize::MAX)
+}
+
 fn plain(case: &Case, areas: &mut Areas) -> Option<u8> {
     let [(i, il), (e, el), (a, al)] = areas.lent([IMAGE, EVENTS, ANSWER]);
     let [one, two, three, four, five] = case.numbers;
@@ -196,7 +201,7 @@ fn plain(case: &Case, areas: &mut Areas) -> Option<u8> {
             3 => pch_pic_write(i, il, one, two, three, four, five, a, al),
             4 => pch_pic_level(i, il, one, two, a, al),
             5 => pch_pic_poll(i, il, one, a, al),
-            6 => pch_pic_drain(i, il, e, el, one as usize, a, al),
+            6 => pch_pic_drain(i, il, e, el, place(one), a, al),
             _ => return None,
         }
     })
@@ -214,7 +219,7 @@ fn with_board(case: &Case, areas: &mut Areas) -> Option<u8> {
             (6, 3) => pch_pic_board_write(i, il, b, bl, one, two, three, four, five, a, al),
             (6, 4) => pch_pic_board_level(i, il, b, bl, one, two, a, al),
             (6, 5) => pch_pic_board_poll(i, il, b, bl, one, a, al),
-            (6, 6) => pch_pic_board_drain(i, il, b, bl, e, el, one as usize, a, al),
+            (6, 6) => pch_pic_board_drain(i, il, b, bl, e, el, place(one), a, al),
             _ => return None,
         }
     })

@@ -1,5 +1,6 @@
 //! Replays a file of recorded answers or of recorded cases, which it reads from standard input, through the archive that it is linked with. It has no library:
-//! neither C's nor Rust's std, only core. So it runs on every machine that Linux runs on, or an emulator of it. `tools/try-board` builds and runs it.
+//! neither C's nor Rust's std, only core. So it runs on every machine that Linux runs on, or an emulator of it. `tools/try-board` builds and runs it. It is in the
+//! WebAssembly of docs/viewer.html too, and is run there as it ships.
 //!
 //! The last line is 'N passed, M failed'. It ends with 0 where all passed, 1 where something failed, 2 where the file is no such file.
 
@@ -13,9 +14,11 @@ mod cases;
 #[path = "../harness/library.rs"]
 #[allow(clippy::missing_safety_doc)]
 mod library;
+#[cfg(not(target_arch = "wasm32"))]
 #[path = "../../hosts/boundary/memory.rs"]
 mod memory;
 mod print;
+#[cfg_attr(target_arch = "wasm32", path = "wasm.rs")]
 mod system;
 
 use areas::Areas;
@@ -54,7 +57,7 @@ impl Score {
     }
 }
 
-/// What `_start` calls.
+/// What `_start` calls, or who lends a file.
 pub fn main() -> i32 {
     // SAFETY: this is called once, and nothing else names it.
     let Room { file, areas } = unsafe { &mut *ROOM.0.get() };

@@ -27,25 +27,10 @@ fn shown(path: &Path) -> String {
     path.to_string_lossy().chars().map(|letter| if letter.is_control() { '?' } else { letter }).collect()
 }
 
-/// A line of a file of names: an input's number, and its name.
-fn named(line: &str) -> Option<(usize, String)> {
-    let (input, name) = line.trim().split_once(char::is_whitespace)?;
-    let input = input.parse().ok().filter(|input| *input < pch_pic::INPUTS)?;
-    Some((input, name.trim().to_string()))
-}
-
-/// The names of inputs, one line for each of them. Empty lines are passed over.
+/// The names of inputs that a file has.
 fn names(path: &Path) -> Result<BTreeMap<usize, String>, String> {
     let text = std::fs::read_to_string(path).map_err(|why| format!("{}: {why}", shown(path)))?;
-    let mut names = BTreeMap::new();
-    for (number, line) in text.lines().enumerate().filter(|(_, line)| !line.trim().is_empty()) {
-        let at = |why: &str| format!("{}, line {}: {why}", shown(path), number + 1);
-        let (input, name) = named(line).ok_or_else(|| at("it is no input and its name"))?;
-        if names.insert(input, name).is_some() {
-            return Err(at(&format!("input {input} has a name already")));
-        }
-    }
-    Ok(names)
+    text::names(&shown(path), &text)
 }
 
 /// One line, whatever names are in it.

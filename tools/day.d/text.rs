@@ -81,3 +81,23 @@ pub fn listed(numbers: &[usize], most: usize) -> String {
     let first: Vec<String> = numbers.iter().take(most).map(usize::to_string).collect();
     first.join(", ") + if numbers.len() > most { " and on" } else { "" }
 }
+
+/// A line of a file of names: an input's number, and its name.
+fn named(line: &str) -> Option<(usize, String)> {
+    let (input, name) = line.trim().split_once(char::is_whitespace)?;
+    let input = input.parse().ok().filter(|input| *input < pch_pic::INPUTS)?;
+    Some((input, name.trim().to_string()))
+}
+
+/// The names of inputs, one line for each of them, in the text of a file that is called so. Empty lines are passed over.
+pub fn names(file: &str, text: &str) -> Result<BTreeMap<usize, String>, String> {
+    let mut names = BTreeMap::new();
+    for (number, line) in text.lines().enumerate().filter(|(_, line)| !line.trim().is_empty()) {
+        let at = |why: &str| format!("{file}, line {}: {why}", number + 1);
+        let (input, name) = named(line).ok_or_else(|| at("it is no input and its name"))?;
+        if names.insert(input, name).is_some() {
+            return Err(at(&format!("input {input} has a name already")));
+        }
+    }
+    Ok(names)
+}

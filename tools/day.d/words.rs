@@ -82,10 +82,16 @@ fn made(events: &[Made]) -> String {
     format!("{what} of {} {}", inputs.join(" "), fate(first))
 }
 
-/// One line: the number, when it was, where that is known, what was asked, what it gave, and what it made.
-pub fn line(moment: &Moment, time: Option<u64>) -> String {
+/// What was asked; and what it gave, and what it made.
+pub fn parts(moment: &Moment) -> (String, String) {
     let alike = |one: &Made, next: &Made| one.event.asserted == next.event.asserted && one.fate == next.fate;
     let parts: Vec<String> = gave(moment).into_iter().chain(moment.made.chunk_by(alike).map(made)).collect();
+    (asked(moment.record), parts.join(", "))
+}
+
+/// One line: the number, when it was, where that is known, what was asked, what it gave, and what it made.
+pub fn line(moment: &Moment, time: Option<u64>) -> String {
+    let (asked, gave) = parts(moment);
     let time = time.map_or(String::new(), |time| format!("{:>14}  ", milliseconds(time)));
-    format!("{:>4}  {time}{:44}  {}", moment.number, asked(moment.record), parts.join(", ")).trim_end().to_string()
+    format!("{:>4}  {time}{asked:44}  {gave}", moment.number).trim_end().to_string()
 }

@@ -1,6 +1,7 @@
-//! The library under test, as C sees it: a slice is a pointer and then a length. Linked from libpch_pic.a.
+//! The library under test, as C sees it: a slice is a pointer and then a length. Linked from libpch_pic.a; in WebAssembly the boundary is
+//! another crate of the same module.
 
-#[link(name = "pch_pic", kind = "static")]
+#[cfg_attr(not(target_arch = "wasm32"), link(name = "pch_pic", kind = "static"))]
 unsafe extern "C" {
     pub fn pch_pic_reset(image: *mut u8, image_len: usize, answer: *mut u8, answer_len: usize) -> u8;
     pub fn pch_pic_read(

@@ -69,8 +69,8 @@ pub fn fast_layer(root: &Path, house: &House) -> Told<Vec<Made>> {
 }
 
 const WIDE: &str = "\
-#[cfg(not(target_pointer_width = \"64\"))]
-compile_error!(\"the proofs are of a machine whose usize has 64 bits, and so is this text\");
+#[cfg(not(any(target_pointer_width = \"64\", target_arch = \"wasm32\")))]
+compile_error!(\"the proofs are of a machine whose usize has 64 bits, and this text of it and of WebAssembly\");
 ";
 
 const TEXT_HEAD: &str = "\

@@ -50,13 +50,24 @@ pub struct Copy<'a> {
     names: BTreeSet<String>,
     /// The crates that the code names by their own names.
     crates: BTreeSet<String>,
+    /// Whether a place of 64 bits is made a usize.
+    near: bool,
 }
+
+/// What stands at the end of a file with such a place.
+const NEAR: &str = "
+/// A place of 64 bits as a usize. Where that has 32 bits, one of 2^31 and more is 2^31 and its own within eight bytes: nothing stands at either.
+#[inline(always)]
+fn near(place: u64) -> usize {
+    if usize::BITS == 64 || place < 1 << 31 { place as usize } else { 1 << 31 | (place % 8) as usize }
+}
+";
 
 impl<'a> Copy<'a> {
     /// With the changes of the plain copy but for the heads of functions, which `text` writes.
     pub fn of(house: &'a House, module: &'a Module, steps: Option<&'a Steps<'a>>) -> Result<Copy<'a>, Refused> {
         let names = names::brought(&module.syntax.items);
-        let mut copy = Copy { house, module, edits: Edits::default(), steps, names, crates: BTreeSet::new() };
+        let mut copy = Copy { house, module, edits: Edits::default(), steps, names, crates: BTreeSet::new(), near: false };
         for item in &module.syntax.items {
             names::check(item, &copy.names)?;
             copy.item(item)?;
@@ -73,7 +84,10 @@ impl<'a> Copy<'a> {
         self.functions(&self.module.syntax.items, &address(self.module));
         self.uses()?;
         let text = &self.module.text;
-        let body = self.edits.apply(text, Span { start: 0, end: text.len() });
+        let mut body = self.edits.apply(text, Span { start: 0, end: text.len() });
+        if self.near {
+            body.push_str(NEAR);
+        }
         Ok(format!("// Made from {} by tools/portable: do not change it here.\n{}", self.module.file, tidy(&body)))
     }
 
@@ -129,8 +143,37 @@ impl<'a> Copy<'a> {
         if copied {
             self.edits.insert(item.span.start, "#[derive(Clone, Copy)]\n");
         }
+        self.places(item);
         self.ghosts(item);
         Ok(())
+    }
+
+    /// A sum or a difference that wraps may be any number of 64 bits, and as a usize it may not fit.
+    fn places(&mut self, item: &'a Item) {
+        let (mut wide, mut casts) = (BTreeSet::new(), Vec::new());
+        walk::item(item, &mut |node| match node {
+            Node::Let(Let {
+                pattern: Pattern { kind: PatternKind::Name(name), .. },
+                value: Expr { kind: ExprKind::Call(called, _), .. },
+                ..
+            }) => {
+                if let ExprKind::Path(path) = &called.kind
+                    && wrapping(path).is_some_and(|known| known.starts_with("u64::"))
+                {
+                    wide.insert(name.clone());
+                }
+            }
+            Node::Expr(Expr { kind: ExprKind::Cast(of, Type { kind: TypeKind::Named(to), .. }), span }) if to[..] == ["usize"] => {
+                if let ExprKind::Path(path) = &of.kind {
+                    casts.push((path.join("::"), *span));
+                }
+            }
+            _ => {}
+        });
+        for (name, span) in casts.into_iter().filter(|(name, _)| wide.contains(name)) {
+            self.edits.replace(span, format!("near({name})"));
+            self.near = true;
+        }
     }
 
     /// Ghost statements within functions.

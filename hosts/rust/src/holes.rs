@@ -161,14 +161,15 @@ pub fn beside(path: &Path) -> PathBuf {
 
 /// The text of a list; none where there is no file.
 fn text_of(list: &Path) -> Result<Option<String>, HolesError> {
-    let text = match fs::read(list) {
-        Err(_) if !list.exists() => return Ok(None),
-        read => String::from_utf8(read?).map_err(|_| HolesError::NoList)?,
-    };
-    if !text.starts_with(HEAD) {
-        return Err(HolesError::NoList);
+    match fs::read(list) {
+        Err(_) if !list.exists() => Ok(None),
+        read => Ok(Some(in_words(&read?)?.into())),
     }
-    Ok(Some(text))
+}
+
+/// The bytes of a list as its text, which has to begin as one.
+fn in_words(bytes: &[u8]) -> Result<&str, HolesError> {
+    core::str::from_utf8(bytes).ok().filter(|text| text.starts_with(HEAD)).ok_or(HolesError::NoList)
 }
 
 /// The holes of the trace in a file, by the list beside it: none where there is no list.
@@ -177,7 +178,16 @@ fn text_of(list: &Path) -> Result<Option<String>, HolesError> {
 ///
 /// A [`HolesError`].
 pub fn load(path: impl AsRef<Path>, trace: &[u8]) -> Result<Vec<Hole>, HolesError> {
-    let Some(text) = text_of(&beside(path.as_ref()))? else { return Ok(Vec::new()) };
+    text_of(&beside(path.as_ref()))?.map_or(Ok(Vec::new()), |list| parse(list.as_bytes(), trace))
+}
+
+/// The holes of a trace, by the bytes of its list.
+///
+/// # Errors
+///
+/// [`HolesError::NoList`] or [`HolesError::OtherTrace`].
+pub fn parse(list: &[u8], trace: &[u8]) -> Result<Vec<Hole>, HolesError> {
+    let text = in_words(list)?;
     let second = text[HEAD.len()..].strip_prefix(OF_TRACE).ok_or(HolesError::NoList)?;
     let (of, lines) = second.split_once('\n').ok_or(HolesError::NoList)?;
     if of.len() != 64 {

@@ -102,9 +102,9 @@
 #![cfg_attr(not(feature = "std"), allow(rustdoc::broken_intra_doc_links))]
 
 // An offset in the guest's window has 64 bits, and the proved text keeps it as a usize: a shorter one would cut it, and an access far behind the registers
-// would meet one of them.
-#[cfg(not(target_pointer_width = "64"))]
-compile_error!("pch-pic serves 64-bit targets only: the proved text keeps an offset of 64 bits as a usize");
+// would meet one of them. In WebAssembly, where it has 32 bits, such an access is moved to where no register is either.
+#[cfg(not(any(target_pointer_width = "64", target_arch = "wasm32")))]
+compile_error!("pch-pic serves 64-bit targets and WebAssembly: the proved text keeps an offset of 64 bits as a usize");
 
 mod access;
 #[cfg(feature = "archive")]

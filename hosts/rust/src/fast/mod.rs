@@ -5,8 +5,8 @@
 // The same files stand behind each front, so that what has one caller becomes a part of it.
 #![allow(clippy::duplicate_mod)]
 
-#[cfg(not(target_pointer_width = "64"))]
-compile_error!("the proofs are of a machine whose usize has 64 bits, and so is this text");
+#[cfg(not(any(target_pointer_width = "64", target_arch = "wasm32")))]
+compile_error!("the proofs are of a machine whose usize has 64 bits, and this text of it and of WebAssembly");
 
 #[path = "text/mod.rs"]
 mod for_difference;

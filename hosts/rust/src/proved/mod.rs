@@ -12,8 +12,8 @@
 // The text is copied as it is proved: its loops and comparisons are not put into other words here.
 #![allow(clippy::style, clippy::complexity)]
 
-#[cfg(not(target_pointer_width = "64"))]
-compile_error!("the proofs are of a machine whose usize has 64 bits, and so is this text");
+#[cfg(not(any(target_pointer_width = "64", target_arch = "wasm32")))]
+compile_error!("the proofs are of a machine whose usize has 64 bits, and this text of it and of WebAssembly");
 
 pub mod access;
 pub mod answer;

@@ -50,8 +50,14 @@ pub fn locate(base: u64, size: u64, address: u64, width: u64) -> Located {
     if width <= bytes {
         let offset = u64::wrapping_sub(address, base);
         if offset <= bytes - width {
-            return Located::At(offset as usize);
+            return Located::At(near(offset));
         }
     }
     Located::Outside
+}
+
+/// A place of 64 bits as a usize. Where that has 32 bits, one of 2^31 and more is 2^31 and its own within eight bytes: nothing stands at either.
+#[inline(always)]
+fn near(place: u64) -> usize {
+    if usize::BITS == 64 || place < 1 << 31 { place as usize } else { 1 << 31 | (place % 8) as usize }
 }
