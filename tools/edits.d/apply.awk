@@ -57,8 +57,7 @@ function item_at(text, place,    n, i, lines, at, item, depth, type) {
     if (index(rest, old)) wrong("the text '" old "' is in " file " more than once")
     item = item_at(text, place)
     if (item == "") wrong("the text '" old "' of " file " stands in no function, constant or type")
-    # A function's promise is what its callers rest on, so an edit of one is no edit of one function alone.
-    print old ~ /⌜|requires|ensures/ ? "promise " item : item
+    print item
     if (only_tell) next
     printf "%s%s%s", substr(text, 1, place - 1), new, rest > (folder "/" file)
     close(folder "/" file)

@@ -1,13 +1,14 @@
 -- A day of two small traces, counted by a tally: input 5 is raised in the first and unmasked in the second, so that its wait goes over the end of a trace. The premises of the theorem about such days
 -- are met, it is applied, and the row of input 5 is computed.
-use Rattle.basics.proofs.Prelude.{_≡_, refl, sym, ap, subst, _∙_, List, [], _∷_, _++_, ℕ, _-_, _^_, drop, replicate}
+use Rattle.basics.proofs.Prelude.{_≡_, refl, sym, ap, subst, _∙_, cond, _&&_, _||_, List, [], _∷_, _++_, ℕ, zero, suc, _+_, _-_, _*_, _^_, arith, leb, ltb, take, drop, drop-drop, replicate}
+use Rattle.basics.specs.Numbers.{numberOf}
 use Rattle.rules.specs.{Device.withLines, Device.reset, Numbering.fromZero}
 use Rattle.images.specs.{Form.two, Image.encodeAs, Image.imageTest, Image.decode}
 use Rattle.calls.proofs.laws.Computing.{computing}
 use Rattle.traces.{proofs.laws.Computed.bytesAs, proofs.laws.Computed.tracing, specs.Played.recordsFrom, specs.Trace.traceTest}
 use Rattle.plain.specs.Sequence.{notesOf}
 use Rattle.sheets.{specs.Day.begun, specs.Day.dayFrom, specs.Sheet.rowOf, specs.Sheet.rowsBelow, specs.Sheet.sheetBytes, proofs.laws.Computed.sheeted}
-use Rattle.passes.specs.{tallies.Marks.dayMarks, tallies.Marks.marksOf, tallies.Marks.allMarked, tallies.Marks.bumped, tallies.Tally.firstUnsound, tallies.Tally.TallyTest, tallies.Tally.sound, tallies.Tally.tallyBytes, tallies.Tally.tallyLength, tallies.Tallying.TallyLeft, tallies.Tallying.tallyLeaves, tallies.Tallying.overTally, tallies.Tallying.unlessTally, tallies.Tallying.unlessTrace, tallies.Tallying.unlessImage, tallies.Tallying.addEnds, tallies.Tallying.adding, tallies.Tallying.sumEnds, tallies.Tallying.summing, tallies.Tallying.tallied, tallies.Tallying.beginning, Finish.afterItems}
+use Rattle.passes.specs.{tallies.Marks.dayMarks, tallies.Marks.marksOf, tallies.Marks.allMarked, tallies.Marks.bumped, tallies.Tally.firstUnsound, tallies.Tally.TallyTest, tallies.Tally.sound, tallies.Tally.wrongAt, tallies.Tally.ofOpenWait, tallies.Tally.countedIn, tallies.Tally.tallyBytes, tallies.Tally.tallyLength, tallies.Tallying.TallyLeft, tallies.Tallying.tallyLeaves, tallies.Tallying.overTally, tallies.Tallying.unlessTally, tallies.Tallying.unlessTrace, tallies.Tallying.unlessImage, tallies.Tallying.addEnds, tallies.Tallying.adding, tallies.Tallying.sumEnds, tallies.Tallying.summing, tallies.Tallying.tallied, tallies.Tallying.beginning, Finish.afterItems}
 use Rattle.passes.{specs.days.Parts.Part, specs.days.Parts.dayItems, specs.days.Parts.HoldsSoFar, specs.days.Parts.addedAll, specs.days.Parts.AllAdded, proofs.days.demands.Tallied.day-of-traces}
 
 -- raise 5, which is masked; and, in the next trace, unmask it
@@ -54,13 +55,25 @@ pub begins : beginning bytes answer ≡ tallyLeaves 0 none (replicate 16 0)
 unfolding computing beginning rowsBelow
 begins = refl
 
-sound-none : firstUnsound none 650 0 ≡ sound
+-- the test of m numbers that stand in front of a list, each taken off it: by their places in the tally each would be looked for from its beginning on
+abbrev walked : (counted : ℕ) (left : List ℕ) (m k : ℕ) → TallyTest
+walked n l zero k = sound
+walked n l (suc m) k = cond (leb (2 ^ 63) (numberOf (take 8 l)) || (ofOpenWait k && ltb n (numberOf (take 8 l)))) (wrongAt (8 * k)) (walked n (drop 8 l) m (suc k))
+
+by-walking : (t l : List ℕ) (n m k : ℕ) → countedIn t ≡ n → drop (8 * k) t ≡ l → firstUnsound t m k ≡ walked n l m k
 unfolding firstUnsound
-sound-none = refl
+by-walking t l n zero k e h = refl
+by-walking t l n (suc m) k e h =
+    let z : 8 * suc k ≡ 8 * k + 8 = omega arith in
+    let next : drop (8 * suc k) t ≡ drop 8 l = ap (λ j. drop j t) z ∙ sym (drop-drop 8 (8 * k) t) ∙ ap (drop 8) h in
+    let rest = by-walking t (drop 8 l) n m (suc k) e next in
+    λ i. cond (leb (2 ^ 63) (numberOf (take 8 (h i))) || (ofOpenWait k && ltb (e i) (numberOf (take 8 (h i))))) (wrongAt (8 * k)) (rest i)
+
+sound-none : firstUnsound none 650 0 ≡ sound
+sound-none = by-walking none none 0 650 0 refl refl ∙ refl
 
 sound-carried : firstUnsound carried 650 0 ≡ sound
-unfolding firstUnsound
-sound-carried = refl
+sound-carried = by-walking carried carried 1 650 0 refl refl ∙ refl
 
 -- its row: one raise, one assert, which was offered, and a wait of one record
 pub its-row : rowOf (dayFrom begun (dayItems parts)) 5
@@ -82,8 +95,7 @@ unfolding computing tracing sheeted recordsFrom notesOf dayMarks marksOf allMark
 counts-second = refl
 
 sound-carried₂ : firstUnsound carried₂ 650 0 ≡ sound
-unfolding firstUnsound
-sound-carried₂ = refl
+sound-carried₂ = by-walking carried₂ carried₂ 2 650 0 refl refl ∙ refl
 
 -- ---- the calls are done
 
