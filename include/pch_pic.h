@@ -232,9 +232,9 @@
 
 /* The version of the header and of what it says about the library. That of the library itself is pch_pic_version(). */
 #define PCH_PIC_VERSION_MAJOR 0
-#define PCH_PIC_VERSION_MINOR 15
+#define PCH_PIC_VERSION_MINOR 16
 #define PCH_PIC_VERSION_PATCH 0
-#define PCH_PIC_VERSION "0.15.0"
+#define PCH_PIC_VERSION "0.16.0"
 
 #ifdef __cplusplus
 extern "C" {
