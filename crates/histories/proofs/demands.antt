@@ -3,3 +3,4 @@ pub mod Cleared
 pub mod Account
 pub mod Service
 pub mod Order
+pub mod Exactly

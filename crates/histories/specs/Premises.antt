@@ -6,7 +6,7 @@ use Prim.Native.Nat.{ℕ, _+_, _-_, _%_, _<_}
 use lib.Dec.{eqb}
 use lib.ListN.{getD}
 use Rattle.basics.specs.Inputs.{on}
-use Rattle.rules.specs.Core.{Core}
+use Rattle.rules.specs.Core.{Core, Act, move, setIsr, store, setVector}
 use Rattle.rules.specs.Map.{inByteArea}
 use Rattle.rules.specs.Access.{Width, byte, word, dword, qword}
 use Rattle.rules.specs.Device.{Device, Call, level, poll, read, write, drain, step}
@@ -36,6 +36,13 @@ writesIsr (drain k) = false
 -- no vector byte changed from c to d whose input was in service in c, masked or not (00, demand 3)
 abbrev pub ServedVectorsStay : Core → Core → Type 0
 ServedVectorsStay c d = (n : ℕ) → n < 64 → on (c .lines .isr) n ≡ true → getD (d .vectors) n 0 ≡ getD (c .vectors) n 0
+
+-- an act replaces the vector byte of an input in service in c by another
+abbrev pub replacesServed : Core → Act → Bool
+replacesServed c (move m) = false
+replacesServed c (setIsr h v) = false
+replacesServed c (store s) = false
+replacesServed c (setVector n v) = on (c .lines .isr) n && not (eqb v (getD (c .vectors) n 0))
 
 -- a call that demand 3 admits
 pub record Admitted (d : Device) (c : Call) : Type 0 where
