@@ -4,3 +4,4 @@ pub mod Account
 pub mod Service
 pub mod Order
 pub mod Exactly
+pub mod Masked

@@ -109,6 +109,9 @@ takesLatch n (setVector m v) = false
 abbrev pub callTakes : ℕ → Device → Call → Bool
 callTakes n d c = someAct (takesLatch n) (actsOf (d .core) c)
 
+abbrev pub Untaken : ℕ → Device → Call → Type 0
+Untaken n d c = callTakes n d c ≡ false
+
 -- a call of d clears n: one of its acts does
 abbrev pub Clears : ℕ → Device → Call → Type 0
 Clears n d c = someAct (clears n) (actsOf (d .core) c) ≡ true
