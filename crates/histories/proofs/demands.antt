@@ -5,3 +5,4 @@ pub mod Service
 pub mod Order
 pub mod Exactly
 pub mod Masked
+pub mod Silent
