@@ -25,6 +25,10 @@ reaches at qword o = at o || at (o + 4)
 abbrev pub isIsr : ℕ → Bool
 isIsr o = eqb o 0x3a0 || eqb o 0x3a4
 
+-- MASK
+abbrev pub isMask : ℕ → Bool
+isMask o = eqb o 0x020 || eqb o 0x024
+
 -- a call is a write that reaches the ISR registers (00, demand 3)
 abbrev pub writesIsr : Call → Bool
 writesIsr (level n b) = false
@@ -32,6 +36,14 @@ writesIsr (poll n) = false
 writesIsr (read w o) = false
 writesIsr (write w o v) = reaches isIsr w o
 writesIsr (drain k) = false
+
+-- or MASK
+abbrev pub writesMask : Call → Bool
+writesMask (level n b) = false
+writesMask (poll n) = false
+writesMask (read w o) = false
+writesMask (write w o v) = reaches isMask w o
+writesMask (drain k) = false
 
 -- no vector byte changed from c to d whose input was in service in c, masked or not (00, demand 3)
 abbrev pub ServedVectorsStay : Core → Core → Type 0
