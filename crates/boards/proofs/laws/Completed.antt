@@ -1,5 +1,5 @@
 -- The premises of a second board from their other side: when everything was drained and nothing dropped, and for how many events the numbers give the order.
-use Rattle.basics.proofs.Prelude.{_≡_, refl, sym, ap, _∙_, true, List, [], _∷_, map, ℕ, _+_, _<_, arith, lit≤, length, length-map}
+use Rattle.basics.proofs.Prelude.{_≡_, refl, ap, _∙_, true, List, [], _∷_, ℕ, _+_, _<_, arith, lit≤, length, length-map}
 use Rattle.order.specs.Numbered.{numberAt}
 use Rattle.rules.specs.{Ring.Event, Ring.dropped, Device.Device, Device.Call, Device.reset, History.history, History.fromReset, Account.tally}
 use Rattle.images.specs.Form.{Form}

@@ -1,10 +1,10 @@
 -- The premises of demand 3 say what their words say, and no more: each stands here beside what the device does, as an equation or both ways. One that shut out
 -- more calls than 00 does would leave the theorems true and say less.
-use Rattle.basics.proofs.Prelude.{_≡_, refl, sym, ap, _∙_, Bool, true, false, not, _&&_, _||_, and-false, and-true, or-false, or-true, true≢false, List, [], _∷_, _++_, ℕ, _<_, eqb-true, eq-eqb, on, on-none, inputs, only, put, without, withHalf, asHalf, test, on-put, on-without, first-has}
-use Rattle.rules.specs.Lines.{Lines, Made, withIrr, withMask, isPending, pendingIn, serve, enter, leave, newlyUnmasked, newlyMasked, polled, raised, lowered, cleared, masked}
-use Rattle.rules.specs.Core.{Core, Move, poll, raise, lower, clear, setMask, Act, move, setIsr, store, setVector, moved, lineTurn, turn, turns}
+use Rattle.basics.proofs.Prelude.{_≡_, refl, sym, ap, _∙_, Bool, true, false, not, _&&_, _||_, and-false, and-true, or-false, or-true, true≢false, List, [], _∷_, ℕ, _<_, eqb-true, eq-eqb, on, on-none, inputs, only, put, without, withHalf, asHalf, test, on-put, on-without, first-has}
+use Rattle.rules.specs.Lines.{Lines, withIrr, withMask, isPending, pendingIn, serve, enter, newlyUnmasked, newlyMasked, polled, raised, lowered, cleared, masked}
+use Rattle.rules.specs.Core.{Core, poll, raise, lower, clear, setMask, Act, move, setIsr, store, setVector, moved, lineTurn, turn, turns}
 use Rattle.rules.specs.{Device.Device, Device.Call, Device.actsOf, Device.acted, Device.step, Device.reset}
-use Rattle.histories.specs.{Premises.replacesServed, Premises.Admitted, Demands.Each, Demands.done, Demands.also, Demands.someAct, Demands.inService, Demands.Eligible, Demands.disturbs, Demands.Spared, Demands.Undisturbed, Demands.setsIsr, Demands.pollsOrRaises, Demands.requests, Demands.isRaise, Demands.callTakes, Demands.CarriedAlone}
+use Rattle.histories.specs.{Premises.replacesServed, Premises.Admitted, Demands.Each, Demands.done, Demands.also, Demands.someAct, Demands.inService, Demands.Eligible, Demands.disturbs, Demands.Undisturbed, Demands.setsIsr, Demands.pollsOrRaises, Demands.requests, Demands.isRaise, Demands.callTakes, Demands.CarriedAlone}
 use Rattle.laws.proofs.laws.Halves.{by-halves, on-new-half, on-kept-half}
 use Rattle.histories.proofs.{laws.Reach.NotIsr, laws.Reach.no-isr-act, laws.Reach.isr-acts, laws.Reach.each-both, laws.Taking.call-latches}
 use Rattle.histories.proofs.laws.Admitting.{none-is-each, each-is-none, admitted-else, request-acts, alone-at-reset}

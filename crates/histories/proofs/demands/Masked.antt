@@ -1,7 +1,7 @@
 -- A masked input is not forgotten (01, Inputs: MASK leaves IRR): it stays latched until it is lowered or cleared, over any calls, and once it is unmasked the next poll or raise of it announces it.
-use Rattle.basics.proofs.Prelude.{_≡_, refl, sym, ap, _∙_, true, false, not, _&&_, _||_, or-true, List, [], _∷_, _++_, ℕ, _<_, on}
+use Rattle.basics.proofs.Prelude.{_≡_, _∙_, true, false, not, _&&_, _||_, or-true, List, [], _∷_, _++_, ℕ, _<_, on}
 use Rattle.rules.specs.{Device.Device, Device.Call, Device.step, History.history}
-use Rattle.histories.specs.{Premises.Along, Demands.inService, Demands.Eligible, Demands.pollsOrRaises, Demands.isRaise, Demands.callTakes, Demands.Untaken}
+use Rattle.histories.specs.{Premises.Along, Demands.inService, Demands.Eligible, Demands.pollsOrRaises, Demands.isRaise, Demands.Untaken}
 use Rattle.histories.proofs.laws.{Taking.call-latches, Folds.fold-calls, Folds.history-append}
 use Rattle.histories.proofs.demands.Service.{request-serves}
 

@@ -1,8 +1,8 @@
 -- 02, C-18: IRR is silent to Byte and Word, and no other register is. A byte of a register lies in the area where only route and vector bytes answer a Byte exactly if the register is IRR.
-use Rattle.basics.proofs.Prelude.{_≡_, refl, sym, ap, _∙_, Bool, true, false, not, _&&_, and-eq-true-iff, true≢false, ℕ, _+_, _-_, _%_, _<_, arith, eqb, eqb-true, eqb-false, test}
+use Rattle.basics.proofs.Prelude.{_≡_, refl, sym, ap, _∙_, Bool, true, false, not, _&&_, and-eq-true-iff, ℕ, _+_, _-_, _%_, _<_, arith, eqb, eqb-true, eqb-false, test}
 use Rattle.rules.specs.Map as map
-use Rattle.rules.specs.Map.{Register, Cell, table, inByteArea, cellAt}
-use Rattle.histories.proofs.laws.Reach.{allRows, cell-has}
+use Rattle.rules.specs.Map.{Register, Cell, inByteArea, cellAt}
+use Rattle.histories.proofs.laws.Reach.{cell-has}
 
 abbrev pub isIrr : Register → Bool
 isIrr map.id = false

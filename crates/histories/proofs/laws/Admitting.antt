@@ -1,5 +1,5 @@
 -- What the premises of demand 3 let through, told by the acts of a call. These facts are checked before the theorems whose premises they hold in place.
-use Rattle.basics.proofs.Prelude.{_≡_, refl, sym, ap, _∙_, Bool, true, false, not, _&&_, _||_, or-false, true≢false, List, [], _∷_, ℕ, zero, suc, _+_, _<_, arith, eqb, eqb-true, eqb-false, getD, set, getD-set-other, on, only, test}
+use Rattle.basics.proofs.Prelude.{_≡_, refl, sym, ap, _∙_, Bool, true, false, not, _&&_, or-false, true≢false, List, [], _∷_, ℕ, zero, suc, _+_, _<_, arith, eqb, eqb-true, eqb-false, getD, set, getD-set-other, on, only, test}
 use Rattle.rules.specs.Core.{Core, poll, raise, lower, clear, setMask, Act, move, setIsr, store, setVector, vectorsAfter, turn, turns}
 use Rattle.rules.specs.Device.{Device, Call, actsOf, acted, step, reset, upFrom}
 use Rattle.histories.specs.{Premises.replacesServed, Premises.Admitted, Demands.Each, Demands.done, Demands.also, Demands.someAct, Demands.setsIsr, Demands.pollsOrRaises, Demands.requests, Demands.CarriedAlone}

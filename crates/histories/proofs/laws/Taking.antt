@@ -1,5 +1,5 @@
 -- What becomes of a latch: an act or a call takes it, leaves it, or puts it on. IRR is all that counts.
-use Rattle.basics.proofs.Prelude.{_≡_, refl, sym, ap, _∙_, Bool, true, false, not, _&&_, _||_, or-false, or-true, List, [], _∷_, ℕ, _<_, on, inputs, only, put, without, withHalf, test, on-put, on-without}
+use Rattle.basics.proofs.Prelude.{_≡_, refl, sym, ap, _∙_, Bool, true, false, not, _&&_, _||_, or-false, List, [], _∷_, ℕ, _<_, on, inputs, only, put, withHalf, on-put, on-without}
 use Rattle.rules.proofs.demands.Copy.{serve-irr}
 use Rattle.rules.specs.Lines.{Lines, withMask, withIrr, pendingIn, newlyUnmasked, polled, raised, lowered, cleared, masked}
 use Rattle.rules.specs.Core.{Core, Act, move, setIsr, store, setVector, poll, raise, lower, clear, setMask, moved, lineTurn, turn, turns}

@@ -1,6 +1,6 @@
 -- What a record takes back, seen by the acts of its call: that it lowers the input, or writes a 1 for it to CLEAR, is said of the record alone.
-use Rattle.basics.proofs.Prelude.{_≡_, refl, sym, ap, ap₂, _∙_, Bool, true, false, _||_, or-false, List, [], _++_, ℕ, _+_, _-_, _%_, _<_, eqb, byteOf, withByte, on, on-none, only, half, asHalf, test}
-use Rattle.rules.specs.Core.{Core, Act, move, lower, turns}
+use Rattle.basics.proofs.Prelude.{_≡_, refl, ap₂, _∙_, Bool, true, false, _||_, or-false, List, _++_, ℕ, _+_, _-_, _%_, _<_, byteOf, withByte, on, on-none, only, half, asHalf, test}
+use Rattle.rules.specs.Core.{Core, Act, turns}
 use Rattle.rules.specs.Map as map
 use Rattle.rules.specs.Map.{Register, Cell, cellAt, inRoutes, inVectors, inByteArea}
 use Rattle.rules.specs.Access.{Width, byte, word, dword, qword, valueOf, readCell, readDword, registerActs, entryActs, cellActs, dwordActs, byteActs, writeActs}

@@ -8,7 +8,7 @@ use Rattle.rules.specs.Device.{Call, level, poll, read, write, drain}
 use Rattle.laws.proofs.laws.Halves.{placed, on-half, byte-place}
 use Rattle.histories.{specs.Premises.byteReaches, specs.Premises.reaches, specs.Premises.isMask, specs.Premises.writesMask, proofs.laws.Reach.cell-has}
 use Rattle.plain.specs.Machine.{Machine, polls, raises, lowers}
-use Rattle.plain.specs.Plain.{bit, Engine, Steps, at, stepping, offers, returns, heard, withMachines, Brought, brings, clearedBy, servedBy, valueOf, readCell, readDword, writeHalf, writeEntry, writeCell, writeDword, writeByte, writeAt, numberBelow, gives}
+use Rattle.plain.specs.Plain.{bit, Engine, Steps, at, stepping, offers, returns, heard, withMachines, brings, clearedBy, servedBy, valueOf, readCell, readDword, writeHalf, writeEntry, writeCell, writeDword, writeByte, writeAt, numberBelow, gives}
 use Rattle.plain.proofs.laws.{Queues.offers-else, Queues.returns-else, Accesses.number-is}
 
 -- ---- a byte replaced, bit by bit

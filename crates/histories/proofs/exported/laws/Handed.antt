@@ -1,5 +1,5 @@
 -- Calls that are handed on, from their other side: they are what is made one after another on an image, with no reset among it. Refused ones may stand anywhere.
-use Rattle.basics.proofs.Prelude.{_≡_, refl, ap, subst, sym, _∙_, List, [], _∷_, map, ℕ}
+use Rattle.basics.proofs.Prelude.{_≡_, refl, ap, _∙_, List, [], _∷_, map, ℕ}
 use Rattle.histories.specs.exported.{Exported.Exported, Exported.leftBy, Exported.HandedOn, Alike.Asking, Alike.askedOf, Alike.madeOn, Alike.NoResets, Alike.askingOf}
 
 pub made-handed-on : (i : List ℕ) (qs : List Asking) → NoResets qs → HandedOn i (madeOn i qs)

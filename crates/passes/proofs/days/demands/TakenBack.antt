@@ -1,13 +1,13 @@
 -- 02, C-21: a wait is withdrawn by CLEAR or a lowering, and by nothing else. That is said of the record (`takesBack`); here it is seen at the latch. While a wait lasts its input
 -- is latched, and the record that takes it back is the one that leaves the latch off.
-use Rattle.basics.proofs.Prelude.{_≡_, refl, sym, ap, _∙_, Bool, true, false, cond, not, _&&_, and-eq-true-iff, not-false, true≢false, List, [], _∷_, _++_, map, ℕ, suc, _+_, _<_, _≤_, arith, length, eqb, on, test}
-use Rattle.rules.{specs.Device.Device, specs.Device.WellFormed, specs.Device.Call, specs.Device.reset, specs.Device.step, specs.Device.upFrom, specs.Account.tally}
+use Rattle.basics.proofs.Prelude.{_≡_, refl, sym, ap, _∙_, true, false, not, and-eq-true-iff, not-false, true≢false, List, [], _∷_, map, ℕ, _+_, _<_, _≤_, arith, length, on, test}
+use Rattle.rules.{specs.Device.WellFormed, specs.Device.Call, specs.Device.reset, specs.Device.step, specs.Device.upFrom}
 use Rattle.laws.proofs.laws.Images.{reset-well-formed}
 use Rattle.histories.proofs.laws.WellFormed.{step-well}
 use Rattle.plain.specs.{Machine.Machine, Plain.Engine, Sequence.Item, Sequence.call, Sequence.load, Sequence.refused, Sequence.takes, Sequence.plainAfter}
 use Rattle.plain.proofs.laws.{Same.Run, Same.Same, Following.stepped, Following.countedRun, Following.like-call, Following.sized, Following.same-counted, Following.loadedRun}
 use Rattle.traces.specs.Played.{records}
-use Rattle.sheets.specs.{Day.begun, Day.Moment, Day.after, Day.number, Day.moments, Day.itemOf, Day.items, Day.dayOf, Day.dayFrom, Sheet.rowOf}
+use Rattle.sheets.specs.{Day.begun, Day.Moment, Day.after, Day.number, Day.moments, Day.items, Day.dayOf, Sheet.rowOf}
 use Rattle.sheets.specs.Waits.{movesLevel, isIdle, begins, asserts, takesIt, takesBack, End, stillOpen, isOpen, endFrom}
 use Rattle.passes.specs.Slots.{NoLoad}
 use Rattle.passes.proofs.laws.{Recording.latch-told, Recording.raise-told, Passing.same-begun, Passing.open-few, Days.items-loadless}

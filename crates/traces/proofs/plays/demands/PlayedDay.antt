@@ -1,12 +1,12 @@
 -- A played trace is a history of exported calls (00, demand 3; 02, C-11): the calls that its records are, each handed the image that the one before it left, are no loads, and the image that the
 -- play leaves is the one that they leave. So what is proved of such calls holds of a play, from a reset and on: here the account, service and the drop count.
 use Rattle.basics.proofs.Prelude.{_≡_, sym, ap, subst, _∙_, true, List, _++_, _∷_, [], ℕ, _+_, _<_, min, length, Bytes}
-use Rattle.rules.specs.{Ring.Event, Ring.dropped, Device.Device, Device.Call, Device.reset, Numbering.fromZero, History.history}
+use Rattle.rules.specs.{Ring.Event, Ring.dropped, Device.Call, Device.reset, Numbering.fromZero, History.history}
 use Rattle.rules.specs.Account.{carrying, assertsAmong, deassertsAmong}
 use Rattle.images.{specs.Form.Form, specs.Form.forms, specs.Form.known, specs.Form.formOf, specs.Image.accepted, specs.Image.imageTest, specs.Image.decode, specs.Image.encodeAs, proofs.laws.Tests.form-known}
 use Rattle.laws.proofs.laws.Images.{encode-as}
 use Rattle.histories.specs.{Premises.Along, Premises.Admitted, Demands.inService, Demands.Eligible, Demands.Spared, Demands.Undisturbed, Demands.pollsOrRaises, Demands.ringActs}
-use Rattle.histories.specs.exported.Exported.{Exported, Underway, carriedThrough, NoLoads, HandedOn, leftAfter, doneCall, doneCalls, inImage, Faithful, afterReset, atLoad, returnedBy, drainedBy, Balances}
+use Rattle.histories.specs.exported.Exported.{Exported, Underway, carriedThrough, NoLoads, doneCall, doneCalls, afterReset, atLoad, returnedBy, drainedBy, Balances}
 use Rattle.histories.proofs.exported.laws.Chains.{faithful-at-load}
 use Rattle.histories.proofs.exported.demands.{FromCalls.handed-on-is-no-load, FromCalls.left-through, HandedBack.account-of-calls, HandedBack.account-under-way, HandedBack.service-of-calls, HandedBack.drops-of-calls}
 use Rattle.traces.specs.{Trace.Record, Played.records, Played.playedAll, Played.playedThrough, Played.afresh, plays.Playing.PlayLeft, plays.Playing.playing, plays.Playing.playingOn, plays.InTurn.callsOf}
