@@ -4,4 +4,5 @@ pub mod Counts
 pub mod Boards
 pub mod Heard
 pub mod Arranged
+pub mod Completed
 pub mod Fronts

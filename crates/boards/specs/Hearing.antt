@@ -35,6 +35,10 @@ pub record Complete (u : Underway) (xs : List Exported) : Type 0 where
   pub allDrained : inImage (carriedThrough u xs) .ring .waiting ≡ []
   pub noneDropped : inImage (carriedThrough u xs) .ring .drops ≡ 0
 
+-- so many events from a reset have a number each: after 65,535 comes 0 (02, C-19, C-20)
+abbrev pub mostInOrder : ℕ
+mostInOrder = 65536
+
 -- a list has the elements of two others and no more, each list's in its own order
 pub data Interleaves {A : Type 0} : (one two both : List A) → Type 0 where
   neither : Interleaves [] [] []

@@ -3,3 +3,6 @@ pub mod Cleared
 pub mod Account
 pub mod Service
 pub mod Order
+pub mod Exactly
+pub mod Masked
+pub mod Silent

@@ -2,6 +2,8 @@
 pub mod Computed
 pub mod Reach
 pub mod Folds
+pub mod Taking
+pub mod Admitting
 pub mod Latches
 pub mod Carriers
 pub mod Draining

@@ -70,6 +70,17 @@ pollsOrRaises n (call.read w o) = false
 pollsOrRaises n (call.write w o v) = false
 pollsOrRaises n (call.drain k) = false
 
+-- an act is a poll or a raise of n
+abbrev pub requests : ℕ → Act → Bool
+requests n (move (poll m)) = only n m
+requests n (move (raise m)) = only n m
+requests n (move (lower m)) = false
+requests n (move (clear b)) = false
+requests n (move (setMask h v)) = false
+requests n (setIsr h v) = false
+requests n (store s) = false
+requests n (setVector m v) = false
+
 -- ---- a cleared input
 
 -- an act clears n: CLEAR is written with its bit (01, Inputs: CLEAR with bits B)
@@ -82,6 +93,24 @@ clears n (move (setMask h v)) = false
 clears n (setIsr h v) = false
 clears n (store s) = false
 clears n (setVector m v) = false
+
+-- an act takes the latch of n: it lowers n, or clears it (01, Inputs: lower, CLEAR)
+abbrev pub takesLatch : ℕ → Act → Bool
+takesLatch n (move (poll m)) = false
+takesLatch n (move (raise m)) = false
+takesLatch n (move (lower m)) = only m n
+takesLatch n (move (clear b)) = clears n (move (clear b))
+takesLatch n (move (setMask h v)) = false
+takesLatch n (setIsr h v) = false
+takesLatch n (store s) = false
+takesLatch n (setVector m v) = false
+
+-- a call of d takes it: one of its acts does
+abbrev pub callTakes : ℕ → Device → Call → Bool
+callTakes n d c = someAct (takesLatch n) (actsOf (d .core) c)
+
+abbrev pub Untaken : ℕ → Device → Call → Type 0
+Untaken n d c = callTakes n d c ≡ false
 
 -- a call of d clears n: one of its acts does
 abbrev pub Clears : ℕ → Device → Call → Type 0

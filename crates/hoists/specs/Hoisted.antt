@@ -115,6 +115,28 @@ unfoldable pub HandedOn : List ℕ → List Hoisted → Type 0
 HandedOn left [] = Unit {0}
 HandedOn left (x ∷ xs) = (x .given ≡ left) × (isReset (x .asks) ≡ false) × HandedOn (leftBy x .image) xs
 
+-- what a host asks, and the phase and the answer area that it lends
+pub record Lent : Type 0 where
+  pub phase : List ℕ
+  pub asks : Asks
+  pub answer : List ℕ
+
+abbrev pub askedOf : List ℕ → Lent → Hoisted
+askedOf i q = record { given = i; phase = q .phase; asks = q .asks; answer = q .answer }
+
+abbrev pub lentBy : Hoisted → Lent
+lentBy x = record { phase = x .phase; asks = x .asks; answer = x .answer }
+
+-- made one after another on an image: each is given the image that the one before it left, done or refused
+unfoldable pub madeOn : List ℕ → List Lent → List Hoisted
+madeOn i [] = []
+madeOn i (q ∷ qs) = askedOf i q ∷ madeOn (leftBy (askedOf i q) .image) qs
+
+-- none of them is a reset
+unfoldable pub NoResets : List Lent → Type 0
+NoResets [] = Unit {0}
+NoResets (q ∷ qs) = (isReset (q .asks) ≡ false) × NoResets qs
+
 -- the image left at last
 unfoldable pub leftAfter : List ℕ → List Hoisted → List ℕ
 leftAfter i [] = i

@@ -1,6 +1,7 @@
 -- Marks, one input at a time.
 pub mod Marking
 pub mod Acting
+pub mod Taken
 pub mod Recording
 pub mod Counting
 pub mod Finishing

@@ -2,3 +2,4 @@
 pub mod SameEngine
 pub mod SameCalls
 pub mod History
+pub mod Alone

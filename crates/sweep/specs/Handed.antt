@@ -5,13 +5,13 @@ use mathlib.Core.Path.{_≡_}
 use Prim.Native.Nat.{ℕ, zero, suc, _+_, _<_}
 use lib.Dec.{eqb}
 use Rattle.basics.specs.Inputs.{only}
-use Rattle.rules.specs.Ring.{Event}
+use Rattle.rules.specs.Ring.{Event, dropped}
 use Rattle.rules.specs.Device.{Device}
 use Rattle.calls.specs.Calls.{Request, presentIn}
 use Rattle.calls.specs.Calls as request
 use Rattle.rules.specs.Account.{tally}
-use Rattle.histories.specs.Demands.{inService, Eligible}
-use Rattle.histories.specs.exported.Exported.{Exported, leftBy, isDone, returnedBy, drainedBy}
+use Rattle.histories.specs.Demands.{inService, Eligible, ringActs}
+use Rattle.histories.specs.exported.Exported.{Exported, leftBy, isDone, doneCalls, returnedBy, drainedBy}
 use Rattle.sweep.specs.Sweeps.{wakes}
 
 -- ---- what a host reads
@@ -35,13 +35,14 @@ assertsRead n [] = 0
 assertsRead n (x ∷ xs) = cond (readsAssert n x) 1 0 + assertsRead n xs
 
 -- from the device d in the first image to the device e in the last: every latched and unmasked input is in service; no deassert is returned; what
--- was drained and what waits is what waited at first, and no drop is counted (that none is offered is said of the device, `WakesAll`); and of each input the asserts read are one if it wakes,
--- and else none (02, C-24)
+-- was drained and what waits is what waited at first; no event is dropped and no drop counted, also where the count stands at its stop; and of each input the asserts read are
+-- one if it wakes, and else none (02, C-24)
 pub record WakesAllRead (d : Device) (xs : List Exported) (e : Device) : Type 0 where
   pub served : (n : ℕ) → n < 64 → Eligible n (e .core .lines) → inService n (e .core .lines) ≡ true
   pub noDeassert : tally (λ (y : Event). not (y .asserted)) (returnedBy xs) ≡ 0
   pub noneOffered : drainedBy xs ++ e .ring .waiting ≡ d .ring .waiting
   pub noneDropped : e .ring .drops ≡ d .ring .drops
+  pub noneLost : dropped (d .ring) (ringActs d (doneCalls xs)) ≡ []
   pub asserted : (n : ℕ) → n < 64 → assertsRead n xs ≡ cond (wakes n (d .core .lines) (e .core .lines)) 1 0
 
 -- ---- the sweep that hosts do

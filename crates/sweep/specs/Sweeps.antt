@@ -11,15 +11,12 @@ use Rattle.rules.specs.Device.{Device, Call, step}
 use Rattle.rules.specs.Device as call
 use Rattle.rules.specs.History.{history}
 use Rattle.rules.specs.Account.{tally}
-use Rattle.histories.specs.Premises.{reaches, isIsr}
+use Rattle.histories.specs.Premises.{reaches, isIsr, isMask}
 use Rattle.histories.specs.Demands.{inService, Eligible, pollsOrRaises, assertsOf}
 
 -- ---- which calls are a sweep
 
--- MASK, and CLEAR (01, Window and register map)
-abbrev pub isMask : ℕ → Bool
-isMask o = eqb o 0x020 || eqb o 0x024
-
+-- CLEAR (01, Window and register map)
 abbrev pub isClear : ℕ → Bool
 isClear o = eqb o 0x080 || eqb o 0x084
 

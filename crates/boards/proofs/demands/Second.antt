@@ -1,6 +1,6 @@
 -- 02, C-20, of exported calls: 'From reset, with demand 3's premises met, everything drained and nothing dropped, a second board driven by returned and drained events alone,
 -- in the order of making, ends equal to the first. C-19's numbers, kept in the fifth body, give that order while the history has at most 65,536 events; show both.'
-use Rattle.basics.proofs.Prelude.{_≡_, refl, sym, ap, ap₂, subst, _∙_, true, List, [], _∷_, _++_, map, append-nil, ℕ, zero, suc, _+_, _≤_, arith, lit≤, length, take}
+use Rattle.basics.proofs.Prelude.{_≡_, refl, sym, ap, ap₂, subst, _∙_, true, List, [], _∷_, _++_, map, append-nil, ℕ, zero, suc, _+_, _<_, _≤_, arith, lit≤, length, take}
 use Rattle.order.proofs.demands.OfCalls.{fifth-body, numbers-of-calls}
 use Rattle.order.specs.{Fates.isReturned, Fates.isKept, Fates.isDropped, Fates.Placed, Fates.eventsMade, Fates.withFate, Numbered.numberAt, Numbered.allFrom, Numbered.numberedFrom, Numbered.InOrder}
 use Rattle.order.specs.Read.{returnedRead, drainedRead}
@@ -8,12 +8,13 @@ use Rattle.order.proofs.demands.{Made.placed-as-made, Made.positions-in-order, 
 use Rattle.rules.specs.{Device.Device, Device.Call, Device.reset, Device.upFrom, Numbering.Numbers, Numbering.Numbered, Numbering.fromZero, Numbering.eventsIn, History.history, History.fromReset}
 use Rattle.images.specs.{Form.Form, Form.formLength, Image.numbersIn}
 use Rattle.calls.specs.Calls.{afresh, askedBy}
-use Rattle.histories.specs.Demands.{asEvent}
-use Rattle.histories.specs.exported.Exported.{Exported, isDone, Underway, carriedOn, carriedThrough, doneCalls, inImage, afterReset, returnedBy, drainedBy}
+use Rattle.histories.specs.{Premises.Along, Premises.Admitted, Demands.asEvent}
+use Rattle.histories.specs.exported.Exported.{Exported, isDone, Underway, carriedOn, carriedThrough, NoLoads, doneCalls, inImage, afterReset, returnedBy, drainedBy}
 use Rattle.histories.proofs.demands.Order.{first-in-first-out, drops-counted}
 use Rattle.histories.proofs.exported.laws.Chains.{left-length, left-holds, faithful-after-reset}
 use Rattle.histories.proofs.exported.demands.{FromCalls.a-reset-begins, FromCalls.image-holds-history, FromCalls.image-holds-numbers, HandedBack.returned-is-read, HandedBack.drained-is-read}
-use Rattle.boards.specs.{Board.recount, Boarding.boardThrough, Hearing.blank, Hearing.heardThrough, Hearing.inOrderOfMaking, Hearing.Complete, Hearing.Interleaves, Hearing.byNumber}
+use Rattle.boards.specs.{Board.recount, Boarding.boardThrough, Hearing.blank, Hearing.heardThrough, Hearing.inOrderOfMaking, Hearing.Complete, Hearing.mostInOrder, Hearing.Interleaves, Hearing.byNumber}
+use Rattle.boards.proofs.laws.Completed.{in-order-exactly, complete-if-all}
 use Rattle.boards.proofs.{laws.Heard.heard-from-reset, laws.Arranged.interleaves-map, laws.Arranged.by-fate, laws.Arranged.order-restored, demands.Kept.board-from-a-done-call}
 
 none-of : {A B : Type 0} (f : A → B) (xs : List A) → length (map f xs) ≡ 0 → xs ≡ []
@@ -71,14 +72,14 @@ module _ (f : Form) (xs : List Exported) (w : Complete (afterReset f) xs) where
 -- ---- by the numbers of the fifth body
 
 -- of at most 65,536 events from reset the number is the position
-numbers-of : (p k : ℕ) (xs : List Placed) → map (λ x. x .position) xs ≡ upFrom p k → p + k ≤ 65536 → map (λ x. x .number) (allFrom 0 xs) ≡ upFrom p k
+numbers-of : (p k : ℕ) (xs : List Placed) → map (λ x. x .position) xs ≡ upFrom p k → p + k ≤ mostInOrder → map (λ x. x .number) (allFrom 0 xs) ≡ upFrom p k
 unfolding upFrom
 numbers-of p zero [] e h = refl
 numbers-of p (suc k) [] e h = absurd (let z : _≡_ {A = ℕ} 0 1 = cc in omega arith)
 numbers-of p zero (x ∷ xs) e h = absurd (let z : _≡_ {A = ℕ} 0 1 = cc in omega arith)
 numbers-of p (suc k) (x ∷ xs) e h =
     let place : x .position ≡ p = cc in
-    let same : numberAt 0 (x .position) ≡ p = omega (arith, place) in
+    let same : numberAt 0 (x .position) ≡ p = ap (numberAt 0) place ∙ in-order-exactly p .0 (omega arith) in
     ap₂ _∷_ same (numbers-of (suc p) k xs (cc) (omega arith))
 
 module _ (f : Form) (long : formLength f ≡ 290) (xs : List Exported) (w : Complete (afterReset f) xs) where
@@ -102,13 +103,24 @@ module _ (f : Form) (long : formLength f ≡ 290) (xs : List Exported) (w : Comp
       subst (λ l. Interleaves l (drainedRead xs) (allFrom 0 made)) (sym (in-order .returned))
       (subst (λ l. Interleaves (allFrom 0 (withFate isReturned made)) l (allFrom 0 made)) (sym drained) (interleaves-map (numberedFrom 0) (by-fate made (none-dropped f xs w))))
 
-  restored : length (fromReset (doneCalls xs) .made) ≤ 65536 → (es : List Numbered) → Interleaves (returnedRead xs) (drainedRead xs) es
+  restored : length (fromReset (doneCalls xs) .made) ≤ mostInOrder → (es : List Numbered) → Interleaves (returnedRead xs) (drainedRead xs) es
       → eventsIn (byNumber es) ≡ inOrderOfMaking (doneCalls xs)
   restored few es i =
       let made = eventsMade reset (doneCalls xs) in
       let n = length (fromReset (doneCalls xs) .made) in
       ap eventsIn (order-restored i numbered-back 0 n (numbers-of 0 n made (positions-in-order reset (doneCalls xs)) (omega (arith, few))))
       ∙ sym (map-twice (numberedFrom 0) (λ (x : Numbered). x .event) made) ∙ all-made f xs w
+
+-- ---- the premises
+
+-- 'Everything drained and nothing dropped' is no more than it says: it holds wherever the events that a host reads are as many as were made.
+pub complete-exactly : (f : Form) (xs : List Exported) → NoLoads (afterReset f) xs → Along Admitted reset (doneCalls xs)
+    → length (returnedBy xs) + length (drainedBy xs) ≡ length (inOrderOfMaking (doneCalls xs)) → Complete (afterReset f) xs
+complete-exactly = complete-if-all
+
+-- 'At most 65,536 events' is no more than it says: from a reset the number of an event is its position exactly while so many were made.
+pub number-is-position : (p : ℕ) → (p < mostInOrder → numberAt 0 p ≡ p) × (numberAt 0 p ≡ p → p < mostInOrder)
+number-is-position = in-order-exactly
 
 -- ---- the theorems
 
@@ -135,7 +147,7 @@ module _ (h : Underway) (x : Exported) (a : askedBy (x .asked) ≡ afresh) (t : 
 
   -- With the fifth body, while at most 65,536 events are made: collected in whatever order, as long as each list keeps its own, by rising number the events handed back
   -- stand in the order of making.
-  module _ (long : length (x .given) ≡ 290) (few : length (fromReset (doneCalls xs) .made) ≤ 65536) (es : List Numbered) (i : Interleaves (returnedRead xs) (drainedRead xs) es) where
+  module _ (long : length (x .given) ≡ 290) (few : length (fromReset (doneCalls xs) .made) ≤ mostInOrder) (es : List Numbered) (i : Interleaves (returnedRead xs) (drainedRead xs) es) where
     pub numbers-give-the-order : eventsIn (byNumber es) ≡ inOrderOfMaking (doneCalls xs)
     numbers-give-the-order = restored (begun .0) (sym (begun .1) ∙ long) xs whole few es i
 

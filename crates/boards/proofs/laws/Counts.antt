@@ -3,15 +3,10 @@ use Rattle.basics.proofs.Prelude.{agree, agreed, table₃, _≡_, refl, sym, ap
 use Rattle.rules.{specs.Lines.servedIn, specs.Core.Core, specs.Device.upFrom, specs.Account.carries, specs.Account.carrying, proofs.laws.Counts.split, proofs.laws.Counts.size-ext}
 use Rattle.boards.specs.Board.{countsBy, recount, touched, carryingWith, broughtCount, broughtBy, Touching}
 use Rattle.images.proofs.laws.Saved.{length-upFrom}
+use Rattle.histories.proofs.laws.Admitting.{counts-up}
 use Rattle.boards.proofs.laws.Computed as computed
 
 -- ---- a board by its counts
-
-up-get : (n k i : ℕ) → i < k → getD (upFrom n k) i 0 ≡ n + i
-unfolding upFrom
-up-get n zero i h = absurd (omega arith)
-up-get n (suc k) zero h = omega arith
-up-get n (suc k) (suc i) h = up-get (suc n) k i (omega arith) ∙ omega arith
 
 map-get : (f : ℕ → ℕ) (l : List ℕ) (i : ℕ) → i < length l → getD (map f l) i 0 ≡ f (getD l i 0)
 map-get f [] i h = absurd (omega arith)
@@ -24,7 +19,7 @@ counts-length f = length-map (upFrom 0 256) f ∙ length-upFrom 0 256
 
 pub counts-get : (f : ℕ → ℕ) (v : ℕ) → v < 256 → getD (countsBy f) v 0 ≡ f v
 unfolding countsBy
-counts-get f v h = map-get f (upFrom 0 256) v (omega (arith, length-upFrom 0 256)) ∙ ap f (up-get 0 256 v h ∙ omega arith)
+counts-get f v h = map-get f (upFrom 0 256) v (omega (arith, length-upFrom 0 256)) ∙ ap f (counts-up 0 256 v h ∙ omega arith)
 
 pub counts-are : (b : List ℕ) (f : ℕ → ℕ) → length b ≡ 256 → ((v : ℕ) → v < 256 → getD b v 0 ≡ f v) → b ≡ countsBy f
 counts-are b f l e =

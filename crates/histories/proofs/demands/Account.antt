@@ -7,6 +7,7 @@ use Rattle.rules.specs.{Device.Device, Device.Call, Device.actsOf, Device.acted
 use Rattle.rules.specs.Account.{tally, servedWith, hasVector, carries, asserts, deasserts, carrying}
 use Rattle.rules.proofs.laws.Counts.{size-ext, tally-append, vector-balanced}
 use Rattle.histories.specs.{Premises.Along, Premises.Admitted, Premises.writesIsr, Premises.ServedVectorsStay, Demands.someAct, Demands.setsIsr}
+use Rattle.histories.proofs.laws.Admitting as admitting
 use Rattle.histories.proofs.laws.Reach.{each-both, NotIsr, no-isr-act, isr-acts, LeavesVectors, lines-or-vectors}
 use Rattle.histories.proofs.laws.Folds.{fold-acts, fold-calls, still, vectors-stay}
 

@@ -7,11 +7,12 @@ use Rattle.rules.specs.Core.{Core, Move, poll, raise, lower, clear, setMask, Ac
 use Rattle.rules.specs.{Device.Device, Device.Call, Device.actsOf, Device.acted, Device.step, History.history}
 use Rattle.histories.specs.{Premises.Along, Demands.done, Demands.also, Demands.inService, Demands.Eligible, Demands.disturbs, Demands.Spared, Demands.Undisturbed, Demands.pollsOrRaises}
 use Rattle.laws.proofs.laws.{Serving.poll-serves, Serving.raise-latches, Serving.raise-serves, Halves.by-halves, Halves.on-new-half, Halves.on-kept-half}
+use Rattle.histories.proofs.laws.Admitting as admitting
 use Rattle.histories.proofs.laws.{Reach.each-both, Reach.NotIsr, Reach.no-isr-act, Folds.fold-acts, Folds.fold-calls, Folds.history-append, Folds.along-append, Folds.along-each}
 use Rattle.rules.specs.Device as call
 
 -- a write to a half of MASK that brings no 1 to n's place leaves n unmasked
-stays-unmasked : (h : Bool) (x v n : ℕ) → n < 64 → on (asHalf h v) n ≡ false → on x n ≡ false → on (withHalf h x v) n ≡ false
+pub stays-unmasked : (h : Bool) (x v n : ℕ) → n < 64 → on (asHalf h v) n ≡ false → on x n ≡ false → on (withHalf h x v) n ≡ false
 stays-unmasked h x v =
     by-halves (λ i. on (asHalf h v) i ≡ false → on x i ≡ false → on (withHalf h x v) i ≡ false) h
     (λ j l e f. on-new-half h x v j l ∙ sym (on-new-half h 0 v j l) ∙ e) (λ j l e f. on-kept-half h x v j l ∙ f)
@@ -90,7 +91,7 @@ module _ (n : ℕ) (b : n < 64) where
       (λ d e f xs ys x y. onward-next (d .core) (e .core) (f .core) xs ys x y) (Undisturbed n) call-goes
 
   -- a write of ISR takes n out of service, or puts it in, and leaves it latched and unmasked
-  act-spares : (c : Core) (a : Act) → disturbs n a ≡ false → Eligible n (c .lines) → Eligible n (turn c a .after .lines)
+  pub act-spares : (c : Core) (a : Act) → disturbs n a ≡ false → Eligible n (c .lines) → Eligible n (turn c a .after .lines)
   unfolding lineTurn
   act-spares c (move m) t r = move-goes (c .vectors) (c .lines) m t r .eligible
   act-spares c (setIsr h v) t r = record { latched = r .latched; unmasked = r .unmasked }
@@ -129,7 +130,7 @@ module _ (n : ℕ) (b : n < 64) where
   request-spares d (call.write w o v) e = absurd (true≢false (sym e))
   request-spares d (call.drain k) e = done
 
-  request-serves : (d : Device) (c : Call) → pollsOrRaises n c ≡ true → Eligible n (d .core .lines) → inService n (step d c .after .core .lines) ≡ true
+  pub request-serves : (d : Device) (c : Call) → pollsOrRaises n c ≡ true → Eligible n (d .core .lines) → inService n (step d c .after .core .lines) ≡ true
   unfolding step acted actsOf turns lineTurn moved
   request-serves d (call.level m true) e r = rw (eqb-true m n e) (raise-serves n b (d .core .vectors) (d .core .lines) (r .unmasked))
   request-serves d (call.level m false) e r = absurd (true≢false (sym e))

@@ -6,6 +6,7 @@ use Rattle.rules.specs.Core.{Core, Move, poll, raise, lower, clear, setMask, Ac
 use Rattle.rules.specs.{Device.Device, Device.Call, Device.step, History.history, Account.tally, Account.hasVector, Account.carries, Account.asserts}
 use Rattle.rules.proofs.laws.Counts.{tally-append, tally-nil, tally-none}
 use Rattle.histories.specs.{Premises.Along, Demands.assertsOf, Demands.CarriedAlone}
+use Rattle.histories.proofs.laws.Admitting as admitting
 use Rattle.histories.proofs.laws.{Reach.LeavesVectors, Reach.lines-or-vectors, Folds.fold-acts, Folds.fold-calls, Folds.still, Folds.vectors-stay}
 
 module _ (n v : ℕ) where

@@ -7,6 +7,7 @@ use Rattle.rules.specs.{Device.Device, Device.Call, Device.none, Device.actsOf,
 use Rattle.rules.proofs.laws.Counts.{tally-append, tally-nil, tally-none}
 use Rattle.histories.specs.{Premises.Along, Demands.Each, Demands.done, Demands.also, Demands.clears, Demands.someAct, Demands.Clears, Demands.Unraised, Demands.assertsOf}
 use Rattle.laws.proofs.laws.Sets.{only-waiting}
+use Rattle.histories.proofs.laws.Taking as taking
 use Rattle.histories.proofs.laws.Reach.{each-both, each-so, NotMask, NotClear, mask-or-clear, ReturnsNone, write-returns-none}
 use Rattle.histories.proofs.laws.Folds.{fold-acts, fold-calls}
 use Rattle.rules.specs.Device as call

@@ -1,12 +1,13 @@
 -- Requests made one after another on an image, and what it is that two images answer them alike (02, C-17).
+use mathlib.Core.Bool.{false}
 use mathlib.Core.List.{List, [], _∷_}
 use mathlib.Core.Path.{_≡_}
 use Prim.Native.Nat.{ℕ}
 use lib.ListN.{length}
 use Rattle.images.specs.Form.{numbered, formLength}
 use Rattle.images.specs.Image.{decode, numbersIn}
-use Rattle.calls.specs.Calls.{Request}
-use Rattle.histories.specs.exported.Exported.{Exported, leftBy, answerWithout, eventsWithout, doneCalls, returnedBy, drainedBy, lossesRead}
+use Rattle.calls.specs.Calls.{Request, askedBy}
+use Rattle.histories.specs.exported.Exported.{Exported, leftBy, isReset, answerWithout, eventsWithout, doneCalls, returnedBy, drainedBy, lossesRead}
 
 -- what a host asks, and the answer area that it lends
 pub record Asking : Type 0 where
@@ -20,6 +21,15 @@ askedOf i q = record { given = i; asked = q .asked; answer = q .answer }
 unfoldable pub madeOn : List ℕ → List Asking → List Exported
 madeOn i [] = []
 madeOn i (q ∷ qs) = askedOf i q ∷ madeOn (leftBy (askedOf i q) .image) qs
+
+-- none of them is a reset
+unfoldable pub NoResets : List Asking → Type 0
+NoResets [] = Unit {0}
+NoResets (q ∷ qs) = (isReset (askedBy (q .asked)) ≡ false) × NoResets qs
+
+-- what an exported call asks
+abbrev pub askingOf : Exported → Asking
+askingOf x = record { asked = x .asked; answer = x .answer }
 
 -- the images that two exported calls leave hold the same device, each in the form that it was given
 pub record SameDevice (x y : Exported) : Type 0 where

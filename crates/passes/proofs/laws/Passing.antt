@@ -151,6 +151,11 @@ module _ (xs : List Item) (l : NoLoad xs) where
           let e = early-all (length xs) n none marks (soon-day (length xs) xs 0 reset (omega arith)) (record { great = omega arith; late = omega arith }) in
           omega (arith, closes .greatest, e .great)
 
+      -- one wait at most is not over
+      pub open-few : rowOf day n .stillOpen ≤ 1
+      unfolding rowOf
+      open-few = test (eqb (slotAll n none marks .since) 0) (λ t. omega (arith, sym (closes .lasts) ∙ ap (λ b. cond b 0 1) t)) (λ t. omega (arith, sym (closes .lasts) ∙ ap (λ b. cond b 0 1) t))
+
       pub cells : (c : ℕ) → c < 10 → shutRow after n c ≡ columnOf (rowOf day n) c
       unfolding rowOf
       cells =

@@ -1,15 +1,16 @@
 -- A call as the wait of one input takes it, and a day's waits by its marks.
-use Rattle.basics.proofs.Prelude.{and-false, not-false, _≡_, refl, sym, ap, subst, _∙_, Bool, true, false, cond, not, _&&_, true≢false, List, [], _∷_, _++_, append-nil, ℕ, _+_, _-_, _<_, _≤_, max, arith, eqb, ltb, length, drop, drop-of-length-le, drop-at, eqb-true, eqb-false, eq-eqb, ne-eqb, on, test}
-use Rattle.passes.proofs.laws.Acting.{settle-over, back-over, slot-append, notes-of-acts, NotRaise, step, Latched, Some, Gone, kept-step, over-step, acts-step, raise-step}
+use Rattle.basics.proofs.Prelude.{and-false, not-false, _≡_, refl, sym, ap, subst, _∙_, Bool, true, false, cond, not, _&&_, _||_, Bool·not-not, and-eq-true-iff, or-true, true≢false, List, [], _∷_, _++_, append-nil, ℕ, _+_, _-_, _<_, _≤_, max, arith, eqb, ltb, length, drop, drop-of-length-le, drop-at, eqb-true, eqb-false, eq-eqb, ne-eqb, on, only, test}
+use Rattle.passes.proofs.laws.Acting.{settle-over, back-over, slot-append, notes-of-acts, NotRaise, step, Latched, Some, Gone, over-step, acts-step, raise-step}
 use Rattle.rules.specs.{Lines.Lines, Core.Act, Core.move, Core.raise, Core.lower, Core.poll, Core.clear, Core.setMask, Core.setIsr, Core.store, Core.setVector, Account.tally}
 use Rattle.rules.{specs.Device.Device, specs.Device.WellFormed, specs.Device.Call, specs.Device.actsOf, specs.Device.acted, proofs.laws.Steps.acted-one}
-use Rattle.histories.{specs.Demands.done, specs.Demands.also, proofs.laws.Reach.each-so, proofs.laws.Reach.ReturnsNone, proofs.laws.Reach.write-returns-none, proofs.laws.WellFormed.step-well}
+use Rattle.histories.{specs.Demands.done, specs.Demands.also, specs.Demands.isRaise, specs.Demands.callTakes, proofs.laws.Taking.call-latches, proofs.laws.Reach.each-so, proofs.laws.Reach.ReturnsNone, proofs.laws.Reach.write-returns-none, proofs.laws.WellFormed.step-well}
 use Rattle.plain.specs.{Machine.Machine, Plain.Engine, Sequence.Item, Sequence.call, Sequence.load, Sequence.refused, Sequence.notesOf, Sequence.takes}
 use Rattle.plain.proofs.laws.{Same.Run, Same.Same, Following.stepped, Following.countedRun, Following.like-call, Following.sized, Following.same-counted}
 use Rattle.sheets.specs.Day.{Moment, after, number, made, moments}
-use Rattle.sheets.specs.Waits.{movesLevel, isIdle, begins, assertOf, asserts, takesBack, End, answered, withdrawn, endFrom, waits, isWithdrawn, isOpen, greatest}
+use Rattle.sheets.specs.Waits.{movesLevel, isIdle, begins, assertOf, asserts, clearsBy, takesIt, takesBack, End, answered, withdrawn, endFrom, waits, isWithdrawn, isOpen, greatest}
 use Rattle.passes.specs.tallies.Marks.{Mark, idleIn, actMarks, marksOf, itemMarks, dayMarks}
 use Rattle.passes.specs.Slots.{NoLoad, Slot, startAt, slotAll, notesIn}
+use Rattle.passes.proofs.laws.{Marking.eqb-sym, Taken.takes-is}
 use Rattle.rules.specs.Device as device
 
 module _ (n : ℕ) (below : n < 64) where
@@ -48,6 +49,39 @@ module _ (n : ℕ) (below : n < 64) where
   step-latched k b true t s x = absurd (x (settle-over n below k (cond b (startAt k s) s)))
   step-latched k b false true s x = absurd (x (back-over n below k (cond b (startAt k s) s)))
   step-latched k b false false s x = refl
+
+  -- ---- the record, and the latch
+
+  -- where a wait goes on, its input is latched: then the record takes it back exactly if the latch is off afterwards
+  pub latch-told : (k : ℕ) (d : Device) (c : Call) → on (d .core .lines .irr) n ≡ true → Gone n below k (device.step d c .after .core .lines) ≡ takesIt n c
+  latch-told k d c h =
+      ap not (call-latches n below d c ∙ ap (λ y. isRaise n c || (y && not (callTakes n d c))) h ∙ ap (λ y. isRaise n c || not y) (takes-is n below d c)) ∙ last c
+    where
+      last : (c : Call) → not (isRaise n c || not (takesIt n c)) ≡ takesIt n c
+      last (device.level m true) = ap not (or-true (only m n))
+      last (device.level m false) = Bool·not-not (eqb m n)
+      last (device.poll m) = refl
+      last (device.read w o) = refl
+      last (device.write w o v) = Bool·not-not (clearsBy n w o v)
+      last (device.drain j) = refl
+
+  -- where one begins, the raise latches it
+  pub raise-told : (k : ℕ) (d : Device) (c : Call) → movesLevel n true c ≡ true → Gone n below k (device.step d c .after .core .lines) ≡ takesIt n c
+  raise-told k d (device.level m true) e =
+      ap not (call-latches n below d (device.level m true) ∙ ap (λ y. y || (on (d .core .lines .irr) n && not (callTakes n d (device.level m true)))) (eqb-sym n m ∙ e))
+  raise-told k d (device.level m false) e = absurd (true≢false (sym e))
+  raise-told k d (device.poll m) e = absurd (true≢false (sym e))
+  raise-told k d (device.read w o) e = absurd (true≢false (sym e))
+  raise-told k d (device.write w o v) e = absurd (true≢false (sym e))
+  raise-told k d (device.drain j) e = absurd (true≢false (sym e))
+
+  -- and elsewhere there is nothing to take back
+  step-same : (k : ℕ) (b a t u : Bool) (s : Slot) → ((s .since ≡ 0 → ⊥) → t ≡ u) → (b ≡ true → t ≡ u) → step n below k b a t s ≡ step n below k b a u s
+  step-same k true a t u s f g = ap (λ x. step n below k true a x s) (g refl)
+  step-same k false a t u s f g =
+      test (eqb (s .since) 0)
+      (λ z. let o = eqb-true (s .since) 0 z in sym (over-step n below k a t s o) ∙ over-step n below k a u s o)
+      (λ z. ap (λ x. step n below k false a x s) (f (eqb-false (s .since) 0 z)))
 
   -- ---- the ends of waits
 
@@ -147,21 +181,21 @@ module _ (n : ℕ) (below : n < 64) where
     made-none : made (record { before = e; item = refused }) ≡ []
     made-none = let h : length (e .history) ≤ length (e .history) = omega arith in drop-of-length-le (e .history) h
 
-    gone-same : (f : Engine) (q : Run) → Same f q → not (f .machines n .latched) ≡ Gone n below (r .call) (q .device .core .lines)
-    gone-same f q y = ap (λ (z : Machine). not (z .latched)) (y .machine n below)
-
     -- a call, and a refused record, as steps of the wait
     call-moment : (c : Call) (y : Same (takes e (call c) .after) (stepped r c)) (s : Slot) → Latched n below (r .call) s lines
         → slotAll n s (itemMarks (r .call) (r .device) (call c)) ≡ (let m : Moment = record { before = e; item = call c } in step n below (number m) (begins n m) (asserts n m) (takesBack n m) s)
     call-moment c y s h =
+        let b = movesLevel n true c && idleIn lines n in
+        let some = Some n below (r .call) (marksOf (r .call) (r .device) (actsOf (r .device .core) c)) in
+        let gone = Gone n below (r .call) (device.step (r .device) c .after .core .lines) in
         call-steps (r .call) (r .device) c s h
-        ∙ (λ i. step n below (sym (x .call) i) (movesLevel n true c && sym idle-same i) (ltb 0 (tally (assertOf n) (sym (made-call c y) i))) (sym (gone-same _ (stepped r c) y) i) s)
+        ∙ step-same (r .call) b some gone (takesIt n c) s (λ q. latch-told (r .call) (r .device) c (h q))
+        (λ t. raise-told (r .call) (r .device) c (and-eq-true-iff (movesLevel n true c) (idleIn lines n) .0 t .0))
+        ∙ (λ i. step n below (sym (x .call) i) (movesLevel n true c && sym idle-same i) (ltb 0 (tally (assertOf n) (sym (made-call c y) i))) (takesIt n c) s)
 
-    refused-moment : (s : Slot) → Latched n below (r .call) s lines → s ≡ (let m : Moment = record { before = e; item = refused } in step n below (number m) (begins n m) (asserts n m) (takesBack n m) s)
-    unfolding tally
-    refused-moment s h =
-        kept-step n below (r .call) s lines h
-        ∙ (λ i. step n below (sym (x .call) i) false (ltb 0 (tally (assertOf n) (sym made-none i))) (sym (gone-same e r x) i) s)
+    refused-moment : (s : Slot) → s ≡ (let m : Moment = record { before = e; item = refused } in step n below (number m) (begins n m) (asserts n m) (takesBack n m) s)
+    unfolding step tally
+    refused-moment s = λ i. step n below (e .call) false (ltb 0 (tally (assertOf n) (sym made-none i))) false s
 
     -- a wait that is not over: no other begins
     begins-none : (c : Call) (s : Slot) → Latched n below (r .call) s lines → (s .since ≡ 0 → ⊥) → begins n (record { before = e; item = call c }) ≡ false
@@ -177,7 +211,9 @@ module _ (n : ℕ) (below : n < 64) where
       let is = call-moment e r x c y s h in
       let m : Moment = record { before = e; item = call c } in
       let latched : Latched n below (r .call + 1) z (stepped r c .device .core .lines) =
-      λ q. not-false (on (stepped r c .device .core .lines .irr) n) (sym (gone-same e r x _ (stepped r c) y) ∙ step-latched (number m) (begins n m) (asserts n m) (takesBack n m) s (λ o. q (ap (λ (v : Slot). v .since) is ∙ o)))
+      λ q. not-false (on (stepped r c .device .core .lines .irr) n)
+      (step-latched (r .call) (movesLevel n true c && idleIn (r .device .core .lines) n) (Some n below (r .call) (marksOf (r .call) (r .device) (actsOf (r .device .core) c)))
+      (Gone n below (r .call) (device.step (r .device) c .after .core .lines)) s (λ o. q (ap (λ (v : Slot). v .since) (call-steps (r .call) (r .device) c s h) ∙ o)))
       in
       let rest = day-closes xs (takes e (call c) .after) (stepped r c) y (step-well (r .device) c w) l z latched in
       let whole : slotAll n z (dayMarks (r .call + 1) (device.step (r .device) c .after) xs) ≡ slotAll n s (itemMarks (r .call) (r .device) (call c) ++ dayMarks (r .call + 1) (device.step (r .device) c .after) xs) =
@@ -187,4 +223,4 @@ module _ (n : ℕ) (below : n < 64) where
   day-closes (load d ∷ xs) e r x w l s h = absurd l
   day-closes (refused ∷ xs) e r x w l s h =
       let rest = day-closes xs (takes e refused .after) (countedRun r) (same-counted e r x) w l s h in
-      closed-next (record { before = e; item = refused }) (moments (takes e refused .after) xs) s _ (λ q. refl) (refused-moment e r x s h) rest
+      closed-next (record { before = e; item = refused }) (moments (takes e refused .after) xs) s _ (λ q. refl) (refused-moment e r x s) rest

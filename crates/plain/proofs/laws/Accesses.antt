@@ -67,7 +67,7 @@ acting-sized r xs s = turns-sized (r .device .core) xs s
 
 -- ---- reading
 
-number-is : (k : ℕ) (f : ℕ → Bool) → numberBelow k f ≡ numberWith k f
+pub number-is : (k : ℕ) (f : ℕ → Bool) → numberBelow k f ≡ numberWith k f
 unfolding numberBelow numberWith
 number-is zero f = refl
 number-is (suc k) f = ap (λ x. x + cond (f k) (2 ^ k) 0) (number-is k f)

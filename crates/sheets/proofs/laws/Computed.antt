@@ -50,6 +50,11 @@ by-the-day : waitsOn (raise ∷ call (write dword 0x3a0 0x20) ∷ unmask ∷ cal
 unfolding sheeted
 by-the-day = refl
 
+-- a raise that finds it in service though not latched begins none: ISR was written, and the poll asks nothing of it
+not-in-service : waitsOn (unmask ∷ call (write dword 0x3a0 0x20) ∷ raise ∷ []) ≡ []
+unfolding sheeted
+not-in-service = refl
+
 greatest-of-them : greatest (answered 3 ∷ withdrawn ∷ answered 7 ∷ answered 0 ∷ stillOpen ∷ []) ≡ 7
 unfolding sheeted
 greatest-of-them = refl
@@ -76,10 +81,19 @@ full = record {
   history = [];
 }
 
+-- the same with all masked and none latched
+abbrev shut : Engine
+shut = record { machines = λ n. record { latched = false; masked = true; inService = false }; vectors = []; stored = full .stored; queue = full .queue; call = 0; history = [] }
+
 dropped-offered : rowOf (dayFrom full (call (write dword 0x20 8) ∷ call (write dword 0x20 0) ∷ call (level 3 false) ∷ [])) 3
     ≡ record { raises = 0; lowers = 1; asserts = 1; deasserts = 2; returned = 1; offered = 2; dropped = 2; greatest = 0; withdrawn = 0; stillOpen = 0 }
 unfolding sheeted
 dropped-offered = refl
+
+-- an assert ends its wait, kept or dropped: 16 wait, and input 3, masked till then, is asserted at the third record
+dropped-answers : waits 3 (moments shut (call (level 3 true) ∷ refused ∷ call (write dword 0x20 0) ∷ [])) ≡ answered 2 ∷ []
+unfolding sheeted
+dropped-answers = refl
 
 -- ---- the total
 

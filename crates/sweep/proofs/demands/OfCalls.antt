@@ -10,7 +10,7 @@ use Rattle.histories.proofs.exported.demands.FromCalls.{image-holds-device, ima
 use Rattle.sweep.specs.{Sweeps.sweeping, Sweeps.Sweep, Handed.asksFor, Handed.readsAssert, Handed.WakesAllRead, Handed.pollsAll}
 use Rattle.laws.proofs.laws.Images.{decode-well-formed, numbers-well}
 use Rattle.sweep.proofs.laws.{Announcing.call-announces, Announcing.vector-answered, Reading.returned-silent, Reading.asserts-read, Reading.asks-is, Polls.all-polled, Polls.polls-done}
-use Rattle.sweep.proofs.demands.WakesAll.{one-sweep-wakes-all, sweep-offers-nothing}
+use Rattle.sweep.proofs.demands.WakesAll.{one-sweep-wakes-all, sweep-offers-nothing, sweep-loses-nothing}
 use Rattle.rules.specs.Device as call
 use Rattle.calls.specs.Calls as request
 
@@ -28,6 +28,7 @@ sweep-of-calls h f xs n s =
       noDeassert = rw (r .returned) (returned-silent (history (current h) cs .made) (w .noDeassert));
       noneOffered = rw (r .drained) (ring .0);
       noneDropped = ring .1;
+      noneLost = sweep-loses-nothing (current h) cs s;
       asserted = λ i b. asserts-read h f xs n (s .admitted) i ∙ w .asserted i b;
     })
 

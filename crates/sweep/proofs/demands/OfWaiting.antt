@@ -14,7 +14,7 @@ use Rattle.histories.proofs.exported.demands.FromCalls.{image-holds-device, ima
 use Rattle.sweep.specs.{Sweeps.sweeping, Sweeps.isPoll, Sweeps.everyCall, Sweeps.someCall, Sweeps.Sweep, Sweeps.WakesAll, Handed.WakesAllRead, Handed.pollsAll}
 use Rattle.sweep.specs.Waited.{SweepOf, pollsOutside, pollingOnly, ComeToTheSame, toldWaiting, pollsOf, pollsWaiting}
 use Rattle.laws.proofs.laws.Images.{encode-decode}
-use Rattle.sweep.proofs.laws.{OneInput.Awake, OneInput.calls-swept, OneInput.calls-awake, Announcing.calls-announce, Announcing.calls-drain, Reading.returned-silent, Reading.asserts-read}
+use Rattle.sweep.proofs.laws.{OneInput.Awake, OneInput.calls-swept, OneInput.calls-awake, Announcing.calls-announce, Announcing.calls-drain, Announcing.calls-lose-none, Reading.returned-silent, Reading.asserts-read}
 use Rattle.sweep.proofs.laws.{Idle.idle-awake, Idle.idle-poll, Idle.at-the-start, Idle.saved-history, Idle.saved-numbers, Polls.pollCalls, Polls.all-polled, Polls.polls-done, Polls.listed-polled, Polls.listed-done, Polls.length-answered}
 use Rattle.sweep.proofs.demands.WakesAll.{awake-is-asserted, poll-asks}
 use Rattle.rules.specs.Device as call
@@ -108,6 +108,7 @@ module _ (i a : List ℕ) (b : Bytes i) (z : waiting i a .number ≡ 0) where
         noDeassert = rw (r .returned) (returned-silent (history (decode i) cs .made) (w .noDeassert));
         noneOffered = rw (r .drained) (ring .0);
         noneDropped = ring .1;
+        noneLost = calls-lose-none (decode i) cs (calls-announce (decode i) cs (s .admitted)) (decode i .ring);
         asserted = λ m l. asserts-read h faith xs n (s .admitted) m ∙ w .asserted m l;
       })
 

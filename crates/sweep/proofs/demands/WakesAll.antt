@@ -1,9 +1,9 @@
 -- 02, C-24: one sweep wakes everything. From any device, so from any loaded one.
 use Rattle.basics.proofs.Prelude.{_≡_, refl, sym, ap, _∙_, _⊎_, inl, inr, ⊎-elim, Bool, true, false, cond, not, _&&_, true≢false, or-true, List, [], _∷_, _++_, ℕ, _+_, _<_, arith, lit<, on, test}
-use Rattle.rules.specs.{Device.Device, Device.Call, Device.actsOf, History.history}
-use Rattle.histories.specs.{Premises.Along, Demands.inService, Demands.Eligible, Demands.pollsOrRaises, Demands.assertsOf, Demands.someAct}
+use Rattle.rules.specs.{Ring.dropped, Device.Device, Device.Call, Device.actsOf, History.history}
+use Rattle.histories.specs.{Premises.Along, Demands.inService, Demands.Eligible, Demands.pollsOrRaises, Demands.assertsOf, Demands.someAct, Demands.ringActs}
 use Rattle.sweep.specs.Sweeps.{unsettles, sweeping, isPoll, everyCall, someCall, Sweep, wakes, WakesAll, Announced, AssertedBy}
-use Rattle.sweep.proofs.laws.{Quiet.sweeping-is, OneInput.Awake, OneInput.calls-swept, OneInput.calls-awake, Announcing.calls-announce, Announcing.asserted-by, Announcing.calls-drain}
+use Rattle.sweep.proofs.laws.{Quiet.sweeping-is, OneInput.Awake, OneInput.calls-swept, OneInput.calls-awake, Announcing.calls-announce, Announcing.asserted-by, Announcing.calls-drain, Announcing.calls-lose-none}
 use Rattle.rules.specs.Device as call
 
 -- ---- one input
@@ -83,6 +83,10 @@ woken-by-a-call d cs s n b w =
 pub sweep-offers-nothing : (d : Device) (cs : List Call) → Sweep cs
     → (history d cs .drained ++ history d cs .after .ring .waiting ≡ d .ring .waiting) × (history d cs .after .ring .drops ≡ d .ring .drops)
 sweep-offers-nothing d cs s = calls-drain d cs (calls-announce d cs (s .admitted))
+
+-- And no event is dropped, whatever the count is: it stands still at its stop, so that alone would not tell.
+pub sweep-loses-nothing : (d : Device) (cs : List Call) → Sweep cs → dropped (d .ring) (ringActs d cs) ≡ []
+sweep-loses-nothing d cs s = calls-lose-none d cs (calls-announce d cs (s .admitted)) (d .ring)
 
 -- ---- the premise
 

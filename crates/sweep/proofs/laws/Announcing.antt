@@ -2,11 +2,11 @@
 -- So the ring is offered nothing; and of the call's answer area, where it is exported, a host reads that assert (read-is-asserted).
 use Rattle.basics.proofs.Prelude.{_≡_, refl, sym, ap, _∙_, true, false, cond, _&&_, true≢false, and-eq-true-iff, and-true, List, [], _∷_, _++_, append-nil, append-assoc, ℕ, _+_, _*_, _^_, _<_, arith, getD, eq-eqb, eqb-true, inputs, only, put, test, first-has}
 use Rattle.rules.specs.Lines.{Lines, Made, withIrr, pendingIn, serve, enter, polled, raised}
-use Rattle.rules.specs.{Ring.Event, Ring.Ring, Ring.draw, Ring.kept, Ring.ringStep, Ring.ringRun, Ring.drawn, Core.moved, Core.lineTurn, Core.turns}
+use Rattle.rules.specs.{Ring.Event, Ring.Ring, Ring.RingAct, Ring.draw, Ring.kept, Ring.dropped, Ring.ringStep, Ring.ringRun, Ring.drawn, Core.moved, Core.lineTurn, Core.turns}
 use Rattle.rules.specs.{Device.Device, Device.Call, Device.some, Device.actsOf, Device.acted, Device.offers, Device.draws, Device.step, Numbering.Numbers, Numbering.returnedWith, Numbering.valueWith}
 use Rattle.rules.{specs.History.history, specs.Account.tally, proofs.laws.Rings.fifo, proofs.laws.Counts.tally-append, proofs.laws.Counts.tally-nil}
 use Rattle.calls.{specs.Calls.answered, specs.Calls.presentIn, proofs.laws.Answers.none-read, proofs.laws.Answers.some-read}
-use Rattle.histories.{specs.Premises.Along, specs.Demands.pollsOrRaises, specs.Demands.assertsOf, proofs.laws.Folds.still, proofs.laws.Folds.along-each}
+use Rattle.histories.{specs.Premises.Along, specs.Demands.pollsOrRaises, specs.Demands.assertsOf, specs.Demands.ringActs, proofs.laws.Folds.still, proofs.laws.Folds.along-each}
 use Rattle.sweep.specs.Sweeps.{sweeping, everyCall, assertFrom, Announced, nothing, one, AssertedBy}
 use Rattle.sweep.proofs.laws.Quiet.{write-leaves-lines, along-every}
 use Rattle.rules.specs.Device as call
@@ -110,6 +110,20 @@ calls-drain d (c ∷ cs) a =
     let first = call-drains d c (a .0) in
     let rest = calls-drain (step d c .after) cs (a .1) in
     (append-assoc (step d c .drained) (history (step d c .after) cs .drained) _ ∙ ap (λ es. step d c .drained ++ es) (rest .0) ∙ first .0, rest .1 ∙ first .1)
+
+-- nothing is dropped, wherever the count stands
+draws-lose-none : (c : Call) (xs : List RingAct) → ((s : Ring) → dropped s xs ≡ []) → (s : Ring) → dropped s (draws c ++ xs) ≡ []
+unfolding dropped
+draws-lose-none (call.level n b) xs f s = f s
+draws-lose-none (call.poll n) xs f s = f s
+draws-lose-none (call.read w o) xs f s = f s
+draws-lose-none (call.write w o v) xs f s = f s
+draws-lose-none (call.drain k) xs f s = f (ringStep s (draw k) .after)
+
+pub calls-lose-none : (d : Device) (cs : List Call) → Along Announced d cs → (s : Ring) → dropped s (ringActs d cs) ≡ []
+unfolding Along ringActs dropped
+calls-lose-none d [] a s = refl
+calls-lose-none d (c ∷ cs) a s = rw (unoffered d c (a .0)) (draws-lose-none c (ringActs (step d c .after) cs) (calls-lose-none (step d c .after) cs (a .1)) s)
 
 -- ---- the answer of one call
 

@@ -1,13 +1,15 @@
 -- The definitions on closed bytes, so that it is seen what they say: a trace of two blocks, and such traces with one thing wrong.
-use Rattle.basics.proofs.Prelude.{_≡_, refl, Bool, true, false, List, [], _∷_, _++_, map, ℕ, take, set, replicate, bytesOf}
+use Rattle.basics.proofs.Prelude.{_≡_, refl, Bool, true, false, List, [], _∷_, _++_, map, ℕ, length, take, set, replicate, bytesOf}
 use Rattle.rules.specs.Device.{none, some}
 use Rattle.traces.specs.Trace.{blocksFrom, recordsIn, backToBack, contentsGood, recordOf, isGood, firstBad, good, wrongContents, badRecord, traceTest, traceNumber, traceValue}
-use Rattle.traces.specs.Played.{requestOf}
+use Rattle.traces.specs.Played.{requestOf, outcomes}
+use Rattle.images.specs.Image.{imageTest}
+use Rattle.calls.specs.Calls.{outcome}
 use Rattle.calls.specs.Calls as request
 
 -- one name that opens what has to compute
 unfoldable pub tracing : ℕ
-unfolding blocksFrom recordsIn backToBack contentsGood isGood firstBad traceTest requestOf
+unfolding blocksFrom recordsIn backToBack contentsGood isGood firstBad traceTest requestOf outcomes outcome imageTest
 tracing = 0
 
 -- ---- a trace
@@ -132,3 +134,8 @@ accesses = refl
 all-drained : asks 6 0 0 0 ≡ request.drain (replicate 64 0) 0
 unfolding tracing
 all-drained = refl
+
+-- two polls on no image at all, both refused: the first does not end the play
+both-made : length (outcomes [] (recordOf (bytesAs 3 0 0 0) ∷ recordOf (bytesAs 3 1 0 0) ∷ [])) ≡ 2
+unfolding tracing
+both-made = refl

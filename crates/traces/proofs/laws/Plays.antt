@@ -1,5 +1,6 @@
 -- A play one record at a time, from number k on.
 use Rattle.basics.proofs.Prelude.{_≡_, refl, List, [], _++_, ℕ, suc}
+use Rattle.traces.proofs.laws.Computed as computed
 use Rattle.traces.specs.{Trace.nth, Played.playedOn, Played.drainedIn, Played.recordsFrom, Played.outcomes, Played.gathered, Played.playedFrom}
 
 module _ (l : List ℕ) (k : ℕ) (i : List ℕ) where

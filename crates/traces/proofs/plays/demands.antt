@@ -5,3 +5,4 @@ pub mod Accepted
 pub mod Ended
 pub mod EndedOn
 pub mod OneAfterAnother
+pub mod PlayedDay

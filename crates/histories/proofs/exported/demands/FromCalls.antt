@@ -1,16 +1,18 @@
 -- From exported calls to histories: exported calls of which each done one is given the image that the last done one left are a history of the device.
 -- A done call hands back what its step gives, and the image that it leaves holds the device after it; so what holds of histories holds of exported
 -- calls.
-use Rattle.basics.proofs.Prelude.{_≡_, refl, sym, ap, subst, _∙_, true, false, cond, and-false, and-eq-true-iff, List, [], _∷_, _++_, append-nil, append-assoc, length, equal-same}
+use Rattle.basics.proofs.Prelude.{_≡_, refl, sym, ap, subst, _∙_, true, false, cond, and-false, and-eq-true-iff, List, [], _∷_, _++_, map, ℕ, append-nil, append-assoc, length, equal-same}
 use Rattle.rules.specs.Device.{Device, WellFormed, Call, Step, value, reset}
 use Rattle.rules.specs.{Numbering.Numbers, Numbering.fromZero, Numbering.WellNumbered, Numbering.drainedWith, Numbering.valueWith, History.history, History.fromReset}
 use Rattle.images.specs.{Form.Form, Form.numbered, Form.numbers, Form.has, Form.formLength, Image.encodeAs, Image.encodeLike, Image.decode, Image.numbersIn, Image.imageTest, Image.accepted}
 use Rattle.calls.specs.Calls.{afresh, askedBy, Outcome}
 use Rattle.histories.specs.exported.Exported.{Exported, leftBy, isDone, isReset, isLoad, callOf, Underway, carriedOn, carriedThrough, NoLoads, HandedOn, leftAfter, doneCall, doneCalls, IsStep, GivenBytes, current, inImage, Faithful, numbersThrough, afterReset, atLoad}
+use Rattle.histories.specs.exported.Alike.{Asking, madeOn, NoResets, askingOf}
 use Rattle.laws.proofs.laws.Images.{encode-as, decode-encode, numbers-encode}
 use Rattle.histories.proofs.laws.{Folds.history-append, WellFormed.history-well}
 use Rattle.histories.proofs.exported.laws.Chains.{current-well, left-length, left-holds, through-append, through-numbered, handed, carried-on, faithful-kept, faithful-on, left-last, reset-leaves, reset-begins, faithful-after-reset, done-accepted, own-image, load-begins}
 use Rattle.histories.proofs.exported.laws.Without.{handed-answer, handed-events}
+use Rattle.histories.proofs.exported.laws.Handed.{made-handed-on, handed-on-made}
 
 -- ---- one call
 
@@ -80,6 +82,10 @@ chain h (x ∷ xs) f n =
       began = two .began ∙ one .began;
       calls = two .calls ∙ ap (λ cs. cs ++ doneCalls xs) (one .calls) ∙ append-assoc (h .calls) (doneCall x) (doneCalls xs);
     }
+
+-- Calls are handed on exactly if they are what is made one after another on an image with no reset among it, refused calls anywhere.
+pub handed-on-exactly : (i : List ℕ) → ((qs : List Asking) → NoResets qs → HandedOn i (madeOn i qs)) × ((xs : List Exported) → HandedOn i xs → xs ≡ madeOn i (map askingOf xs))
+handed-on-exactly i = (made-handed-on i, handed-on-made i)
 
 -- 'Handing that same image on is no load' (01, Saved image): where each call is given the image that the one before it left and none is a reset, none is
 -- a load.

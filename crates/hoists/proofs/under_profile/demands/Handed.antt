@@ -6,7 +6,7 @@ use Rattle.calls.{specs.Calls.Request, specs.Calls.askedBy, specs.Calls.Outcome
 use Rattle.histories.specs.exported.Exported.{Underway, carriedOn, carriedThrough, NoLoads, afterReset}
 use Rattle.histories.proofs.exported.{laws.Chains.left-last, demands.FromCalls.a-reset-begins}
 use Rattle.hoists.specs.{Profile.running, HoistCalls.hoistRoom, HoistCalls.cannotEnd, HoistCalls.endTold, HoistCalls.hoistReset, HoistCalls.endStartup}
-use Rattle.hoists.specs.Hoisted.{Asks, resets, reads, writes, ends, levels, polls, drains, Hoisted, leftUnder, leftBy, isDone, requestOf, exportedAs, plainCall, plainCalls, isReset, HandedOn, leftAfter}
+use Rattle.hoists.specs.Hoisted.{Asks, resets, reads, writes, ends, levels, polls, drains, Hoisted, leftUnder, leftBy, isDone, requestOf, exportedAs, plainCall, plainCalls, isReset, HandedOn, Lent, askedOf, lentBy, madeOn, NoResets, leftAfter}
 use Rattle.hoists.proofs.under_profile.demands.Answers.{refused-write-untouched, refused-read-untouched}
 use Rattle.hoists.proofs.under_profile.demands.Under.{reset-is-full, done-is-full, PlainIs, none, one, plain-is, plain-done}
 use Rattle.images.specs.Form as form
@@ -91,6 +91,19 @@ module _ (h : Underway) (x : Hoisted) (q : Request) (e : requestOf (x .asks) ≡
 
   one-left : isDone x ≡ true → carriedOn h (exportedAs x q) .left ≡ leftBy x .image
   one-left d = left-last h (exportedAs x q) g ∙ ap (λ (o : Outcome). o .image) (sym (done-is-full x d q e))
+
+-- Calls are handed on exactly if they are what is made one after another on an image, with whatever phases, and no reset is among it. Refused ones may stand anywhere.
+pub made-handed-on : (i : List ℕ) (qs : List Lent) → NoResets qs → HandedOn i (madeOn i qs)
+unfolding madeOn HandedOn NoResets
+made-handed-on i [] n = tt
+made-handed-on i (q ∷ qs) n = (refl, n .0, made-handed-on (leftBy (askedOf i q) .image) qs (n .1))
+
+pub handed-on-made : (i : List ℕ) (xs : List Hoisted) → HandedOn i xs → xs ≡ madeOn i (map lentBy xs)
+unfolding madeOn HandedOn
+handed-on-made i [] h = refl
+handed-on-made i (x ∷ xs) h =
+    let same : x ≡ askedOf i (lentBy x) = (λ t. record { given = h .0 t; phase = x .phase; asks = x .asks; answer = x .answer }) in
+    (λ t. same t ∷ handed-on-made (leftBy x .image) xs (h .2) t) ∙ ap (λ (y : Hoisted). askedOf i (lentBy x) ∷ madeOn (leftBy y .image) (map lentBy xs)) same
 
 pub handed-on-is-no-load : (h : Underway) (xs : List Hoisted) → HandedOn (h .left) xs → NoLoads h (plainCalls xs)
 unfolding HandedOn NoLoads plainCalls

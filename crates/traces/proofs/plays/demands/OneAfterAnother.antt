@@ -3,11 +3,11 @@
 use Rattle.basics.proofs.Prelude.{_≡_, refl, sym, ap, subst, _∙_, List, [], _∷_, _++_, map, append-assoc, ℕ, _*_, _≤_, zero-le, arith, length, take, drop, take-at, le-leb}
 use Rattle.images.specs.{Form.Known, Form.unknown, Form.known, Form.formOf, Image.ImageTest, Image.wrongLength, Image.imageTest}
 use Rattle.calls.{specs.Calls.Outcome, specs.Calls.Ending, specs.Calls.answerLength, specs.Calls.outcome, proofs.laws.Outcomes.reset-refused}
-use Rattle.histories.specs.exported.{Exported.leftBy, Exported.leftAfter, Exported.HandedOn, Alike.madeOn}
+use Rattle.histories.{specs.exported.Exported.leftBy, specs.exported.Exported.leftAfter, specs.exported.Exported.HandedOn, specs.exported.Alike.madeOn, specs.exported.Alike.NoResets, proofs.exported.laws.Handed.made-handed-on}
 use Rattle.traces.specs.{Trace.Record, Trace.recordCount, Trace.traceTest}
 use Rattle.traces.specs.Played.{playedOn, drainedIn, records, outcomes, Played, gathered, playedAll, playedThrough, afresh, played}
 use Rattle.traces.specs.plays.Playing.{playRoom, refused, traceLeft, lengthLeft, imageLeft, playTest, playOnTest, PlayLeft, inFront, playing, playingOn}
-use Rattle.traces.specs.plays.InTurn.{callsOf, followedBy, dayOn, recordsOfAll, wroteOf, SameIfDone}
+use Rattle.traces.specs.plays.InTurn.{asking, callsOf, followedBy, dayOn, recordsOfAll, wroteOf, SameIfDone}
 use Rattle.traces.proofs.{demands.Play.answers-from, plays.laws.Drained.asked-ends, plays.laws.Keeps.no-reset, plays.laws.Ways.leftIf, plays.laws.Ways.trace-named, plays.laws.Ways.lent-way}
 use Rattle.traces.proofs.plays.demands.{Accepted.afresh-fits, Ended.has-played, EndedOn.has-played-on}
 use Rattle.rules.specs.Device.{none}
@@ -27,9 +27,12 @@ image-of-calls i [] = refl
 image-of-calls i (r ∷ rs) = image-of-calls (playedOn i r .image) rs
 
 pub calls-handed-on : (i : List ℕ) (rs : List Record) → HandedOn i (callsOf i rs)
-unfolding madeOn HandedOn
-calls-handed-on i [] = tt
-calls-handed-on i (r ∷ rs) = (refl, no-reset r, calls-handed-on (playedOn i r .image) rs)
+unfolding NoResets
+calls-handed-on i rs = made-handed-on i (map asking rs) (go rs)
+  where
+    go : (rs : List Record) → NoResets (map asking rs)
+    go [] = tt
+    go (r ∷ rs) = (no-reset r, go rs)
 
 -- ---- records behind records
 
