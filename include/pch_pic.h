@@ -173,10 +173,10 @@
  *
  * THE STACK. Nothing is on the heap. Below its caller a call of the proved archive uses so many bytes of stack, the return address included, as tools/bench
  * --stack measured them (docs/PERFORMANCE.md says on what); a difference uses the return address alone:
- *     pch_pic_reset 16, pch_pic_read 104, pch_pic_write 144, pch_pic_level 80, pch_pic_poll 64, pch_pic_drain 105, pch_pic_waiting 56,
- *     pch_pic_convert 500, pch_pic_play 400, pch_pic_play_on 400, pch_pic_salvage 192, pch_pic_sheet 120,
+ *     pch_pic_reset 16, pch_pic_read 88, pch_pic_write 144, pch_pic_level 80, pch_pic_poll 64, pch_pic_drain 137, pch_pic_waiting 56,
+ *     pch_pic_convert 500, pch_pic_play 416, pch_pic_play_on 416, pch_pic_salvage 192, pch_pic_sheet 120,
  *     pch_pic_tally_begin 8, pch_pic_tally_add 120, pch_pic_tally_sheet 16,
- *     pch_pic_board_reset 32, pch_pic_board_read 120, pch_pic_board_write 160, pch_pic_board_level 104, pch_pic_board_poll 88, pch_pic_board_drain 129,
+ *     pch_pic_board_reset 32, pch_pic_board_read 120, pch_pic_board_write 160, pch_pic_board_level 104, pch_pic_board_poll 88, pch_pic_board_drain 169,
  *     pch_pic_board_event 8,
  *     pch_pic_hoist_reset 24, pch_pic_hoist_read 88, pch_pic_hoist_write 144, pch_pic_hoist_end_startup 57,
  *     pch_pic_table_read 1944, pch_pic_table_write 1896

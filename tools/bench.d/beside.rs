@@ -11,7 +11,8 @@ use crate::kinds::{self, NUMBERED, Prepared, Slot};
 pub const BATCH: usize = 32;
 
 /// What is asked: a call with a board, an event for a second board, a reset, read or write of the profile, the end of start-up, or who waits. And what hosts do
-/// after a write: a drain, and polls of those who wait or, as they did before they could ask, of everyone.
+/// after a write: a drain, and polls of those who wait or, as they did before they could ask, of everyone; and all that both hosts ask in
+/// their settle, where a look at EDGE comes first. And a load sample of the hoist: its line goes up, the guest reads ISR, and the line goes down.
 #[derive(Clone, Copy, PartialEq, Eq, Debug)]
 pub enum Asked {
     Board(Call),
@@ -20,6 +21,8 @@ pub enum Asked {
     EndStartup,
     Waiting,
     Settle { everyone: bool },
+    HostSettle,
+    Sample,
 }
 
 /// What is lent: what the plain call is lent, a board and a phase.
@@ -100,6 +103,7 @@ fn hoists() -> Vec<Kind> {
     // inputs 3 and 5 are in service
     let served = kinds::write(0x200, 4, 0x7776_7574);
     vec![
+        running(kind("hoist-sample", "hoist: a load sample, all 7 calls", Prepared::new().mask(!0x200), Asked::Sample)),
         hoist("hoist-reset", "hoist: reset", busy(), Call::Reset),
         hoist("hoist-read", "hoist: read Dword, MASK", busy(), kinds::read(0x020, 4)),
         hoist("hoist-read-isr", "hoist: read Dword, ISR", busy(), kinds::read(0x3a0, 4)),
@@ -127,5 +131,8 @@ fn waits() -> Vec<Kind> {
         settle("settle-0", "settle, nobody waits: drain, who waits", kinds::busy(), false),
         settle("settle-2-all", "settle, two wait: drain, 64 polls", two(), true),
         settle("settle-2", "settle, two wait: drain, who waits, 2 polls", two(), false),
+        kind("host-settle-0", "calls of the hosts' settle, nothing to do", kinds::busy(), Asked::HostSettle),
+        kind("host-settle-1", "calls of the hosts' settle, 1 event", kinds::busy().waiting(1), Asked::HostSettle),
+        kind("host-settle-2", "calls of the hosts' settle, 1 event, two wait", two().waiting(1), Asked::HostSettle),
     ]
 }

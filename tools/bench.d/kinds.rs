@@ -160,6 +160,7 @@ pub fn all() -> Vec<Kind> {
     kinds.extend(reads(&busy));
     kinds.extend(writes(&busy));
     kinds.extend(inputs(&busy));
+    kinds.extend(behind(&busy));
     kinds.extend(refusals(&busy));
     kinds.extend(forms(&busy));
     kinds
@@ -168,7 +169,7 @@ pub fn all() -> Vec<Kind> {
 /// Some kinds in form 2 and with numbers, and conversions.
 fn forms(busy: &dyn Fn() -> Prepared) -> Vec<Kind> {
     let again = |length, name, title, which: &str| {
-        let kinds = reads(busy).into_iter().chain(writes(busy)).chain(inputs(busy)).chain(refusals(busy));
+        let kinds = reads(busy).into_iter().chain(writes(busy)).chain(inputs(busy)).chain(behind(busy)).chain(refusals(busy));
         let found = kinds.into_iter().find(|kind| kind.name == which).expect("a kind of that name");
         in_form(length, name, title, found)
     };
@@ -196,6 +197,8 @@ fn forms(busy: &dyn Fn() -> Prepared) -> Vec<Kind> {
         again(NUMBERED, "numbers-drain-8", "numbers: drain of 8 of 16", "drain-8"),
         again(NUMBERED, "numbers-drain-1", "numbers: drain of 1", "drain-1"),
         again(NUMBERED, "numbers-drain-0", "numbers: drain of 0", "drain-0"),
+        again(NUMBERED, "numbers-1-raise", "numbers, 1 waits: raise, vector returned", "waiting-1-raise"),
+        again(NUMBERED, "numbers-3-raise", "numbers, 3 wait: raise, vector returned", "waiting-3-raise"),
         Kind { number: 11, ..unused },
         convert("convert-2", "convert, form 1 to 2", LENGTH, LENGTH_2),
         convert("convert-1", "convert, form 2 to 1", LENGTH_2, LENGTH),
@@ -246,6 +249,21 @@ fn inputs(busy: &dyn Fn() -> Prepared) -> Vec<Kind> {
         Kind { waiting: 8, ..kind("drain-8", "drain of 8 of 16", busy().waiting(16), Call::Drain { place: 32 }) },
         Kind { waiting: 0, ..kind("drain-1", "drain of 1", busy().waiting(1), Call::Drain { place: 0 }) },
         kind("drain-0", "drain of 0", busy(), Call::Drain { place: 0 }),
+    ]
+}
+
+/// Calls on an image where events wait already: one, or three.
+fn behind(busy: &dyn Fn() -> Prepared) -> Vec<Kind> {
+    let (one, three) = (|| busy().waiting(1), || busy().waiting(3));
+    let (raise, clear) = (Call::Level { input: 9, level: 1 }, write(0x080, 4, 0x20));
+    vec![
+        kind("waiting-1-raise", "1 waits: raise, vector returned", one(), raise),
+        kind("waiting-1-read", "1 waits: read Dword, ISR", one(), read(0x3a0, 4)),
+        Kind { waiting: 2, ..kind("waiting-1-clear", "1 waits: write CLEAR, 1 event", one(), clear) },
+        kind("waiting-3-raise", "3 wait: raise, vector returned", three(), raise),
+        kind("waiting-3-read", "3 wait: read Dword, ISR", three(), read(0x3a0, 4)),
+        Kind { waiting: 4, ..kind("waiting-3-clear", "3 wait: write CLEAR, 1 event", three(), clear) },
+        Kind { waiting: 0, ..kind("drain-3", "drain of 3", three(), Call::Drain { place: 0 }) },
     ]
 }
 

@@ -1,6 +1,7 @@
 //! The boundary in lean plain Rust: what an expert would write who is given documents 01 and 02, no prover, and time to make it quick. The image's bytes are
 //! the device: each call checks them and then reads and writes words where they stand; nothing is loaded or saved whole. Each form of the image has
-//! code of its own, made from one text, so that every place is a constant. Measured by tools/bench.
+//! code of its own, made from one text, so that every place is a constant. A quick test of one branch comes first: an image that passes it, as most do, goes a
+//! short way, and every other one the whole way, in a function apart. Measured by tools/bench.
 #![forbid(unsafe_code)]
 
 #[path = "lean/beside.rs"]
@@ -155,12 +156,9 @@ fn put_irr<F: Form<N>, const N: usize>(image: &mut [u8; N], value: u64) {
 /// Whether an image keeps all rules. Only a refused one is searched.
 #[inline(always)]
 fn accepted<F: Form<N>, const N: usize>(image: &[u8; N]) -> bool {
-    if image[..F::CONTENTS.len()] != *F::CONTENTS {
-        return false;
-    }
     let count = image[F::COUNT] as usize;
     let (Some(pairs), Some(numbers)) = (PAIRS_ALLOWED.get(count), NUMBERS_ALLOWED.get(count)) else { return false };
-    let mut strange = F::COPY.map_or(0, |copy| word(image, F::IRR) ^ word(image, copy));
+    let mut strange = head_odd::<F, N>(image);
     for k in 0..4 {
         strange |= word(image, F::PAIRS + 8 * k) & !pairs[k];
         if let Some(at) = F::NUMBERS {
@@ -168,6 +166,71 @@ fn accepted<F: Form<N>, const N: usize>(image: &[u8; N]) -> bool {
         }
     }
     strange == 0
+}
+
+/// Eight bytes as they read from an image.
+const fn eight(bytes: &[u8], at: usize) -> u64 {
+    let mut word = 0;
+    let mut k = 0;
+    while k < 8 {
+        word |= (bytes[at + k] as u64) << (8 * k);
+        k += 1;
+    }
+    word
+}
+
+/// The bits by which the contents differ from the form's, and IRR from its copy.
+#[inline(always)]
+fn head_odd<F: Form<N>, const N: usize>(image: &[u8; N]) -> u64 {
+    let last = const { F::CONTENTS.len() - 8 };
+    let mut odd = word(image, 0) ^ const { eight(F::CONTENTS, 0) };
+    odd |= word(image, 8) ^ const { eight(F::CONTENTS, 8) };
+    odd |= word(image, 14) ^ const { eight(F::CONTENTS, 14) };
+    if last != 14 {
+        odd |= word(image, last) ^ const { eight(F::CONTENTS, F::CONTENTS.len() - 8) };
+    }
+    F::COPY.map_or(odd, |copy| odd | word(image, F::IRR) ^ word(image, copy))
+}
+
+/// The bits that pairs and numbers have from the k-th word of each on.
+#[inline(always)]
+fn left_odd<F: Form<N>, const N: usize>(image: &[u8; N], from: usize) -> u64 {
+    (from..4).fold(0, |odd, k| {
+        let numbers = F::NUMBERS.map_or(0, |at| word(image, at + 2 + 8 * k));
+        odd | word(image, F::PAIRS + 8 * k) | numbers
+    })
+}
+
+/// Whether nothing waits and all rules are kept: one number, and one branch. Most images are so.
+#[inline(always)]
+fn is_quiet<F: Form<N>, const N: usize>(image: &[u8]) -> bool {
+    let image: &[u8; N] = image.try_into().unwrap();
+    head_odd::<F, N>(image) | u64::from(image[F::COUNT]) | left_odd::<F, N>(image, 0) == 0
+}
+
+/// Whether at most one waits and all rules are kept.
+#[inline(always)]
+fn has_few<F: Form<N>, const N: usize>(image: &[u8]) -> bool {
+    let image: &[u8; N] = image.try_into().unwrap();
+    let count = image[F::COUNT];
+    let mut odd = head_odd::<F, N>(image) | u64::from(count & 0xfe);
+    odd |= word(image, F::PAIRS) & if count == 0 { !0 } else { !0x1ff };
+    if let Some(at) = F::NUMBERS {
+        odd |= word(image, at + 2) & if count == 0 { !0 } else { !0xffff };
+    }
+    odd | left_odd::<F, N>(image, 1) == 0
+}
+
+/// The work on an image that passes such a test, its form known, or else what follows.
+macro_rules! where_passed {
+    ($image:ident, $test:ident, $work:ident ($($word:expr),*), $other:expr) => {
+        match $image.len() {
+            259 if $test::<One, 259>($image) => $work::<One, 259>($image.try_into().unwrap() $(, $word)*),
+            251 if $test::<Two, 251>($image) => $work::<Two, 251>($image.try_into().unwrap() $(, $word)*),
+            290 if $test::<Numbered, 290>($image) => $work::<Numbered, 290>($image.try_into().unwrap() $(, $word)*),
+            _ => $other,
+        }
+    };
 }
 
 /// Refusal 5, or 8 to 11 with the place that breaks the rule.
@@ -482,29 +545,67 @@ fn take_out(entries: &mut [u8; 32], moved: usize, count: usize) {
     if moved == count {
         *entries = [0; 32];
     } else {
-        entries.copy_within(2 * moved.., 0);
-        entries[32 - 2 * moved..].fill(0);
+        let mut room = [0; 64];
+        room[..32].copy_from_slice(entries);
+        entries.copy_from_slice(&room[2 * moved..2 * moved + 32]);
     }
 }
 
+/// The numbers of four events, those from 0 on where the image has none.
 #[inline(always)]
-fn drain_on<F: Form<N>, const N: usize>(image: &mut [u8; N], room: &mut [u8]) -> Outcome {
+fn made_from<F: Form<N>, const N: usize>(image: &[u8; N], first: usize) -> u64 {
+    F::NUMBERS.map_or(0x0003_0002_0001_0000 + 0x0001_0001_0001_0001 * first as u64, |at| word(image, at + 2 + 2 * first))
+}
+
+/// Four pairs, each with its number behind it: one shuffle.
+#[inline(always)]
+fn woven(pairs: u64, numbers: u64) -> [u8; 16] {
+    let (p, n) = (pairs.to_le_bytes(), numbers.to_le_bytes());
+    [p[0], p[1], n[0], n[1], p[2], p[3], n[2], n[3], p[4], p[5], n[4], n[5], p[6], p[7], n[6], n[7]]
+}
+
+/// The work of a drain: what it copies out is up to the caller.
+#[inline(always)]
+fn drained<F: Form<N>, const N: usize>(image: &mut [u8; N], room: &mut [u8], copied: impl FnOnce(&[u8; N], &mut [u8])) -> Outcome {
     let count = image[F::COUNT] as usize;
     let moved = count.min(room.len() / 4);
     if moved == 0 {
         return (0, Some(0));
     }
-    for (k, event) in room.chunks_exact_mut(4).take(moved).enumerate() {
-        let made = F::NUMBERS.map_or(k as u16, |at| number(image, at + 2 + 2 * k));
-        let bytes = u32::from(number(image, F::PAIRS + 2 * k)) | u32::from(made) << 16;
-        event.copy_from_slice(&bytes.to_le_bytes());
-    }
+    copied(image, &mut room[..4 * moved]);
     take_out((&mut image[F::PAIRS..F::PAIRS + 32]).try_into().unwrap(), moved, count);
     if let Some(at) = F::NUMBERS {
         take_out((&mut image[at + 2..at + 34]).try_into().unwrap(), moved, count);
     }
     image[F::COUNT] = (count - moved) as u8;
     (0, Some(moved as u64))
+}
+
+/// Events one by one, from the first of these on.
+#[inline(always)]
+fn copy_each<F: Form<N>, const N: usize>(image: &[u8; N], first: usize, out: &mut [u8]) {
+    for (k, event) in out.chunks_exact_mut(4).enumerate() {
+        let made = F::NUMBERS.map_or((first + k) as u16, |at| number(image, at + 2 + 2 * (first + k)));
+        let bytes = u32::from(number(image, F::PAIRS + 2 * (first + k))) | u32::from(made) << 16;
+        event.copy_from_slice(&bytes.to_le_bytes());
+    }
+}
+
+#[inline(always)]
+fn drain_on<F: Form<N>, const N: usize>(image: &mut [u8; N], room: &mut [u8]) -> Outcome {
+    drained::<F, N>(image, room, |image, out| copy_each::<F, N>(image, 0, out))
+}
+
+/// Where many are to be expected: four at a time, and the rest one by one.
+#[inline(always)]
+fn drain_many<F: Form<N>, const N: usize>(image: &mut [u8; N], room: &mut [u8]) -> Outcome {
+    drained::<F, N>(image, room, |image, out| {
+        let (fours, rest) = out.as_chunks_mut::<16>();
+        for (k, four) in fours.iter_mut().enumerate() {
+            *four = woven(word(image, F::PAIRS + 8 * k), made_from::<F, N>(image, 4 * k));
+        }
+        copy_each::<F, N>(image, 4 * fours.len(), rest);
+    })
 }
 
 #[inline(always)]
@@ -523,9 +624,23 @@ fn changed<F: Form<N>, const N: usize>(image: &mut [u8], change: impl FnOnce(&mu
     }
 }
 
+/// A run of a length that the compiler knows, by stores of sixteen bytes, of which the last two may overlap: no call.
+#[inline(always)]
+fn put_run(to: &mut [u8], from: &[u8]) {
+    let mut k = 0;
+    while k + 16 <= from.len() {
+        let part: [u8; 16] = from[k..k + 16].try_into().unwrap();
+        to[k..k + 16].copy_from_slice(&part);
+        k += 16;
+    }
+    let last = from.len() - 16;
+    let part: [u8; 16] = from[last..].try_into().unwrap();
+    to[last..].copy_from_slice(&part);
+}
+
 #[inline(always)]
 fn reset_in<F: Form<N>, const N: usize>(image: &mut [u8]) -> Outcome {
-    image.copy_from_slice(&F::RESET);
+    put_run(image, const { &F::RESET });
     (0, None)
 }
 
@@ -546,7 +661,7 @@ fn poll_in<F: Form<N>, const N: usize>(image: &mut [u8], input: u64) -> Outcome 
 
 #[inline(always)]
 fn drain_in<F: Form<N>, const N: usize>(image: &mut [u8], room: &mut [u8]) -> Outcome {
-    changed::<F, N>(image, |image| drain_on::<F, N>(image, room))
+    changed::<F, N>(image, |image| drain_many::<F, N>(image, room))
 }
 
 /// What a conversion takes over.
@@ -585,7 +700,7 @@ fn put_in<F: Form<N>, const N: usize>(target: &mut [u8], taken: &Taken) -> Outco
     let target: &mut [u8; N] = target.try_into().unwrap();
     target[..F::CONTENTS.len()].copy_from_slice(F::CONTENTS);
     target[F::MASK..F::MASK + 24].copy_from_slice(taken.first);
-    target[F::IRR..F::IRR + ALIKE].copy_from_slice(taken.alike);
+    put_run(&mut target[F::IRR..F::IRR + ALIKE], taken.alike);
     if let Some(copy) = F::COPY {
         target[copy..copy + 8].copy_from_slice(&taken.alike[..8]);
     }
@@ -700,34 +815,135 @@ pub fn reset(image: &mut [u8], answer: &mut [u8]) -> u8 {
     told(answer, by_length!(image, reset_in))
 }
 
+/// A Dword read from an image that passed; every other width is a function of its own.
+#[inline(always)]
+fn read_quick<F: Form<N>, const N: usize>(image: &[u8; N], base: u64, size: u64, address: u64, width: u64, answer: &mut [u8; 16]) -> u8 {
+    if width != 4 {
+        return read_other::<F, N>(image, base, size, address, width, answer);
+    }
+    told(answer, offset_of(base, size, address, 4).map_or_else(|refused| refused, |offset| (0, Some(dword::<F, N>(image, offset).into()))))
+}
+
+#[inline(never)]
+fn read_other<F: Form<N>, const N: usize>(image: &[u8; N], base: u64, size: u64, address: u64, width: u64, answer: &mut [u8; 16]) -> u8 {
+    told(answer, read_on::<F, N>(image, base, size, address, width))
+}
+
 #[inline(never)]
 pub fn read(image: &[u8], base: u64, size: u64, address: u64, width: u64, answer: &mut [u8]) -> u8 {
     let Some(answer) = answer.first_chunk_mut() else { return 7 };
+    where_passed!(image, is_quiet, read_quick(base, size, address, width, answer), read_tested(image, base, size, address, width, answer))
+}
+
+#[inline(never)]
+fn read_tested(image: &[u8], base: u64, size: u64, address: u64, width: u64, answer: &mut [u8; 16]) -> u8 {
     told(answer, by_length!(image, read_in, base, size, address, width))
+}
+
+#[inline(always)]
+fn write_quick<F: Form<N>, const N: usize>(
+    image: &mut [u8; N],
+    base: u64,
+    size: u64,
+    address: u64,
+    width: u64,
+    value: u64,
+    answer: &mut [u8; 16],
+) -> u8 {
+    if width != 4 {
+        return write_other::<F, N>(image, base, size, address, width, value, answer);
+    }
+    let written = |offset| (0, Some(write_dword::<F, N>(image, offset, value as u32).into()));
+    told(answer, offset_of(base, size, address, 4).map_or_else(|refused| refused, written))
+}
+
+#[inline(never)]
+fn write_other<F: Form<N>, const N: usize>(
+    image: &mut [u8; N],
+    base: u64,
+    size: u64,
+    address: u64,
+    width: u64,
+    value: u64,
+    answer: &mut [u8; 16],
+) -> u8 {
+    told(answer, write_on::<F, N>(image, base, size, address, width, value))
 }
 
 #[inline(never)]
 pub fn write(image: &mut [u8], base: u64, size: u64, address: u64, width: u64, value: u64, answer: &mut [u8]) -> u8 {
     let Some(answer) = answer.first_chunk_mut() else { return 7 };
+    where_passed!(
+        image,
+        is_quiet,
+        write_quick(base, size, address, width, value, answer),
+        write_tested(image, base, size, address, width, value, answer)
+    )
+}
+
+#[inline(never)]
+fn write_tested(image: &mut [u8], base: u64, size: u64, address: u64, width: u64, value: u64, answer: &mut [u8; 16]) -> u8 {
     told(answer, by_length!(image, write_in, base, size, address, width, value))
+}
+
+#[inline(always)]
+fn level_quick<F: Form<N>, const N: usize>(image: &mut [u8; N], input: u64, level: u64, answer: &mut [u8; 16]) -> u8 {
+    told(answer, level_on::<F, N>(image, input, level))
 }
 
 #[inline(never)]
 pub fn level(image: &mut [u8], input: u64, level: u64, answer: &mut [u8]) -> u8 {
     let Some(answer) = answer.first_chunk_mut() else { return 7 };
+    where_passed!(image, is_quiet, level_quick(input, level, answer), level_tested(image, input, level, answer))
+}
+
+#[inline(never)]
+fn level_tested(image: &mut [u8], input: u64, level: u64, answer: &mut [u8; 16]) -> u8 {
     told(answer, by_length!(image, level_in, input, level))
+}
+
+#[inline(always)]
+fn poll_quick<F: Form<N>, const N: usize>(image: &mut [u8; N], input: u64, answer: &mut [u8; 16]) -> u8 {
+    told(answer, poll_on::<F, N>(image, input))
 }
 
 #[inline(never)]
 pub fn poll(image: &mut [u8], input: u64, answer: &mut [u8]) -> u8 {
     let Some(answer) = answer.first_chunk_mut() else { return 7 };
+    where_passed!(image, is_quiet, poll_quick(input, answer), poll_tested(image, input, answer))
+}
+
+#[inline(never)]
+fn poll_tested(image: &mut [u8], input: u64, answer: &mut [u8; 16]) -> u8 {
     told(answer, by_length!(image, poll_in, input))
+}
+
+/// A drain where at most one event waits. Each way tells for itself, so that what it tells is constant.
+#[inline(always)]
+fn drain_quick<F: Form<N>, const N: usize>(image: &mut [u8; N], room: &mut [u8], answer: &mut [u8; 16]) -> u8 {
+    let Some(to) = room.first_chunk_mut::<4>() else { return told(answer, (0, Some(0))) };
+    if image[F::COUNT] == 0 {
+        return told(answer, (0, Some(0)));
+    }
+    let made = F::NUMBERS.map_or(0, |at| number(image, at + 2));
+    *to = (u32::from(number(image, F::PAIRS)) | u32::from(made) << 16).to_le_bytes();
+    put_number(image, F::PAIRS, 0);
+    if let Some(at) = F::NUMBERS {
+        put_number(image, at + 2, 0);
+    }
+    image[F::COUNT] = 0;
+    told(answer, (0, Some(1)))
 }
 
 #[inline(never)]
 pub fn drain(image: &mut [u8], events: &mut [u8], place: usize, answer: &mut [u8]) -> u8 {
     let Some(answer) = answer.first_chunk_mut() else { return 7 };
     let Some(room) = events.get_mut(place..) else { return 7 };
+    where_passed!(image, has_few, drain_quick(room, answer), drain_tested(image, room, answer))
+}
+
+#[inline(never)]
+fn drain_tested(image: &mut [u8], room: &mut [u8], answer: &mut [u8; 16]) -> u8 {
     told(answer, by_length!(image, drain_in, room))
 }
 

@@ -79,7 +79,9 @@ fn beside_numbers(asked: &Asked, lent: &mut beside::Lent, il: usize) -> Numbers 
         Asked::Hoist(_) => all(sides::pch_pic_hoist_reset as *const () as usize, [i, il, p, pl, a, al]),
         Asked::EndStartup => all(sides::pch_pic_hoist_end_startup as *const () as usize, [i, il, p, pl, a, al]),
         // a settle is calls that stand here already, and who waits
-        Asked::Waiting | Asked::Settle { .. } => all(sides::pch_pic_waiting as *const () as usize, [i, il, a, al]),
+        Asked::Waiting | Asked::Settle { .. } | Asked::HostSettle | Asked::Sample => {
+            all(sides::pch_pic_waiting as *const () as usize, [i, il, a, al])
+        }
     }
 }
 
@@ -259,7 +261,7 @@ fn beside_name(asked: &Asked) -> &'static str {
         Asked::Hoist(Call::Write { .. }) => "pch_pic_hoist_write",
         Asked::Hoist(_) => "pch_pic_hoist_reset",
         Asked::EndStartup => "pch_pic_hoist_end_startup",
-        Asked::Waiting | Asked::Settle { .. } => "pch_pic_waiting",
+        Asked::Waiting | Asked::Settle { .. } | Asked::HostSettle | Asked::Sample => "pch_pic_waiting",
     }
 }
 

@@ -1,41 +1,26 @@
 // Things of two bytes, of which the first go: the others move to the front, and zeros follow them.
+use bits::bytes::copy;
 use bits::bytes::put_zeros;
 use image::form;
 ghost use mathlib.Core.Path.{_≡_};
-ghost use mathlib.Core.List.{_++_};
 ghost use Prim.Native.Nat.{_≤_};
-ghost use lib.ListN.{length, drop, getD, replicate};
+ghost use lib.ListN.{length};
 ghost use Rattle.rules.specs.Ring.{capacity};
 ghost use Rattle.images.specs.Image.{pairsLength};
 ghost use Rattle.drain.specs.move_up.Left.{Leaves};
 
-// The byte at a place; past the end, zero.
-fn byte_or_zero(src: &[u8], at: usize) -> u8
-    ensures { λ r. ⌜ r ≡ getD (now (src .entry)) at 0 ⌝ }
-{
-    if at < src.len() { src[at] } else { 0 }
-}
-
-// The first `taken` bytes go, and as many zeros follow the others. In one loop, since the compiler turns a loop of zeros into a call of memset.
-fn drop_front(dst: &mut [u8], taken: usize)
-    requires { ⌜ taken ≤ length (now dst) ⌝ }
-    ensures { λ _. ⌜ now (dst .exit) ≡ drop taken (now (dst .entry)) ++ replicate taken 0 ⌝ }
-{
-    let mut i = 0;
-    while i < dst.len() {
-        dst[i] = byte_or_zero(dst, taken + i);
-        i += 1;
-    }
-}
-
-// Of `len` things of two bytes the first n go. Where none is left nothing moves: the whole room becomes zeros, by stores of a fixed length.
+// Of `len` things of two bytes the first n go. Those that are left are read from a room of twice the length, in whose second half are zeros: so all move by loads and
+// stores of a fixed length, however many they are. Where none is left nothing moves: the whole room becomes zeros.
 pub fn leave(dst: &mut [u8], n: usize, len: usize)
     requires { ⌜ (n ≤ len) × (len ≤ capacity) × (length (now dst) ≡ pairsLength) ⌝ }
     ensures { λ _. ⌜ Leaves (now (dst .entry)) (now (dst .exit)) len n ⌝ }
 {
     if n < len {
-        let used = form::PAIR * len;
-        drop_front(&mut dst[0..used], form::PAIR * n);
+        let mut room = [0u8; 64];
+        copy(&mut room[0..32], dst);
+        let from = form::PAIR * n;
+        let end = from + form::PAIRS_LENGTH;
+        copy(dst, &room[from..end]);
     } else {
         put_zeros(dst);
     }

@@ -17,32 +17,35 @@ ghost use Rattle.rules.specs.Device.{lost};
 ghost use Rattle.rules.specs.Numbering.{takesAll};
 ghost use Rattle.images.specs.Form.{formLength};
 ghost use Rattle.image.specs.Shown.{formView};
-ghost use Rattle.fields.specs.inplace.Held.{MovesIn, Writes};
+ghost use Rattle.fields.specs.inplace.Held.{MovesIn, Reads, Writes};
 
-// All of a set that are in service leave it, and their deasserts are offered; the answer is how many were lost.
-fn leave(image: &mut [u8], form: Form, set: u64) -> u32
-    requires { ⌜ length (now image) ≡ formLength (formView form) ⌝ }
+// All of a set that are in service leave it, and their deasserts are offered; the answer is how many were lost. Who calls has looked whether any of them is in
+// service, so that a write by which none leaves makes no call.
+fn leave(image: &mut [u8], form: Form, set: u64, isr: u64) -> u32
+    requires { ⌜ (length (now image) ≡ formLength (formView form)) × Reads (now image) isr (λ d. d .core .lines .isr) ⌝ }
     ensures { λ r. ⌜ (r ≤ 64) × MovesIn (now (image .entry)) (now (image .exit)) r takesAll lost (λ vs. lines.leave vs true (on set)) ⌝ }
 {
-    let isr = words::isr(image, form);
-    let served = decide::served(set, isr);
-    if served == 0 {
-        return 0;
-    }
     words::put_isr(image, form, isr & !set);
-    offer_each(image, form, served)
+    offer_each(image, form, decide::served(set, isr))
 }
 
-// MASK: a half is replaced; the lowest newly unmasked input that waits enters, and then the newly masked ones leave.
+// MASK: a half is replaced; the lowest newly unmasked input that waits enters, and then the newly masked ones leave. Both are found over the whole register: the
+// other half stays.
 pub fn write_mask(image: &mut [u8], form: Form, val: u32, high: bool) -> u32
     requires { ⌜ length (now image) ≡ formLength (formView form) ⌝ }
     ensures { λ r. ⌜ (r ≤ 65) × Writes (now (image .entry)) (now (image .exit)) r (λ c. core.move (core.setMask high val) ∷ []) ⌝ }
 {
     let old = words::mask(image, form);
-    words::put_mask(image, form, bits::replace_u32(old, val, high));
-    let entered = enter(image, form, decide::newly_unmasked(old, val, high));
+    let new = bits::replace_u32(old, val, high);
+    words::put_mask(image, form, new);
+    let entered = enter(image, form, old & !new);
     let first = offer_entered(image, form, entered);
-    first + leave(image, form, decide::newly_masked(old, val, high))
+    let isr = words::isr(image, form);
+    let gone = new & !old;
+    if decide::served(gone, isr) == 0 {
+        return first;
+    }
+    first + leave(image, form, gone, isr)
 }
 
 // CLEAR: latches and service lose the bits.
@@ -52,5 +55,9 @@ pub fn write_clear(image: &mut [u8], form: Form, bits: u64) -> u32
 {
     let irr = words::irr(image, form);
     words::put_irr(image, form, irr & !bits);
-    leave(image, form, bits)
+    let isr = words::isr(image, form);
+    if decide::served(bits, isr) == 0 {
+        return 0;
+    }
+    leave(image, form, bits, isr)
 }

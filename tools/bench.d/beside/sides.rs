@@ -2,8 +2,8 @@
 
 use super::{Asked, Kind, Lengths, Lent, WHOLE};
 use crate::call::Call;
-use crate::kinds::NUMBERED;
-use crate::sides::{Area, Lean, Library, Nothing, Plain, Portable, nothing, portable};
+use crate::kinds::{NUMBERED, SIZE};
+use crate::sides::{Area, Lean, Library, Nothing, Plain, Portable, Side as Plainly, nothing, portable};
 use std::hint::black_box;
 use std::slice::{from_raw_parts, from_raw_parts_mut};
 
@@ -285,6 +285,45 @@ unsafe fn settle<S: Side>(l: &Areas, everyone: bool) -> u8 {
     }
 }
 
+/// The inputs that are edges, as hosts look at them.
+///
+/// SAFETY: as of a side's calls.
+#[inline(always)]
+unsafe fn edges<S: Plainly>(l: &Areas) -> u8 {
+    unsafe { S::read(l.image, (0, SIZE), 0x060, 8, l.answer) }
+}
+
+/// All calls of a settle in the hosts.
+///
+/// SAFETY: as of a side's calls.
+#[inline(always)]
+unsafe fn host_settle<S: Side + Plainly>(l: &Areas) -> u8 {
+    unsafe {
+        match edges::<S>(l) {
+            0 => settle::<S>(l, false),
+            number => number,
+        }
+    }
+}
+
+/// A load sample: each time the line moves the host looks at EDGE and drains first.
+///
+/// SAFETY: as of a side's calls.
+#[inline(always)]
+unsafe fn sample<S: Side + Plainly>(l: &Areas) -> u8 {
+    unsafe {
+        let mut number = 0;
+        for level in [1, 0] {
+            number |= edges::<S>(l) | S::board_drain(l.image, l.board, l.events, 0, l.answer);
+            number |= S::board_level(l.image, l.board, 9, level, l.answer);
+            if level == 1 {
+                number |= S::hoist_read(l.image, (0, SIZE, 0x3a0, 4), l.answer);
+            }
+        }
+        number
+    }
+}
+
 /// Does something with what is asked: $do is given a name for the areas, and the call on them. The profile has no other calls on the image.
 macro_rules! matched {
     ($side:ident, $asked:expr, $do:ident) => {
@@ -312,13 +351,15 @@ macro_rules! matched {
             Asked::EndStartup => $do!(l, $side::hoist_end_startup(l.image, l.phase, l.answer)),
             Asked::Waiting => $do!(l, $side::waiting(l.image, l.answer)),
             Asked::Settle { everyone } => $do!(l, settle::<$side>(&l, everyone)),
+            Asked::HostSettle => $do!(l, host_settle::<$side>(&l)),
+            Asked::Sample => $do!(l, sample::<$side>(&l)),
             asked => panic!("{asked:?} is no call"),
         }
     };
 }
 
 /// The call, made once, on the lengths said.
-pub fn make<S: Side>(asked: &Asked, lent: &mut Lent, lengths: Lengths) -> u8 {
+pub fn make<S: Side + Plainly>(asked: &Asked, lent: &mut Lent, lengths: Lengths) -> u8 {
     within(lengths);
     macro_rules! once {
         ($l:ident, $call:expr) => {{
@@ -332,7 +373,7 @@ pub fn make<S: Side>(asked: &Asked, lent: &mut Lent, lengths: Lengths) -> u8 {
 
 /// The timed loop: one call on each. Each sort of call has a loop of its own, so that there is no match in it.
 #[inline(always)]
-fn each<S: Side>(kind: &Kind, lents: &mut [Lent]) {
+fn each<S: Side + Plainly>(kind: &Kind, lents: &mut [Lent]) {
     let lengths = black_box(WHOLE);
     within(lengths);
     macro_rules! all {

@@ -6,12 +6,12 @@ use super::{Asked, Kind, Lengths, Lent, WHOLE};
 use crate::call::Call;
 use crate::chance::Chance;
 use crate::kinds::{BASE, LENGTH, LENGTH_2, LENGTHS, NUMBERED, Prepared, SIZE, count_at};
-use crate::sides::{Lean, Library, Plain, Portable};
+use crate::sides::{Lean, Library, Plain, Portable, Side as Plainly};
 use crate::verify::{random_call, random_image};
 
 /// The sides make the call; they must hand back the same number and leave the same bytes.
 fn same(what: &str, asked: &Asked, lent: &mut Lent, lengths: Lengths) -> Result<u8, String> {
-    fn by<S: Side>(asked: &Asked, lent: &Lent, lengths: Lengths) -> (u8, Lent) {
+    fn by<S: Side + Plainly>(asked: &Asked, lent: &Lent, lengths: Lengths) -> (u8, Lent) {
         let mut lent = lent.clone();
         (sides::make::<S>(asked, &mut lent, lengths), lent)
     }

@@ -2,6 +2,27 @@
 
 use super::*;
 
+/// Where something waits, or a rule is broken: the whole test, apart from the way that is common.
+#[inline(never)]
+fn accepted_apart<F: Form<N>, const N: usize>(image: &[u8; N]) -> bool {
+    accepted::<F, N>(image)
+}
+
+/// A checked image, or the refusal; the quick test comes first.
+#[inline(always)]
+fn passed<F: Form<N>, const N: usize>(image: &[u8]) -> Result<&[u8; N], Outcome> {
+    let image: &[u8; N] = image.try_into().map_err(|_| (4, None))?;
+    if is_quiet::<F, N>(image) || accepted_apart::<F, N>(image) { Ok(image) } else { Err(fault::<F, N>(image)) }
+}
+
+#[inline(always)]
+fn moved<F: Form<N>, const N: usize>(image: &mut [u8], change: impl FnOnce(&mut [u8; N]) -> Outcome) -> Outcome {
+    match passed::<F, N>(image) {
+        Ok(_) => change(image.try_into().unwrap()),
+        Err(refused) => refused,
+    }
+}
+
 /// A call that was done leaves the counts of the image.
 #[inline(always)]
 fn counted<F: Form<N>, const N: usize>(image: &[u8; N], board: &mut [u8; 256], outcome: Outcome) -> Outcome {
@@ -18,7 +39,7 @@ fn counted<F: Form<N>, const N: usize>(image: &[u8; N], board: &mut [u8; 256], o
 
 #[inline(always)]
 fn boarded<F: Form<N>, const N: usize>(image: &mut [u8], board: &mut [u8; 256], change: impl FnOnce(&mut [u8; N]) -> Outcome) -> Outcome {
-    changed::<F, N>(image, |image| {
+    moved::<F, N>(image, |image| {
         let outcome = change(image);
         counted::<F, N>(image, board, outcome)
     })
@@ -33,7 +54,7 @@ fn board_read_in<F: Form<N>, const N: usize>(
     address: u64,
     width: u64,
 ) -> Outcome {
-    match checked::<F, N>(image) {
+    match passed::<F, N>(image) {
         Ok(image) => counted::<F, N>(image, board, read_on::<F, N>(image, base, size, address, width)),
         Err(refused) => refused,
     }
@@ -64,7 +85,11 @@ fn board_poll_in<F: Form<N>, const N: usize>(image: &mut [u8], board: &mut [u8; 
 
 #[inline(always)]
 fn board_drain_in<F: Form<N>, const N: usize>(image: &mut [u8], board: &mut [u8; 256], room: &mut [u8]) -> Outcome {
-    boarded::<F, N>(image, board, |image| drain_on::<F, N>(image, room))
+    // Before a drain something waits, as a rule.
+    changed::<F, N>(image, |image| {
+        let outcome = drain_on::<F, N>(image, room);
+        counted::<F, N>(image, board, outcome)
+    })
 }
 
 /// Answer area and board, or nothing where one is too short.
@@ -154,7 +179,7 @@ fn unfit<F: Form<N>, const N: usize>(image: &[u8; N], running: bool, offset: u64
 
 #[inline(always)]
 fn hoist_read_in<F: Form<N>, const N: usize>(image: &[u8], base: u64, size: u64, address: u64, width: u64) -> Outcome {
-    let image = match checked::<F, N>(image) {
+    let image = match passed::<F, N>(image) {
         Ok(image) => image,
         Err(refused) => return refused,
     };
@@ -174,7 +199,7 @@ fn hoist_write_in<F: Form<N>, const N: usize>(
     width: u64,
     value: u64,
 ) -> Outcome {
-    changed::<F, N>(image, |image| match aligned(base, size, address, width) {
+    moved::<F, N>(image, |image| match aligned(base, size, address, width) {
         Ok(offset) if unfit::<F, N>(image, running, offset, value as u32) => (15, None),
         Ok(offset) => (0, Some(u64::from(write_dword::<F, N>(image, offset, value as u32)))),
         Err(refused) => refused,
@@ -183,7 +208,7 @@ fn hoist_write_in<F: Form<N>, const N: usize>(
 
 #[inline(always)]
 fn end_startup_in<F: Form<N>, const N: usize>(image: &[u8], running: bool) -> Outcome {
-    match checked::<F, N>(image) {
+    match passed::<F, N>(image) {
         Ok(image) if running || word(image, F::ISR) != 0 => (15, None),
         Ok(_) => (0, None),
         Err(refused) => refused,
@@ -214,7 +239,7 @@ pub fn hoist_write(image: &mut [u8], phase: &[u8], base: u64, size: u64, address
 
 #[inline(always)]
 fn waiting_in<F: Form<N>, const N: usize>(image: &[u8]) -> Outcome {
-    match checked::<F, N>(image) {
+    match passed::<F, N>(image) {
         Ok(image) => (0, Some(word(image, F::IRR) & !word(image, F::MASK) & !word(image, F::ISR))),
         Err(refused) => refused,
     }

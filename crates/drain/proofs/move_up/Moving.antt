@@ -1,67 +1,37 @@
 -- Bytes that move to the front of a list, and things of two bytes that are left.
-use Rattle.basics.proofs.Prelude.{_≡_, refl, sym, ap, _∙_, List, [], _∷_, _++_, append-assoc, ℕ, zero, suc, _+_, _-_, _*_, _<_, _≤_, add-one, add-comm, arith, length, take, drop, getD, set, replicate, length-append, length-drop, length-set, length-replicate, take-append-drop, replicate-append-replicate, take-suc, take-suc-set, drop-set-lt, drop-drop, drop-append-le, getD-drop, length-take-le, take-all, putMid, part, Twos, written}
+use Rattle.basics.proofs.Prelude.{_≡_, refl, sym, ap, _∙_, List, [], _∷_, _++_, append-assoc, ℕ, zero, suc, _+_, _-_, _*_, _≤_, arith, length, take, drop, getD, replicate, length-append, length-drop, length-replicate, replicate-append-replicate, take-at, drop-append-le, getD-drop, putMid, part, Twos, written}
 use Rattle.rules.specs.Ring.{capacity}
 use Rattle.images.{specs.Image.sixteen, proofs.laws.Twos.length-written, proofs.laws.Twos.sixteen-unused}
 use Rattle.drain.specs.move_up.Left.{Unused, shifted, Leaves}
+
+abbrev zeros : ℕ → List ℕ
+zeros n = replicate n 0
+
+zeros-append : (a b : ℕ) → zeros a ++ zeros b ≡ zeros (a + b)
+zeros-append a b = replicate-append-replicate a b 0
 
 -- ---- moved to the front
 
 -- the bytes past the first `taken`, and as many zeros
 abbrev past : List ℕ → ℕ → List ℕ
-past l taken = drop taken l ++ replicate taken 0
+past l taken = drop taken l ++ zeros taken
 
--- past the end a list reads as the zeros behind it
-getD-zeros : (l : List ℕ) (n i : ℕ) → getD (l ++ replicate n 0) i 0 ≡ getD l i 0
-getD-zeros [] zero i = refl
-getD-zeros [] (suc n) zero = refl
-getD-zeros [] (suc n) (suc i) = getD-zeros [] n i
-getD-zeros (x ∷ l) n zero = refl
-getD-zeros (x ∷ l) n (suc i) = getD-zeros l n i
+-- with as many zeros behind them as there are bytes, they stand in one run
+module _ (l : List ℕ) (taken : ℕ) (long : length l ≡ 32) (h : taken ≤ 32) where
+  length-past : length (past l taken) ≡ 32
+  length-past = length-append (drop taken l) (zeros taken) ∙ (λ t. length-drop taken l t + length-replicate {A = ℕ} taken 0 t) ∙ omega arith
 
--- the first i bytes have been written
-pub record Moving (l₀ l : List ℕ) (taken i : ℕ) : Type 0 where
-  pub size : length l ≡ length l₀
-  pub front : take i l ≡ take i (past l₀ taken)
-  pub rest : drop i l ≡ drop i l₀
-
-pub moving-starts : (l : List ℕ) (taken : ℕ) → Moving l l taken 0
-moving-starts l taken = record { size = refl; front = refl; rest = refl }
-
-module _ {l₀ l : List ℕ} {taken i : ℕ} (m : Moving l₀ l taken i) (h : taken ≤ length l₀) where
-  length-past : length (past l₀ taken) ≡ length l₀
-  length-past = length-append (drop taken l₀) (replicate taken 0) ∙ (λ t. length-drop taken l₀ t + length-replicate {A = ℕ} taken 0 t) ∙ omega arith
-
-  pub moving-next : (v : ℕ) → i < length l → v ≡ getD l (taken + i) 0 → Moving l₀ (set l i v) taken (i + 1)
-  moving-next v here e =
-      let same : v ≡ getD (past l₀ taken) i 0 =
-      e ∙ ap (λ k. getD l k 0) (add-comm taken i) ∙ sym (getD-drop i l taken 0) ∙ ap (λ k. getD k taken 0) (m .rest) ∙ getD-drop i l₀ taken 0 ∙ ap (λ k. getD l₀ k 0) (add-comm i taken)
-      ∙ sym (getD-drop taken l₀ i 0) ∙ sym (getD-zeros (drop taken l₀) taken i)
-      in
-      let there : i < length (past l₀ taken) = omega (arith, m .size, length-past) in
-      record {
-        size = length-set l i v ∙ m .size;
-        front = ap (λ k. take k (set l i v)) (add-one i) ∙ take-suc-set l i v here ∙ (λ t. m .front t ++ (same t ∷ [])) ∙ sym (take-suc (past l₀ taken) i 0 there) ∙ ap (λ k. take k (past l₀ taken)) (sym (add-one i));
-        rest = drop-set-lt (i + 1) l i v (omega arith) ∙ sym (drop-drop 1 i l) ∙ ap (drop 1) (m .rest) ∙ drop-drop 1 i l₀;
-      }
-
-  pub moving-done : length l ≤ i → l ≡ past l₀ taken
-  moving-done all = sym (take-all i l all) ∙ m .front ∙ take-all i (past l₀ taken) (omega (arith, m .size, length-past))
+  in-the-room : take 32 (drop taken (l ++ zeros 32)) ≡ past l taken
+  in-the-room =
+      let more : 32 ≡ taken + (32 - taken) = omega arith in
+      ap (take 32) (drop-append-le taken l (zeros 32) (omega arith) ∙ ap (λ z. drop taken l ++ z) (ap zeros more ∙ sym (zeros-append taken (32 - taken))) ∙ sym (append-assoc (drop taken l) (zeros taken) (zeros (32 - taken))))
+      ∙ take-at (past l taken) (zeros (32 - taken)) 32 length-past
 
 -- ---- things of two bytes
-
-abbrev zeros : ℕ → List ℕ
-zeros n = replicate n 0
 
 all-zero : (l : List ℕ) → ((i : ℕ) → getD l i 0 ≡ 0) → l ≡ zeros (length l)
 all-zero [] z = refl
 all-zero (x ∷ l) z = (λ j. z 0 j ∷ all-zero l (λ i. z (suc i)) j)
-
-zeros-append : (a b : ℕ) → zeros a ++ zeros b ≡ zeros (a + b)
-zeros-append a b = replicate-append-replicate a b 0
-
--- zeros before zeros or behind them
-zeros-swap : (a b : ℕ) → zeros a ++ zeros b ≡ zeros b ++ zeros a
-zeros-swap a b = zeros-append a b ∙ ap zeros (add-comm a b) ∙ sym (zeros-append b a)
 
 module _ (before : List ℕ) (m : ℕ) (u : Unused before m) where
   abbrev rest : List ℕ
@@ -70,22 +40,15 @@ module _ (before : List ℕ) (m : ℕ) (u : Unused before m) where
   rest-zero : rest ≡ zeros (length rest)
   rest-zero = all-zero rest (λ i. getD-drop (2 * m) before i 0 ∙ u (2 * m + i) (omega arith))
 
-  rest-swap : (k : ℕ) → zeros k ++ rest ≡ rest ++ zeros k
-  rest-swap k = ap (λ l. zeros k ++ l) rest-zero ∙ zeros-swap k (length rest) ∙ ap (λ l. l ++ zeros k) (sym rest-zero)
-
-  -- what is kept stands before what is zero, also once it is shorter
-  kept-moves : (k : ℕ) → k ≤ 2 * m → 2 * m ≤ length before → past (take (2 * m) before) k ++ rest ≡ past before k
-  kept-moves k h fits =
-      let kept = take (2 * m) before in
-      let room : k ≤ length kept = omega (arith, length-take-le (2 * m) before fits) in
-      append-assoc (drop k kept) (zeros k) rest ∙ ap (λ l. drop k kept ++ l) (rest-swap k) ∙ sym (append-assoc (drop k kept) rest (zeros k))
-      ∙ ap (λ l. l ++ zeros k) (sym (drop-append-le k kept rest room) ∙ ap (drop k) (take-append-drop (2 * m) before))
+-- the room keeps its length
+pub length-room : (before mid : List ℕ) → length before ≡ 32 → mid ≡ before → length (putMid 0 (32 - 0) (zeros 64) mid) ≡ 64
+length-room before mid long e = length-append mid (zeros 32) ∙ ap (λ l. length l + 32) e ∙ ap (λ k. k + 32) long
 
 -- some move, or none is left
-pub some-leave : (before ys : List ℕ) (m n : ℕ) → n ≤ m → m ≤ 16 → length before ≡ 32 → ys ≡ past (part 0 (2 * m - 0) before) (2 * n) → Leaves before (putMid 0 (2 * m - 0) before ys) m n
-some-leave before ys m n h k long f u =
-    let used : 2 * m - 0 ≡ 2 * m = omega arith in
-    (λ t. f t ++ drop (used t) before) ∙ (λ t. past (take (used t) before) (2 * n) ++ drop (2 * m) before) ∙ kept-moves before m u (2 * n) (omega arith) (omega arith)
+pub some-leave : (before after mid : List ℕ) (m n : ℕ) → n ≤ m → m ≤ 16 → length before ≡ 32 → mid ≡ before → after ≡ part (2 * n) (2 * n + 32 - 2 * n) (putMid 0 (32 - 0) (zeros 64) mid) → Leaves before after m n
+some-leave before after mid m n h k long e f u =
+    let whole : 2 * n + 32 - 2 * n ≡ 32 = omega arith in
+    f ∙ (λ t. take (whole t) (drop (2 * n) (e t ++ zeros 32))) ∙ in-the-room before (2 * n) long (omega arith)
 
 pub none-leave : (before after : List ℕ) (m n : ℕ) → m ≡ n → m ≤ 16 → length before ≡ 32 → after ≡ replicate (length before) 0 → Leaves before after m n
 none-leave before after m n same k long f u =

@@ -1,5 +1,5 @@
 -- MASK and CLEAR, done in place: the stores to the registers and the offers come to the rules' steps, and those one after another to the rules' two stages.
-use Rattle.basics.proofs.Prelude.{_≡_, refl, ap, _∙_, Bool, true, false, List, [], _∷_, map, ℕ, _+_, _-_, _^_, _<_, bitAnd, on, inputs, register, without, withHalf, Each, without-is}
+use Rattle.basics.proofs.Prelude.{_≡_, refl, ap, _∙_, subst, Bool, true, false, not, and-comm, List, [], _∷_, map, ℕ, _+_, _-_, _^_, _<_, add-zero, bitAnd, on, inputs, register, without, withHalf, Each, on-and-not, without-is}
 use Rattle.rules.specs.Lines.{Turn, stay, withMask, withIrr, withIsr, event, andThen, pendingIn, serve, enter, leave, newlyUnmasked, newlyMasked, cleared, masked}
 use Rattle.rules.specs.{Core.move, Core.moved, Core.clear, Core.setMask, Ring.ringStep, Ring.ringRun, Ring.dropped, Ring.lostOf}
 use Rattle.rules.specs.{Device.Device, Device.Value, Device.offers, Device.returned, Device.lost, Numbering.Numbers, Numbering.takesAll}
@@ -65,8 +65,20 @@ module _ (i : List ℕ) (x : ℕ) {isr : ℕ} (risr : Reads i isr (λ d. d .core
 
 -- ---- MASK and CLEAR
 
-module _ (i : List ℕ) (b : Bool) (v up down : ℕ) {old new : ℕ} (rold : Reads i old (λ d. d .core .lines .mask)) (is : new ≡ withHalf b old v)
-    (ups : (n : ℕ) → n < 64 → on up n ≡ newlyUnmasked old (withHalf b old v) n) (downs : (n : ℕ) → n < 64 → on down n ≡ newlyMasked old (withHalf b old v) n) where
+module _ (i : List ℕ) (b : Bool) (v : ℕ) {old new : ℕ} (rold : Reads i old (λ d. d .core .lines .mask)) (is : new ≡ withHalf b old v) (below : old < 2 ^ 64) (small : new < 2 ^ 64) where
+  -- over the whole register: those that are in one of the two and not in the other
+  abbrev up : ℕ
+  up = bitAnd old ((2 ^ 64 - 1) - new)
+
+  abbrev down : ℕ
+  down = bitAnd new ((2 ^ 64 - 1) - old)
+
+  ups : (n : ℕ) → n < 64 → on up n ≡ newlyUnmasked old (withHalf b old v) n
+  ups n lt = on-and-not old new n small lt ∙ ap (λ y. newlyUnmasked old y n) is
+
+  downs : (n : ℕ) → n < 64 → on down n ≡ newlyMasked old (withHalf b old v) n
+  downs n lt = on-and-not new old n below lt ∙ and-comm (on new n) (not (on old n)) ∙ ap (λ y. newlyMasked old y n) is
+
   pub mask-done : {j k l m : List ℕ} {n o : ℕ} (a : Value) → Becomes i j (λ d. withLines d (withMask (d .core .lines) new)) → MovesIn j k a untaken given (λ vs. enter vs false (on up)) → Offers k l n (λ d. assertOf a)
       → MovesIn l m o takesAll lost (λ vs. leave vs true (on down)) → Writes i m (n + o) (λ c. move (setMask b v) ∷ [])
   unfolding moved
@@ -78,6 +90,11 @@ module _ (i : List ℕ) (b : Bool) (v up down : ℕ) {old new : ℕ} (rold : Rea
       ∙ stages (d .core .vectors) (d .core .lines) (withHalf b (d .core .lines .mask) v) up down (λ n lt. ups n lt ∙ ap (λ y. newlyUnmasked y (withHalf b y v) n) e) (λ n lt. downs n lt ∙ ap (λ y. newlyMasked y (withHalf b y v) n) e)
       in
       moves-acts takesAll lost (setMask b v) (does-same both (λ d ns h. ap (afterTurn d) (turn d ns h)) (λ d ns h. ap (λ (t : Turn). takesAll ns (t .made)) (turn d ns h)) (λ d ns h. ap (λ (t : Turn). lost (d .ring) (t .made)) (turn d ns h)))
+
+  -- where none leaves
+  pub mask-stays : {j k l : List ℕ} {n : ℕ} (a : Value) → Becomes i j (λ d. withLines d (withMask (d .core .lines) new)) → MovesIn j k a untaken given (λ vs. enter vs false (on up)) → Offers k l n (λ d. assertOf a)
+      → MovesIn l l 0 takesAll lost (λ vs. leave vs true (on down)) → Writes i l n (λ c. move (setMask b v) ∷ [])
+  mask-stays {l = l} {n = n} a s p q r = subst (λ o. Writes i l o (λ c. move (setMask b v) ∷ [])) (add-zero n) (mask-done a s p q r)
 
 module _ (i : List ℕ) {irr : ℕ} (rirr : Reads i irr (λ d. d .core .lines .irr)) where
   pub clear-done : (x : ℕ) → x < 2 ^ 64 → {j k : List ℕ} {n : ℕ} → Becomes i j (λ d. withLines d (withIrr (d .core .lines) (bitAnd irr ((2 ^ 64 - 1) - x)))) → MovesIn j k n takesAll lost (λ vs. leave vs true (on x)) → Writes i k n (λ c. move (clear x) ∷ [])

@@ -1,19 +1,12 @@
--- `leave`: those in service are those that `served` tells of; with none, nothing is stored.
-use Rattle.basics.proofs.Prelude.{arith, needs}
-use Rattle.lines.proofs.masking.{Stages.leave-none, Stages.leave-done, leave.Statement.statement}
+-- `leave`: those in service are those that `served` tells of.
+use Rattle.basics.proofs.Prelude.{needs}
+use Rattle.lines.proofs.masking.{Stages.leave-done, leave.Statement.statement}
 use Rattle.lines.proofs.masking.leave.Tie as tie
 
 pub leave-spec : {M : Type 1} → statement M
-leave-spec = tie.close (tie.spec (λ c κs. search needs) (λ c κs. search needs) (λ c. search needs)
-    (λ c. let p = c .before in
-    let q = p .before in
-    let a = q .before .before .before .args in
-    (omega arith, leave-none (a .image .now) (a .set) (q .isr .ensures) (p .served .ensures) (c .if1 .taken)))
-    (λ c κs. search needs) (λ c κs. search needs) (λ c. search needs)
+leave-spec = tie.close (tie.spec (λ c κs. search needs) (λ c κs. search needs) (λ c κs. search needs) (λ c. search needs)
     (λ c. let o = c .before .before in
-    let t = o .before .before .before .before in
-    let e = t .before .before in
-    let p = e .before in
-    let q = p .before in
-    let a = q .before .before .before .args in
-    (o .offer-each .ensures .0, leave-done (a .image .now) (a .set) (q .isr .ensures) (p .served .ensures) (search needs) (t .put-isr .ensures) (o .offer-each .ensures .1))))
+    let p = o .before in
+    let t = p .before .before .before .before in
+    let s = t .before .before .before in
+    (o .offer-each .ensures .0, leave-done (s .args .image .now) (s .args .set) (s .pre .1) (p .served .ensures) (search needs) (t .put-isr .ensures) (o .offer-each .ensures .1))))

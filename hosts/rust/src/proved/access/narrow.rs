@@ -45,11 +45,18 @@ pub fn write_byte(image: &mut [u8], form: Form, offset: usize, val: u8) -> u32 {
 
 // ---- Word
 
+/// Both Bytes outside 0x100..0x39f and in one Dword are read with it, once.
+///
 /// ```text
 /// requires { ⌜ (length (now image) ≡ formLength (formView form)) × (offset + 2 ≤ 2 ^ 64 - 1) ⌝ }
 /// ensures { λ r. ⌜ Reads (now (image .entry)) r (λ d. readAt (d .core) word offset) ⌝ }
 /// ```
 pub fn read_word(image: &[u8], form: Form, offset: usize) -> u64 {
+    let place = offset & 0x3;
+    if (place != 3) & !in_byte_area(offset) {
+        let both = read_dword(&*image, form, offset & !0x3);
+        return ((both >> (place * 8)) & 0xffff) as u64;
+    }
     let low = read_byte(image, form, offset) as u64;
     let high = read_byte(image, form, offset + 1) as u64;
     low + 256 * high

@@ -47,12 +47,19 @@ pub fn write_byte<const N: usize>(image: &mut [u8; N], offset: usize, val: u8) -
 
 // ---- Word
 
+/// Both Bytes outside 0x100..0x39f and in one Dword are read with it, once.
+///
 /// ```text
 /// requires { ⌜ (length (now image) ≡ formLength (formView form)) × (offset + 2 ≤ 2 ^ 64 - 1) ⌝ }
 /// ensures { λ r. ⌜ Reads (now (image .entry)) r (λ d. readAt (d .core) word offset) ⌝ }
 /// ```
 #[inline]
 pub fn read_word<const N: usize>(image: &[u8; N], offset: usize) -> u64 {
+    let place = offset & 0x3;
+    if (place != 3) & !in_byte_area(offset) {
+        let both = read_dword(&*image, offset & !0x3);
+        return ((both >> (place * 8)) & 0xffff) as u64;
+    }
     let low = read_byte(image, offset) as u64;
     let high = read_byte(image, offset + 1) as u64;
     low + 256 * high

@@ -9,24 +9,21 @@ use super::enter_leave::enter;
 use super::events::offer_each;
 use super::events::offer_entered;
 
-/// All of a set that are in service leave it, and their deasserts are offered; the answer is how many were lost.
+/// All of a set that are in service leave it, and their deasserts are offered; the answer is how many were lost. Who calls has looked whether any of them is in
+/// service, so that a write by which none leaves makes no call.
 ///
 /// ```text
-/// requires { ⌜ length (now image) ≡ formLength (formView form) ⌝ }
+/// requires { ⌜ (length (now image) ≡ formLength (formView form)) × Reads (now image) isr (λ d. d .core .lines .isr) ⌝ }
 /// ensures { λ r. ⌜ (r ≤ 64) × MovesIn (now (image .entry)) (now (image .exit)) r takesAll lost (λ vs. lines.leave vs true (on set)) ⌝ }
 /// ```
 #[inline]
-fn leave<const N: usize>(image: &mut [u8; N], set: u64) -> u32 {
-    let isr = words::isr(image);
-    let served = decide::served(set, isr);
-    if served == 0 {
-        return 0;
-    }
+fn leave<const N: usize>(image: &mut [u8; N], set: u64, isr: u64) -> u32 {
     words::put_isr(image, isr & !set);
-    offer_each(image, served)
+    offer_each(image, decide::served(set, isr))
 }
 
-/// MASK: a half is replaced; the lowest newly unmasked input that waits enters, and then the newly masked ones leave.
+/// MASK: a half is replaced; the lowest newly unmasked input that waits enters, and then the newly masked ones leave. Both are found over the whole register: the
+/// other half stays.
 ///
 /// ```text
 /// requires { ⌜ length (now image) ≡ formLength (formView form) ⌝ }
@@ -35,10 +32,16 @@ fn leave<const N: usize>(image: &mut [u8; N], set: u64) -> u32 {
 #[inline]
 pub fn write_mask<const N: usize>(image: &mut [u8; N], val: u32, high: bool) -> u32 {
     let old = words::mask(image);
-    words::put_mask(image, bits::replace_u32(old, val, high));
-    let entered = enter(image, decide::newly_unmasked(old, val, high));
+    let new = bits::replace_u32(old, val, high);
+    words::put_mask(image, new);
+    let entered = enter(image, old & !new);
     let first = offer_entered(image, entered);
-    first + leave(image, decide::newly_masked(old, val, high))
+    let isr = words::isr(image);
+    let gone = new & !old;
+    if decide::served(gone, isr) == 0 {
+        return first;
+    }
+    first + leave(image, gone, isr)
 }
 
 /// CLEAR: latches and service lose the bits.
@@ -51,5 +54,9 @@ pub fn write_mask<const N: usize>(image: &mut [u8; N], val: u32, high: bool) -> 
 pub fn write_clear<const N: usize>(image: &mut [u8; N], bits: u64) -> u32 {
     let irr = words::irr(image);
     words::put_irr(image, irr & !bits);
-    leave(image, bits)
+    let isr = words::isr(image);
+    if decide::served(bits, isr) == 0 {
+        return 0;
+    }
+    leave(image, bits, isr)
 }
