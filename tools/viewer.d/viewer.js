@@ -174,7 +174,8 @@
     try {
       draw();
     } catch (why) {
-      say(why.message, true);
+      if (why instanceof WebAssembly.RuntimeError) failed(why);
+      else say(why.message, true);
     }
   };
   by("save").onclick = () => {

@@ -77,7 +77,7 @@
 //! The device is written in Rattle, a Rust with contracts, and proved: every call leaves exactly the bytes that the rules give, on any input. This crate
 //! has that text as Rust, and adds types; [`calls`] are the calls themselves. [`built()`] tells what does the work:
 //!
-//! - **By default** rustc compiles the text, for every 64-bit target. Beside the proof this takes rustc, and the rules by which the text became Rust.
+//! - **By default** rustc compiles the text, for every 64-bit target and for WebAssembly. Beside the proof this takes rustc, and the rules by which the text became Rust.
 //! - **Feature `archive`** links `libpch_pic.a`, the machine code of the proved text, on x86-64 Linux in user space. Everything else stays the same. `unsafe`
 //!   is then in one file, `src/archive.rs`.
 //!
