@@ -124,8 +124,11 @@ fn any_guest_of_the_published_face() {
     let (mut dice, mut done, mut events) = (Dice(9), 0, 0);
     for _ in 0..rounds() / 100 {
         let (base, size) = (dice.number() as usize, dice.of(&[0x400, 0x400, 0, 1, usize::MAX]));
-        let make = dice.of(&[LoongArchPchPic::<RefCell<_>>::new, LoongArchPchPic::wholly_inside]);
-        let face = make(base.into(), size);
+        let face = if dice.of(&[true, false]) {
+            LoongArchPchPic::<RefCell<_>>::new(base.into(), size)
+        } else {
+            LoongArchPchPic::wholly_inside(base.into(), size)
+        };
         for _ in 0..200 {
             let ([_, _, address], width, value, input) = (dice.access(), width(&mut dice), dice.any() as usize, dice.input() as usize);
             let address = if dice.once_in(3) { address as usize } else { base.wrapping_add(dice.offset() as usize) };
