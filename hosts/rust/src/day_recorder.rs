@@ -57,7 +57,7 @@ pub const BLOCK: u16 = 64;
 /// The number of a trace has five digits.
 const TRACES_MAX: usize = 99_999;
 
-/// Takes the calls of a day and keeps them in a folder, trace after trace. [`days`](crate::days) tells what stands there, and what can be lost.
+/// Takes the calls of a day and keeps them in a folder, trace after trace. [`day_recorder`](crate::day_recorder) tells what stands there, and what can be lost.
 ///
 /// Calls are taken one by one, by [`Recording`]; or a [`Recorded`](crate::Recorded) device has each of its calls taken.
 ///
