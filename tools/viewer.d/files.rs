@@ -109,12 +109,16 @@ fn within(folder: &str, name: &str) -> String {
     if folder.is_empty() { name.to_string() } else { format!("{folder}/{name}") }
 }
 
-/// Names in the order in which people count: 2 before 10.
-fn in_order(name: &str) -> (String, usize, &str) {
-    let digits = |letter: char| letter.is_ascii_digit();
-    let front = name.split(digits).next().unwrap_or(name);
-    let number: String = name[front.len()..].chars().take_while(|letter| digits(*letter)).collect();
-    (front.to_string(), number.parse().unwrap_or(usize::MAX), name)
+/// Names in the order in which people count: 2 before 10, in every number of a name. Each is what stands before it, and the number.
+fn in_order(name: &str) -> (Vec<(&str, usize)>, &str) {
+    let (mut runs, mut rest) = (Vec::new(), name);
+    while !rest.is_empty() {
+        let (front, behind) = rest.split_at(rest.find(|letter: char| letter.is_ascii_digit()).unwrap_or(rest.len()));
+        let (digits, more) = behind.split_at(behind.find(|letter: char| !letter.is_ascii_digit()).unwrap_or(behind.len()));
+        runs.push((front, if digits.is_empty() { 0 } else { digits.parse().unwrap_or(usize::MAX) }));
+        rest = more;
+    }
+    (runs, name)
 }
 
 /// How a folder is told; files of a day that came without theirs have none.

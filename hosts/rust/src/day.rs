@@ -17,7 +17,7 @@
 use crate::holes::{self, Hole, HolesError};
 use crate::list::{self, Fault, List};
 use crate::sheet::LongSheet;
-use crate::{replace, trace, Error, Form, Image, PchPic, Played, Tally, Trace};
+use crate::{replace, trace, Error, Form, Image, PchPic, Played, Tally, Trace, RECORDS_MAX};
 use core::fmt;
 use std::fs;
 use std::io;
@@ -245,12 +245,18 @@ pub fn times_beside(path: &Path) -> PathBuf {
     name.into()
 }
 
+/// More than the times of a trace have, so that a longer file is seen.
+const TIMES_MOST: u64 = 8 * RECORDS_MAX as u64 + 1;
+
 /// When each record was, by the file beside the trace: eight bytes each, little end first. None where there is no such file.
 fn times(path: &Path, records: usize) -> Result<Option<Vec<u64>>, DayError> {
     let name = times_beside(path);
     if !name.exists() {
         return Ok(None);
     }
-    let bytes = fs::read(&name).map_err(|why| DayError::Io(name.clone(), why))?;
+    let bytes = bytes_of(&name, TIMES_MOST)?;
+    if bytes.len() as u64 == TIMES_MOST {
+        return Err(DayError::Times(name, "it is longer than the times of any trace".into()));
+    }
     list::times(&bytes, records).map(Some).map_err(|why| DayError::Times(name, why))
 }

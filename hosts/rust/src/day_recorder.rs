@@ -138,6 +138,16 @@ fn new_list(folder: &Path) -> Result<File, RecordError> {
     Ok(list)
 }
 
+/// A day that could not be begun leaves nothing: not its list, nor a folder that was made for it. A list that another made stays.
+fn take_back(folder: &Path, made: bool, why: &RecordError) {
+    if !matches!(why, RecordError::NotEmpty) {
+        let _ = fs::remove_file(folder.join(list::NAME));
+        if made {
+            let _ = fs::remove_dir(folder);
+        }
+    }
+}
+
 /// Takes a trace away that got no record, and its times.
 fn take_away(path: &Path) -> io::Result<()> {
     for file in [path.to_path_buf(), times_beside(path)] {
@@ -171,8 +181,9 @@ impl DayRecorder {
     }
 
     fn begin(folder: &Path, plan: Vec<u16>) -> Result<Self, RecordError> {
+        let made = !folder.exists();
         let folder = empty_folder(folder)?;
-        let list = new_list(&folder)?;
+        let list = new_list(&folder).inspect_err(|why| take_back(&folder, made, why))?;
         let list_len = list::HEAD.len() as u64 + 1;
         Ok(DayRecorder { folder, plan, clock: None, list, list_len, traces: 0, records: 0, open: None, ending: false, ended: false })
     }
@@ -316,9 +327,15 @@ impl DayRecorder {
     /// A line goes to the disk at its place.
     fn add_line(&mut self, line: &str) -> io::Result<()> {
         self.list.seek(SeekFrom::Start(self.list_len))?;
-        self.list.write_all(line.as_bytes())?;
-        cut::between();
-        self.list.sync_data()?;
+        let added = self.list.write_all(line.as_bytes()).and_then(|()| {
+            cut::between();
+            self.list.sync_data()
+        });
+        // A line that may not be on the disk is taken back: what is written next comes in its place.
+        if added.is_err() {
+            let _ = self.list.set_len(self.list_len);
+        }
+        added?;
         cut::synced(&self.list);
         self.list_len += line.len() as u64;
         Ok(())

@@ -137,6 +137,8 @@ fn listed(line: &str) -> Option<(usize, Listed)> {
 #[derive(Clone, Debug, Default, PartialEq, Eq, Hash)]
 pub struct List {
     listed: Vec<Listed>,
+    /// How many records they have.
+    records: usize,
     ended: bool,
 }
 
@@ -165,11 +167,12 @@ impl List {
         if self.ended {
             return None;
         }
-        if line == format!("end {} {}", self.listed.len(), self.records()) {
+        if line == format!("end {} {}", self.listed.len(), self.records) {
             self.ended = true;
             return Some(());
         }
         let (_, listed) = listed(line).filter(|(number, _)| *number == self.listed.len() + 1)?;
+        self.records += listed.records;
         self.listed.push(listed);
         Some(())
     }
@@ -186,7 +189,7 @@ impl List {
 
     /// How many records those traces have.
     pub fn records(&self) -> usize {
-        self.listed.iter().map(|listed| listed.records).sum()
+        self.records
     }
 
     /// How many traces the day has, by the names in its folder, whatever their order: those that are listed, and one more where it was not ended. Names that are no trace's
