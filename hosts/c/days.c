@@ -147,6 +147,10 @@ static int end_trace(struct pic_day *day)
     char path[PIC_DAY_PATH];
     size_t len = 0;
     int number;
+    if (day->failed != PCH_PIC_DONE) {
+        errno = day->error;
+        return day->failed;
+    }
     if (!day->open) {
         return PCH_PIC_DONE;
     }
@@ -195,20 +199,10 @@ static int begin_trace(void *of)
     return number;
 }
 
-int pic_day_begin(struct pic_day *day, const char *folder, size_t block)
+/* The folder's name without the slashes behind it, and the folder itself. */
+static int begin_folder(struct pic_day *day, const char *folder)
 {
-    uint16_t plan[PCH_PIC_BLOCKS_MAX];
-    size_t blocks = block == 0 ? 0 : PCH_PIC_RECORDS_MAX / block < PCH_PIC_BLOCKS_MAX ? PCH_PIC_RECORDS_MAX / block : PCH_PIC_BLOCKS_MAX;
     size_t len = strlen(folder);
-    memset(day, 0, sizeof *day);
-    day->list = NO_FILE;
-    for (size_t i = 0; i < blocks; i++) {
-        plan[i] = (uint16_t)block;
-    }
-    pic_recorder_begin(&day->recorder);
-    if (block != 0 && pic_recorder_plan(&day->recorder, plan, blocks) != PCH_PIC_DONE) {
-        return PIC_PLAN;
-    }
     if (len >= PIC_DAY_PATH) {
         errno = ENAMETOOLONG;
         return PIC_FILE;
@@ -222,12 +216,29 @@ int pic_day_begin(struct pic_day *day, const char *folder, size_t block)
         int why = errno;
         pic_day_undo(day);
         errno = why;
-        return number;
     }
+    return number;
+}
+
+/* A day that did not begin has no room for a record, and tells why whenever it is asked. */
+int pic_day_begin(struct pic_day *day, const char *folder, size_t block)
+{
+    uint16_t plan[PCH_PIC_BLOCKS_MAX];
+    size_t blocks = block == 0 ? 0 : PCH_PIC_RECORDS_MAX / block < PCH_PIC_BLOCKS_MAX ? PCH_PIC_RECORDS_MAX / block : PCH_PIC_BLOCKS_MAX;
+    memset(day, 0, sizeof *day);
+    day->list = NO_FILE;
+    for (size_t i = 0; i < blocks; i++) {
+        plan[i] = (uint16_t)block;
+    }
+    pic_recorder_begin(&day->recorder);
+    int number = block == 0 ? PCH_PIC_DONE : pic_recorder_plan(&day->recorder, plan, blocks);
+    number = number == PCH_PIC_DONE ? begin_folder(day, folder) : number;
+    day->failed = number;
+    day->error = errno;
     day->recorder.more = begin_trace;
     day->recorder.more_of = day;
     day->recorder.most = 0;
-    return PCH_PIC_DONE;
+    return number;
 }
 
 int pic_day_next(struct pic_day *day)
@@ -299,6 +310,7 @@ void pic_day_undo(struct pic_day *day)
     pic_day_leave(day);
     if (day->made) {
         rmdir(day->folder);
+        day->made = false;
     }
 }
 

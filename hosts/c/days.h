@@ -39,12 +39,15 @@ struct pic_day {
     uint64_t records; /* how many records these have */
     bool open;        /* there is a trace that is not listed yet */
     bool made;        /* the folder was made for this day */
+    int failed;       /* why the day did not begin, or 0 */
+    int error;        /* errno of that */
 };
 
 /* Begins a day in a folder, which is made, or is there and empty.
  * Where power may be lost, block says how many records a block is to have (1 to 4000): as many blocks as fit are planned for each trace, each record is written as it is
  * taken, with its time, and each full block is put on the disk. Then a killed process loses no record, and lost power loses the open block at most.
- * With 0 for block a trace stands in memory, and is written whole when it is full, or at pic_day_next or pic_day_end: a lost process then loses the open trace. */
+ * With 0 for block a trace stands in memory, and is written whole when it is full, or at pic_day_next or pic_day_end: a lost process then loses the open trace.
+ * Where it fails nothing is recorded: the recorder takes no record, and the functions below hand back the same number. */
 int pic_day_begin(struct pic_day *day, const char *folder, size_t block);
 
 /* Ends the open trace: it is on the disk and listed, and the next record begins another. Where there is no record in it, nothing is done. */

@@ -940,6 +940,29 @@ static void beginnings(void)
     expect("and so have others", strcmp(pic_day_why(PIC_NO_LIST), pic_holes_why(PIC_NO_LIST)) == 0 && strcmp(pic_day_why(PIC_INSIDE + 1), "unknown number") == 0);
 }
 
+/* A day that did not begin records nothing, and whoever asks is told why. */
+static void without_a_beginning(void)
+{
+    static struct pic pic;
+    struct pic_wires wires = {0};
+    char before[PIC_DIGEST_LEN + 1], after[PIC_DIGEST_LEN + 1];
+    static const uint8_t trace[PCH_PIC_TRACE_MAX] = {1, 0, 6, 0, 1, 0, PCH_PIC_RAISE};
+    make_day(damaged, 0);
+    folder_digest(damaged, before);
+    for (size_t block = 0; block <= PIC_DAY_BLOCK; block += PIC_DAY_BLOCK) {
+        expect("a day over another", pic_day_begin(&day, damaged, block) == PIC_OCCUPIED);
+        expect("is watched", pic_init(&pic, BASE) == PCH_PIC_DONE && pic_recorder_watch(&day.recorder, &pic) == PCH_PIC_DONE);
+        pic_line(&pic, &wires, 5, true);
+        expect("and stops with its first call", pic_recorder_stopped(&day.recorder) == PIC_OCCUPIED && day.recorder.count == 0);
+        expect("has no next trace", pic_day_next(&day) == PIC_OCCUPIED);
+        expect("takes none", pic_day_add(&day, trace, 6 + PCH_PIC_RECORD_LEN, NULL) == PIC_OCCUPIED);
+        expect("and does not end", pic_day_end(&day) == PIC_OCCUPIED && pic_day_end(&day) == PIC_OCCUPIED);
+    }
+    folder_digest(damaged, after);
+    expect("the other stays as it is", strcmp(before, after) == 0);
+    expect("nor does a day without a plan", pic_day_begin(&day, another, 4001) == PIC_PLAN && pic_recorder_raise(&day.recorder, 1) == PIC_PLAN && pic_day_end(&day) == PIC_PLAN);
+}
+
 int main(int argc, char **argv)
 {
     unsigned long interrupts = argc == 4 ? strtoul(argv[2], NULL, 10) : 5000, kills = argc == 4 ? strtoul(argv[3], NULL, 10) : 200;
@@ -965,6 +988,7 @@ int main(int argc, char **argv)
     torn_lists();
     salvaged_days();
     beginnings();
+    without_a_beginning();
     clear(damaged);
     clear(another);
     printf("%d passed, %d failed\n", passed, failed);
