@@ -102,7 +102,8 @@ static int make_list(struct pic_day *day)
     return number == PCH_PIC_DONE && (!sync_folder(day->folder) || (day->made && !sync_folder(parent))) ? PIC_FILE : number;
 }
 
-/* The trace that is open, at its place in the folder: one that was kept as it went and is as long as planned is there already. */
+/* The trace that is open, at its place in the folder: one that was kept as it went and is as long as planned is there already. Where it is written anew its times are
+ * too, since there may be one of a record that was not taken. */
 static int put_open(struct pic_day *day, const char *path, const uint8_t *trace, size_t len)
 {
     struct pic_recorder *recorder = &day->recorder;
@@ -111,7 +112,7 @@ static int put_open(struct pic_day *day, const char *path, const uint8_t *trace,
     if (kept && whole) {
         return PCH_PIC_DONE;
     }
-    int number = !kept && recorder->clock != NULL ? pic_recorder_save_times(recorder, path) : PCH_PIC_DONE;
+    int number = recorder->clock != NULL ? pic_recorder_save_times(recorder, path) : PCH_PIC_DONE;
     return number == PCH_PIC_DONE ? pic_replace(path, trace, len) : number;
 }
 

@@ -670,6 +670,30 @@ static void without_room(unsigned long times)
     clear(folder);
 }
 
+/* A record that is not taken since a call of the system fails, and nothing is asked for again: the day ends with the records before it, and is good. */
+static void ends_at_once(void)
+{
+    char folder[PATH_LEN];
+    in_folder("full", folder);
+    for (unsigned long at = 1; at <= 24; at++) {
+        clear(folder);
+        memset(seen, 0, sizeof *seen);
+        expect("a day that gets no room", pic_day_begin(&day, folder, BLOCK) == PCH_PIC_DONE && pic_recorder_clock(&day.recorder, by_taken, NULL) == PCH_PIC_DONE && take() == PCH_PIC_DONE);
+        fate = FAILS;
+        fate_at = seen->calls + at;
+        int number = PCH_PIC_DONE;
+        while (number == PCH_PIC_DONE && seen->taken < 40) {
+            number = take();
+        }
+        fate = GOES_ON;
+        expect("misses a record", number == PIC_FILE);
+        int ended = at % 2 == 0 ? pic_day_next(&day) : PCH_PIC_DONE;
+        expect("ends as it is", ended == PCH_PIC_DONE && pic_day_end(&day) == PCH_PIC_DONE && day.records == seen->taken);
+        expect("and has the records before", is_the_beginning(folder, seen->taken, seen->taken));
+    }
+    clear(folder);
+}
+
 /* --- Folders that are damaged ---------------------------------------------------------------------------------------------------------------------------- */
 
 /* A digest of all names and bytes in a folder, in no order. */
@@ -982,6 +1006,7 @@ int main(int argc, char **argv)
     }
     killed(kills);
     without_room(kills / 4 + 1);
+    ends_at_once();
     damaged_traces();
     damaged_beside();
     damaged_lists();
