@@ -146,6 +146,16 @@ static int add_listed(struct pic_day_kept *kept, const char *folder, FILE *list,
     return number;
 }
 
+/* A trace behind the open one: lines of the list are lost, and how many records the day had is not known. */
+static void more_behind(struct pic_day_kept *kept, const char *text, uint64_t *lost)
+{
+    kept->more = true;
+    if (kept->text[0] == 0) {
+        pic_day_wrong(kept->text, "%s", text);
+    }
+    *lost = *lost == 0 ? 1 : *lost;
+}
+
 /* The trace that was open when a day was not ended. Where something before it is damaged already, its records are lost. */
 static int add_open(struct pic_day_kept *kept, const char *folder, uint64_t *lost)
 {
@@ -153,18 +163,21 @@ static int add_open(struct pic_day_kept *kept, const char *folder, uint64_t *los
     bool open = false;
     size_t len = 0;
     unsigned traces = kept->day.traces;
-    pic_day_scan(folder, traces, false, &open, text);
-    if (!open || !pic_day_name(folder, traces + 1, path)) {
-        return PCH_PIC_DONE;
+    int number = PCH_PIC_DONE, scanned = pic_day_scan(folder, traces, false, &open, text);
+    if (scanned == PIC_FILE) {
+        return PIC_FILE;
     }
-    if (pic_trace_load(path, kept->trace, &len) == PIC_FILE) {
+    if (open && (!pic_day_name(folder, traces + 1, path) || pic_trace_load(path, kept->trace, &len) == PIC_FILE)) {
         pic_day_wrong(kept->text, "%05u.trace: %s", traces + 1, strerror(errno));
         *lost = 1;
-        return PCH_PIC_DONE;
+    } else if (open) {
+        number = add_lead(kept, folder, traces + 1, len, true);
+        if (number == PCH_PIC_DONE && kept->text[0] != 0 && kept->holes.count == 0) {
+            *lost = pic_trace_cause(kept->trace, pic_trace_fill(kept->trace, len), cause) ? 1 : pic_trace_records(kept->trace);
+        }
     }
-    int number = add_lead(kept, folder, traces + 1, len, true);
-    if (number == PCH_PIC_DONE && kept->text[0] != 0 && kept->holes.count == 0) {
-        *lost = pic_trace_cause(kept->trace, pic_trace_fill(kept->trace, len), cause) ? 1 : pic_trace_records(kept->trace);
+    if (number == PCH_PIC_DONE && scanned == PIC_NO_DAY) {
+        more_behind(kept, text, lost);
     }
     return number;
 }

@@ -854,6 +854,19 @@ static void damaged_beside(void)
     refused("00003.trace.holes: it is no list of holes", 600);
 }
 
+/* The last salvage tells that at least a record is missing behind what it kept, with this text, and the list of that stands beside the last trace. */
+static void more_is_told(const char *text, const char *list)
+{
+    char to[PATH_LEN], path[2 * PATH_LEN];
+    struct stat there;
+    in_folder("kept", to);
+    expect("a day whose list lost lines", pic_day_salvage(damaged, to, &kept) == PCH_PIC_DONE && strcmp(kept.text, text) == 0);
+    expect("may have had more", kept.more && !kept.ended && kept.holes.count == 1 && kept.holes.of[0].at == 300 && kept.holes.of[0].last == 300);
+    snprintf(path, sizeof path, "%s/%s", to, list);
+    expect("and its holes say so", stat(path, &there) == 0);
+    clear(to);
+}
+
 /* The list, whose first line has 14 bytes, and each other one 75: the end's is shorter. */
 static void damaged_lists(void)
 {
@@ -879,6 +892,15 @@ static void damaged_lists(void)
     make_day(damaged, 0);
     damage(damaged, "day.list", 14 + 75, -1);
     refused("00003.trace is not of this day: day.list ends with trace 1", 600);
+    more_is_told("00003.trace is not of this day: day.list ends with trace 1", "00002.trace.holes");
+    move_file(damaged, "00002.trace", "gone");
+    refused("00003.trace is not of this day: day.list ends with trace 1", 300);
+    more_is_told("00003.trace is not of this day: day.list ends with trace 1", "00001.trace.holes");
+    make_day(damaged, 0);
+    damage(damaged, "day.list", 14 + 75, -1);
+    damage(damaged, "00002.trace", 6 + 16 * 20 + 3, -1);
+    refused("00003.trace is not of this day: day.list ends with trace 1", 320);
+    expect("more than the open trace had is missing", kept.more && !kept.ended && kept.holes.count == 1 && kept.holes.of[0].last == 299);
     make_day(damaged, 0);
     damage(damaged, "day.list", 14, -1);
     move_file(damaged, "00003.trace", "a");
