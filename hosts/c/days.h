@@ -86,7 +86,7 @@ struct pic_day_read {
  * PIC_NO_DAY; where it fails nothing stays open. */
 int pic_day_open(struct pic_day_read *day, const char *folder);
 
-/* Reads the next trace, from the first on: 0, PIC_EMPTY where there is none, PIC_FILE, or PIC_NO_DAY where it is not any more what it was. */
+/* Reads the next trace, from the first on: 0, PIC_EMPTY where there is none, PIC_FILE, or PIC_NO_DAY where it is not any more what it was, or the day is not open. */
 int pic_day_trace(struct pic_day_read *day);
 
 /* Goes back to before the first one. */

@@ -80,6 +80,9 @@ int pic_day_trace(struct pic_day_read *day)
     struct pic_day_line line = {0};
     unsigned next = day->number + 1;
     int number;
+    if (day->list == NULL) {
+        return day->text[0] != 0 ? PIC_NO_DAY : pic_day_wrong(day->text, "it is not open");
+    }
     if (next > day->traces) {
         return PIC_EMPTY;
     }
@@ -147,7 +150,9 @@ int pic_day_open(struct pic_day_read *day, const char *folder)
 
 void pic_day_rewind(struct pic_day_read *day)
 {
-    pic_day_list_rewind(day->list);
+    if (day->list != NULL) {
+        pic_day_list_rewind(day->list);
+    }
     day->number = 0;
     day->before = day->of_trace = 0;
 }

@@ -801,6 +801,8 @@ static void refused(const char *text, uint64_t left)
         printf("%d: '%s' and not '%s'\n", number, reader.text, text);
     }
     expect(text, number == PIC_NO_DAY && strcmp(reader.text, text) == 0 && reader.list == NULL);
+    pic_day_rewind(&reader);
+    expect("a day that is not open has no trace", pic_day_trace(&reader) == PIC_NO_DAY && strcmp(reader.text, text) == 0);
     number = pic_day_salvage(damaged, to, &kept);
     struct stat there;
     bool salvaged = left == 0 ? number == PIC_NO_DAY && stat(to, &there) != 0 : number == PCH_PIC_DONE && is_the_beginning(to, left, left);
@@ -966,6 +968,9 @@ static void beginnings(void)
     folder_digest(damaged, after);
     expect("which stays as it is", strcmp(before, after) == 0);
     snprintf(path, sizeof path, "%s/day.list", damaged);
+    expect("a day that is closed is not read", pic_day_open(&reader, damaged) == PCH_PIC_DONE);
+    pic_day_close(&reader);
+    expect("and says so", pic_day_trace(&reader) == PIC_NO_DAY && strcmp(reader.text, "it is not open") == 0);
     expect("none in a file", pic_day_begin(&day, path, 0) == PIC_FILE && errno == ENOTDIR);
     snprintf(path, sizeof path, "%s/no/such", base_folder);
     expect("none below a folder that is not there", pic_day_begin(&day, path, 0) == PIC_FILE && errno == ENOENT);
