@@ -1,7 +1,7 @@
 /* A day is recorded into a folder: the recorder asks for more where its trace is full, and gets the next one. A line of the list is written only when its trace is on the disk,
  * so that what is listed is there; what is there and not listed is the trace that was open. */
 #define _POSIX_C_SOURCE 200809L
-#include "days.h"
+#include "days_list.h"
 
 #include <dirent.h>
 #include <errno.h>
@@ -11,7 +11,10 @@
 #include <sys/stat.h>
 #include <unistd.h>
 
-enum { NO_FILE = -1, TIME_LEN = 8 };
+enum { NO_FILE = -1, TIME_LEN = 8, BESIDE = 3 };
+
+/* A trace, and what stands beside it. */
+static const char *const beside[BESIDE] = {"", ".times", ".holes"};
 
 static bool name_in(const char *folder, const char *file, char name[PIC_DAY_PATH])
 {
@@ -116,6 +119,25 @@ static int put_open(struct pic_day *day, const char *path, const uint8_t *trace,
     return number == PCH_PIC_DONE ? pic_replace(path, trace, len) : number;
 }
 
+/* Whoever has put a file there may want it, and a link would lead out of the folder. */
+int pic_day_place(struct pic_day *day, char path[PIC_DAY_PATH])
+{
+    char file[PIC_DAY_PATH + 8];
+    struct stat found;
+    if (!pic_day_name(day->folder, day->traces + 1, path)) {
+        return PIC_FILE;
+    }
+    for (size_t i = 0; !day->ours && i < BESIDE; i++) {
+        snprintf(file, sizeof file, "%s%s", path, beside[i]);
+        bool there = lstat(file, &found) == 0;
+        if (there || errno != ENOENT) {
+            return there ? PIC_OCCUPIED : PIC_FILE;
+        }
+    }
+    day->ours = true;
+    return PCH_PIC_DONE;
+}
+
 /* Its line, once it is on the disk. */
 static int list_trace(struct pic_day *day, const uint8_t *trace, size_t len)
 {
@@ -127,18 +149,33 @@ static int list_trace(struct pic_day *day, const uint8_t *trace, size_t len)
     if (number == PCH_PIC_DONE) {
         day->traces++;
         day->records += records;
+        day->ours = false;
     }
     return number;
 }
 
-/* The file of a trace that got no record. */
+int pic_day_put(struct pic_day *day, const char *path, const uint8_t *trace, size_t len, const uint8_t *times)
+{
+    char file[PIC_DAY_PATH + 8];
+    snprintf(file, sizeof file, "%s.times", path);
+    int number = times != NULL ? pic_replace(file, times, TIME_LEN * pic_trace_records(trace)) : PCH_PIC_DONE;
+    number = number == PCH_PIC_DONE ? pic_replace(path, trace, len) : number;
+    return number == PCH_PIC_DONE ? list_trace(day, trace, len) : number;
+}
+
+/* The files of a trace that got no record, or could not be put there; errno stays where they are gone. */
 static int take_away(struct pic_day *day, const char *path)
 {
     char times[PIC_DAY_PATH + 8];
+    int why = errno;
     snprintf(times, sizeof times, "%s.times", path);
     pic_recorder_end(&day->recorder);
-    bool gone = (unlink(path) == 0 || errno == ENOENT) && (unlink(times) == 0 || errno == ENOENT);
-    return gone ? PCH_PIC_DONE : PIC_FILE;
+    if (day->ours && ((unlink(path) != 0 && errno != ENOENT) || (unlink(times) != 0 && errno != ENOENT))) {
+        return PIC_FILE;
+    }
+    day->ours = false;
+    errno = why;
+    return PCH_PIC_DONE;
 }
 
 /* Ends the open trace; the recorder then has no room, and asks for more. */
@@ -161,7 +198,8 @@ static int end_trace(struct pic_day *day)
     if (day->recorder.count == 0) {
         number = take_away(day, path);
     } else {
-        number = pic_recorder_finish(&day->recorder, trace, &len);
+        number = pic_day_place(day, path);
+        number = number == PCH_PIC_DONE ? pic_recorder_finish(&day->recorder, trace, &len) : number;
         number = number == PCH_PIC_DONE ? put_open(day, path, trace, len) : number;
         number = number == PCH_PIC_DONE ? list_trace(day, trace, len) : number;
     }
@@ -182,13 +220,16 @@ static int begin_trace(void *of)
     if (number != PCH_PIC_DONE || day->traces == PIC_DAY_TRACES_MAX) {
         return number != PCH_PIC_DONE ? number : PIC_FULL;
     }
-    if (!pic_day_name(day->folder, day->traces + 1, path)) {
-        return PIC_FILE;
+    number = pic_day_place(day, path);
+    if (number != PCH_PIC_DONE) {
+        return number;
     }
     pic_recorder_next(recorder);
     if (recorder->planned != 0) {
         number = pic_recorder_keep(recorder, path);
         number = number == PCH_PIC_DONE && recorder->clock != NULL ? pic_recorder_keep_times(recorder, path) : number;
+    } else {
+        day->ours = false; /* nothing stands there until the trace is written, and it is looked at again */
     }
     day->open = number == PCH_PIC_DONE;
     if (!day->open) {
@@ -270,19 +311,21 @@ int pic_day_end(struct pic_day *day)
 
 int pic_day_add(struct pic_day *day, const uint8_t *trace, size_t len, const uint8_t *times)
 {
-    char path[PIC_DAY_PATH], beside[PIC_DAY_PATH + 8];
+    char path[PIC_DAY_PATH];
     int number = pic_trace_test(trace, len, NULL);
     number = number == PCH_PIC_DONE ? end_trace(day) : number;
     if (number != PCH_PIC_DONE || day->traces == PIC_DAY_TRACES_MAX) {
         return number != PCH_PIC_DONE ? number : PIC_FULL;
     }
-    if (!pic_day_name(day->folder, day->traces + 1, path)) {
-        return PIC_FILE;
+    number = pic_day_place(day, path);
+    if (number != PCH_PIC_DONE) {
+        return number;
     }
-    snprintf(beside, sizeof beside, "%s.times", path);
-    number = times != NULL ? pic_replace(beside, times, TIME_LEN * pic_trace_records(trace)) : PCH_PIC_DONE;
-    number = number == PCH_PIC_DONE ? pic_replace(path, trace, len) : number;
-    return number == PCH_PIC_DONE ? list_trace(day, trace, len) : number;
+    number = pic_day_put(day, path, trace, len, times);
+    if (number != PCH_PIC_DONE) {
+        take_away(day, path);
+    }
+    return number;
 }
 
 void pic_day_leave(struct pic_day *day)
@@ -297,10 +340,9 @@ void pic_day_leave(struct pic_day *day)
 
 void pic_day_undo(struct pic_day *day)
 {
-    static const char *const beside[] = {"", ".times", ".holes"};
     char path[PIC_DAY_PATH], file[PIC_DAY_PATH + 8];
-    for (unsigned number = 1; day->list != NO_FILE && number <= day->traces + 1; number++) {
-        for (size_t i = 0; i < 3 && pic_day_name(day->folder, number, path); i++) {
+    for (unsigned number = 1; day->list != NO_FILE && number <= day->traces + day->ours; number++) {
+        for (size_t i = 0; i < BESIDE && pic_day_name(day->folder, number, path); i++) {
             snprintf(file, sizeof file, "%s%s", path, beside[i]);
             unlink(file);
         }

@@ -17,7 +17,7 @@ extern "C" {
 #endif
 
 enum {
-    PIC_OCCUPIED = 140, /* the folder has something in it: a day is never written over */
+    PIC_OCCUPIED = 140, /* the folder has something in it, or something came into the place of the next trace: nothing is ever written over */
     PIC_NO_DAY = 141,   /* the folder has no day, or a damaged one; a text says what is wrong */
     PIC_INSIDE = 142,   /* what is salvaged cannot go into the folder that it is salvaged from */
 };
@@ -39,6 +39,7 @@ struct pic_day {
     uint64_t records; /* how many records these have */
     bool open;        /* there is a trace that is not listed yet */
     bool made;        /* the folder was made for this day */
+    bool ours;        /* what stands in the place of the next trace is the day's own */
     int failed;       /* why the day did not begin, or 0 */
     int error;        /* errno of that */
 };
@@ -57,7 +58,8 @@ int pic_day_next(struct pic_day *day);
  * may be called again. */
 int pic_day_end(struct pic_day *day);
 
-/* Adds a trace that is there already as it is, in place of recorded calls: it plays on what the ones before leave. times has eight bytes for each record, or is NULL. */
+/* Adds a trace that is there already as it is, in place of recorded calls: it plays on what the ones before leave. times has eight bytes for each record, or is NULL.
+ * Where it fails nothing of it stays. */
 int pic_day_add(struct pic_day *day, const uint8_t *trace, size_t len, const uint8_t *times);
 
 /* Closes the list of a day that goes no further, without a word that it was ended. */

@@ -86,13 +86,11 @@ static int add(struct pic_day_kept *kept, const uint8_t *times)
 {
     uint64_t records = kept->day.records;
     char path[PIC_DAY_PATH];
-    if (kept->holes.count > 0) {
-        int number = pic_day_name(kept->day.folder, kept->day.traces + 1, path) ? pic_holes_save(path, &kept->last, &kept->holes) : PIC_FILE;
-        if (number != PCH_PIC_DONE) {
-            return number;
-        }
+    int number = pic_day_place(&kept->day, path);
+    if (number == PCH_PIC_DONE && kept->holes.count > 0) {
+        number = pic_holes_save(path, &kept->last, &kept->holes);
     }
-    int number = pic_day_add(&kept->day, kept->last.trace, kept->last.len, times);
+    number = number == PCH_PIC_DONE ? pic_day_put(&kept->day, path, kept->last.trace, kept->last.len, times) : number;
     kept->before = number == PCH_PIC_DONE ? records : kept->before;
     return number;
 }

@@ -1014,6 +1014,57 @@ static void without_a_beginning(void)
     expect("nor does a day without a plan", pic_day_begin(&day, another, 4001) == PIC_PLAN && pic_recorder_raise(&day.recorder, 1) == PIC_PLAN && pic_day_end(&day) == PIC_PLAN);
 }
 
+static void take_file_away(const char *folder, const char *name)
+{
+    char path[2 * PATH_LEN];
+    snprintf(path, sizeof path, "%s/%s", folder, name);
+    expect("a file is taken away", unlink(path) == 0);
+}
+
+static bool has_link(const char *folder, const char *name)
+{
+    char path[2 * PATH_LEN];
+    struct stat found;
+    snprintf(path, sizeof path, "%s/%s", folder, name);
+    return lstat(path, &found) == 0 && S_ISLNK(found.st_mode);
+}
+
+/* What comes into the place of a day's next trace is never replaced nor taken away, and where it is gone the day goes on. */
+static void in_the_way(size_t block)
+{
+    static const char *const names[] = {"00002.trace", "00002.trace.times"};
+    static const uint8_t trace[PCH_PIC_TRACE_MAX] = {1, 0, 6, 0, 1, 0, PCH_PIC_RAISE};
+    char before[PIC_DIGEST_LEN + 1], after[PIC_DIGEST_LEN + 1], link[PATH_LEN + 32];
+    clear(another);
+    memset(seen, 0, sizeof *seen);
+    expect("a day with others around", pic_day_begin(&day, another, block) == PCH_PIC_DONE && pic_recorder_clock(&day.recorder, by_taken, NULL) == PCH_PIC_DONE);
+    expect("has a trace", take() == PCH_PIC_DONE && pic_day_next(&day) == PCH_PIC_DONE);
+    for (size_t i = 0; i < 2; i++) {
+        put_file(another, names[i], "mine\n");
+        folder_digest(another, before);
+        expect("takes no record over a file", take() == PIC_OCCUPIED && take() == PIC_OCCUPIED);
+        expect("nor a trace", pic_day_add(&day, trace, 6 + PCH_PIC_RECORD_LEN, NULL) == PIC_OCCUPIED);
+        folder_digest(another, after);
+        expect("which stays as it is", strcmp(before, after) == 0);
+        take_file_away(another, names[i]);
+    }
+    snprintf(link, sizeof link, "%s/00002.trace", another);
+    expect("nor over a link", symlink("no such file", link) == 0 && take() == PIC_OCCUPIED && has_link(another, "00002.trace"));
+    take_file_away(another, "00002.trace");
+    expect("and goes on then", take() == PCH_PIC_DONE);
+    if (block == 0) {
+        put_file(another, "00002.trace", "mine\n");
+        expect("a trace in memory is not written over a file", pic_day_next(&day) == PIC_OCCUPIED && pic_day_end(&day) == PIC_OCCUPIED);
+        take_file_away(another, "00002.trace");
+    }
+    expect("to its end", pic_day_end(&day) == PCH_PIC_DONE && is_the_beginning(another, 2, 2));
+    clear(another);
+    expect("a day that is taken away", pic_day_begin(&day, another, block) == PCH_PIC_DONE);
+    put_file(another, "00001.trace", "mine\n");
+    pic_day_undo(&day);
+    take_file_away(another, "00001.trace");
+}
+
 int main(int argc, char **argv)
 {
     unsigned long interrupts = argc == 4 ? strtoul(argv[2], NULL, 10) : 5000, kills = argc == 4 ? strtoul(argv[3], NULL, 10) : 200;
@@ -1041,6 +1092,8 @@ int main(int argc, char **argv)
     salvaged_days();
     beginnings();
     without_a_beginning();
+    in_the_way(0);
+    in_the_way(BLOCK);
     clear(damaged);
     clear(another);
     printf("%d passed, %d failed\n", passed, failed);
