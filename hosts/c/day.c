@@ -697,7 +697,7 @@ static void salvage(const char *name, const char *file, bool all)
 /* What is kept of a damaged day, in records of the whole day. */
 static void print_day(const struct pic_day_kept *kept, const char *to)
 {
-    char name[PIC_DAY_PATH];
+    size_t len = strlen(to);
     const struct pic_day *day = &kept->day;
     const char *traces = day->traces == 1 ? "trace" : "traces";
     if (kept->untimed > 0) {
@@ -715,8 +715,10 @@ static void print_day(const struct pic_day_kept *kept, const char *to)
     print_hole(&hole, true);
     printf("kept %" PRIu64 " of %" PRIu64 "%s records in %u %s, those before the hole: they are the day's, exactly\n", day->records, day->records + lost,
            kept->more ? " or more" : "", day->traces, traces);
-    pic_day_name(to, day->traces, name);
-    printf("%s.holes says what is missing\n", name);
+    while (len > 1 && to[len - 1] == '/') {
+        len--;
+    }
+    printf("%.*s/%05u.trace.holes says what is missing\n", (int)len, to, day->traces);
 }
 
 static void salvage_day(const char *folder, const char *to, bool all)
@@ -734,7 +736,7 @@ static void salvage_day(const char *folder, const char *to, bool all)
     if (number != PCH_PIC_DONE) {
         fail(to, pic_day_why(number));
     }
-    print_day(&kept, kept.day.folder);
+    print_day(&kept, to);
     written();
 }
 

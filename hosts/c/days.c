@@ -1,12 +1,13 @@
 /* A day is recorded into a folder: the recorder asks for more where its trace is full, and gets the next one. A line of the list is written only when its trace is on the disk,
  * so that what is listed is there; what is there and not listed is the trace that was open. */
-#define _POSIX_C_SOURCE 200809L
+#define _XOPEN_SOURCE 700
 #include "days_list.h"
 
 #include <dirent.h>
 #include <errno.h>
 #include <fcntl.h>
 #include <inttypes.h>
+#include <stdlib.h>
 #include <string.h>
 #include <sys/stat.h>
 #include <unistd.h>
@@ -82,15 +83,30 @@ static int append(const struct pic_day *day, const char *text)
     return PIC_FILE;
 }
 
+/* The folder's name from the root on, so that the day stays in it wherever the process goes. */
+static bool whole_name(char folder[PIC_DAY_PATH])
+{
+    char *whole = realpath(folder, NULL);
+    size_t len = whole != NULL ? strlen(whole) : 0;
+    bool fits = whole != NULL && len < PIC_DAY_PATH;
+    if (fits) {
+        memcpy(folder, whole, len + 1);
+    } else if (whole != NULL) {
+        errno = ENAMETOOLONG;
+    }
+    free(whole);
+    return fits;
+}
+
 /* The folder and its list. Who else begins a day there at the same time finds the list. */
 static int make_list(struct pic_day *day)
 {
     char list[PIC_DAY_PATH], parent[PIC_DAY_PATH];
-    if (!name_in(day->folder, "day.list", list) || !name_in(day->folder, "..", parent)) {
-        return PIC_FILE;
-    }
     day->made = mkdir(day->folder, 0777) == 0;
     if (!day->made && errno != EEXIST) {
+        return PIC_FILE;
+    }
+    if (!whole_name(day->folder) || !name_in(day->folder, "day.list", list) || !name_in(day->folder, "..", parent)) {
         return PIC_FILE;
     }
     int number = vacant(day->folder);
@@ -312,7 +328,8 @@ int pic_day_end(struct pic_day *day)
 int pic_day_add(struct pic_day *day, const uint8_t *trace, size_t len, const uint8_t *times)
 {
     char path[PIC_DAY_PATH];
-    int number = pic_trace_test(trace, len, NULL);
+    bool over = day->failed == PCH_PIC_DONE && day->list == NO_FILE;
+    int number = over ? PIC_DAY_OVER : pic_trace_test(trace, len, NULL);
     number = number == PCH_PIC_DONE ? end_trace(day) : number;
     if (number != PCH_PIC_DONE || day->traces == PIC_DAY_TRACES_MAX) {
         return number != PCH_PIC_DONE ? number : PIC_FULL;
@@ -363,6 +380,7 @@ const char *pic_day_why(int number)
     case PIC_OCCUPIED: return "there is something in the folder already, and a day is never written over";
     case PIC_NO_DAY: return "the folder has no day, or a damaged one";
     case PIC_INSIDE: return "it is the folder that is read, or inside it";
+    case PIC_DAY_OVER: return "the day was ended, and takes no more";
     default: return pic_holes_why(number);
     }
 }

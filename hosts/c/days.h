@@ -20,6 +20,7 @@ enum {
     PIC_OCCUPIED = 140, /* the folder has something in it, or something came into the place of the next trace: nothing is ever written over */
     PIC_NO_DAY = 141,   /* the folder has no day, or a damaged one; a text says what is wrong */
     PIC_INSIDE = 142,   /* what is salvaged cannot go into the folder that it is salvaged from */
+    PIC_DAY_OVER = 143, /* the day was ended, and takes no more */
 };
 
 enum {
@@ -33,7 +34,7 @@ enum {
  * and a clock before the first of them by pic_recorder_clock. Where its trace is full it goes on with the next one by itself. */
 struct pic_day {
     struct pic_recorder recorder;
-    char folder[PIC_DAY_PATH];
+    char folder[PIC_DAY_PATH]; /* from the root on */
     int list;         /* the list, open for more lines; or -1 */
     unsigned traces;  /* how many are listed */
     uint64_t records; /* how many records these have */
@@ -59,7 +60,7 @@ int pic_day_next(struct pic_day *day);
 int pic_day_end(struct pic_day *day);
 
 /* Adds a trace that is there already as it is, in place of recorded calls: it plays on what the ones before leave. times has eight bytes for each record, or is NULL.
- * Where it fails nothing of it stays. */
+ * Where it fails nothing of it stays; behind pic_day_end it is PIC_DAY_OVER. */
 int pic_day_add(struct pic_day *day, const uint8_t *trace, size_t len, const uint8_t *times);
 
 /* Closes the list of a day that goes no further, without a word that it was ended. */

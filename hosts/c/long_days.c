@@ -985,10 +985,10 @@ static void beginnings(void)
     expect("has a clock from the start or never", pic_recorder_clock(&day.recorder, by_taken, NULL) == PIC_STARTED);
     pic_day_undo(&day);
     expect("stays, empty again", stat(another, &there) == 0 && rmdir(another) == 0);
-    for (int number = PIC_OCCUPIED; number <= PIC_INSIDE; number++) {
+    for (int number = PIC_OCCUPIED; number <= PIC_DAY_OVER; number++) {
         expect("each number has its text", strcmp(pic_day_why(number), "unknown number") != 0);
     }
-    expect("and so have others", strcmp(pic_day_why(PIC_NO_LIST), pic_holes_why(PIC_NO_LIST)) == 0 && strcmp(pic_day_why(PIC_INSIDE + 1), "unknown number") == 0);
+    expect("and so have others", strcmp(pic_day_why(PIC_NO_LIST), pic_holes_why(PIC_NO_LIST)) == 0 && strcmp(pic_day_why(PIC_DAY_OVER + 1), "unknown number") == 0);
 }
 
 /* A day that did not begin records nothing, and whoever asks is told why. */
@@ -1058,11 +1058,28 @@ static void in_the_way(size_t block)
         take_file_away(another, "00002.trace");
     }
     expect("to its end", pic_day_end(&day) == PCH_PIC_DONE && is_the_beginning(another, 2, 2));
+    expect("behind which it takes nothing", pic_day_add(&day, trace, 6 + PCH_PIC_RECORD_LEN, NULL) == PIC_DAY_OVER && take() == PIC_FULL && is_the_beginning(another, 2, 2));
     clear(another);
     expect("a day that is taken away", pic_day_begin(&day, another, block) == PCH_PIC_DONE);
     put_file(another, "00001.trace", "mine\n");
     pic_day_undo(&day);
     take_file_away(another, "00001.trace");
+}
+
+/* A day whose folder has a relative name stays in it where the process goes elsewhere. */
+static void elsewhere(size_t block)
+{
+    struct stat there;
+    char here[PATH_LEN];
+    clear(another);
+    memset(seen, 0, sizeof *seen);
+    expect("a relative name", getcwd(here, sizeof here) != NULL && chdir(base_folder) == 0 && pic_day_begin(&day, "another//", block) == PCH_PIC_DONE && take() == PCH_PIC_DONE);
+    expect("and another folder", chdir("/") == 0 && pic_day_next(&day) == PCH_PIC_DONE && take() == PCH_PIC_DONE && pic_day_end(&day) == PCH_PIC_DONE);
+    expect("are one day", chdir(here) == 0 && is_the_beginning(another, 2, 2));
+    clear(another);
+    expect("which is taken away from there too", chdir(base_folder) == 0 && pic_day_begin(&day, "another", block) == PCH_PIC_DONE && chdir("/") == 0);
+    pic_day_undo(&day);
+    expect("with its folder", chdir(here) == 0 && stat(another, &there) != 0);
 }
 
 int main(int argc, char **argv)
@@ -1094,6 +1111,8 @@ int main(int argc, char **argv)
     without_a_beginning();
     in_the_way(0);
     in_the_way(BLOCK);
+    elsewhere(0);
+    elsewhere(BLOCK);
     clear(damaged);
     clear(another);
     printf("%d passed, %d failed\n", passed, failed);
