@@ -85,7 +85,7 @@ struct pic_day_read {
     char text[PIC_DAY_TEXT];          /* after PIC_NO_DAY: what is wrong, in a line */
 };
 
-/* Opens a day and tests all of it: each trace is there, is the one that is listed, and is good; there are no others; and times are as many as records. 0, PIC_FILE or
+/* Opens a day and tests all of it: each trace is there, is the one that is listed, and is good; there are no others; and times are as many as records, and do not go back. 0, PIC_FILE or
  * PIC_NO_DAY; where it fails nothing stays open. */
 int pic_day_open(struct pic_day_read *day, const char *folder);
 

@@ -852,6 +852,14 @@ static void damaged_beside(void)
     refused("00002.trace.times: it has 2392 bytes, and the times of 300 records are 2400", 900);
     expect("whose times are left out", kept.untimed == 1);
     make_day(damaged, 0);
+    copy_file(damaged, "00001.trace.times", damaged, "00003.trace.times");
+    refused("00003.trace.times: its clock goes back at record 600, where the trace begins", 900);
+    expect("whose third trace has none then", kept.untimed == 1);
+    make_day(damaged, 0);
+    damage(damaged, "00002.trace.times", 0, 8 * 5 + 7);
+    refused("00002.trace.times: its clock goes back at record 6", 900);
+    expect("whose second has none then", kept.untimed == 1);
+    make_day(damaged, 0);
     put_file(damaged, "00003.trace.holes", "mine\n");
     refused("00003.trace.holes: it is no list of holes", 600);
 }
