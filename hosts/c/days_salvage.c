@@ -45,16 +45,33 @@ static bool inside(const char *path, const struct stat *folder)
     return false;
 }
 
-/* Whether so many times go on from those before. Lost power may leave zeros in the place of times, and in a trace that was open none is taken for a time. */
+/* How many of the first records of the trace that was read stand in blocks that are full. Those are on the disk, with their times. */
+static size_t in_full_blocks(const uint8_t *trace, size_t records)
+{
+    size_t full = 0;
+    const uint8_t *entry = trace + PCH_PIC_TRACE_ENTRIES, *end = entry + PCH_PIC_BLOCK_LEN * (trace[PCH_PIC_TRACE_BLOCKS] | (size_t)trace[PCH_PIC_TRACE_BLOCKS + 1] << 8);
+    for (; entry < end; entry += PCH_PIC_BLOCK_LEN) {
+        size_t here = entry[PCH_PIC_BLOCK_RECORDS] | (size_t)entry[PCH_PIC_BLOCK_RECORDS + 1] << 8;
+        if (full + here > records) {
+            break;
+        }
+        full += here;
+    }
+    return full;
+}
+
+/* Whether so many times go on from those before. Lost power may leave zeros in the place of times, so in the open block of a trace none is taken for a time; before that
+ * a clock may begin with one. */
 static bool times_go_on(struct pic_day_kept *kept, size_t records, bool open)
 {
     uint64_t last = kept->time;
+    size_t safe = open ? in_full_blocks(kept->trace, records) : records;
     for (size_t record = 0; record < records; record++) {
         uint64_t time = 0;
         for (size_t i = TIME_LEN; i > 0; i--) {
             time = time << 8 | kept->times[TIME_LEN * record + i - 1];
         }
-        if (time < last || (open && time == 0)) {
+        if (time < last || (record >= safe && time == 0)) {
             return false;
         }
         last = time;

@@ -937,6 +937,25 @@ static void torn_lists(void)
     expect("and its hole is told", kept.holes.count == 1 && kept.holes.of[0].at == 20 && kept.holes.of[0].last == 299 && kept.before == 600 && !kept.ended);
 }
 
+/* A clock that begins with 0 keeps its times, unless the block of that 0 was open: lost power leaves the same. */
+static void from_zero(unsigned records, unsigned untimed)
+{
+    char to[PATH_LEN], path[2 * PATH_LEN];
+    struct stat there;
+    in_folder("kept", to);
+    clear(to);
+    clear(damaged);
+    memset(seen, 0, sizeof *seen);
+    expect("a clock from 0", pic_day_begin(&day, damaged, BLOCK) == PCH_PIC_DONE && pic_recorder_clock(&day.recorder, by_calls, NULL) == PCH_PIC_DONE);
+    while (seen->taken < records && take() == PCH_PIC_DONE) {
+    }
+    pic_day_leave(&day);
+    expect("of a day that was not ended", pic_day_salvage(damaged, to, &kept) == PCH_PIC_DONE && kept.day.records == records && kept.untimed == untimed);
+    snprintf(path, sizeof path, "%s/00001.trace.times", to);
+    expect("is salvaged with it", stat(path, &there) == 0 ? untimed == 0 && there.st_size == TIME_LEN * (off_t)records : untimed == 1);
+    clear(to);
+}
+
 /* What a salvage leaves can be salvaged again, and a trace with a hole is the last. */
 static void salvaged_days(void)
 {
@@ -1114,6 +1133,9 @@ int main(int argc, char **argv)
     damaged_beside();
     damaged_lists();
     torn_lists();
+    from_zero(BLOCK - 1, 1);
+    from_zero(BLOCK, 0);
+    from_zero(2 * BLOCK + 1, 0);
     salvaged_days();
     beginnings();
     without_a_beginning();
