@@ -1,8 +1,9 @@
 /* What is left of a damaged day: all that comes before the first damage, as a day of its own. It is the day, exactly, as far as it goes. */
-#define _POSIX_C_SOURCE 200809L
+#define _XOPEN_SOURCE 700
 #include "days_list.h"
 
 #include <errno.h>
+#include <stdlib.h>
 #include <string.h>
 #include <sys/stat.h>
 
@@ -236,7 +237,9 @@ int pic_day_salvage(const char *folder, const char *to, struct pic_day_kept *kep
     if (number != PCH_PIC_DONE) {
         return number == PIC_FILE ? pic_day_wrong(kept->text, "%s", strerror(errno)) : number;
     }
-    number = stat(folder, &from) == 0 && inside(to, &from) ? PIC_INSIDE : pic_day_begin(&kept->day, to, 0);
+    char *whole = realpath(to, NULL); /* a link leads elsewhere than to the folder that it stands in */
+    number = stat(folder, &from) == 0 && inside(whole != NULL ? whole : to, &from) ? PIC_INSIDE : pic_day_begin(&kept->day, to, 0);
+    free(whole);
     if (number == PCH_PIC_DONE) {
         number = keep(kept, folder, list);
         int why = errno;

@@ -877,6 +877,16 @@ static void more_is_told(const char *text, const char *list)
     clear(to);
 }
 
+/* A day whose list has a zero at a place. */
+static void zero_in_list(long place)
+{
+    char path[2 * PATH_LEN];
+    make_day(damaged, 0);
+    snprintf(path, sizeof path, "%s/day.list", damaged);
+    int file = open(path, O_WRONLY);
+    expect("a zero in a list", file >= 0 && __real_pwrite(file, "", 1, place) == 1 && close(file) == 0);
+}
+
 /* The list, whose first line has 14 bytes, and each other one 75: the end's is shorter. */
 static void damaged_lists(void)
 {
@@ -911,6 +921,12 @@ static void damaged_lists(void)
     damage(damaged, "00002.trace", 6 + 16 * 20 + 3, -1);
     refused("00003.trace is not of this day: day.list ends with trace 1", 320);
     expect("more than the open trace had is missing", kept.more && !kept.ended && kept.holes.count == 1 && kept.holes.of[0].last == 299);
+    zero_in_list(14 + 75 + 20);
+    refused("day.list, line 3: it is not the line of trace 2, nor the right end of the list", 300);
+    zero_in_list(14 + 3 * 75 + 7);
+    refused("day.list, line 5: it is not the line of trace 4, nor the right end of the list", 900);
+    zero_in_list(14 + 75 - 1);
+    refused("day.list, line 2: it is not the line of trace 1, nor the right end of the list", 0);
     make_day(damaged, 0);
     damage(damaged, "day.list", 14, -1);
     move_file(damaged, "00003.trace", "a");
@@ -967,6 +983,11 @@ static void salvaged_days(void)
     clear(again);
     make_day(damaged, 0);
     expect("nothing is salvaged into itself", pic_day_salvage(damaged, damaged, &kept) == PIC_INSIDE && pic_day_salvage(damaged, inside, &kept) == PIC_INSIDE);
+    mkdir(inside, 0777);
+    in_folder("link", again);
+    expect("nor by a link into it", symlink("damaged/in", again) == 0 && pic_day_salvage(damaged, again, &kept) == PIC_INSIDE);
+    expect("which is taken away", unlink(again) == 0 && rmdir(inside) == 0);
+    in_folder("again", again);
     expect("nor over another day", pic_day_salvage(damaged, another, &kept) == PIC_OCCUPIED);
     expect("a good day is salvaged whole", pic_day_salvage(damaged, to, &kept) == PCH_PIC_DONE && kept.ended && kept.holes.count == 0 && is_the_beginning(to, 900, 900));
     char one[PIC_DIGEST_LEN + 1], two[PIC_DIGEST_LEN + 1];
