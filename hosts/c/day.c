@@ -476,6 +476,14 @@ static size_t print_holes(const struct pic_holes *holes, size_t from, uint64_t r
     return from;
 }
 
+/* A day whose list has no end, with all that its recorder left; where a hole is told, that says it. */
+static void print_not_ended(const struct source *source)
+{
+    if (source->folder && !reading.ended && source->last.count == 0) {
+        printf("the day was not ended: its recorder stopped without a word, and the open block may be lost; what is here is the day as far as it goes\n");
+    }
+}
+
 /* All of standard output is written, or it is told. */
 static void written(void)
 {
@@ -503,6 +511,7 @@ static void play(char **names, unsigned count)
         progress("playing", source.at, source.count);
     }
     print_holes(&source.last, hole, source.before + source.records, source.before + source.records);
+    print_not_ended(&source);
     printf("%7s  %-30s  drops %lu\n", "end", "", drops_of(played.image, sizeof played.image));
     written();
 }
@@ -579,6 +588,7 @@ static void sheet(char **names, unsigned count)
     if (source.last.count > 0 && source.last.of[0].at < sheet.records) {
         printf("NOT THE DAY'S: these numbers go over a hole; only what comes before record %zu is the day's\n", source.last.of[0].at);
     }
+    print_not_ended(&source);
     written();
 }
 
