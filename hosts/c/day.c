@@ -458,12 +458,19 @@ static void play_next(const struct source *source)
     taken(name_of(source), source->len, number, bad);
 }
 
+/* Whether perhaps nothing is missing there. */
+static bool at_most(const struct pic_hole *hole)
+{
+    return strncmp(hole->why, PIC_DAY_AT_MOST, strlen(PIC_DAY_AT_MOST)) == 0;
+}
+
 /* A hole, and what it means for what comes behind it. */
 static void print_hole(const struct pic_hole *hole, bool last)
 {
     char text[2 * PIC_TEXT_LEN];
+    const char *end = at_most(hole) ? "the trace ends there" : "the trace ends there, and the day went on";
     pic_hole_text(hole, text);
-    printf("hole %s; %s\n", text, last ? "the trace ends there, and the day went on" : "what follows is not the day's");
+    printf("hole %s; %s\n", text, last ? end : "what follows is not the day's");
 }
 
 /* The holes that stand before a record, from the first that was not printed yet. */
@@ -723,7 +730,7 @@ static void print_day(const struct pic_day_kept *kept, const char *to)
     hole.first += kept->before;
     hole.last += kept->before;
     print_hole(&hole, true);
-    printf("kept %" PRIu64 " of %" PRIu64 "%s records in %u %s, those before the hole: they are the day's, exactly\n", day->records, day->records + lost,
+    printf("kept %" PRIu64 " of %s%" PRIu64 "%s records in %u %s, those before the hole: they are the day's, exactly\n", day->records, at_most(&hole) ? "at most " : "", day->records + lost,
            kept->more ? " or more" : "", day->traces, traces);
     while (len > 1 && to[len - 1] == '/') {
         len--;

@@ -99,6 +99,9 @@ void pic_day_close(struct pic_day_read *day);
 /* The name of a trace of a day, by its number. */
 bool pic_day_name(const char *folder, unsigned number, char name[PIC_DAY_PATH]);
 
+/* A hole whose text begins so is that of a day that was not ended: no more than these records are missing, and perhaps none. */
+#define PIC_DAY_AT_MOST "at most: "
+
 /* What was kept of a damaged day; 270 KB, so not for a stack. */
 struct pic_day_kept {
     struct pic_day day;               /* where it goes to: how many traces and records it has */

@@ -113,6 +113,23 @@ static int add(struct pic_day_kept *kept, const uint8_t *times)
     return number;
 }
 
+/* A planned trace has zeros for all that was not taken. Where the open one has nothing else from its first bad record on, nothing shows that the day went on: at most the
+ * block of that record was lost with the power. */
+static void only_the_open_block(const uint8_t *trace, size_t len, struct pic_hole *hole)
+{
+    size_t from = len - PCH_PIC_RECORD_LEN * (pic_trace_records(trace) - hole->first), end = hole->first + 1;
+    while (from < len && trace[from] == 0) {
+        from++;
+    }
+    while (in_full_blocks(trace, end) <= hole->first) {
+        end++;
+    }
+    if (from == len) {
+        hole->last = end - 1;
+        snprintf(hole->why, sizeof hole->why, "%s", PIC_DAY_AT_MOST "the day was not ended, and lost power takes the open block");
+    }
+}
+
 /* Of a trace what comes before its first hole, known or found; nothing is added where there is nothing. */
 static int add_lead(struct pic_day_kept *kept, const char *folder, unsigned number, size_t len, bool open)
 {
@@ -124,11 +141,16 @@ static int add_lead(struct pic_day_kept *kept, const char *folder, unsigned numb
         pic_day_wrong(kept->text, "%05u.trace.holes: %s", number, pic_holes_why(got));
         return PCH_PIC_DONE;
     }
-    got = pic_trace_lead(kept->trace, open ? pic_trace_fill(kept->trace, len) : len, &kept->last, &holes);
+    bool known_hole = holes.count > 0;
+    size_t filled = open ? pic_trace_fill(kept->trace, len) : len;
+    got = pic_trace_lead(kept->trace, filled, &kept->last, &holes);
     if (got != PCH_PIC_DONE) {
         bool known = got == PCH_PIC_TRACE && pic_trace_cause(kept->trace, len, cause);
         pic_day_wrong(kept->text, "%05u.trace has no whole record%s%s", number, known ? ": " : "", known ? cause : "");
         return PCH_PIC_DONE;
+    }
+    if (open && filled == len && holes.count > 0 && !known_hole && !kept->more) {
+        only_the_open_block(kept->trace, len, &holes.of[0]);
     }
     kept->holes = holes;
     if (holes.count > 0) {
@@ -165,7 +187,6 @@ static int add_listed(struct pic_day_kept *kept, const char *folder, FILE *list,
 /* A trace behind the open one: lines of the list are lost, and how many records the day had is not known. */
 static void more_behind(struct pic_day_kept *kept, const char *text, uint64_t *lost)
 {
-    kept->more = true;
     if (kept->text[0] == 0) {
         pic_day_wrong(kept->text, "%s", text);
     }
@@ -183,6 +204,7 @@ static int add_open(struct pic_day_kept *kept, const char *folder, uint64_t *los
     if (scanned == PIC_FILE) {
         return PIC_FILE;
     }
+    kept->more = scanned == PIC_NO_DAY;
     if (open && (!pic_day_name(folder, traces + 1, path) || pic_trace_load(path, kept->trace, &len) == PIC_FILE)) {
         pic_day_wrong(kept->text, "%05u.trace: %s", traces + 1, strerror(errno));
         *lost = 1;

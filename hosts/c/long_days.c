@@ -953,6 +953,33 @@ static void torn_lists(void)
     expect("and its hole is told", kept.holes.count == 1 && kept.holes.of[0].at == 20 && kept.holes.of[0].last == 299 && kept.before == 600 && !kept.ended);
 }
 
+/* A planned trace that was open: records that were never taken are not missing, and so at most its open block is. Where anything stands behind the zeros more is. */
+static void not_taken(unsigned records)
+{
+    char to[PATH_LEN], path[2 * PATH_LEN];
+    in_folder("kept", to);
+    for (int beyond = 0; beyond < 2; beyond++) {
+        clear(to);
+        clear(damaged);
+        memset(seen, 0, sizeof *seen);
+        expect("a day that was left", pic_day_begin(&day, damaged, BLOCK) == PCH_PIC_DONE);
+        while (seen->taken < records && take() == PCH_PIC_DONE) {
+        }
+        pic_day_leave(&day);
+        if (beyond == 1) {
+            damage(damaged, "00001.trace", 0, PCH_PIC_TRACE_ENTRIES + PCH_PIC_BLOCK_LEN * PCH_PIC_BLOCKS_MAX + PCH_PIC_RECORD_LEN * 255);
+        }
+        expect("keeps what was taken", pic_day_salvage(damaged, to, &kept) == PCH_PIC_DONE && is_the_beginning(to, records, records));
+        const struct pic_hole *hole = &kept.holes.of[0];
+        expect("with a hole", kept.holes.count == 1 && hole->at == records && hole->first == records && hole->last == (beyond == 1 ? 255 : records / BLOCK * BLOCK + BLOCK - 1));
+        expect("that says what it is", (strncmp(hole->why, PIC_DAY_AT_MOST, strlen(PIC_DAY_AT_MOST)) == 0) == (beyond == 0));
+        struct pic_holes loaded;
+        snprintf(path, sizeof path, "%s/00001.trace", to);
+        expect("also in its list", pic_holes_load(path, kept.last.trace, kept.last.len, &loaded) == PCH_PIC_DONE && strcmp(loaded.of[0].why, hole->why) == 0);
+    }
+    clear(to);
+}
+
 /* A clock that begins with 0 keeps its times, unless the block of that 0 was open: lost power leaves the same. */
 static void from_zero(unsigned records, unsigned untimed)
 {
@@ -1154,6 +1181,9 @@ int main(int argc, char **argv)
     damaged_beside();
     damaged_lists();
     torn_lists();
+    not_taken(10);
+    not_taken(2 * BLOCK);
+    not_taken(254);
     from_zero(BLOCK - 1, 1);
     from_zero(BLOCK, 0);
     from_zero(2 * BLOCK + 1, 0);
