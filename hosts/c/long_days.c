@@ -877,14 +877,14 @@ static void more_is_told(const char *text, const char *list)
     clear(to);
 }
 
-/* A day whose list has a zero at a place. */
-static void zero_in_list(long place)
+/* A day whose list has a zero at a place, and with a length of 2 the end of a line behind it. */
+static void zero_in_list(long place, size_t len)
 {
     char path[2 * PATH_LEN];
     make_day(damaged, 0);
     snprintf(path, sizeof path, "%s/day.list", damaged);
     int file = open(path, O_WRONLY);
-    expect("a zero in a list", file >= 0 && __real_pwrite(file, "", 1, place) == 1 && close(file) == 0);
+    expect("a zero in a list", file >= 0 && __real_pwrite(file, "\0\n", len, place) == (ssize_t)len && close(file) == 0);
 }
 
 /* The list, whose first line has 14 bytes, and each other one 75: the end's is shorter. */
@@ -921,18 +921,25 @@ static void damaged_lists(void)
     damage(damaged, "00002.trace", 6 + 16 * 20 + 3, -1);
     refused("00003.trace is not of this day: day.list ends with trace 1", 320);
     expect("more than the open trace had is missing", kept.more && !kept.ended && kept.holes.count == 1 && kept.holes.of[0].last == 299);
-    zero_in_list(14 + 75 + 20);
-    refused("day.list, line 3: it is not the line of trace 2, nor the right end of the list", 300);
-    zero_in_list(14 + 3 * 75 + 7);
-    refused("day.list, line 5: it is not the line of trace 4, nor the right end of the list", 900);
-    zero_in_list(14 + 75 - 1);
-    refused("day.list, line 2: it is not the line of trace 1, nor the right end of the list", 0);
     make_day(damaged, 0);
     damage(damaged, "day.list", 14, -1);
     move_file(damaged, "00003.trace", "a");
     move_file(damaged, "00002.trace", "b");
     move_file(damaged, "00001.trace", "c");
     refused("there is no trace in it yet", 0);
+}
+
+/* In a trace's line, in the end's and behind it, and in the place of a line's end. */
+static void zeros_in_lists(void)
+{
+    zero_in_list(14 + 75 + 20, 1);
+    refused("day.list, line 3: it is not the line of trace 2, nor the right end of the list", 300);
+    zero_in_list(14 + 3 * 75 + 7, 1);
+    refused("day.list, line 5: it is not the line of trace 4, nor the right end of the list", 900);
+    zero_in_list(14 + 3 * 75 + 9, 2);
+    refused("day.list, line 5: it is not the line of trace 4, nor the right end of the list", 900);
+    zero_in_list(14 + 75 - 1, 1);
+    refused("day.list, line 2: it is not the line of trace 1, nor the right end of the list", 0);
 }
 
 /* A line in part is none: the last trace is the open one then, and good as it stands. */
@@ -1180,6 +1187,7 @@ int main(int argc, char **argv)
     damaged_traces();
     damaged_beside();
     damaged_lists();
+    zeros_in_lists();
     torn_lists();
     not_taken(10);
     not_taken(2 * BLOCK);
