@@ -193,10 +193,28 @@ static void more_behind(struct pic_day_kept *kept, const char *text, uint64_t *l
     *lost = *lost == 0 ? 1 : *lost;
 }
 
+/* How many records are missing of an open trace of which none is kept; where it has only zeros that is told as of any other. */
+static uint64_t lost_of_open(struct pic_day_kept *kept, size_t len)
+{
+    char cause[PIC_TEXT_LEN];
+    size_t filled = pic_trace_fill(kept->trace, len);
+    if (pic_trace_cause(kept->trace, filled, cause)) {
+        return 1;
+    }
+    struct pic_hole hole = {0, 0, pic_trace_records(kept->trace) - 1, ""};
+    if (filled == len && !kept->more && kept->day.traces > 0) {
+        only_the_open_block(kept->trace, len, &hole);
+    }
+    if (hole.why[0] != 0) {
+        pic_day_wrong(kept->text, "%s", hole.why);
+    }
+    return hole.last + 1;
+}
+
 /* The trace that was open when a day was not ended. Where something before it is damaged already, its records are lost. */
 static int add_open(struct pic_day_kept *kept, const char *folder, uint64_t *lost)
 {
-    char path[PIC_DAY_PATH], cause[PIC_TEXT_LEN], text[PIC_DAY_TEXT];
+    char path[PIC_DAY_PATH], text[PIC_DAY_TEXT];
     bool open = false;
     size_t len = 0;
     unsigned traces = kept->day.traces;
@@ -211,7 +229,7 @@ static int add_open(struct pic_day_kept *kept, const char *folder, uint64_t *los
     } else if (open) {
         number = add_lead(kept, folder, traces + 1, len, true);
         if (number == PCH_PIC_DONE && kept->text[0] != 0 && kept->holes.count == 0) {
-            *lost = pic_trace_cause(kept->trace, pic_trace_fill(kept->trace, len), cause) ? 1 : pic_trace_records(kept->trace);
+            *lost = lost_of_open(kept, len);
         }
     }
     if (number == PCH_PIC_DONE && scanned == PIC_NO_DAY) {

@@ -987,6 +987,26 @@ static void not_taken(unsigned records)
     clear(to);
 }
 
+/* The same of a trace that was begun, and got no record. */
+static void none_taken(void)
+{
+    char to[PATH_LEN];
+    in_folder("kept", to);
+    clear(to);
+    clear(damaged);
+    memset(seen, 0, sizeof *seen);
+    expect("a day of full traces", pic_day_begin(&day, damaged, BLOCK) == PCH_PIC_DONE);
+    while (seen->taken < BLOCK * PCH_PIC_BLOCKS_MAX && take() == PCH_PIC_DONE) {
+    }
+    expect("whose next has begun", day.recorder.more(day.recorder.more_of) == PCH_PIC_DONE && day.traces == 1 && day.open);
+    pic_day_leave(&day);
+    expect("keeps what was taken", pic_day_salvage(damaged, to, &kept) == PCH_PIC_DONE && is_the_beginning(to, seen->taken, seen->taken));
+    const struct pic_hole *hole = &kept.holes.of[0];
+    expect("with an open block behind it", kept.holes.count == 1 && hole->at == seen->taken && hole->last == seen->taken + BLOCK - 1 && !kept.more);
+    expect("that says what it is", strncmp(hole->why, PIC_DAY_AT_MOST, strlen(PIC_DAY_AT_MOST)) == 0);
+    clear(to);
+}
+
 /* A clock that begins with 0 keeps its times, unless the block of that 0 was open: lost power leaves the same. */
 static void from_zero(unsigned records, unsigned untimed)
 {
@@ -1192,6 +1212,7 @@ int main(int argc, char **argv)
     not_taken(10);
     not_taken(2 * BLOCK);
     not_taken(254);
+    none_taken();
     from_zero(BLOCK - 1, 1);
     from_zero(BLOCK, 0);
     from_zero(2 * BLOCK + 1, 0);
