@@ -458,12 +458,19 @@ static void play_next(const struct source *source)
     taken(name_of(source), source->len, number, bad);
 }
 
+/* Whether perhaps nothing is missing there. */
+static bool at_most(const struct pic_hole *hole)
+{
+    return strncmp(hole->why, PIC_DAY_AT_MOST, strlen(PIC_DAY_AT_MOST)) == 0;
+}
+
 /* A hole, and what it means for what comes behind it. */
 static void print_hole(const struct pic_hole *hole, bool last)
 {
     char text[2 * PIC_TEXT_LEN];
+    const char *end = at_most(hole) ? "the trace ends there" : "the trace ends there, and the day went on";
     pic_hole_text(hole, text);
-    printf("hole %s; %s\n", text, last ? "the trace ends there, and the day went on" : "what follows is not the day's");
+    printf("hole %s; %s\n", text, last ? end : "what follows is not the day's");
 }
 
 /* The holes that stand before a record, from the first that was not printed yet. */
@@ -474,6 +481,14 @@ static size_t print_holes(const struct pic_holes *holes, size_t from, uint64_t r
         from++;
     }
     return from;
+}
+
+/* A day whose list has no end, with all that its recorder left; where a hole is told, that says it. */
+static void print_not_ended(const struct source *source)
+{
+    if (source->folder && !reading.ended && source->last.count == 0) {
+        printf("the day was not ended: its recorder stopped without a word, and the open block may be lost; what is here is the day as far as it goes\n");
+    }
 }
 
 /* All of standard output is written, or it is told. */
@@ -503,6 +518,7 @@ static void play(char **names, unsigned count)
         progress("playing", source.at, source.count);
     }
     print_holes(&source.last, hole, source.before + source.records, source.before + source.records);
+    print_not_ended(&source);
     printf("%7s  %-30s  drops %lu\n", "end", "", drops_of(played.image, sizeof played.image));
     written();
 }
@@ -579,6 +595,7 @@ static void sheet(char **names, unsigned count)
     if (source.last.count > 0 && source.last.of[0].at < sheet.records) {
         printf("NOT THE DAY'S: these numbers go over a hole; only what comes before record %zu is the day's\n", source.last.of[0].at);
     }
+    print_not_ended(&source);
     written();
 }
 
@@ -697,7 +714,7 @@ static void salvage(const char *name, const char *file, bool all)
 /* What is kept of a damaged day, in records of the whole day. */
 static void print_day(const struct pic_day_kept *kept, const char *to)
 {
-    char name[PIC_DAY_PATH];
+    size_t len = strlen(to);
     const struct pic_day *day = &kept->day;
     const char *traces = day->traces == 1 ? "trace" : "traces";
     if (kept->untimed > 0) {
@@ -713,10 +730,12 @@ static void print_day(const struct pic_day_kept *kept, const char *to)
     hole.first += kept->before;
     hole.last += kept->before;
     print_hole(&hole, true);
-    printf("kept %" PRIu64 " of %" PRIu64 "%s records in %u %s, those before the hole: they are the day's, exactly\n", day->records, day->records + lost,
+    printf("kept %" PRIu64 " of %s%" PRIu64 "%s records in %u %s, those before the hole: they are the day's, exactly\n", day->records, at_most(&hole) ? "at most " : "", day->records + lost,
            kept->more ? " or more" : "", day->traces, traces);
-    pic_day_name(to, day->traces, name);
-    printf("%s.holes says what is missing\n", name);
+    while (len > 1 && to[len - 1] == '/') {
+        len--;
+    }
+    printf("%.*s/%05u.trace.holes says what is missing\n", (int)len, to, day->traces);
 }
 
 static void salvage_day(const char *folder, const char *to, bool all)
@@ -734,7 +753,7 @@ static void salvage_day(const char *folder, const char *to, bool all)
     if (number != PCH_PIC_DONE) {
         fail(to, pic_day_why(number));
     }
-    print_day(&kept, kept.day.folder);
+    print_day(&kept, to);
     written();
 }
 

@@ -1,17 +1,21 @@
 /* A day is recorded into a folder: the recorder asks for more where its trace is full, and gets the next one. A line of the list is written only when its trace is on the disk,
  * so that what is listed is there; what is there and not listed is the trace that was open. */
-#define _POSIX_C_SOURCE 200809L
-#include "days.h"
+#define _XOPEN_SOURCE 700
+#include "days_list.h"
 
 #include <dirent.h>
 #include <errno.h>
 #include <fcntl.h>
 #include <inttypes.h>
+#include <stdlib.h>
 #include <string.h>
 #include <sys/stat.h>
 #include <unistd.h>
 
-enum { NO_FILE = -1, TIME_LEN = 8 };
+enum { NO_FILE = -1, TIME_LEN = 8, BESIDE = 3 };
+
+/* A trace, and what stands beside it. */
+static const char *const beside[BESIDE] = {"", ".times", ".holes"};
 
 static bool name_in(const char *folder, const char *file, char name[PIC_DAY_PATH])
 {
@@ -79,15 +83,30 @@ static int append(const struct pic_day *day, const char *text)
     return PIC_FILE;
 }
 
+/* The folder's name from the root on, so that the day stays in it wherever the process goes. */
+static bool whole_name(char folder[PIC_DAY_PATH])
+{
+    char *whole = realpath(folder, NULL);
+    size_t len = whole != NULL ? strlen(whole) : 0;
+    bool fits = whole != NULL && len < PIC_DAY_PATH;
+    if (fits) {
+        memcpy(folder, whole, len + 1);
+    } else if (whole != NULL) {
+        errno = ENAMETOOLONG;
+    }
+    free(whole);
+    return fits;
+}
+
 /* The folder and its list. Who else begins a day there at the same time finds the list. */
 static int make_list(struct pic_day *day)
 {
     char list[PIC_DAY_PATH], parent[PIC_DAY_PATH];
-    if (!name_in(day->folder, "day.list", list) || !name_in(day->folder, "..", parent)) {
-        return PIC_FILE;
-    }
     day->made = mkdir(day->folder, 0777) == 0;
     if (!day->made && errno != EEXIST) {
+        return PIC_FILE;
+    }
+    if (!whole_name(day->folder) || !name_in(day->folder, "day.list", list) || !name_in(day->folder, "..", parent)) {
         return PIC_FILE;
     }
     int number = vacant(day->folder);
@@ -102,7 +121,8 @@ static int make_list(struct pic_day *day)
     return number == PCH_PIC_DONE && (!sync_folder(day->folder) || (day->made && !sync_folder(parent))) ? PIC_FILE : number;
 }
 
-/* The trace that is open, at its place in the folder: one that was kept as it went and is as long as planned is there already. */
+/* The trace that is open, at its place in the folder: one that was kept as it went and is as long as planned is there already. Where it is written anew its times are
+ * too, since there may be one of a record that was not taken. */
 static int put_open(struct pic_day *day, const char *path, const uint8_t *trace, size_t len)
 {
     struct pic_recorder *recorder = &day->recorder;
@@ -111,8 +131,27 @@ static int put_open(struct pic_day *day, const char *path, const uint8_t *trace,
     if (kept && whole) {
         return PCH_PIC_DONE;
     }
-    int number = !kept && recorder->clock != NULL ? pic_recorder_save_times(recorder, path) : PCH_PIC_DONE;
+    int number = recorder->clock != NULL ? pic_recorder_save_times(recorder, path) : PCH_PIC_DONE;
     return number == PCH_PIC_DONE ? pic_replace(path, trace, len) : number;
+}
+
+/* Whoever has put a file there may want it, and a link would lead out of the folder. */
+int pic_day_place(struct pic_day *day, char path[PIC_DAY_PATH])
+{
+    char file[PIC_DAY_PATH + 8];
+    struct stat found;
+    if (!pic_day_name(day->folder, day->traces + 1, path)) {
+        return PIC_FILE;
+    }
+    for (size_t i = 0; !day->ours && i < BESIDE; i++) {
+        snprintf(file, sizeof file, "%s%s", path, beside[i]);
+        bool there = lstat(file, &found) == 0;
+        if (there || errno != ENOENT) {
+            return there ? PIC_OCCUPIED : PIC_FILE;
+        }
+    }
+    day->ours = true;
+    return PCH_PIC_DONE;
 }
 
 /* Its line, once it is on the disk. */
@@ -126,18 +165,33 @@ static int list_trace(struct pic_day *day, const uint8_t *trace, size_t len)
     if (number == PCH_PIC_DONE) {
         day->traces++;
         day->records += records;
+        day->ours = false;
     }
     return number;
 }
 
-/* The file of a trace that got no record. */
+int pic_day_put(struct pic_day *day, const char *path, const uint8_t *trace, size_t len, const uint8_t *times)
+{
+    char file[PIC_DAY_PATH + 8];
+    snprintf(file, sizeof file, "%s.times", path);
+    int number = times != NULL ? pic_replace(file, times, TIME_LEN * pic_trace_records(trace)) : PCH_PIC_DONE;
+    number = number == PCH_PIC_DONE ? pic_replace(path, trace, len) : number;
+    return number == PCH_PIC_DONE ? list_trace(day, trace, len) : number;
+}
+
+/* The files of a trace that got no record, or could not be put there; errno stays where they are gone. */
 static int take_away(struct pic_day *day, const char *path)
 {
     char times[PIC_DAY_PATH + 8];
+    int why = errno;
     snprintf(times, sizeof times, "%s.times", path);
     pic_recorder_end(&day->recorder);
-    bool gone = (unlink(path) == 0 || errno == ENOENT) && (unlink(times) == 0 || errno == ENOENT);
-    return gone ? PCH_PIC_DONE : PIC_FILE;
+    if (day->ours && ((unlink(path) != 0 && errno != ENOENT) || (unlink(times) != 0 && errno != ENOENT))) {
+        return PIC_FILE;
+    }
+    day->ours = false;
+    errno = why;
+    return PCH_PIC_DONE;
 }
 
 /* Ends the open trace; the recorder then has no room, and asks for more. */
@@ -147,6 +201,10 @@ static int end_trace(struct pic_day *day)
     char path[PIC_DAY_PATH];
     size_t len = 0;
     int number;
+    if (day->failed != PCH_PIC_DONE) {
+        errno = day->error;
+        return day->failed;
+    }
     if (!day->open) {
         return PCH_PIC_DONE;
     }
@@ -156,7 +214,8 @@ static int end_trace(struct pic_day *day)
     if (day->recorder.count == 0) {
         number = take_away(day, path);
     } else {
-        number = pic_recorder_finish(&day->recorder, trace, &len);
+        number = pic_day_place(day, path);
+        number = number == PCH_PIC_DONE ? pic_recorder_finish(&day->recorder, trace, &len) : number;
         number = number == PCH_PIC_DONE ? put_open(day, path, trace, len) : number;
         number = number == PCH_PIC_DONE ? list_trace(day, trace, len) : number;
     }
@@ -177,13 +236,16 @@ static int begin_trace(void *of)
     if (number != PCH_PIC_DONE || day->traces == PIC_DAY_TRACES_MAX) {
         return number != PCH_PIC_DONE ? number : PIC_FULL;
     }
-    if (!pic_day_name(day->folder, day->traces + 1, path)) {
-        return PIC_FILE;
+    number = pic_day_place(day, path);
+    if (number != PCH_PIC_DONE) {
+        return number;
     }
     pic_recorder_next(recorder);
     if (recorder->planned != 0) {
         number = pic_recorder_keep(recorder, path);
         number = number == PCH_PIC_DONE && recorder->clock != NULL ? pic_recorder_keep_times(recorder, path) : number;
+    } else {
+        day->ours = false; /* nothing stands there until the trace is written, and it is looked at again */
     }
     day->open = number == PCH_PIC_DONE;
     if (!day->open) {
@@ -195,20 +257,10 @@ static int begin_trace(void *of)
     return number;
 }
 
-int pic_day_begin(struct pic_day *day, const char *folder, size_t block)
+/* The folder's name without the slashes behind it, and the folder itself. */
+static int begin_folder(struct pic_day *day, const char *folder)
 {
-    uint16_t plan[PCH_PIC_BLOCKS_MAX];
-    size_t blocks = block == 0 ? 0 : PCH_PIC_RECORDS_MAX / block < PCH_PIC_BLOCKS_MAX ? PCH_PIC_RECORDS_MAX / block : PCH_PIC_BLOCKS_MAX;
     size_t len = strlen(folder);
-    memset(day, 0, sizeof *day);
-    day->list = NO_FILE;
-    for (size_t i = 0; i < blocks; i++) {
-        plan[i] = (uint16_t)block;
-    }
-    pic_recorder_begin(&day->recorder);
-    if (block != 0 && pic_recorder_plan(&day->recorder, plan, blocks) != PCH_PIC_DONE) {
-        return PIC_PLAN;
-    }
     if (len >= PIC_DAY_PATH) {
         errno = ENAMETOOLONG;
         return PIC_FILE;
@@ -222,12 +274,29 @@ int pic_day_begin(struct pic_day *day, const char *folder, size_t block)
         int why = errno;
         pic_day_undo(day);
         errno = why;
-        return number;
     }
+    return number;
+}
+
+/* A day that did not begin has no room for a record, and tells why whenever it is asked. */
+int pic_day_begin(struct pic_day *day, const char *folder, size_t block)
+{
+    uint16_t plan[PCH_PIC_BLOCKS_MAX];
+    size_t blocks = block == 0 ? 0 : PCH_PIC_RECORDS_MAX / block < PCH_PIC_BLOCKS_MAX ? PCH_PIC_RECORDS_MAX / block : PCH_PIC_BLOCKS_MAX;
+    memset(day, 0, sizeof *day);
+    day->list = NO_FILE;
+    for (size_t i = 0; i < blocks; i++) {
+        plan[i] = (uint16_t)block;
+    }
+    pic_recorder_begin(&day->recorder);
+    int number = block == 0 ? PCH_PIC_DONE : pic_recorder_plan(&day->recorder, plan, blocks);
+    number = number == PCH_PIC_DONE ? begin_folder(day, folder) : number;
+    day->failed = number;
+    day->error = errno;
     day->recorder.more = begin_trace;
     day->recorder.more_of = day;
     day->recorder.most = 0;
-    return PCH_PIC_DONE;
+    return number;
 }
 
 int pic_day_next(struct pic_day *day)
@@ -258,19 +327,22 @@ int pic_day_end(struct pic_day *day)
 
 int pic_day_add(struct pic_day *day, const uint8_t *trace, size_t len, const uint8_t *times)
 {
-    char path[PIC_DAY_PATH], beside[PIC_DAY_PATH + 8];
-    int number = pic_trace_test(trace, len, NULL);
+    char path[PIC_DAY_PATH];
+    bool over = day->failed == PCH_PIC_DONE && day->list == NO_FILE;
+    int number = over ? PIC_DAY_OVER : pic_trace_test(trace, len, NULL);
     number = number == PCH_PIC_DONE ? end_trace(day) : number;
     if (number != PCH_PIC_DONE || day->traces == PIC_DAY_TRACES_MAX) {
         return number != PCH_PIC_DONE ? number : PIC_FULL;
     }
-    if (!pic_day_name(day->folder, day->traces + 1, path)) {
-        return PIC_FILE;
+    number = pic_day_place(day, path);
+    if (number != PCH_PIC_DONE) {
+        return number;
     }
-    snprintf(beside, sizeof beside, "%s.times", path);
-    number = times != NULL ? pic_replace(beside, times, TIME_LEN * pic_trace_records(trace)) : PCH_PIC_DONE;
-    number = number == PCH_PIC_DONE ? pic_replace(path, trace, len) : number;
-    return number == PCH_PIC_DONE ? list_trace(day, trace, len) : number;
+    number = pic_day_put(day, path, trace, len, times);
+    if (number != PCH_PIC_DONE) {
+        take_away(day, path);
+    }
+    return number;
 }
 
 void pic_day_leave(struct pic_day *day)
@@ -285,10 +357,9 @@ void pic_day_leave(struct pic_day *day)
 
 void pic_day_undo(struct pic_day *day)
 {
-    static const char *const beside[] = {"", ".times", ".holes"};
     char path[PIC_DAY_PATH], file[PIC_DAY_PATH + 8];
-    for (unsigned number = 1; day->list != NO_FILE && number <= day->traces + 1; number++) {
-        for (size_t i = 0; i < 3 && pic_day_name(day->folder, number, path); i++) {
+    for (unsigned number = 1; day->list != NO_FILE && number <= day->traces + day->ours; number++) {
+        for (size_t i = 0; i < BESIDE && pic_day_name(day->folder, number, path); i++) {
             snprintf(file, sizeof file, "%s%s", path, beside[i]);
             unlink(file);
         }
@@ -299,6 +370,7 @@ void pic_day_undo(struct pic_day *day)
     pic_day_leave(day);
     if (day->made) {
         rmdir(day->folder);
+        day->made = false;
     }
 }
 
@@ -308,6 +380,7 @@ const char *pic_day_why(int number)
     case PIC_OCCUPIED: return "there is something in the folder already, and a day is never written over";
     case PIC_NO_DAY: return "the folder has no day, or a damaged one";
     case PIC_INSIDE: return "it is the folder that is read, or inside it";
+    case PIC_DAY_OVER: return "the day was ended, and takes no more";
     default: return pic_holes_why(number);
     }
 }

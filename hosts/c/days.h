@@ -17,9 +17,10 @@ extern "C" {
 #endif
 
 enum {
-    PIC_OCCUPIED = 140, /* the folder has something in it: a day is never written over */
+    PIC_OCCUPIED = 140, /* the folder has something in it, or something came into the place of the next trace: nothing is ever written over */
     PIC_NO_DAY = 141,   /* the folder has no day, or a damaged one; a text says what is wrong */
     PIC_INSIDE = 142,   /* what is salvaged cannot go into the folder that it is salvaged from */
+    PIC_DAY_OVER = 143, /* the day was ended, and takes no more */
 };
 
 enum {
@@ -33,18 +34,22 @@ enum {
  * and a clock before the first of them by pic_recorder_clock. Where its trace is full it goes on with the next one by itself. */
 struct pic_day {
     struct pic_recorder recorder;
-    char folder[PIC_DAY_PATH];
+    char folder[PIC_DAY_PATH]; /* from the root on */
     int list;         /* the list, open for more lines; or -1 */
     unsigned traces;  /* how many are listed */
     uint64_t records; /* how many records these have */
     bool open;        /* there is a trace that is not listed yet */
     bool made;        /* the folder was made for this day */
+    bool ours;        /* what stands in the place of the next trace is the day's own */
+    int failed;       /* why the day did not begin, or 0 */
+    int error;        /* errno of that */
 };
 
 /* Begins a day in a folder, which is made, or is there and empty.
  * Where power may be lost, block says how many records a block is to have (1 to 4000): as many blocks as fit are planned for each trace, each record is written as it is
  * taken, with its time, and each full block is put on the disk. Then a killed process loses no record, and lost power loses the open block at most.
- * With 0 for block a trace stands in memory, and is written whole when it is full, or at pic_day_next or pic_day_end: a lost process then loses the open trace. */
+ * With 0 for block a trace stands in memory, and is written whole when it is full, or at pic_day_next or pic_day_end: a lost process then loses the open trace.
+ * Where it fails nothing is recorded: the recorder takes no record, and the functions below hand back the same number. */
 int pic_day_begin(struct pic_day *day, const char *folder, size_t block);
 
 /* Ends the open trace: it is on the disk and listed, and the next record begins another. Where there is no record in it, nothing is done. */
@@ -54,7 +59,8 @@ int pic_day_next(struct pic_day *day);
  * may be called again. */
 int pic_day_end(struct pic_day *day);
 
-/* Adds a trace that is there already as it is, in place of recorded calls: it plays on what the ones before leave. times has eight bytes for each record, or is NULL. */
+/* Adds a trace that is there already as it is, in place of recorded calls: it plays on what the ones before leave. times has eight bytes for each record, or is NULL.
+ * Where it fails nothing of it stays; behind pic_day_end it is PIC_DAY_OVER. */
 int pic_day_add(struct pic_day *day, const uint8_t *trace, size_t len, const uint8_t *times);
 
 /* Closes the list of a day that goes no further, without a word that it was ended. */
@@ -79,11 +85,11 @@ struct pic_day_read {
     char text[PIC_DAY_TEXT];          /* after PIC_NO_DAY: what is wrong, in a line */
 };
 
-/* Opens a day and tests all of it: each trace is there, is the one that is listed, and is good; there are no others; and times are as many as records. 0, PIC_FILE or
+/* Opens a day and tests all of it: each trace is there, is the one that is listed, and is good; there are no others; and times are as many as records, and do not go back. 0, PIC_FILE or
  * PIC_NO_DAY; where it fails nothing stays open. */
 int pic_day_open(struct pic_day_read *day, const char *folder);
 
-/* Reads the next trace, from the first on: 0, PIC_EMPTY where there is none, PIC_FILE, or PIC_NO_DAY where it is not any more what it was. */
+/* Reads the next trace, from the first on: 0, PIC_EMPTY where there is none, PIC_FILE, or PIC_NO_DAY where it is not any more what it was, or the day is not open. */
 int pic_day_trace(struct pic_day_read *day);
 
 /* Goes back to before the first one. */
@@ -92,6 +98,9 @@ void pic_day_close(struct pic_day_read *day);
 
 /* The name of a trace of a day, by its number. */
 bool pic_day_name(const char *folder, unsigned number, char name[PIC_DAY_PATH]);
+
+/* A hole whose text begins so is that of a day that was not ended: no more than these records are missing, and perhaps none. */
+#define PIC_DAY_AT_MOST "at most: "
 
 /* What was kept of a damaged day; 270 KB, so not for a stack. */
 struct pic_day_kept {

@@ -63,22 +63,23 @@ static bool end_line(const char *line, unsigned traces, uint64_t records)
     return behind(&line, "end ") && decimal(&line, &first) && behind(&line, " ") && decimal(&line, &second) && *line == 0 && first == traces && second == records;
 }
 
-/* The next whole line of the list, without its end; false where there is none. A line that is longer than any is left without its end, and so is one with a zero in it. */
+/* The next whole line of the list, without its end; false where there is none. One that is longer than any, or has a zero in it, is no line of a list: '?'. */
 static bool next_line(FILE *list, char line[LINE_LEN])
 {
-    if (fgets(line, LINE_LEN, list) == NULL) {
-        return false;
+    size_t len = 0;
+    bool right = true;
+    int c = getc(list);
+    for (; c != EOF && c != '\n'; c = getc(list)) {
+        right = right && c != 0 && len + 1 < LINE_LEN;
+        if (right) {
+            line[len] = (char)c;
+            len++;
+        }
     }
-    size_t len = strlen(line);
-    if (len > 0 && line[len - 1] == '\n') {
-        line[len - 1] = 0;
-        return true;
+    line[len] = 0;
+    if (!right) {
+        strcpy(line, "?");
     }
-    int c = ' ';
-    while (c != EOF && c != '\n') {
-        c = getc(list);
-    }
-    strcpy(line, "?");
     return c == '\n';
 }
 

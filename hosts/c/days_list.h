@@ -1,4 +1,4 @@
-/* What days_read.c and days_salvage.c share: a line of the list of a day, and a trace as it is listed. */
+/* What days.c, days_read.c and days_salvage.c share: a line of the list of a day, a trace as it is listed, and the place of the next one. */
 #ifndef DAYS_LIST_H
 #define DAYS_LIST_H
 
@@ -30,6 +30,12 @@ int pic_day_listed(const char *folder, unsigned number, const struct pic_day_lin
 
 /* Looks through the folder of a day: whether there is a trace behind the last listed one, and PIC_NO_DAY with a text where there is a trace that is not the day's. */
 int pic_day_scan(const char *folder, unsigned listed, bool ended, bool *open, char text[PIC_DAY_TEXT]);
+
+/* The name of the next trace of a day that is recorded, whose place is the day's own from here on: 0, PIC_FILE, or PIC_OCCUPIED where something else stands there. */
+int pic_day_place(struct pic_day *day, char path[PIC_DAY_PATH]);
+
+/* Puts a good trace and its times in that place, and lists it: 0 or PIC_FILE. */
+int pic_day_put(struct pic_day *day, const char *path, const uint8_t *trace, size_t len, const uint8_t *times);
 
 /* Writes the text, and hands back PIC_NO_DAY. */
 int pic_day_wrong(char text[PIC_DAY_TEXT], const char *form, ...);

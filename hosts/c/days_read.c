@@ -9,20 +9,49 @@
 
 enum { TIME_LEN = 8 };
 
-/* Whether the times beside a trace are as many as its records, or there are none. */
-static int test_times(const char *folder, unsigned number, size_t records, char text[PIC_DAY_TEXT])
+/* Whether so many times of a trace go on from last, which gets the last of them; text says at which record they do not. before counts the day's records before the trace. */
+static int times_rise(FILE *file, const char *name, size_t records, uint64_t before, uint64_t *last, char text[PIC_DAY_TEXT])
 {
-    char name[PIC_DAY_PATH], times[PIC_DAY_PATH + 8];
-    struct stat found;
-    pic_day_name(folder, number, name);
-    snprintf(times, sizeof times, "%s.times", name);
-    if (stat(times, &found) != 0) {
-        return errno == ENOENT ? PCH_PIC_DONE : pic_day_wrong(text, "%05u.trace.times: %s", number, strerror(errno));
-    }
-    if (!S_ISREG(found.st_mode) || (uint64_t)found.st_size != TIME_LEN * (uint64_t)records) {
-        return pic_day_wrong(text, "%05u.trace.times: it has %" PRIu64 " bytes, and the times of %zu records are %zu", number, (uint64_t)found.st_size, records, TIME_LEN * records);
+    uint8_t bytes[TIME_LEN];
+    for (size_t record = 0; record < records; record++) {
+        uint64_t time = 0;
+        if (fread(bytes, 1, TIME_LEN, file) != TIME_LEN) {
+            return pic_day_wrong(text, "%s: it has changed while it was read", name);
+        }
+        for (size_t i = TIME_LEN; i > 0; i--) {
+            time = time << 8 | bytes[i - 1];
+        }
+        if (time < *last) {
+            return record != 0 ? pic_day_wrong(text, "%s: its clock goes back at record %zu", name, record)
+                               : pic_day_wrong(text, "%s: its clock goes back at record %" PRIu64 ", where the trace begins", name, before);
+        }
+        *last = time;
     }
     return PCH_PIC_DONE;
+}
+
+/* Whether the times beside the trace that was read last are as many as its records, and none is before the one in front of it; or there are none. */
+static int test_times(struct pic_day_read *day, uint64_t *last)
+{
+    char name[PIC_DAY_PATH], path[PIC_DAY_PATH + 8], times[32];
+    struct stat found;
+    size_t records = day->of_trace;
+    pic_day_name(day->folder, day->number, name);
+    snprintf(path, sizeof path, "%s.times", name);
+    snprintf(times, sizeof times, "%05u.trace.times", day->number);
+    if (stat(path, &found) != 0) {
+        return errno == ENOENT ? PCH_PIC_DONE : pic_day_wrong(day->text, "%s: %s", times, strerror(errno));
+    }
+    if (!S_ISREG(found.st_mode) || (uint64_t)found.st_size != TIME_LEN * (uint64_t)records) {
+        return pic_day_wrong(day->text, "%s: it has %" PRIu64 " bytes, and the times of %zu records are %zu", times, (uint64_t)found.st_size, records, TIME_LEN * records);
+    }
+    FILE *file = fopen(path, "rb");
+    if (file == NULL) {
+        return pic_day_wrong(day->text, "%s: %s", times, strerror(errno));
+    }
+    int number = times_rise(file, times, records, day->before, last, day->text);
+    fclose(file);
+    return number;
 }
 
 /* The trace of a day that has holes is its last. */
@@ -80,6 +109,9 @@ int pic_day_trace(struct pic_day_read *day)
     struct pic_day_line line = {0};
     unsigned next = day->number + 1;
     int number;
+    if (day->list == NULL) {
+        return day->text[0] != 0 ? PIC_NO_DAY : pic_day_wrong(day->text, "it is not open");
+    }
     if (next > day->traces) {
         return PIC_EMPTY;
     }
@@ -102,9 +134,10 @@ int pic_day_trace(struct pic_day_read *day)
 /* Each trace with what stands beside it. */
 static int test_all(struct pic_day_read *day)
 {
+    uint64_t last = 0;
     int number = pic_day_trace(day);
     while (number == PCH_PIC_DONE) {
-        number = test_times(day->folder, day->number, day->of_trace, day->text);
+        number = test_times(day, &last);
         number = number == PCH_PIC_DONE ? test_holes(day->folder, day->number, day->trace, day->len, day->number == day->traces, day->text) : number;
         number = number == PCH_PIC_DONE ? pic_day_trace(day) : number;
     }
@@ -147,7 +180,9 @@ int pic_day_open(struct pic_day_read *day, const char *folder)
 
 void pic_day_rewind(struct pic_day_read *day)
 {
-    pic_day_list_rewind(day->list);
+    if (day->list != NULL) {
+        pic_day_list_rewind(day->list);
+    }
     day->number = 0;
     day->before = day->of_trace = 0;
 }

@@ -1,8 +1,9 @@
 /* What is left of a damaged day: all that comes before the first damage, as a day of its own. It is the day, exactly, as far as it goes. */
-#define _POSIX_C_SOURCE 200809L
+#define _XOPEN_SOURCE 700
 #include "days_list.h"
 
 #include <errno.h>
+#include <stdlib.h>
 #include <string.h>
 #include <sys/stat.h>
 
@@ -45,16 +46,33 @@ static bool inside(const char *path, const struct stat *folder)
     return false;
 }
 
-/* Whether so many times go on from those before. Lost power may leave zeros in the place of times, and in a trace that was open none is taken for a time. */
+/* How many of the first records of the trace that was read stand in blocks that are full. Those are on the disk, with their times. */
+static size_t in_full_blocks(const uint8_t *trace, size_t records)
+{
+    size_t full = 0;
+    const uint8_t *entry = trace + PCH_PIC_TRACE_ENTRIES, *end = entry + PCH_PIC_BLOCK_LEN * (trace[PCH_PIC_TRACE_BLOCKS] | (size_t)trace[PCH_PIC_TRACE_BLOCKS + 1] << 8);
+    for (; entry < end; entry += PCH_PIC_BLOCK_LEN) {
+        size_t here = entry[PCH_PIC_BLOCK_RECORDS] | (size_t)entry[PCH_PIC_BLOCK_RECORDS + 1] << 8;
+        if (full + here > records) {
+            break;
+        }
+        full += here;
+    }
+    return full;
+}
+
+/* Whether so many times go on from those before. Lost power may leave zeros in the place of times, so in the open block of a trace none is taken for a time; before that
+ * a clock may begin with one. */
 static bool times_go_on(struct pic_day_kept *kept, size_t records, bool open)
 {
     uint64_t last = kept->time;
+    size_t safe = open ? in_full_blocks(kept->trace, records) : records;
     for (size_t record = 0; record < records; record++) {
         uint64_t time = 0;
         for (size_t i = TIME_LEN; i > 0; i--) {
             time = time << 8 | kept->times[TIME_LEN * record + i - 1];
         }
-        if (time < last || (open && time == 0)) {
+        if (time < last || (record >= safe && time == 0)) {
             return false;
         }
         last = time;
@@ -86,15 +104,30 @@ static int add(struct pic_day_kept *kept, const uint8_t *times)
 {
     uint64_t records = kept->day.records;
     char path[PIC_DAY_PATH];
-    if (kept->holes.count > 0) {
-        int number = pic_day_name(kept->day.folder, kept->day.traces + 1, path) ? pic_holes_save(path, &kept->last, &kept->holes) : PIC_FILE;
-        if (number != PCH_PIC_DONE) {
-            return number;
-        }
+    int number = pic_day_place(&kept->day, path);
+    if (number == PCH_PIC_DONE && kept->holes.count > 0) {
+        number = pic_holes_save(path, &kept->last, &kept->holes);
     }
-    int number = pic_day_add(&kept->day, kept->last.trace, kept->last.len, times);
+    number = number == PCH_PIC_DONE ? pic_day_put(&kept->day, path, kept->last.trace, kept->last.len, times) : number;
     kept->before = number == PCH_PIC_DONE ? records : kept->before;
     return number;
+}
+
+/* A planned trace has zeros for all that was not taken. Where the open one has nothing else from its first bad record on, nothing shows that the day went on: at most the
+ * block of that record was lost with the power. */
+static void only_the_open_block(const uint8_t *trace, size_t len, struct pic_hole *hole)
+{
+    size_t from = len - PCH_PIC_RECORD_LEN * (pic_trace_records(trace) - hole->first), end = hole->first + 1;
+    while (from < len && trace[from] == 0) {
+        from++;
+    }
+    while (in_full_blocks(trace, end) <= hole->first) {
+        end++;
+    }
+    if (from == len) {
+        hole->last = end - 1;
+        snprintf(hole->why, sizeof hole->why, "%s", PIC_DAY_AT_MOST "the day was not ended, and lost power takes the open block");
+    }
 }
 
 /* Of a trace what comes before its first hole, known or found; nothing is added where there is nothing. */
@@ -108,11 +141,16 @@ static int add_lead(struct pic_day_kept *kept, const char *folder, unsigned numb
         pic_day_wrong(kept->text, "%05u.trace.holes: %s", number, pic_holes_why(got));
         return PCH_PIC_DONE;
     }
-    got = pic_trace_lead(kept->trace, open ? pic_trace_fill(kept->trace, len) : len, &kept->last, &holes);
+    bool known_hole = holes.count > 0;
+    size_t filled = open ? pic_trace_fill(kept->trace, len) : len;
+    got = pic_trace_lead(kept->trace, filled, &kept->last, &holes);
     if (got != PCH_PIC_DONE) {
         bool known = got == PCH_PIC_TRACE && pic_trace_cause(kept->trace, len, cause);
         pic_day_wrong(kept->text, "%05u.trace has no whole record%s%s", number, known ? ": " : "", known ? cause : "");
         return PCH_PIC_DONE;
+    }
+    if (open && filled == len && holes.count > 0 && !known_hole && !kept->more) {
+        only_the_open_block(kept->trace, len, &holes.of[0]);
     }
     kept->holes = holes;
     if (holes.count > 0) {
@@ -146,25 +184,56 @@ static int add_listed(struct pic_day_kept *kept, const char *folder, FILE *list,
     return number;
 }
 
+/* A trace behind the open one: lines of the list are lost, and how many records the day had is not known. */
+static void more_behind(struct pic_day_kept *kept, const char *text, uint64_t *lost)
+{
+    if (kept->text[0] == 0) {
+        pic_day_wrong(kept->text, "%s", text);
+    }
+    *lost = *lost == 0 ? 1 : *lost;
+}
+
+/* How many records are missing of an open trace of which none is kept; where it has only zeros that is told as of any other. */
+static uint64_t lost_of_open(struct pic_day_kept *kept, size_t len)
+{
+    char cause[PIC_TEXT_LEN];
+    size_t filled = pic_trace_fill(kept->trace, len);
+    if (pic_trace_cause(kept->trace, filled, cause)) {
+        return 1;
+    }
+    struct pic_hole hole = {0, 0, pic_trace_records(kept->trace) - 1, ""};
+    if (filled == len && !kept->more && kept->day.traces > 0) {
+        only_the_open_block(kept->trace, len, &hole);
+    }
+    if (hole.why[0] != 0) {
+        pic_day_wrong(kept->text, "%s", hole.why);
+    }
+    return hole.last + 1;
+}
+
 /* The trace that was open when a day was not ended. Where something before it is damaged already, its records are lost. */
 static int add_open(struct pic_day_kept *kept, const char *folder, uint64_t *lost)
 {
-    char path[PIC_DAY_PATH], cause[PIC_TEXT_LEN], text[PIC_DAY_TEXT];
+    char path[PIC_DAY_PATH], text[PIC_DAY_TEXT];
     bool open = false;
     size_t len = 0;
     unsigned traces = kept->day.traces;
-    pic_day_scan(folder, traces, false, &open, text);
-    if (!open || !pic_day_name(folder, traces + 1, path)) {
-        return PCH_PIC_DONE;
+    int number = PCH_PIC_DONE, scanned = pic_day_scan(folder, traces, false, &open, text);
+    if (scanned == PIC_FILE) {
+        return PIC_FILE;
     }
-    if (pic_trace_load(path, kept->trace, &len) == PIC_FILE) {
+    kept->more = scanned == PIC_NO_DAY;
+    if (open && (!pic_day_name(folder, traces + 1, path) || pic_trace_load(path, kept->trace, &len) == PIC_FILE)) {
         pic_day_wrong(kept->text, "%05u.trace: %s", traces + 1, strerror(errno));
         *lost = 1;
-        return PCH_PIC_DONE;
+    } else if (open) {
+        number = add_lead(kept, folder, traces + 1, len, true);
+        if (number == PCH_PIC_DONE && kept->text[0] != 0 && kept->holes.count == 0) {
+            *lost = lost_of_open(kept, len);
+        }
     }
-    int number = add_lead(kept, folder, traces + 1, len, true);
-    if (number == PCH_PIC_DONE && kept->text[0] != 0 && kept->holes.count == 0) {
-        *lost = pic_trace_cause(kept->trace, pic_trace_fill(kept->trace, len), cause) ? 1 : pic_trace_records(kept->trace);
+    if (number == PCH_PIC_DONE && scanned == PIC_NO_DAY) {
+        more_behind(kept, text, lost);
     }
     return number;
 }
@@ -208,7 +277,9 @@ int pic_day_salvage(const char *folder, const char *to, struct pic_day_kept *kep
     if (number != PCH_PIC_DONE) {
         return number == PIC_FILE ? pic_day_wrong(kept->text, "%s", strerror(errno)) : number;
     }
-    number = stat(folder, &from) == 0 && inside(to, &from) ? PIC_INSIDE : pic_day_begin(&kept->day, to, 0);
+    char *whole = realpath(to, NULL); /* a link leads elsewhere than to the folder that it stands in */
+    number = stat(folder, &from) == 0 && inside(whole != NULL ? whole : to, &from) ? PIC_INSIDE : pic_day_begin(&kept->day, to, 0);
+    free(whole);
     if (number == PCH_PIC_DONE) {
         number = keep(kept, folder, list);
         int why = errno;

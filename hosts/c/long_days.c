@@ -670,6 +670,30 @@ static void without_room(unsigned long times)
     clear(folder);
 }
 
+/* A record that is not taken since a call of the system fails, and nothing is asked for again: the day ends with the records before it, and is good. */
+static void ends_at_once(void)
+{
+    char folder[PATH_LEN];
+    in_folder("full", folder);
+    for (unsigned long at = 1; at <= 24; at++) {
+        clear(folder);
+        memset(seen, 0, sizeof *seen);
+        expect("a day that gets no room", pic_day_begin(&day, folder, BLOCK) == PCH_PIC_DONE && pic_recorder_clock(&day.recorder, by_taken, NULL) == PCH_PIC_DONE && take() == PCH_PIC_DONE);
+        fate = FAILS;
+        fate_at = seen->calls + at;
+        int number = PCH_PIC_DONE;
+        while (number == PCH_PIC_DONE && seen->taken < 40) {
+            number = take();
+        }
+        fate = GOES_ON;
+        expect("misses a record", number == PIC_FILE);
+        int ended = at % 2 == 0 ? pic_day_next(&day) : PCH_PIC_DONE;
+        expect("ends as it is", ended == PCH_PIC_DONE && pic_day_end(&day) == PCH_PIC_DONE && day.records == seen->taken);
+        expect("and has the records before", is_the_beginning(folder, seen->taken, seen->taken));
+    }
+    clear(folder);
+}
+
 /* --- Folders that are damaged ---------------------------------------------------------------------------------------------------------------------------- */
 
 /* A digest of all names and bytes in a folder, in no order. */
@@ -777,6 +801,8 @@ static void refused(const char *text, uint64_t left)
         printf("%d: '%s' and not '%s'\n", number, reader.text, text);
     }
     expect(text, number == PIC_NO_DAY && strcmp(reader.text, text) == 0 && reader.list == NULL);
+    pic_day_rewind(&reader);
+    expect("a day that is not open has no trace", pic_day_trace(&reader) == PIC_NO_DAY && strcmp(reader.text, text) == 0);
     number = pic_day_salvage(damaged, to, &kept);
     struct stat there;
     bool salvaged = left == 0 ? number == PIC_NO_DAY && stat(to, &there) != 0 : number == PCH_PIC_DONE && is_the_beginning(to, left, left);
@@ -826,8 +852,39 @@ static void damaged_beside(void)
     refused("00002.trace.times: it has 2392 bytes, and the times of 300 records are 2400", 900);
     expect("whose times are left out", kept.untimed == 1);
     make_day(damaged, 0);
+    copy_file(damaged, "00001.trace.times", damaged, "00003.trace.times");
+    refused("00003.trace.times: its clock goes back at record 600, where the trace begins", 900);
+    expect("whose third trace has none then", kept.untimed == 1);
+    make_day(damaged, 0);
+    damage(damaged, "00002.trace.times", 0, 8 * 5 + 7);
+    refused("00002.trace.times: its clock goes back at record 6", 900);
+    expect("whose second has none then", kept.untimed == 1);
+    make_day(damaged, 0);
     put_file(damaged, "00003.trace.holes", "mine\n");
     refused("00003.trace.holes: it is no list of holes", 600);
+}
+
+/* The last salvage tells that at least a record is missing behind what it kept, with this text, and the list of that stands beside the last trace. */
+static void more_is_told(const char *text, const char *list)
+{
+    char to[PATH_LEN], path[2 * PATH_LEN];
+    struct stat there;
+    in_folder("kept", to);
+    expect("a day whose list lost lines", pic_day_salvage(damaged, to, &kept) == PCH_PIC_DONE && strcmp(kept.text, text) == 0);
+    expect("may have had more", kept.more && !kept.ended && kept.holes.count == 1 && kept.holes.of[0].at == 300 && kept.holes.of[0].last == 300);
+    snprintf(path, sizeof path, "%s/%s", to, list);
+    expect("and its holes say so", stat(path, &there) == 0);
+    clear(to);
+}
+
+/* A day whose list has a zero at a place, and with a length of 2 the end of a line behind it. */
+static void zero_in_list(long place, size_t len)
+{
+    char path[2 * PATH_LEN];
+    make_day(damaged, 0);
+    snprintf(path, sizeof path, "%s/day.list", damaged);
+    int file = open(path, O_WRONLY);
+    expect("a zero in a list", file >= 0 && __real_pwrite(file, "\0\n", len, place) == (ssize_t)len && close(file) == 0);
 }
 
 /* The list, whose first line has 14 bytes, and each other one 75: the end's is shorter. */
@@ -855,12 +912,34 @@ static void damaged_lists(void)
     make_day(damaged, 0);
     damage(damaged, "day.list", 14 + 75, -1);
     refused("00003.trace is not of this day: day.list ends with trace 1", 600);
+    more_is_told("00003.trace is not of this day: day.list ends with trace 1", "00002.trace.holes");
+    move_file(damaged, "00002.trace", "gone");
+    refused("00003.trace is not of this day: day.list ends with trace 1", 300);
+    more_is_told("00003.trace is not of this day: day.list ends with trace 1", "00001.trace.holes");
+    make_day(damaged, 0);
+    damage(damaged, "day.list", 14 + 75, -1);
+    damage(damaged, "00002.trace", 6 + 16 * 20 + 3, -1);
+    refused("00003.trace is not of this day: day.list ends with trace 1", 320);
+    expect("more than the open trace had is missing", kept.more && !kept.ended && kept.holes.count == 1 && kept.holes.of[0].last == 299);
     make_day(damaged, 0);
     damage(damaged, "day.list", 14, -1);
     move_file(damaged, "00003.trace", "a");
     move_file(damaged, "00002.trace", "b");
     move_file(damaged, "00001.trace", "c");
     refused("there is no trace in it yet", 0);
+}
+
+/* In a trace's line, in the end's and behind it, and in the place of a line's end. */
+static void zeros_in_lists(void)
+{
+    zero_in_list(14 + 75 + 20, 1);
+    refused("day.list, line 3: it is not the line of trace 2, nor the right end of the list", 300);
+    zero_in_list(14 + 3 * 75 + 7, 1);
+    refused("day.list, line 5: it is not the line of trace 4, nor the right end of the list", 900);
+    zero_in_list(14 + 3 * 75 + 9, 2);
+    refused("day.list, line 5: it is not the line of trace 4, nor the right end of the list", 900);
+    zero_in_list(14 + 75 - 1, 1);
+    refused("day.list, line 2: it is not the line of trace 1, nor the right end of the list", 0);
 }
 
 /* A line in part is none: the last trace is the open one then, and good as it stands. */
@@ -881,6 +960,72 @@ static void torn_lists(void)
     expect("and its hole is told", kept.holes.count == 1 && kept.holes.of[0].at == 20 && kept.holes.of[0].last == 299 && kept.before == 600 && !kept.ended);
 }
 
+/* A planned trace that was open: records that were never taken are not missing, and so at most its open block is. Where anything stands behind the zeros more is. */
+static void not_taken(unsigned records)
+{
+    char to[PATH_LEN], path[2 * PATH_LEN];
+    in_folder("kept", to);
+    for (int beyond = 0; beyond < 2; beyond++) {
+        clear(to);
+        clear(damaged);
+        memset(seen, 0, sizeof *seen);
+        expect("a day that was left", pic_day_begin(&day, damaged, BLOCK) == PCH_PIC_DONE);
+        while (seen->taken < records && take() == PCH_PIC_DONE) {
+        }
+        pic_day_leave(&day);
+        if (beyond == 1) {
+            damage(damaged, "00001.trace", 0, PCH_PIC_TRACE_ENTRIES + PCH_PIC_BLOCK_LEN * PCH_PIC_BLOCKS_MAX + PCH_PIC_RECORD_LEN * 255);
+        }
+        expect("keeps what was taken", pic_day_salvage(damaged, to, &kept) == PCH_PIC_DONE && is_the_beginning(to, records, records));
+        const struct pic_hole *hole = &kept.holes.of[0];
+        expect("with a hole", kept.holes.count == 1 && hole->at == records && hole->first == records && hole->last == (beyond == 1 ? 255 : records / BLOCK * BLOCK + BLOCK - 1));
+        expect("that says what it is", (strncmp(hole->why, PIC_DAY_AT_MOST, strlen(PIC_DAY_AT_MOST)) == 0) == (beyond == 0));
+        struct pic_holes loaded;
+        snprintf(path, sizeof path, "%s/00001.trace", to);
+        expect("also in its list", pic_holes_load(path, kept.last.trace, kept.last.len, &loaded) == PCH_PIC_DONE && strcmp(loaded.of[0].why, hole->why) == 0);
+    }
+    clear(to);
+}
+
+/* The same of a trace that was begun, and got no record. */
+static void none_taken(void)
+{
+    char to[PATH_LEN];
+    in_folder("kept", to);
+    clear(to);
+    clear(damaged);
+    memset(seen, 0, sizeof *seen);
+    expect("a day of full traces", pic_day_begin(&day, damaged, BLOCK) == PCH_PIC_DONE);
+    while (seen->taken < BLOCK * PCH_PIC_BLOCKS_MAX && take() == PCH_PIC_DONE) {
+    }
+    expect("whose next has begun", day.recorder.more(day.recorder.more_of) == PCH_PIC_DONE && day.traces == 1 && day.open);
+    pic_day_leave(&day);
+    expect("keeps what was taken", pic_day_salvage(damaged, to, &kept) == PCH_PIC_DONE && is_the_beginning(to, seen->taken, seen->taken));
+    const struct pic_hole *hole = &kept.holes.of[0];
+    expect("with an open block behind it", kept.holes.count == 1 && hole->at == seen->taken && hole->last == seen->taken + BLOCK - 1 && !kept.more);
+    expect("that says what it is", strncmp(hole->why, PIC_DAY_AT_MOST, strlen(PIC_DAY_AT_MOST)) == 0);
+    clear(to);
+}
+
+/* A clock that begins with 0 keeps its times, unless the block of that 0 was open: lost power leaves the same. */
+static void from_zero(unsigned records, unsigned untimed)
+{
+    char to[PATH_LEN], path[2 * PATH_LEN];
+    struct stat there;
+    in_folder("kept", to);
+    clear(to);
+    clear(damaged);
+    memset(seen, 0, sizeof *seen);
+    expect("a clock from 0", pic_day_begin(&day, damaged, BLOCK) == PCH_PIC_DONE && pic_recorder_clock(&day.recorder, by_calls, NULL) == PCH_PIC_DONE);
+    while (seen->taken < records && take() == PCH_PIC_DONE) {
+    }
+    pic_day_leave(&day);
+    expect("of a day that was not ended", pic_day_salvage(damaged, to, &kept) == PCH_PIC_DONE && kept.day.records == records && kept.untimed == untimed);
+    snprintf(path, sizeof path, "%s/00001.trace.times", to);
+    expect("is salvaged with it", stat(path, &there) == 0 ? untimed == 0 && there.st_size == TIME_LEN * (off_t)records : untimed == 1);
+    clear(to);
+}
+
 /* What a salvage leaves can be salvaged again, and a trace with a hole is the last. */
 static void salvaged_days(void)
 {
@@ -892,6 +1037,11 @@ static void salvaged_days(void)
     clear(again);
     make_day(damaged, 0);
     expect("nothing is salvaged into itself", pic_day_salvage(damaged, damaged, &kept) == PIC_INSIDE && pic_day_salvage(damaged, inside, &kept) == PIC_INSIDE);
+    mkdir(inside, 0777);
+    in_folder("link", again);
+    expect("nor by a link into it", symlink("damaged/in", again) == 0 && pic_day_salvage(damaged, again, &kept) == PIC_INSIDE);
+    expect("which is taken away", unlink(again) == 0 && rmdir(inside) == 0);
+    in_folder("again", again);
     expect("nor over another day", pic_day_salvage(damaged, another, &kept) == PIC_OCCUPIED);
     expect("a good day is salvaged whole", pic_day_salvage(damaged, to, &kept) == PCH_PIC_DONE && kept.ended && kept.holes.count == 0 && is_the_beginning(to, 900, 900));
     char one[PIC_DIGEST_LEN + 1], two[PIC_DIGEST_LEN + 1];
@@ -920,6 +1070,9 @@ static void beginnings(void)
     folder_digest(damaged, after);
     expect("which stays as it is", strcmp(before, after) == 0);
     snprintf(path, sizeof path, "%s/day.list", damaged);
+    expect("a day that is closed is not read", pic_day_open(&reader, damaged) == PCH_PIC_DONE);
+    pic_day_close(&reader);
+    expect("and says so", pic_day_trace(&reader) == PIC_NO_DAY && strcmp(reader.text, "it is not open") == 0);
     expect("none in a file", pic_day_begin(&day, path, 0) == PIC_FILE && errno == ENOTDIR);
     snprintf(path, sizeof path, "%s/no/such", base_folder);
     expect("none below a folder that is not there", pic_day_begin(&day, path, 0) == PIC_FILE && errno == ENOENT);
@@ -934,10 +1087,101 @@ static void beginnings(void)
     expect("has a clock from the start or never", pic_recorder_clock(&day.recorder, by_taken, NULL) == PIC_STARTED);
     pic_day_undo(&day);
     expect("stays, empty again", stat(another, &there) == 0 && rmdir(another) == 0);
-    for (int number = PIC_OCCUPIED; number <= PIC_INSIDE; number++) {
+    for (int number = PIC_OCCUPIED; number <= PIC_DAY_OVER; number++) {
         expect("each number has its text", strcmp(pic_day_why(number), "unknown number") != 0);
     }
-    expect("and so have others", strcmp(pic_day_why(PIC_NO_LIST), pic_holes_why(PIC_NO_LIST)) == 0 && strcmp(pic_day_why(PIC_INSIDE + 1), "unknown number") == 0);
+    expect("and so have others", strcmp(pic_day_why(PIC_NO_LIST), pic_holes_why(PIC_NO_LIST)) == 0 && strcmp(pic_day_why(PIC_DAY_OVER + 1), "unknown number") == 0);
+}
+
+/* A day that did not begin records nothing, and whoever asks is told why. */
+static void without_a_beginning(void)
+{
+    static struct pic pic;
+    struct pic_wires wires = {0};
+    char before[PIC_DIGEST_LEN + 1], after[PIC_DIGEST_LEN + 1];
+    static const uint8_t trace[PCH_PIC_TRACE_MAX] = {1, 0, 6, 0, 1, 0, PCH_PIC_RAISE};
+    make_day(damaged, 0);
+    folder_digest(damaged, before);
+    for (size_t block = 0; block <= PIC_DAY_BLOCK; block += PIC_DAY_BLOCK) {
+        expect("a day over another", pic_day_begin(&day, damaged, block) == PIC_OCCUPIED);
+        expect("is watched", pic_init(&pic, BASE) == PCH_PIC_DONE && pic_recorder_watch(&day.recorder, &pic) == PCH_PIC_DONE);
+        pic_line(&pic, &wires, 5, true);
+        expect("and stops with its first call", pic_recorder_stopped(&day.recorder) == PIC_OCCUPIED && day.recorder.count == 0);
+        expect("has no next trace", pic_day_next(&day) == PIC_OCCUPIED);
+        expect("takes none", pic_day_add(&day, trace, 6 + PCH_PIC_RECORD_LEN, NULL) == PIC_OCCUPIED);
+        expect("and does not end", pic_day_end(&day) == PIC_OCCUPIED && pic_day_end(&day) == PIC_OCCUPIED);
+    }
+    folder_digest(damaged, after);
+    expect("the other stays as it is", strcmp(before, after) == 0);
+    expect("nor does a day without a plan", pic_day_begin(&day, another, 4001) == PIC_PLAN && pic_recorder_raise(&day.recorder, 1) == PIC_PLAN && pic_day_end(&day) == PIC_PLAN);
+}
+
+static void take_file_away(const char *folder, const char *name)
+{
+    char path[2 * PATH_LEN];
+    snprintf(path, sizeof path, "%s/%s", folder, name);
+    expect("a file is taken away", unlink(path) == 0);
+}
+
+static bool has_link(const char *folder, const char *name)
+{
+    char path[2 * PATH_LEN];
+    struct stat found;
+    snprintf(path, sizeof path, "%s/%s", folder, name);
+    return lstat(path, &found) == 0 && S_ISLNK(found.st_mode);
+}
+
+/* What comes into the place of a day's next trace is never replaced nor taken away, and where it is gone the day goes on. */
+static void in_the_way(size_t block)
+{
+    static const char *const names[] = {"00002.trace", "00002.trace.times"};
+    static const uint8_t trace[PCH_PIC_TRACE_MAX] = {1, 0, 6, 0, 1, 0, PCH_PIC_RAISE};
+    char before[PIC_DIGEST_LEN + 1], after[PIC_DIGEST_LEN + 1], link[PATH_LEN + 32];
+    clear(another);
+    memset(seen, 0, sizeof *seen);
+    expect("a day with others around", pic_day_begin(&day, another, block) == PCH_PIC_DONE && pic_recorder_clock(&day.recorder, by_taken, NULL) == PCH_PIC_DONE);
+    expect("has a trace", take() == PCH_PIC_DONE && pic_day_next(&day) == PCH_PIC_DONE);
+    for (size_t i = 0; i < 2; i++) {
+        put_file(another, names[i], "mine\n");
+        folder_digest(another, before);
+        expect("takes no record over a file", take() == PIC_OCCUPIED && take() == PIC_OCCUPIED);
+        expect("nor a trace", pic_day_add(&day, trace, 6 + PCH_PIC_RECORD_LEN, NULL) == PIC_OCCUPIED);
+        folder_digest(another, after);
+        expect("which stays as it is", strcmp(before, after) == 0);
+        take_file_away(another, names[i]);
+    }
+    snprintf(link, sizeof link, "%s/00002.trace", another);
+    expect("nor over a link", symlink("no such file", link) == 0 && take() == PIC_OCCUPIED && has_link(another, "00002.trace"));
+    take_file_away(another, "00002.trace");
+    expect("and goes on then", take() == PCH_PIC_DONE);
+    if (block == 0) {
+        put_file(another, "00002.trace", "mine\n");
+        expect("a trace in memory is not written over a file", pic_day_next(&day) == PIC_OCCUPIED && pic_day_end(&day) == PIC_OCCUPIED);
+        take_file_away(another, "00002.trace");
+    }
+    expect("to its end", pic_day_end(&day) == PCH_PIC_DONE && is_the_beginning(another, 2, 2));
+    expect("behind which it takes nothing", pic_day_add(&day, trace, 6 + PCH_PIC_RECORD_LEN, NULL) == PIC_DAY_OVER && take() == PIC_FULL && is_the_beginning(another, 2, 2));
+    clear(another);
+    expect("a day that is taken away", pic_day_begin(&day, another, block) == PCH_PIC_DONE);
+    put_file(another, "00001.trace", "mine\n");
+    pic_day_undo(&day);
+    take_file_away(another, "00001.trace");
+}
+
+/* A day whose folder has a relative name stays in it where the process goes elsewhere. */
+static void elsewhere(size_t block)
+{
+    struct stat there;
+    char here[PATH_LEN];
+    clear(another);
+    memset(seen, 0, sizeof *seen);
+    expect("a relative name", getcwd(here, sizeof here) != NULL && chdir(base_folder) == 0 && pic_day_begin(&day, "another//", block) == PCH_PIC_DONE && take() == PCH_PIC_DONE);
+    expect("and another folder", chdir("/") == 0 && pic_day_next(&day) == PCH_PIC_DONE && take() == PCH_PIC_DONE && pic_day_end(&day) == PCH_PIC_DONE);
+    expect("are one day", chdir(here) == 0 && is_the_beginning(another, 2, 2));
+    clear(another);
+    expect("which is taken away from there too", chdir(base_folder) == 0 && pic_day_begin(&day, "another", block) == PCH_PIC_DONE && chdir("/") == 0);
+    pic_day_undo(&day);
+    expect("with its folder", chdir(here) == 0 && stat(another, &there) != 0);
 }
 
 int main(int argc, char **argv)
@@ -959,12 +1203,26 @@ int main(int argc, char **argv)
     }
     killed(kills);
     without_room(kills / 4 + 1);
+    ends_at_once();
     damaged_traces();
     damaged_beside();
     damaged_lists();
+    zeros_in_lists();
     torn_lists();
+    not_taken(10);
+    not_taken(2 * BLOCK);
+    not_taken(254);
+    none_taken();
+    from_zero(BLOCK - 1, 1);
+    from_zero(BLOCK, 0);
+    from_zero(2 * BLOCK + 1, 0);
     salvaged_days();
     beginnings();
+    without_a_beginning();
+    in_the_way(0);
+    in_the_way(BLOCK);
+    elsewhere(0);
+    elsewhere(BLOCK);
     clear(damaged);
     clear(another);
     printf("%d passed, %d failed\n", passed, failed);
