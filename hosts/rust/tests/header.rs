@@ -171,7 +171,7 @@ fn recorders() {
         ("STARTED", Started),
         ("OCCUPIED", NotEmpty),
     ];
-    let in_c_alone = ["COPIED", "SET_UP", "NO_DAY", "INSIDE"];
+    let in_c_alone = ["COPIED", "SET_UP", "NO_DAY", "INSIDE", "DAY_OVER"];
     assert!(in_c_alone.iter().all(|name| told.contains_key(name)));
     assert_eq!(told.len(), ours.len() + in_c_alone.len());
     for (name, error) in ours {
