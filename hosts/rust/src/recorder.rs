@@ -65,7 +65,7 @@ impl fmt::Display for RecordError {
             RecordError::Loaded => "no record can say it: a load",
             RecordError::Started => "the device or the recorder is not at its start, and a trace begins with a reset",
             RecordError::NotEmpty => "there is something in the folder already, and a day is never written over",
-            RecordError::Ended => "the day was ended",
+            RecordError::Ended => "the day was ended, and takes no more",
         })
     }
 }

@@ -149,7 +149,9 @@ fn columns() {
 #[cfg(feature = "std")]
 #[test]
 fn recorders() {
-    use pch_pic::RecordError::{Again, Blocks, Byte, Empty, Full, Loaded, NotEmpty, Offset, Plan, Planned, Refused, Some as Few, Started};
+    use pch_pic::RecordError::{
+        Again, Blocks, Byte, Empty, Ended, Full, Loaded, NotEmpty, Offset, Plan, Planned, Refused, Some as Few, Started,
+    };
     let sources = [include_str!("../../c/recorder.c"), include_str!("../../c/days.c")];
     let told = sources
         .iter()
@@ -170,8 +172,9 @@ fn recorders() {
         ("LOADED", Loaded),
         ("STARTED", Started),
         ("OCCUPIED", NotEmpty),
+        ("DAY_OVER", Ended),
     ];
-    let in_c_alone = ["COPIED", "SET_UP", "NO_DAY", "INSIDE", "DAY_OVER"];
+    let in_c_alone = ["COPIED", "SET_UP", "NO_DAY", "INSIDE"];
     assert!(in_c_alone.iter().all(|name| told.contains_key(name)));
     assert_eq!(told.len(), ours.len() + in_c_alone.len());
     for (name, error) in ours {
