@@ -20,7 +20,9 @@ fn holes(day: &Day) -> Vec<Finding> {
     let told = day.holes.iter().map(|hole| {
         let lost = plural(hole.lost(), "record", "records");
         let (first, last) = (counted(hole.first), counted(hole.last));
-        let text = if hole.at == day.records {
+        let text = if hole.at_most() {
+            format!("the day was not ended: at most {lost} of it, {first} to {last}, are missing behind the last one. What is here is the day as far as it goes.")
+        } else if hole.at == day.records {
             format!("the trace ends at a hole: {lost} of the day, {first} to {last}, are missing behind it. What is here is the day as far as it goes.")
         } else {
             format!("a hole before record {}: {lost} of the day, {first} to {last}, are missing. From there on nothing that is shown is the day's.", hole.at)

@@ -106,6 +106,10 @@ fn warning(day: &Day) -> String {
             "<p class=\"warning\"><strong>From record {from} on this is not the day.</strong> {missing}, and what comes behind a hole is played on another state than the \
              day had: it may show asserts that never were, and hide those that were. Every number with a star, and the sheet, go over the hole.</p>\n"
         ),
+        None if lost > 0 && day.holes.iter().all(|hole| hole.at_most()) => format!(
+            "<p class=\"warning\"><strong>The day was not ended.</strong> At most {} of it, the open block, may be missing behind the last one here. What is here is the day's, exactly.</p>\n",
+            plural(lost, "record", "records")
+        ),
         None if lost > 0 => format!(
             "<p class=\"warning\"><strong>The day went on.</strong> {missing} behind the last one here. What is here is the day's, exactly.</p>\n"
         ),

@@ -171,7 +171,8 @@ fn write_holes(out: &mut String, day: &Day, height: usize) {
     }
     for hole in day.holes.iter().filter(|hole| (day.part.start..=day.part.end).contains(&hole.at)) {
         let (x, late) = (across(hole.at, day), day.place(hole.at) * 2 > day.part.len());
-        let (side, lost) = (if late { " end" } else { "" }, counted(hole.lost()));
+        let (side, lost) =
+            (if late { " end" } else { "" }, format!("{}{}", if hole.at_most() { "at most " } else { "" }, counted(hole.lost())));
         let _ = writeln!(
             out,
             "<line class=\"hole\" data-at=\"{}\" x1=\"{x}\" x2=\"{x}\" y1=\"{AXIS}\" y2=\"{height}\"/><text class=\"hole{side}\" x=\"{x}\" y=\"{}\">hole: {lost} missing</text>",

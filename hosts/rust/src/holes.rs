@@ -40,6 +40,11 @@ pub struct Hole {
 }
 
 impl Hole {
+    /// Whether no more than that can be lost, and perhaps nothing is: the open block of a day that was not ended.
+    pub fn at_most(&self) -> bool {
+        self.why.starts_with("at most: ")
+    }
+
     /// How many records are lost in it.
     pub fn lost(&self) -> usize {
         self.last - self.first + 1
