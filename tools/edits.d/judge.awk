@@ -1,6 +1,7 @@
 # Reads what the prover said of an edited crate, and tells in a line whether the functions that the edit changes (CHANGED, their paths) are refused. Such a function
 # counts where it is not proved and an error stands in its own proof, or where what it promises is not found. A function that is not proved for what it calls has
-# no error but that something was not admitted. And an error that only says that the proof has another shape shows nothing of the promise.
+# no error but that something was not admitted. And an error that only says that the proof has another shape shows nothing of the promise; where a name is long, that
+# error goes on in the next line.
 
 # The functions in whose proof a place stands: proofs/MODULE/../FUNCTION/FILE. Those that call one another have one proof: proofs/MODULE/+ONE+OTHER/FILE.
 function owners(place, names,    path, last, n, i) {
@@ -27,7 +28,7 @@ function owners(place, names,    path, last, n, i) {
     for (i = owners(path, names); i > 0; i--) {
         if (names[i] in error) continue
         error[names[i]] = place
-        shape[names[i]] = /that can be named from here|: record `[^`]*` has no field|: this λ has [0-9]+ binders/
+        shape[names[i]] = /that can be named from here|: record `[^`]*`( has no field|$)|: this λ has [0-9]+ binders/
     }
 }
 /^fn .*: not proved/ {
