@@ -9,14 +9,14 @@ ghost use Rattle.answer.specs.Given.{value_view, Tells};
 use bits::bytes::{put_word, put_zeros};
 
 // What a call gives, if it gives something.
-#[derive(Drop)]
+#[derive(Clone, Copy)]
 pub enum Value {
     Absent,
     Present(u64),
 }
 
 // How a call ends: the number that it hands back, 0 where it is done, and its value.
-#[derive(Drop)]
+#[derive(Clone, Copy)]
 pub struct Told {
     pub number: u8,
     pub value: Value,

@@ -6,14 +6,14 @@ ghost use Rattle.device.specs.map.Views.{byte_index, cell_view};
 use crate::state::PchPicState;
 
 // An index, where there is one: the Rust's Option<usize>.
-#[derive(Drop)]
+#[derive(Clone, Copy)]
 pub enum Index {
     None,
     At(usize),
 }
 
 // The registers that are stored and change nothing else.
-#[derive(Drop)]
+#[derive(Clone, Copy)]
 pub enum Plain {
     HtmsiEn,
     Edge,
@@ -22,7 +22,7 @@ pub enum Plain {
     Auto1,
 }
 
-#[derive(Drop)]
+#[derive(Clone, Copy)]
 pub enum Register {
     Id,
     Mask,
@@ -33,14 +33,14 @@ pub enum Register {
 }
 
 // What a Dword at an offset reaches: the high (true) or low half of a register, route or vector bytes, nothing.
-#[derive(Drop)]
+#[derive(Clone, Copy)]
 pub enum Cell {
     Half(Register, bool),
     Bytes,
     Nothing,
 }
 
-#[derive(Drop)]
+#[derive(Clone, Copy)]
 pub enum Width {
     Byte,
     Word,

@@ -4,7 +4,7 @@ ghost use Rattle.rules.specs.Device.{reset};
 ghost use Rattle.device.specs.state.View.{Is};
 
 // The registers that move, of all 64 inputs.
-#[derive(Drop)]
+#[derive(Clone, Copy)]
 pub struct Lines {
     pub int_mask: u64,
     pub intirr: u64,
@@ -12,7 +12,7 @@ pub struct Lines {
 }
 
 // The registers that are stored and change nothing else.
-#[derive(Drop)]
+#[derive(Clone, Copy)]
 pub struct Stored {
     pub htmsi_en: u64,
     pub intedge: u64,
@@ -22,14 +22,14 @@ pub struct Stored {
 }
 
 // The bytes that each input has.
-#[derive(Drop)]
+#[derive(Clone, Copy)]
 pub struct Tables {
     pub route_entry: [u8; PchPicState::IRQ_COUNT],
     pub htmsi_vector: [u8; PchPicState::IRQ_COUNT],
 }
 
 // The output events that wait: output_len of them, from output_head on and round; and how many were dropped.
-#[derive(Drop)]
+#[derive(Clone, Copy)]
 pub struct Ring {
     pub output_vectors: [u8; PchPicState::OUTPUT_QUEUE_CAPACITY],
     pub output_asserted: [bool; PchPicState::OUTPUT_QUEUE_CAPACITY],
@@ -38,7 +38,7 @@ pub struct Ring {
     pub output_drops: u32,
 }
 
-#[derive(Drop)]
+#[derive(Clone, Copy)]
 pub struct PchPicState {
     pub lines: Lines,
     pub stored: Stored,
@@ -141,14 +141,14 @@ impl PchPicState {
     }
 }
 
-#[derive(Drop)]
+#[derive(Clone, Copy)]
 pub struct PchPicOutputEvent {
     pub vector: u8,
     pub asserted: bool,
 }
 
 // What update_irq hands back: the vector of the input that went into service or left it, if one did.
-#[derive(Drop)]
+#[derive(Clone, Copy)]
 pub enum Answer {
     None,
     Vector(u8),

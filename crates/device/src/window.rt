@@ -6,7 +6,7 @@ ghost use Rattle.device.specs.window.Tests.{known_view, located_view, Ends};
 use crate::map::Width;
 
 // A width that is known, or not.
-#[derive(Drop)]
+#[derive(Clone, Copy)]
 pub enum Known {
     As(Width),
     Unknown,
@@ -33,7 +33,7 @@ fn bytes_in(base: u64, size: u64) -> u64
 }
 
 // An access inside the window as an offset, or outside.
-#[derive(Drop)]
+#[derive(Clone, Copy)]
 pub enum Located {
     At(usize),
     Outside,

@@ -10,7 +10,7 @@ use crate::form::{CAPACITY, Form, NUMBERS_LENGTH, PAIRS_LENGTH, places_of};
 use crate::unused;
 use bits::bytes::word_at;
 
-#[derive(Drop)]
+#[derive(Clone, Copy)]
 pub enum Bodies {
     Broken,
     Good,

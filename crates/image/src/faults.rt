@@ -14,7 +14,7 @@ use crate::form::{CAPACITY, Form, NUMBERS_LENGTH, PAIRS_LENGTH, places_of};
 use bits::bytes::word_at;
 
 // The copy of IRR differs, too many wait, a waiting pair's flag is neither 0 nor 1, an unused pair or number is not zero.
-#[derive(Drop)]
+#[derive(Clone, Copy)]
 pub enum Fault {
     Copy,
     Count,
@@ -23,7 +23,7 @@ pub enum Fault {
 }
 
 // What testing an image finds; of a broken rule what and at which place.
-#[derive(Drop)]
+#[derive(Clone, Copy)]
 pub enum Checked {
     Accepted,
     WrongLength,

@@ -4,14 +4,14 @@ ghost use Rattle.images.specs.Form.{form_of, contents_length};
 ghost use Rattle.image.specs.Shown.{form_view, form_known, copy_length, PlacesOf, ContentsOf};
 
 // Form 1; form 2, which has no copy of IRR; and form 2 with a fifth body, the numbers of events.
-#[derive(Drop)]
+#[derive(Clone, Copy)]
 pub enum Form {
     One,
     Two,
     Numbered,
 }
 
-#[derive(Drop)]
+#[derive(Clone, Copy)]
 pub enum KnownForm {
     Unknown,
     As(Form),
@@ -29,7 +29,7 @@ pub fn form_of(length: usize) -> KnownForm
 }
 
 // Where the fields of a form stand; a form that has no copy of IRR has IRR's own place for it, and one that has no numbers places past its end for them.
-#[derive(Drop)]
+#[derive(Clone, Copy)]
 pub struct Places {
     pub int_mask: usize,
     pub htmsi_en: usize,
@@ -129,7 +129,7 @@ pub const NUMBER_BODY_LENGTH: usize = 34;
 pub const EVENT: usize = 4;
 
 // The contents as numbers of eight bytes: from byte 0, from byte 8, from byte 14, and the last eight; where there are four bodies these are the third.
-#[derive(Drop)]
+#[derive(Clone, Copy)]
 pub struct Contents {
     pub first: u64,
     pub second: u64,

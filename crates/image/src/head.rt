@@ -9,7 +9,7 @@ use crate::form::{Form, KnownForm, contents_of, form_of};
 use bits::bytes::word_at;
 
 // What the length and the contents tell: an image of a form, or why it is none.
-#[derive(Drop)]
+#[derive(Clone, Copy)]
 pub enum Head {
     WrongLength,
     WrongContents,

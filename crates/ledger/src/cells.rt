@@ -29,7 +29,7 @@ const WITHDRAWN: usize = 8;
 pub const OPEN: usize = 9;
 
 // What becomes of an event.
-#[derive(Drop)]
+#[derive(Clone, Copy)]
 pub enum Fate {
     Returned,
     Kept,

@@ -12,7 +12,7 @@ ghost use Rattle.ledger.specs.watch.Kept.{lines_of};
 use crate::cells::{Fate, LOWERS, RAISES, begin, count, event, withdraw};
 use device::decide;
 
-#[derive(Drop)]
+#[derive(Clone, Copy)]
 pub struct Watched {
     pub mask: u64,
     pub irr: u64,

@@ -15,7 +15,7 @@ use fields::words;
 use image::form::Form;
 
 // Whether it is for this guest.
-#[derive(Drop)]
+#[derive(Clone, Copy)]
 pub enum Fit {
     Passes,
     Refused,

@@ -38,7 +38,7 @@ pub fn unfit() -> Told
 // ---- an access
 
 // A Dword at an offset that 4 divides, or any other access.
-#[derive(Drop)]
+#[derive(Clone, Copy)]
 pub enum Aligned {
     Dword,
     Other,

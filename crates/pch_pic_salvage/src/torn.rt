@@ -7,7 +7,7 @@ use trace::blocks::two_at;
 use trace::first_bad;
 
 // A block by its entry in the contents: the place of its first byte in the trace, and how many records it has.
-#[derive(Drop)]
+#[derive(Clone, Copy)]
 struct Block {
     pub place: usize,
     pub records: usize,
@@ -40,7 +40,7 @@ pub fn survey(trace: &[u8], blocks: usize) -> [u16; 64]
 }
 
 // What is known of a block: where it stands, how many records it has, the first bad one in it, and that there is none.
-#[derive(Drop)]
+#[derive(Clone, Copy)]
 pub struct Looked {
     pub place: usize,
     pub records: usize,
@@ -64,7 +64,7 @@ pub fn look(trace: &[u8], bads: &[u16; 64], b: usize) -> Looked
 }
 
 // How many blocks are left, and how many records they have together.
-#[derive(Drop)]
+#[derive(Clone, Copy)]
 pub struct Left {
     pub blocks: usize,
     pub records: usize,

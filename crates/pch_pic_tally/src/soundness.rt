@@ -20,7 +20,7 @@ const COUNTED: usize = 5120;
 
 const REFUSED: u8 = 17;
 
-#[derive(Drop)]
+#[derive(Clone, Copy)]
 pub enum Sound {
     Whole,
     WrongAt(u64),

@@ -8,7 +8,7 @@ use crate::pop::Taken;
 use device::state::Ring;
 
 // What a drain leaves: the ring, and how many events it wrote.
-#[derive(Drop)]
+#[derive(Clone, Copy)]
 pub struct Drained {
     pub ring: Ring,
     pub count: usize,

@@ -7,7 +7,7 @@ use crate::push;
 use device::state::{PchPicOutputEvent, PchPicState, Ring};
 
 // The ring after events were offered to it, and how many of them it dropped.
-#[derive(Drop)]
+#[derive(Clone, Copy)]
 pub struct Queued {
     pub ring: Ring,
     pub dropped: u32,

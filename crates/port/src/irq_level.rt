@@ -8,7 +8,7 @@ ghost use Rattle.port.specs.irq_level.Moves.{Answers, updated};
 use device::decide;
 use device::state::{Answer, Lines, PchPicState};
 
-#[derive(Drop)]
+#[derive(Clone, Copy)]
 pub struct Routed {
     pub lines: Lines,
     pub answer: Answer,

@@ -12,7 +12,7 @@ use device::decide;
 use device::state::{Answer, Lines, PchPicOutputEvent, PchPicState, Ring};
 
 // The lines and the ring after a register write that moves them, and how many of its events were dropped.
-#[derive(Drop)]
+#[derive(Clone, Copy)]
 pub struct Moved {
     pub lines: Lines,
     pub ring: Ring,

@@ -5,13 +5,13 @@ ghost use Rattle.port.specs.pop.Pops.{Pops};
 use device::state::{PchPicOutputEvent, PchPicState, Ring};
 
 // What pop_output_event takes out: the Rust's Option<PchPicOutputEvent>.
-#[derive(Drop)]
+#[derive(Clone, Copy)]
 pub enum Taken {
     Nothing,
     One(PchPicOutputEvent),
 }
 
-#[derive(Drop)]
+#[derive(Clone, Copy)]
 pub struct Popped {
     pub ring: Ring,
     pub event: Taken,

@@ -5,7 +5,7 @@ ghost use Rattle.port.specs.push.Pushes.{Pushes};
 use device::state::{PchPicOutputEvent, PchPicState, Ring};
 
 // The ring after a push, and whether the event was kept.
-#[derive(Drop)]
+#[derive(Clone, Copy)]
 pub struct Pushed {
     pub ring: Ring,
     pub kept: bool,

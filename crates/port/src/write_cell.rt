@@ -14,7 +14,7 @@ use device::map::{Plain, Register};
 use device::state::PchPicState;
 
 // The state after a write, and how many of its events were dropped.
-#[derive(Drop)]
+#[derive(Clone, Copy)]
 pub struct Written {
     pub state: PchPicState,
     pub dropped: u32,

@@ -26,7 +26,7 @@ fn together(kind: u8) -> u64
 }
 
 // How many comparisons passed and how many failed: of each kind, and at place 0 of all.
-#[derive(Drop)]
+#[derive(Clone, Copy)]
 struct Counts {
     passed: [u64; 10],
     failed: [u64; 10],
@@ -91,7 +91,7 @@ fn read_record(fd: i32, noted: &mut [u8], bytes: &mut [u8]) -> bool
 }
 
 // What a record leaves: the counts, and the number of the record behind it, or one past all where the file ends.
-#[derive(Drop)]
+#[derive(Clone, Copy)]
 struct Next {
     counts: Counts,
     at: u64,

@@ -5,7 +5,7 @@ ghost use Rattle.replay.specs.records.Records.{kind_of, event_sum, checksum_of, 
 use bits::bytes::{number, put_word, wide, word_at};
 
 // What is found of a record: it agrees, or what differs, or why there is nothing to compare.
-#[derive(Drop)]
+#[derive(Clone, Copy)]
 pub enum Verdict {
     Agrees,
     Nothing,

@@ -54,7 +54,7 @@ fn make_plain(noted: &[u8], image: &mut [u8], answer: &mut [u8]) -> u8
 }
 
 // What a call handed back, and the whole event buffer behind it.
-#[derive(Drop)]
+#[derive(Clone, Copy)]
 struct Made {
     number: u8,
     events: [u8; 64],

@@ -4,7 +4,7 @@ ghost use Rattle.sessions.specs.Session.{digit_of, digit, digits, digits_spell};
 ghost use Rattle.session.specs.hex.Reads.{digit_view, number_view, field_of};
 
 // What a byte is worth as a digit.
-#[derive(Drop)]
+#[derive(Clone, Copy)]
 pub enum Digit {
     Worth(u8),
     Other,
@@ -21,7 +21,7 @@ pub fn digit_of(byte: u8) -> Digit
 }
 
 // The number that some digits spell.
-#[derive(Drop)]
+#[derive(Clone, Copy)]
 pub enum Number {
     Is(u64),
     Wrong,

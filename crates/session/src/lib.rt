@@ -16,7 +16,7 @@ use device::state::PchPicState;
 // Between two bytes of the input: the state, and how many bytes of the line so far stand at the front of the line buffer.
 // That buffer has 32 bytes or more. The longest line that asks for something has 25, so of a longer one it is enough to
 // keep the front: it is answered with a question mark, whatever its other bytes are.
-#[derive(Drop)]
+#[derive(Clone, Copy)]
 pub struct Session {
     pub state: PchPicState,
     pub kept: usize,
@@ -30,7 +30,7 @@ pub fn start() -> Session
 }
 
 // What a byte of the input leaves, and how many bytes it had written.
-#[derive(Drop)]
+#[derive(Clone, Copy)]
 struct Step {
     session: Session,
     len: usize,
@@ -70,7 +70,7 @@ fn feed_byte(session: Session, line: &mut [u8], byte: u8, out: &mut [u8]) -> Ste
 }
 
 // What a chunk leaves: how many of its bytes were taken, and how many bytes of answers were written.
-#[derive(Drop)]
+#[derive(Clone, Copy)]
 pub struct Fed {
     pub session: Session,
     pub taken: usize,

@@ -21,7 +21,7 @@ const BASE: u64 = 0;
 const SIZE: u64 = 0x400;
 
 // What a line leaves: the state, and how many bytes of the buffer its answer takes.
-#[derive(Drop)]
+#[derive(Clone, Copy)]
 pub struct Played {
     pub state: PchPicState,
     pub len: usize,

@@ -6,7 +6,7 @@ ghost use Rattle.session.specs.request.Requests.{request_view};
 use crate::hex;
 use crate::hex::Number;
 
-#[derive(Drop)]
+#[derive(Clone, Copy)]
 pub enum Request {
     // The input, and whether it is raised.
     Level(u64, bool),

@@ -11,7 +11,7 @@ use device::map::{Plain, Register};
 
 // What a byte belongs to: a register, its high (true) or low half, which byte of that, and whether it is silent to Byte and Word; the route or the
 // vector byte of an input; nothing.
-#[derive(Drop)]
+#[derive(Clone, Copy)]
 pub enum Place {
     Part(Register, bool, usize, bool),
     Route(usize),

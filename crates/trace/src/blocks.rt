@@ -18,7 +18,7 @@ pub fn two_at(trace: &[u8], at: usize) -> usize
 }
 
 // How many records the blocks have together, or that they do not stand as they have to.
-#[derive(Drop)]
+#[derive(Clone, Copy)]
 pub enum Listed {
     Records(usize),
     Wrong,

@@ -8,7 +8,7 @@ use crate::record_bytes::LENGTH;
 const MOST_BLOCKS: usize = 64;
 
 // Good contents, with the place of the first record and how many there are.
-#[derive(Drop)]
+#[derive(Clone, Copy)]
 pub enum Contents {
     Good(usize, usize),
     Wrong,

@@ -32,7 +32,7 @@ pub fn first_bad(trace: &[u8], first: usize, records: usize) -> usize
 }
 
 // A good trace, with the place of its first record and how many it has; or what is wrong.
-#[derive(Drop)]
+#[derive(Clone, Copy)]
 pub enum Tested {
     Good(usize, usize),
     WrongContents,

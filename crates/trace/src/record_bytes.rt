@@ -10,7 +10,7 @@ use bits::bytes::number;
 pub const LENGTH: usize = 16;
 
 // A record by value: kind, input or width, offset, the four zero bytes as a number, value.
-#[derive(Drop)]
+#[derive(Clone, Copy)]
 pub struct Record {
     pub kind: u8,
     pub byte: u8,

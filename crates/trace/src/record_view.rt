@@ -7,7 +7,7 @@ ghost use Rattle.trace.specs.record_view.Showing.{Inside, part_shown, Shows};
 
 use crate::record_bytes::{LENGTH, Record, fields, part_at};
 
-#[derive(Drop)]
+#[derive(Clone, Copy)]
 pub struct View<'a> {
     trace: &'a [u8],
     place: usize,

@@ -3,7 +3,7 @@
 use Rattle.basics.proofs.Prelude.{◌≡◌, refl, sym, ap, ◌∙◌, Bool, true, false, cond, not, ◌&&◌, false≢true, and-eq-true_iff, List, [], ◌∷◌, ◌⊎◌, inl, inr, ⊎_elim, ℕ, zero, suc, ◌+◌, ◌-◌, ◌*◌, ◌/◌, ◌%◌, ◌<◌, ◌≤◌, arith, eqb, leb, ltb, lit≤, length, get_or, eq-eqb, eqb-true, eqb-false, le-leb, leb-true, lt-ltb, le-ltb, ltb-true, ltb-false, part, same, test, equal_same, same_equal}
 use Rattle.rules.specs.Ring.{capacity}
 use Rattle.images.specs.Form.{Form, one, Field, word, copy, irr, count, pairs, numbers, has, size, place, form_length, contents_length, contents_of, read, Known, unknown, known, form_of}
-use Rattle.images.specs.Image.{word_in, count_in, Fault, copy_differs, many_wait, bad_flag, unused_set, Finding, clear, found, Rule, copy_rule, count_rule, rules, search, finding, first_fault, accepted, wrong_length, wrong_contents, broken, body_test, test_as, image_test, every_byte, pair_byte, accepted_before}
+use Rattle.images.specs.Image.{word_in, count_in, Fault, copy_differs, many_wait, bad_flag, unused_set, Finding, clear, found, Rule, copy_rule, count_rule, flag_rule, unused_rule, rules, search, finding, first_fault, accepted, wrong_length, wrong_contents, broken, body_test, test_as, image_test, every_byte, pair_byte, accepted_before}
 use Rattle.laws.specs.Wrong.{flag_at, SetBehind, NoneBehind, Copied, Why, Broken}
 use Rattle.images.proofs.laws.Layout.{has_all}
 use Rattle.images.proofs.laws.Tests.{each_byte, Flags, accepted_has, accepted_if_has, known_length, test_known_lem, byte_read_lem, length_read, Told, search_told, decided, Holds, Unused, flags_hold, unused_hold, copy_holds, count_holds, count_read}
@@ -185,13 +185,13 @@ module _ (f : Form) (l : List ℕ) (s : length l ≡ form_length f) (k : Fault) 
       let copied : Holds f l (copy_rule (word_in f l copy) (word_in f l irr)) → Copied f l = λ x h.
       copy_holds (word_in f l copy) (word_in f l irr) (read f l (word copy)) (omega (arith, length_read f l s (word copy) h)) (x h)
       in
-      ⊎_elim (λ t. let u = searched _ t in why_copy (search_told copy_differs k _ (place f (word copy)) a (read f l (word copy)) u.1) u.0) (λ x.
-      ⊎_elim (λ t. why_count (copied x.0) (search_told many_wait k _ (place f count) a (read f l count) (searched _ t).1)) (λ y.
-      ⊎_elim (λ t. why_flag (copied x.0) (few y.0) (search_told bad_flag k _ (place f pairs) a (read f l pairs) (searched _ t).1)) (λ z.
+      ⊎_elim (λ t. let u = searched (copy_rule (word_in f l copy) (word_in f l irr)) t in why_copy (search_told copy_differs k _ (place f (word copy)) a (read f l (word copy)) u.1) u.0) (λ x.
+      ⊎_elim (λ t. why_count (copied x.0) (search_told many_wait k _ (place f count) a (read f l count) (searched count_rule t).1)) (λ y.
+      ⊎_elim (λ t. why_flag (copied x.0) (few y.0) (search_told bad_flag k _ (place f pairs) a (read f l pairs) (searched (flag_rule n) t).1)) (λ z.
       let flagged = flags_hold n (read f l pairs) (z.0 has_pairs) in
-      ⊎_elim (λ t. let u = search_told unused_set k _ (place f pairs) a (read f l pairs) (searched _ t).1 in
+      ⊎_elim (λ t. let u = search_told unused_set k _ (place f pairs) a (read f l pairs) (searched (unused_rule pairs n) t).1 in
       why_unused (copied x.0) (few y.0) flagged (sym u.fault) (inl (set_behind pairs has_pairs u))) (λ w.
-      ⊎_elim (λ t. let g = searched _ t in
+      ⊎_elim (λ t. let g = searched (unused_rule numbers n) t in
       let u = search_told unused_set k _ (place f numbers) a (read f l numbers) g.1 in
       why_unused (copied x.0) (few y.0) flagged (sym u.fault) (inr (none_behind pairs (unused_hold n (read f l pairs) pairs (w.0 has_pairs)), set_behind numbers g.0 u)))
       (λ v. absurd v.1)

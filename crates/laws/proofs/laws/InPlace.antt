@@ -114,7 +114,7 @@ word_stays c x (stored p) n = elim [ mask ↦ λ t. refl | irr ↦ λ t. refl | 
 
 tables_stay : (c : Core) (x : ℕ) (w : Word) → (c.vectors ≡ (core_word w x c).vectors) × (c.stored.routes ≡ (core_word w x c).stored.routes)
 tables_stay c x = by_word _ (refl, refl) (refl, refl) (refl, refl) (refl, refl)
-    (λ p. (refl, elim p [ htmsi_en ↦ refl | edge ↦ refl | pol ↦ refl | auto0 ↦ refl | auto1 ↦ refl ]))
+    (λ p. (refl, elim p as (λ k. c.stored.routes ≡ (core_word (stored k) x c).stored.routes) [ htmsi_en ↦ refl | edge ↦ refl | pol ↦ refl | auto0 ↦ refl | auto1 ↦ refl ]))
 
 -- one word but IRR
 pub word_apart : (f : Form) (d : Device) (s : Numbers) (w : Word) (x : ℕ) → (w ≡ irr → ⊥) → Others f (field_of d s) (field_of (with_core (core_word w x d.core) d) s) (word w)
