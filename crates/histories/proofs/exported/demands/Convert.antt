@@ -201,14 +201,14 @@ module _ (q : Asking) where
 all_alike_but : {f g : Form} {d : Device} {s t : Numbers} {i j : List ℕ} → Shows f d s i → Shows g d t j → (qs : List Asking) → AllAlikeBut (made_on i qs) (made_on j qs)
 unfolding made_on AllAlikeBut
 all_alike_but h k [] = tt
-all_alike_but h k (q ∷ qs) = (alike_but q h k, all_alike_but (next_shows q h) (next_shows q k) qs)
+all_alike_but {d = d} h k (q ∷ qs) = (alike_but q h k, all_alike_but {d = next q d} (next_shows q h) (next_shows q k) qs)
 
 -- without the fifth body the numbers are the same at each call, since they are those from 0 on
 all_alike : {f g : Form} → has f numbers ≡ false → has g numbers ≡ false → {d : Device} {s t : Numbers} {i j : List ℕ} → Shows f d s i → Shows g d t j
     → (qs : List Asking) → AllAlike (made_on i qs) (made_on j qs)
 unfolding made_on AllAlike
 all_alike a b h k [] = tt
-all_alike a b h k (q ∷ qs) = ((alike_but q h k).whole (from_zero_lem h a ∙ sym (from_zero_lem k b)), all_alike a b (next_shows q h) (next_shows q k) qs)
+all_alike a b {d = d} h k (q ∷ qs) = ((alike_but q h k).whole (from_zero_lem h a ∙ sym (from_zero_lem k b)), all_alike a b {d = next q d} (next_shows q h) (next_shows q k) qs)
 
 -- the device that is left at last is in both images
 record ShowSame (f g : Form) (i j : List ℕ) : Type 0 where
@@ -222,7 +222,7 @@ left_show : {f g : Form} {d : Device} {s t : Numbers} {i j : List ℕ} → Shows
     → ShowSame f g (left_after i (made_on i qs)) (left_after j (made_on j qs))
 unfolding left_after made_on
 left_show {d = d} {s = s} {t = t} h k [] = record { device = d; first_numbers = s; second_numbers = t; first = h; second = k }
-left_show h k (q ∷ qs) = left_show (next_shows q h) (next_shows q k) qs
+left_show {d = d} h k (q ∷ qs) = left_show {d = next q d} (next_shows q h) (next_shows q k) qs
 
 -- an accepted image shows its device and its numbers
 shows : (i : List ℕ) → Bytes i → (e : image_test i ≡ accepted) → Shows (accepted_has i e).form (decode i) (numbers_in i) i
