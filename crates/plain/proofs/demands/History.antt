@@ -3,7 +3,7 @@
 use Rattle.basics.proofs.Prelude.{◌≡◌, refl, sym, ap, ◌∙◌, List, [], ◌∷◌, ◌++◌, map, map-append, append_assoc, append-nil}
 use Rattle.rules.specs.{Lines.Made, Device.Device, Device.WellFormed, Device.Call, Device.step, History.history}
 use Rattle.histories.proofs.laws.WellFormed.{step_well}
-use Rattle.plain.specs.{Events.Offered, Events.as_loaded, Plain.Engine, Plain.gives}
+use Rattle.plain.specs.{Events.Offered, Events.as_loaded, Plain.Engine, Plain.gives, Plain.counted}
 use Rattle.plain.specs.Sequence.{load_of, shown, Item, call, load, refused, WellLoaded, plain_after, brought_by, Ported, ported_load, ported_follows, ported_after, notes_of, as_made, listed}
 use Rattle.plain.proofs.laws.{Queues.listed_append, Queues.notes_made, Same.Run, Same.Same}
 use Rattle.plain.proofs.laws.Following.{stepped, counted_run, like_call, loaded_run, sized, same_load, same_counted, shown_is}
@@ -27,13 +27,13 @@ reached : (e : Engine) (r : Run) (xs : List Item) → Same e r → WellFormed r.
 unfolding plain_after run_after run_follows WellLoaded
 reached e r [] x w l = record { same = x; well = w }
 reached e r (call c ∷ xs) x w l =
-    let next = reached _ (stepped r c) xs (like_call e r x (sized w) c).after (step_well r.device c w) l in
+    let next = reached (gives e c).after (stepped r c) xs (like_call e r x (sized w) c).after (step_well r.device c w) l in
     record { same = next.same; well = next.well }
 reached e r (load d ∷ xs) x w l =
-    let next = reached _ (loaded_run d) xs (same_load e d l.0) l.0 l.1 in
+    let next = reached (load_of e d) (loaded_run d) xs (same_load e d l.0) l.0 l.1 in
     record { same = next.same; well = next.well }
 reached e r (refused ∷ xs) x w l =
-    let next = reached _ (counted_run r) xs (same_counted e r x) w l in
+    let next = reached (counted e) (counted_run r) xs (same_counted e r x) w l in
     record { same = next.same; well = next.well }
 
 -- what a run has of the ported engine, and of the load
