@@ -1,5 +1,5 @@
 -- What is behind some of sixteen things of two bytes, by words that may overlap.
-use Rattle.basics.proofs.Prelude.{◌≡◌, refl, sym, ap, ◌∙◌, Bool, true, false, false≢true, ◌&&◌, and-true, and_assoc, and-eq-true_iff, List, ℕ, ◌+◌, ◌-◌, ◌*◌, ◌/◌, ◌^◌, ◌≤◌, ◌<◌, min, arith, bit_or, eqb, length, drop, drop_of_length-le, get_or, get_or-drop, Bytes}
+use Rattle.basics.proofs.Prelude.{◌≡◌, refl, sym, ap, ◌∙◌, Bool, true, false, false≢true, ◌&&◌, and-true, and_assoc, and-eq-true_iff, List, ℕ, ◌+◌, ◌-◌, ◌*◌, ◌/◌, ◌^◌, ◌≤◌, min, arith, bit_or, eqb, length, drop, drop_of_length-le, get_or, get_or-drop, Bytes}
 use Rattle.images.specs.Image.{register_at}
 use Rattle.image.specs.unused.Events.{all_zero}
 use Rattle.image.proofs.unused.Pairs.{four, zero_word, all_zero_zeros, zeros_all_zero}

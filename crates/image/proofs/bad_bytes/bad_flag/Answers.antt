@@ -1,5 +1,5 @@
 -- `bad_flag`: the flags looked at so far are good, and the bytes between them are none.
-use Rattle.basics.proofs.Prelude.{◌-◌, arith}
+use Rattle.basics.proofs.Prelude.{arith}
 use Rattle.image.proofs.bad_bytes.{Firsts.flag_on, Firsts.flag_here, Firsts.no_flag}
 use Rattle.image.proofs.bad_bytes.bad_flag.Goals as goal
 

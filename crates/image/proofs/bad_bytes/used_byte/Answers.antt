@@ -1,6 +1,5 @@
 -- `used_byte`: the bytes behind the waiting pairs that were looked at so far are zero, words of them and then one by one.
-use Rattle.basics.proofs.Prelude.{refl, ◌-◌, ◌*◌, arith}
-use Rattle.images.specs.{Form.pairs}
+use Rattle.basics.proofs.Prelude.{refl, ◌*◌, arith}
 use Rattle.image.proofs.bad_bytes.{Firsts.zeros_good, Firsts.zero_on, Firsts.used_here, Firsts.none_used}
 use Rattle.image.proofs.bad_bytes.used_byte.Goals as goal
 

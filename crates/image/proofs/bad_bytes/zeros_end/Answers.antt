@@ -1,5 +1,5 @@
 -- `zeros_end`: so far all words are zero.
-use Rattle.basics.proofs.Prelude.{sym, ◌∙◌, ◌-◌, arith}
+use Rattle.basics.proofs.Prelude.{sym, ◌∙◌, arith}
 use Rattle.image.proofs.bad_bytes.{Firsts.no_zeros, Firsts.word_on}
 use Rattle.image.proofs.bad_bytes.zeros_end.Goals as goal
 

@@ -1,5 +1,5 @@
 -- `test_waiting`: the rules, looked at in their order.
-use Rattle.basics.proofs.Prelude.{◌≡◌, refl, ◌∙◌, Bool, ◌&&◌, List, ℕ, ◌+◌, ◌≤◌, arith, rules, eq-eqb, ne_eqb, le-leb, lt-leb, not-true, not-false, eqb, leb, length, get_or, Bytes}
+use Rattle.basics.proofs.Prelude.{◌≡◌, refl, ◌∙◌, Bool, ◌&&◌, List, ℕ, ◌+◌, ◌≤◌, arith, eq-eqb, ne_eqb, le-leb, lt-leb, eqb, leb, length, get_or, Bytes}
 use Rattle.rules.specs.Ring.{capacity}
 use Rattle.images.specs.Form.{Form, word, irr, count, pairs}
 use Rattle.image.specs.{Shown.form_view, bodies.Good.bodies_good, bodies.Good.ring_good}
@@ -94,7 +94,7 @@ pub slice_bounds-unused_zero-end-2 : goal.slice_bounds-unused_zero-end-2
 slice_bounds-unused_zero-end-2 c = omega (arith, spare_within (goal.at.slice_bounds-unused_zero-end-2 c).After-spare_of-spare)
 
 pub returns-then-not-unused_zero : goal.returns-then-not-unused_zero
-returns-then-not-unused_zero c = let u = c in by_ring (few_of (goal.at.returns-then-not-unused_zero c).After-spare_of-spare) (unused (goal.at.returns-then-not-unused_zero c).After-unused_zero ∙ not-true _ c.if-not-unused_zero.true)
+returns-then-not-unused_zero c = let u = c in by_ring (few_of (goal.at.returns-then-not-unused_zero c).After-spare_of-spare) (unused (goal.at.returns-then-not-unused_zero c).After-unused_zero ∙ c.if-not-unused_zero.true)
 
 pub returns : goal.returns
-returns c = let u = c in by_ring (few_of (goal.at.returns c).After-spare_of-spare) (unused (goal.at.returns c).After-unused_zero ∙ not-false _ c.if-not-unused_zero.false)
+returns c = let u = c in by_ring (few_of (goal.at.returns c).After-spare_of-spare) (unused (goal.at.returns c).After-unused_zero ∙ c.if-not-unused_zero.false)

@@ -1,15 +1,14 @@
 -- `first_fault`: the rules, looked at in their order; the first that is broken is told with its place.
-use Rattle.basics.proofs.Prelude.{◌≡◌, refl, ap, [], ◌∷◌, ⊎_elim, ℕ, arith, OneOf, tag_of}
+use Rattle.basics.proofs.Prelude.{◌≡◌, refl, ap, ℕ, arith}
 use Rattle.images.specs.{Form.word, Form.irr, Form.count, Form.pairs, Image.accepted}
 use Rattle.image.specs.{Shown.form_view, faults.Found.checked_view, declared.faults.Checked.Checked}
 use Rattle.image.specs.declared.faults.Checked.TheVariants.{Accepted, WrongLength, WrongContents, Broken}
 use Rattle.image.proofs.{Forms.always_within, Forms.copy_within, faults.InOrder.copy_told, faults.InOrder.count_told, faults.InOrder.by_pairs, faults.InOrder.by_numbers}
-use Rattle.image.proofs.faults.Checked.{the_type}
 use Rattle.image.proofs.faults.first_fault.Goals as goal
 
 -- what stands in the other arm is not `Accepted`
-other : (x : Checked) → OneOf (1 ∷ 2 ∷ 3 ∷ []) (tag_of the_type x) → checked_view x ≡ accepted → ⊥
-other Accepted h e = ⊎_elim (λ z. omega (arith, z)) (⊎_elim (λ z. omega (arith, z)) (λ z. omega (arith, z))) h
+other : (x : Checked) → (x ≡ Accepted → ⊥) → checked_view x ≡ accepted → ⊥
+other Accepted h e = h refl
 other WrongLength h e = let z : ◌≡◌ {A = ℕ} 0 1 = cc in omega arith
 other WrongContents h e = let z : ◌≡◌ {A = ℕ} 0 1 = cc in omega arith
 other (Broken k a) h e = let z : ◌≡◌ {A = ℕ} 0 1 = cc in omega arith
@@ -61,7 +60,7 @@ returns-in_default c = let u = c in
     let p = two in
     let s = p in
     by_pairs (form_view s.args.form) s.args.image.now s.requires p.places_of-p.result p.places_of-p.ensures two.word_at.ensures two.word_at-2.ensures
-    few.if-word_at.false less.if-count-gt-CAPACITY.false (checked_view u.pair_fault-pairs.result) u.pair_fault-pairs.ensures (other u.pair_fault-pairs.result c.in_default.in_default-own.keys2)
+    few.if-word_at.false less.if-count-gt-CAPACITY.false (checked_view u.pair_fault-pairs.result) u.pair_fault-pairs.ensures (other u.pair_fault-pairs.result c.in_default.not-Accepted)
 
 pub returns : goal.returns
 returns c = let told = c in

@@ -1,5 +1,5 @@
 -- `all_bits`: after i words it has the bits of those.
-use Rattle.basics.proofs.Prelude.{◌≡◌, refl, sym, ap, ◌∙◌, ◌-◌, add-one, arith, bit_or}
+use Rattle.basics.proofs.Prelude.{◌≡◌, refl, sym, ap, ◌∙◌, add-one, arith, bit_or}
 use Rattle.image.specs.unused.Events.{bits_of}
 use Rattle.image.proofs.unused.all_bits.Goals as goal
 
