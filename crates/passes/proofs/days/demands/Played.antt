@@ -10,7 +10,7 @@ use Rattle.histories.proofs.exported.laws.Chains.{refused_not_done, faithful_at_
 use Rattle.plain.specs.Sequence.{Item, call, load, refused, load_of, shown, Ported, ported_follows, ported_after, plain_after}
 use Rattle.plain.proofs.demands.History.{shows_device}
 use Rattle.traces.specs.{Trace.Record, Trace.nth, Played.request_of, Played.played_on, Played.records_from, Played.outcomes, Played.gathered, plays.Playing.played_to}
-use Rattle.traces.proofs.{demands.Play.plays_from_reset, plays.laws.Drained.asked_ends, plays.laws.Keeps.no_reset, plays.laws.Keeps.in_front, plays.laws.Keeps.keeps_accepted}
+use Rattle.traces.proofs.{demands.Play.plays_from_reset, plays.laws.Drained.asked_ends, plays.laws.Keeps.no_reset, plays.laws.Keeps.in_front_lem, plays.laws.Keeps.keeps_accepted}
 use Rattle.traces.proofs.plays.demands.Accepted.{afresh_fits, each_fits}
 use Rattle.sheets.specs.Day.{as_item, item_of, begun}
 use Rattle.passes.specs.{days.Accounts.is_made, Finish.after_items}
