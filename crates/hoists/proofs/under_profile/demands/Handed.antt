@@ -98,7 +98,9 @@ module _ (h : Underway) (x : Hoisted) (q : Request) (e : request_of x.asks ≡ q
 -- Calls are handed on exactly if they are what is made one after another on an image, with whatever phases, and no reset is among it. Refused ones may stand anywhere.
 pub made_handed_on : (i : List ℕ) (qs : List Lent) → NoResets qs → HandedOn i (made_on i qs)
 unfolding made_on HandedOn NoResets
-made_handed_on i qs n = made_chained _ _ asked_of _ (λ s q. refl) i qs (each_made _ _ asked_of (λ s q f. f) i qs n)
+made_handed_on i qs n =
+    made_chained (λ (x : Hoisted). (left_by x).image) (λ (x : Hoisted). is_reset x.asks ≡ false) asked_of (λ (x : Hoisted). x.given) (λ s q. refl) i qs
+    (each_made (λ (x : Hoisted). (left_by x).image) (λ (x : Hoisted). is_reset x.asks ≡ false) asked_of (λ s q f. f) i qs n)
 
 pub handed_on_made : (i : List ℕ) (xs : List Hoisted) → HandedOn i xs → xs ≡ made_on i (map lent_by xs)
 unfolding made_on HandedOn

@@ -37,7 +37,7 @@ pub phased_on_exactly : (i p : List ℕ)
     → ((qs : List Posed) → NoneStartsOver (phased_on i p qs) → PhasedOn i p (phased_on i p qs)) × ((xs : List Hoisted) → PhasedOn i p xs → (xs ≡ phased_on i p (map posed_by xs)) × NoneStartsOver xs)
 unfolding phased_on PhasedOn NoneStartsOver
 phased_on_exactly i p = (
-  made_chained _ _ posed_on _ (λ s q. refl) (i, p),
+  made_chained pair_left (λ (x : Hoisted). starts_over x ≡ false) posed_on (λ (x : Hoisted). (x.given, x.phase)) (λ s q. refl) (i, p),
   chained_made _ _ posed_on _ posed_by (λ s x e t. record { given = (e t).0; phase = (e t).1; asks = x.asks; answer = x.answer }) (i, p),
 )
 
