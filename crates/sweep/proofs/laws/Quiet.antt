@@ -104,4 +104,4 @@ write_leaves_lines c w o v e = each_so leaves_lines (each_both (settled_acts c (
 pub along_every : (t : Call → Bool) (d : Device) (cs : List Call) → every_call t cs ≡ true → Along (λ e c. t c ≡ true) d cs
 unfolding Along
 along_every t d [] e = tt
-along_every t d (c ∷ cs) e = let both = (and-eq-true_iff (t c) (every_call t cs)).0 e in (both.0, along_every t _ cs both.1)
+along_every t d (c ∷ cs) e = let both = (and-eq-true_iff (t c) (every_call t cs)).0 e in (both.0, along_every t (call.step d c).after cs both.1)
