@@ -1,5 +1,5 @@
 -- A form in code and in the rules.
-use Rattle.basics.proofs.Prelude.{◌≡◌, refl, sym, ap, ◌∙◌, true, false, List, [], ◌∷◌, ⊎_elim, ℕ, ◌+◌, ◌≤◌, arith, length, OneOf, tag_of, test}
+use Rattle.basics.proofs.Prelude.{◌≡◌, refl, sym, ap, ◌∙◌, true, false, List, [], ◌∷◌, ⊎_elim, inl, inr, ℕ, ◌+◌, ◌≤◌, arith, length, OneOf, tag_of, test}
 use Rattle.images.specs.Form.{Word, Field, word, copy, irr, next, numbers, one, two, numbered, has, size, place, form_length}
 use Rattle.images.specs.Image.{register_at, word_in, number_body_length}
 use Rattle.images.proofs.laws.Layout.{never, always, has_all, field_fits}
@@ -21,6 +21,12 @@ has_numbers x e = rw e
 
 pub has_next : (x : Form) → x ≡ Numbered → has (form_view x) next ≡ true
 has_next x e = rw e
+
+-- what is not the numbered one is one of the others
+pub among : (x : Form) → (x ≡ Numbered → ⊥) → OneOf (0 ∷ 1 ∷ []) (tag_of the_type x)
+among One h = inl refl
+among Two h = inr refl
+among Numbered h = absurd (h refl)
 
 pub no_numbers : (x : Form) → OneOf (0 ∷ 1 ∷ []) (tag_of the_type x) → has (form_view x) numbers ≡ false
 no_numbers One h = refl

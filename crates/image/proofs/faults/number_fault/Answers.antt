@@ -1,21 +1,12 @@
 -- `number_fault`: a form without numbers has no such rule; else the first unused byte that is set.
-use Rattle.std.proofs.Common.{◌≡◌, ◌+◌, ◌-◌, ◌≤◌, true, [], ◌∷◌, length, refl, ap, arith, inl, inr}
-use Rattle.basics.proofs.Prelude.{OneOf, tag_of}
+use Rattle.std.proofs.Common.{◌≡◌, ◌+◌, ◌-◌, ◌≤◌, true, length, ap, arith}
 use Rattle.images.specs.Form.{numbers, has}
 use Rattle.images.specs.Image.{unused_rule, body_test}
 use Rattle.image.specs.Shown.{form_view}
-use Rattle.image.specs.declared.form.{Form.Form, Form.TheVariants.One, Form.TheVariants.Two, Form.TheVariants.Numbered}
-use Rattle.image.specs.contracts.form.Form.{the_type}
-use Rattle.image.proofs.Forms.{has_numbers, no_numbers, field_within}
+use Rattle.image.proofs.Forms.{among, has_numbers, no_numbers, field_within}
 use Rattle.image.proofs.faults.Firsts.{lacks_clear, rule_told, rule_clear}
 use Rattle.image.proofs.faults.number_fault.Goals as goal
 use Rattle.image.proofs.faults.number_fault.Goals.{After-places_of-p}
-
--- a form that is not the numbered one
-among : (x : Form) → (x ≡ Numbered → ⊥) → OneOf (0 ∷ 1 ∷ []) (tag_of the_type x)
-among One h = inl refl
-among Two h = inr refl
-among Numbered h = absurd (h refl)
 
 pub returns-in_default : goal.returns-in_default
 returns-in_default c =
