@@ -41,7 +41,8 @@ unfolding HandedOn
 handed_on_lem i [] e = tt
 handed_on_lem i (q ∷ qs) e =
     let both = (and-eq-true_iff (not (is_reset (asked_by q))) (no_reset qs)).0 e in
-    (refl, not-true (is_reset (asked_by q)) both.0, handed_on_lem _ qs both.1)
+    let x : Exported = record { given = i; asked = q; answer = replicate 16 0 } in
+    (refl, not-true (is_reset (asked_by q)) both.0, handed_on_lem (left_by x).image qs both.1)
 
 -- raise 5, unmask it, a level call on input 64, lower 5, and drain into thirteen bytes from place 1 on
 abbrev asked : List Request

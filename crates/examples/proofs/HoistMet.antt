@@ -32,7 +32,8 @@ unfolding HandedOn
 handed_on_lem i p [] e = tt
 handed_on_lem i p (k ∷ ks) e =
     let both = (and-eq-true_iff (not (is_reset k)) (no_reset ks)).0 e in
-    (refl, not-true (is_reset k) both.0, handed_on_lem _ _ ks both.1)
+    let x : Hoisted = record { given = i; phase = p; asks = k; answer = replicate 16 0 } in
+    (refl, not-true (is_reset k) both.0, handed_on_lem (left_by x).image (phase_left x) ks both.1)
 
 -- with the phase too
 phased : (i p : List ℕ) (ks : List Asks) → no_reset ks ≡ true → PhasedOn i p (handed_on i p ks)
@@ -41,7 +42,7 @@ phased i p [] e = tt
 phased i p (k ∷ ks) e =
     let both = (and-eq-true_iff (not (is_reset k)) (no_reset ks)).0 e in
     let x : Hoisted = record { given = i; phase = p; asks = k; answer = replicate 16 0 } in
-    (refl, rw (not-true (is_reset k) both.0) (and-false (is_done x)), phased _ _ ks both.1)
+    (refl, rw (not-true (is_reset k) both.0) (and-false (is_done x)), phased (left_by x).image (phase_left x) ks both.1)
 
 -- ---- a guest
 
