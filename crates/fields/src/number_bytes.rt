@@ -9,7 +9,7 @@ use bits::bytes::{number, put_bytes};
 use image::form;
 
 // The numbers from 0 on, as an image would have them.
-pub fn from_zero_lem() -> [u8; 32]
+pub fn from_zero() -> [u8; 32]
     ensures { result ≡ written number_twos (up_from 0 16) }
 {
     [
