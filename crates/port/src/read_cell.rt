@@ -28,7 +28,7 @@ pub fn read_entry(state: PchPicState, index: usize) -> u8
 }
 
 // A register as it reads: CLEAR as 0, ISR without the masked bits.
-pub fn value_of_lem(state: PchPicState, register: Register) -> u64
+pub fn value_of(state: PchPicState, register: Register) -> u64
     ensures { result ≡ value_of (view state).core (register_view register) }
 {
     let lines = state.lines;

@@ -2,7 +2,6 @@
 use Rattle.std.specs.Prelude.{◌≡◌, List, ◌++◌, ℕ, ◌+◌, ◌*◌, ◌/◌, length, drop, set}
 use Rattle.rules.specs.Ring as ring
 use Rattle.rules.specs.Ring.{drawn, flag, pairs_of}
-use Rattle.device.specs.declared.state.Ring.{Ring}
 use Rattle.port.specs.declared.pop.Taken.{Taken}
 use Rattle.port.specs.declared.pop.Taken.TheVariants.{Nothing, One}
 use Rattle.device.specs.state.View.{WellRing, ring_view}

@@ -1,11 +1,11 @@
 -- `clear_irq`: latches and service lose the inputs of the mask, and those of them that were in service are queued.
-use Rattle.basics.proofs.Prelude.{◌≡◌, ap, true, false, List, map, ℕ, ◌-◌, ◌<◌, ◌^◌, bit_and, needs, register, without_is}
+use Rattle.basics.proofs.Prelude.{◌≡◌, ap, true, false, List, map, ℕ, ◌-◌, ◌<◌, ◌^◌, bit_and, rules, register, without_is}
 use Rattle.rules.specs.Lines.{event, cleared}
 use Rattle.device.specs.{state.View.lines_view, state.View.ring_view, declared.state.Lines.Lines, declared.state.Ring.Ring, decide.Sets.served_of}
 use Rattle.device.proofs.decide.Deciding.{inputs_of}
 use Rattle.port.specs.{events_for_mask.Offers.Offers, events_for_mask.Offers.events_of, mask_and_clear.Moves.Moves}
-use Rattle.port.proofs.{events_for_mask.Offering.offers_as, mask_and_clear.clear_irq.Statement.statement}
-use Rattle.port.proofs.mask_and_clear.clear_irq.Tie as tie
+use Rattle.port.proofs.events_for_mask.Offering.{offers_as}
+use Rattle.port.proofs.mask_and_clear.clear_irq.Goals as goal
 
 abbrev off : ℕ → ℕ → ℕ
 off x m = bit_and x ((2 ^ 64 - 1) - m)
@@ -23,13 +23,9 @@ clear_moves vs l r s n m x e hm hirr hisr pushed =
       offers = offers_as (ap (map (event vs true false)) (inputs_of (served_of m l.intisr) e)) pushed;
     }
 
-isr_fits : (s : tie.Start) → s.args.lines.intisr < 2 ^ 64
-isr_fits s = search needs
-
-pub clear_irq_spec : {M : Type 1} → statement M
-clear_irq_spec = tie.close (tie.spec (λ c κs. search needs) (λ c κs. search needs)
-    (λ c.
-    let q = c.before in
-    let s = q.before.before.before.before in
+pub returns : goal.returns
+returns c =
+    let q = c in
+    let s = q in
     let a = s.args in
-    clear_moves a.vectors.now a.lines a.ring _ _ a.mask _ q.before.before.before.served.ensures (search needs) (search needs) (isr_fits s) q.queue-events-for-mask.ensures))
+    clear_moves a.vectors.now a.lines a.ring _ _ a.mask _ q.served-active.ensures (search rules) (search rules) (search rules) q.queue_events_for_mask-queued.ensures

@@ -1,10 +1,11 @@
 -- `set_irq_level` latches the input and polls it, or takes its latch off and lets it leave service.
-use Rattle.basics.proofs.Prelude.{◌≡◌, ap, subst, ◌∙◌, ⊎_elim, Bool, true, false, List, ℕ, ◌-◌, ◌<◌, ◌^◌, bit_and, bit_or, needs, put_is, without_only_is}
+use Rattle.basics.proofs.Prelude.{◌≡◌, ap, subst, ◌∙◌, Bool, true, false, List, ℕ, ◌-◌, ◌<◌, ◌^◌, bit_and, bit_or, rules, put_is, without_only_is}
 use Rattle.rules.specs.Lines.{with_irr, levelled}
 use Rattle.device.specs.{state.View.lines_view, declared.state.Lines.Lines}
 use Rattle.port.specs.{irq_level.Moves.Answers, irq_level.Moves.updated, declared.irq_level.Routed.Routed}
-use Rattle.port.proofs.irq_level.{Turns.bit, Turns.raise_is, Turns.lower_is, set_irq_level.Statement.statement}
-use Rattle.port.proofs.irq_level.set_irq_level.Tie as tie
+use Rattle.port.proofs.irq_level.{Turns.bit, Turns.raise_is, Turns.lower_is}
+use Rattle.port.proofs.irq_level.set_irq_level.Goals as goal
+use Rattle.port.proofs.irq_level.set_irq_level.Goals.{then-level, else-level}
 
 abbrev with_latches : Lines → ℕ → Lines
 with_latches l y = record { int_mask = l.int_mask; intirr = y; intisr = l.intisr }
@@ -24,11 +25,10 @@ module _ (vs : List ℕ) (l out : Lines) (n : ℕ) (r : Routed) (level : Bool) (
       (subst (Answers r) (lower_is vs n h (lines_view l) (lines_view out) hisr (ap lines_view f ∙ ap (with_irr (lines_view l)) (without_only_is l.intirr n hirr h)))
       (rw e at answers))
 
-pub set_irq_level_spec : {M : Type 1} → statement M
-set_irq_level_spec = tie.close (tie.spec (λ c. search needs) (λ c κs. search needs)
-    (λ c.
-    let a = c.before.before.args in
-    ⊎_elim
-    (λ w. raise_answers a.vectors.now a.lines c.before.if1.out a.irq c.update-irq.result a.level (search needs) (search needs) (search needs) c.update-irq.ensures w.0.taken w.2)
-    (λ w. lower_answers a.vectors.now a.lines c.before.if1.out a.irq c.update-irq.result a.level (search needs) (search needs) (search needs) c.update-irq.ensures w.0.left w.2)
-    c.before.if1.branch))
+pub returns : goal.returns
+returns c =
+    let a = c.args in
+    elim c.if-level.branch [
+      | then-level w ↦ raise_answers a.vectors.now a.lines c.if-level.out a.irq c.update_irq.result a.level (search rules) (search rules) (search rules) c.update_irq.ensures w.if-level.true w.out-is
+      | else-level w ↦ lower_answers a.vectors.now a.lines c.if-level.out a.irq c.update_irq.result a.level (search rules) (search rules) (search rules) c.update_irq.ensures w.if-level.false w.out-is
+    ]
