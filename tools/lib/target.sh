@@ -48,15 +48,9 @@ system_run() {
 }
 
 x86_run() {
-    local kit
     run=()
     if on_x86; then return 0; fi
     if system_run; then return 0; fi
-    # Rattle's kit brings an emulator and a C library for the programs that it builds; a program that needs no more runs with these.
-    if kit=$(command -v rt) && kit=$(dirname "$(readlink -f "$kit")")/../on/$(uname -m)/toolchain && [ -x "$kit/bin/qemu-x86_64" ]; then
-        run=("$kit/bin/qemu-x86_64" "$kit/lib/ld-linux-x86-64.so.2" --library-path "$kit/lib")
-        return 0
-    fi
     install_packages qemu-user libc6-amd64-cross
     if system_run; then return 0; fi
     why="nothing here runs x86-64 programs (on Debian: qemu-user and libc6-amd64-cross)"
