@@ -7,7 +7,7 @@ ghost use Rattle.images.specs.Image.{encode_as};
 ghost use Rattle.image.specs.Shown.{form_view};
 ghost use Rattle.stored.specs.saves.Shown.{SavesOthers};
 
-use crate::save_parts::{save_numbers, save_ring, save_routes};
+use crate::reset_parts::{save_numbers, save_ring, save_routes};
 use crate::save_words::{put_contents, save_lines, save_stored};
 use device::state::{Lines, Stored};
 use image::form::Form;

@@ -3,8 +3,8 @@ use Rattle.basics.proofs.Prelude.{refl, sym, ap, ◌∙◌, ◌+◌, ◌≤◌, 
 use Rattle.images.specs.Form.{routes, size}
 use Rattle.image.{specs.Shown.form_view, specs.Shown.place_in, proofs.Forms.always_within}
 use Rattle.stored.proofs.saves.Putting.{puts_part}
-use Rattle.stored.proofs.save_parts.save_routes.Goals as goal
-use Rattle.stored.proofs.save_parts.save_routes.Goals.{After-places_of-p}
+use Rattle.stored.proofs.reset_parts.save_routes.Goals as goal
+use Rattle.stored.proofs.reset_parts.save_routes.Goals.{After-places_of-p}
 
 -- the field ends within the image
 within : (c : After-places_of-p) → place_in c.places_of-p.result routes + size routes ≤ length c.args.image.now

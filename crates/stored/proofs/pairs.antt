@@ -1,0 +1,3 @@
+-- The laws that the proofs of this module cite.
+pub mod Slots
+pub mod Written
