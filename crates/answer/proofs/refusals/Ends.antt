@@ -2,7 +2,7 @@
 use Rattle.basics.proofs.Prelude.{◌≡◌, refl, sym, ap, subst, ◌∙◌, List, [], ◌∷◌, ℕ, OneOf, tag_of, length, Bytes}
 use Rattle.image.specs.{declared.head.Head.TheVariants.WrongLength, declared.head.Head.TheVariants.WrongContents, declared.head.Head.TheVariants.Of, declared.head.Head.Head, Shown.form_view}
 use Rattle.image.specs.{head.Good.head_test, head.Good.Headed, bodies.Good.holds, bodies.Good.bodies_good, bodies.Good.bodies_test}
-use Rattle.image.{specs.declared.bodies.Bodies.Bodies, specs.declared.bodies.Bodies.TheVariants.Broken, specs.declared.bodies.Bodies.TheVariants.Good, proofs.head.Head.the_type}
+use Rattle.image.{specs.declared.bodies.Bodies.Bodies, specs.declared.bodies.Bodies.TheVariants.Broken, specs.declared.bodies.Bodies.TheVariants.Good, specs.contracts.head.Head.the_type}
 use Rattle.image.proofs.{head.Orders.left_head, head.Orders.head_refuses, head.Orders.sized, bodies.Orders.accepts, bodies.Orders.refuses}
 use Rattle.rules.specs.Device.{Call, Value, none}
 use Rattle.images.specs.{Form.form_length, Image.accepted, Image.image_test}
