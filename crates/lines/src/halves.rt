@@ -14,7 +14,7 @@ use fields::words;
 use image::form::Form;
 
 // A register as it reads: CLEAR as 0, ISR without the masked bits.
-pub fn value_of_lem(image: &[u8], form: Form, register: Register) -> u64
+pub fn value_of(image: &[u8], form: Form, register: Register) -> u64
     requires { length image.now ≡ form_length (form_view form) }
     ensures { Reads image.now result (λ d. value_of d.core (register_view register)) }
 {

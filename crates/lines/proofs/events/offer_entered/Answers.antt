@@ -1,0 +1,11 @@
+-- `offer_entered`: by its two cases.
+use Rattle.basics.proofs.Prelude.{arith}
+use Rattle.fields.proofs.inplace.Doing.{offers_none}
+use Rattle.lines.proofs.events.offer_entered.Goals as goal
+
+pub returns-in-None : goal.returns-in-None
+returns-in-None c = (omega arith, rw c.in-None.is (offers_none c.args.image.now))
+
+pub returns-in-Vector : goal.returns-in-Vector
+returns-in-Vector c = let o = c in
+    (o.offer.ensures.0, rw o.in-Vector.is o.offer.ensures.1)
