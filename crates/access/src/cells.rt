@@ -12,7 +12,7 @@ use device::map::Cell;
 use device::map_low;
 use fields::entries::{put_routes, put_vectors, route, routes, vector, vectors};
 use image::form::Form;
-use lines::halves::{value_of_lem, write_half};
+use lines::halves::{value_of, write_half};
 
 // ---- route and vector bytes: 64 each, from offsets that 64 divides
 
@@ -98,7 +98,7 @@ pub fn read_dword(image: &[u8], form: Form, offset: usize) -> u32
     ensures { Reads image.now result (λ d. read_dword d.core offset) }
 {
     match map_low::decode_low(offset) {
-        Cell::Half(register, high) => bits::half(value_of_lem(&*image, form, register), high),
+        Cell::Half(register, high) => bits::half(value_of(&*image, form, register), high),
         Cell::Bytes => read_four(&*image, form, offset),
         Cell::Nothing => 0,
     }
