@@ -20,7 +20,7 @@ pub fn copy_out(image: &[u8], form: Form, out: &mut [u8], n: usize)
     let at = p.pairs;
     let end = at + taken;
     let Form::Numbered = form else {
-        let first = from_zero_lem();
+        let first = from_zero();
         put_events(out, &image[at..end], &first[0..taken], n);
         return;
     };

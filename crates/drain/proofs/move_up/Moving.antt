@@ -1,5 +1,5 @@
 -- Bytes that move to the front of a list, and things of two bytes that are left.
-use Rattle.basics.proofs.Prelude.{◌≡◌, refl, sym, ap, ◌∙◌, List, [], ◌∷◌, ◌++◌, append_assoc, ℕ, zero, suc, ◌+◌, ◌-◌, ◌*◌, ◌≤◌, arith, length, take, drop, get_or, replicate, length-append, length-drop, length-replicate, replicate-append-replicate, take_at, drop-append-le, get_or-drop, put_mid, part, Twos, written}
+use Rattle.basics.proofs.Prelude.{◌≡◌, refl, sym, ap, ◌∙◌, List, [], ◌∷◌, ◌++◌, append_assoc, ℕ, zero, suc, ◌+◌, ◌-◌, ◌*◌, ◌≤◌, arith, length, take, drop, get_or, replicate, length-drop, drop-append-le, get_or-drop, put_mid, part, Twos, written}
 use Rattle.rules.specs.Ring.{capacity}
 use Rattle.images.{specs.Image.sixteen, proofs.laws.Twos.length_written, proofs.laws.Twos.sixteen_unused}
 use Rattle.drain.proofs.move_up.Rooms.{zeros, zeros_append, in_the_room}
