@@ -4,23 +4,13 @@ use Prim.Native.Nat.{◌+◌, ◌≤◌}
 use native.Mathlib.Omega.{arith}
 use borrow.Author.Rules.{rules}
 use lib.ListN.{length}
-use Rattle.std.proofs.Common.{◌≡◌, [], ◌∷◌, inl, inr}
-use Rattle.basics.proofs.Prelude.{OneOf, tag_of}
-use Rattle.image.specs.declared.form.{Form.Form, Form.TheVariants.One, Form.TheVariants.Two, Form.TheVariants.Numbered}
-use Rattle.image.specs.contracts.form.Form.{the_type}
 use Rattle.images.specs.Form.{next}
 use Rattle.images.specs.Image.{number_body_length}
 use Rattle.image.specs.Shown.{form_view}
-use Rattle.image.proofs.Forms.{has_numbers, has_next, no_numbers, body_within}
+use Rattle.image.proofs.Forms.{among, has_numbers, has_next, no_numbers, body_within}
 use Rattle.stored.proofs.saves.Putting.{puts_none, puts_numbers}
 use Rattle.stored.proofs.save_parts.save_numbers.Goals as goal
 use Rattle.stored.proofs.save_parts.save_numbers.Goals.{After-places_of-p}
-
--- a form that is not the numbered one
-among : (x : Form) → (x ≡ Numbered → ⊥) → OneOf (0 ∷ 1 ∷ []) (tag_of the_type x)
-among One h = inl refl
-among Two h = inr refl
-among Numbered h = absurd (h refl)
 
 pub returns-in_default : goal.returns-in_default
 returns-in_default c d ns e =

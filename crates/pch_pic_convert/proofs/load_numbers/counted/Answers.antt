@@ -1,13 +1,9 @@
 -- `counted`: the count and a zero byte, so many of the numbers from 0 on, and zeros behind them.
-use Rattle.basics.proofs.Prelude.{◌≡◌, refl, sym, ap, ◌∙◌, List, [], ◌∷◌, ◌++◌, ℕ, zero, suc, ◌+◌, ◌-◌, ◌*◌, ◌/◌, ◌%◌, ◌<◌, ◌≤◌, arith, length, set, replicate, set_at, needs, written}
+use Rattle.basics.proofs.Prelude.{◌≡◌, refl, sym, ap, ◌∙◌, List, [], ◌∷◌, ◌++◌, ℕ, zero, suc, ◌+◌, ◌-◌, ◌*◌, ◌/◌, ◌%◌, ◌<◌, ◌≤◌, arith, length, set, replicate, set_at, written}
 use Rattle.rules.specs.{Ring.capacity, Device.up_from, Numbering.number_twos}
 use Rattle.images.{specs.Image.sixteen, specs.Image.number_body, proofs.laws.Saved.length_up_from, proofs.laws.Twos.length_written, proofs.laws.Twos.written_snoc}
-use Rattle.pch_pic_convert.proofs.load_numbers.counted.Statement.{statement}
-use Rattle.pch_pic_convert.proofs.load_numbers.counted.Tie as tie
-
--- the count, and i numbers from 0 on
-abbrev sofar : ℕ → ℕ → List ℕ
-sofar n i = n ∷ 0 ∷ sixteen number_twos (up_from 0 i)
+use Rattle.pch_pic_convert.proofs.load_numbers.counted.Invariants.{sofar}
+use Rattle.pch_pic_convert.proofs.load_numbers.counted.Goals as goal
 
 up_snoc : (a k : ℕ) → up_from a (k + 1) ≡ up_from a k ++ ((a + k) ∷ [])
 unfolding up_from
@@ -36,21 +32,18 @@ one_more n i h =
     ∙ (λ t. written number_twos xs ++ (low t ∷ high t ∷ zeros m)) ∙ sym (written_snoc number_twos xs i (zeros m)) ∙ ap (λ (ys : List ℕ). written number_twos ys ++ zeros m) (ap (λ (k : ℕ). up_from 0 i ++ (k ∷ [])) last ∙ sym (up_snoc 0 i))
     ∙ ap (λ k. written number_twos (up_from 0 (i + 1)) ++ zeros k) left)
 
-abbrev invariant-loop : tie.invariant-loop
-invariant-loop count body₀ i₀ body i = (i ≤ count) × (body ≡ sofar count i)
+pub loop-i-init : goal.loop-i-init
+loop-i-init c = unfold up_from in (omega arith, refl)
 
-abbrev decreases-loop : tie.decreases-loop
-decreases-loop count body₀ i₀ body i = count - i
+pub loop-i-preserved : goal.loop-i-preserved
+loop-i-preserved c = let l = c.loop-i in
+    (omega arith, ap (λ (b : List ℕ). set b (2 + 2 * l.i) l.i) l.invariant.1 ∙ one_more _ l.i (omega arith))
 
-pub counted_spec : {M : Type 1} → statement M
-counted_spec = tie.close (tie.spec invariant-loop decreases-loop (λ c. search needs) (λ c. search needs) (λ c. unfold up_from in (omega arith, refl))
-    (λ c. search needs) (λ c. search needs) (λ c. search needs) (λ c. search needs) (λ c. search needs) (λ c. search needs)
-    (λ c. let l = c.before.loop in
-    (omega arith, ap (λ (b : List ℕ). set b (2 + 2 * l.i) l.i) l.invariant.1 ∙ one_more _ l.i (omega arith)))
-    (λ c. unfold number_body in let l = c.before.loop in
-    let n = c.before.before.args.count in
+pub returns : goal.returns
+returns c = unfold number_body in let l = c.loop-i in
+    let n = c.args.count in
     let all : l.i ≡ n = omega (arith, l.invariant.0) in
-    let small : n ≤ 16 = c.before.before.requires in
+    let small : n ≤ 16 = c.requires in
     let low : n ≡ n % 256 = omega (arith, small) in
     let high : 0 ≡ n / 256 % 256 = omega (arith, small) in
-    l.invariant.1 ∙ (λ t. low t ∷ high t ∷ sixteen number_twos (up_from 0 (all t)))))
+    l.invariant.1 ∙ (λ t. low t ∷ high t ∷ sixteen number_twos (up_from 0 (all t)))

@@ -5,7 +5,6 @@ use mathlib.Core.List.{List}
 use Prim.Native.Nat.{ℕ, ◌+◌, ◌-◌, ◌≤◌}
 use native.Mathlib.Omega.{arith}
 use lib.ListN.{length, get_or}
-use borrow.Author.Rules.{rules}
 use Rattle.basics.specs.Numbers.{part, Bytes}
 use Rattle.rules.specs.Ring.{capacity}
 use Rattle.rules.specs.Numbering.{from_zero}
@@ -18,9 +17,9 @@ use Rattle.image.specs.Shown.{form_view, PlacesOf}
 use Rattle.image.specs.declared.form.Form.{Form}
 use Rattle.image.specs.declared.form.Form.TheVariants.{Numbered}
 use Rattle.image.specs.declared.form.Places.{Places}
-use Rattle.image.proofs.Forms.{placed, always_within, has_numbers, has_next, no_numbers, body_within}
-use Rattle.pch_pic_convert.proofs.load_numbers.load_numbers.Statement.{statement}
-use Rattle.pch_pic_convert.proofs.load_numbers.load_numbers.Tie as tie
+use Rattle.image.proofs.Forms.{among, placed, always_within, has_numbers, has_next, no_numbers, body_within}
+use Rattle.pch_pic_convert.proofs.load_numbers.load_numbers.Goals as goal
+use Rattle.pch_pic_convert.proofs.load_numbers.load_numbers.Goals.{After-places_of-p, In-Numbered}
 
 -- the body of an accepted image is that of its numbers
 body_read : (l : List ℕ) → Bytes l → test_as numbered l ≡ accepted → part (place numbered next) number_body_length l ≡ number_body (numbers_as numbered l)
@@ -46,53 +45,49 @@ module _ (l : List ℕ) (b : Bytes l) (x : Form) (s : length l ≡ form_length (
       let f = form_view x in
       q ∙ ap (λ a. number_body (from_zero (get_or l a 0))) (placed o count refl) ∙ ap number_body (sym (numbers_not_there f l h))
 
-returns : tie.Need-returns
+pub returns-in_default : goal.returns-in_default
+returns-in_default c t =
+    let m = c in
+    let p = m in
+    let k = p in
+    let s = k in
+    lacks s.args.image.now (λ j. omega (arith, k.shared_slice_known-1.given j)) s.args.form s.requires.0 p.places_of-p.result p.places_of-p.ensures t
+    (no_numbers s.args.form (among s.args.form m.in_default.not-Numbered)) c.counted.result c.counted.ensures
+
+pub returns : goal.returns
 returns c t =
-    let m = c.before.before in
-    let p = m.before in
-    let k = p.before in
-    let s = k.before in
-    lacks s.args.image.now (λ j. omega (arith, k.shared-slice-known.given j)) s.args.form s.requires.0 p.places_of.result p.places_of.ensures t
-    (no_numbers s.args.form m.match.keys2) c.counted.result c.counted.ensures
+    let copied = c in
+    let told = copied in
+    let p = told in
+    let k = p in
+    let s = k in
+    there s.args.image.now (λ j. omega (arith, k.shared_slice_known-1.given j)) s.args.form s.requires.0 p.places_of-p.result p.places_of-p.ensures t
+    told.in-Numbered.is copied.copy.new.dst copied.copy.ensures
 
-returns_2 : tie.Need-returns-2
-returns_2 c t =
-    let copied = c.before in
-    let told = copied.before.before.before in
-    let p = told.before.before in
-    let k = p.before in
-    let s = k.before in
-    there s.args.image.now (λ j. omega (arith, k.shared-slice-known.given j)) s.args.form s.requires.0 p.places_of.result p.places_of.ensures t
-    told.enum_told.given.1 copied.copy.new.0 copied.copy.ensures
+counts : (c : After-places_of-p) → c.places_of-p.result.count + 1 ≤ length c.args.image.now
+counts c = let s = c in always_within (form_view s.args.form) s.args.image.now s.requires.0 c.places_of-p.result c.places_of-p.ensures count refl
 
-counts : (c : tie.After-places-of) → c.places_of.result.count + 1 ≤ length c.before.before.args.image.now
-counts c = let s = c.before.before in always_within (form_view s.args.form) s.args.image.now s.requires.0 c.places_of.result c.places_of.ensures count refl
-
-within : (c : tie.After-enum-told) → c.before.before.places_of.result.next + number_body_length ≤ length c.before.before.before.before.args.image.now
+within : (c : In-Numbered) → c.places_of-p.result.next + number_body_length ≤ length c.args.image.now
 within c =
-    let p = c.before.before in
-    let s = p.before.before in
-    let told = c.enum_told.given.1 in
-    body_within (form_view s.args.form) s.args.image.now s.requires.0 p.places_of.result p.places_of.ensures (has_next s.args.form told) (has_numbers s.args.form told)
+    let p = c in
+    let s = p in
+    let told = c.in-Numbered.is in
+    body_within (form_view s.args.form) s.args.image.now s.requires.0 p.places_of-p.result p.places_of-p.ensures (has_next s.args.form told) (has_numbers s.args.form told)
 
-few : tie.Need-counted-requires
-few c κs =
-    let p = c.before.before in
-    let s = p.before.before in
-    subst (λ n. n ≤ capacity) (ap (λ a. get_or s.args.image.now a 0) (sym (placed p.places_of.ensures count refl))) s.requires.1
+pub counted-requires : goal.counted-requires
+counted-requires c =
+    let p = c in
+    let s = p in
+    subst (λ n. n ≤ capacity) (ap (λ a. get_or s.args.image.now a 0) (sym (placed p.places_of-p.ensures count refl))) s.requires.1
 
-pub load_numbers_spec : {M : Type 1} → statement M
-load_numbers_spec =
-    tie.close
-    (tie.spec
-    (λ c κs. search rules)
-    (λ c. search rules)
-    (λ c. omega (arith, counts c.before.before))
-    (λ c. omega (arith, c.shared-slice-known2.given c.before.before.places_of.result.count))
-    few
-    returns
-    (λ c. omega (arith, within c))
-    (λ c. search rules) (λ c. search rules) (λ c. search rules)
-    (λ c. omega (arith, within c.before))
-    (λ c κs. search rules)
-    returns_2)
+pub bounds-image-place : goal.bounds-image-place
+bounds-image-place c = omega (arith, counts (goal.at.bounds-image-place c).After-places_of-p)
+
+pub overflow_cast-image : goal.overflow_cast-image
+overflow_cast-image c = omega (arith, c.shared_slice_known-in_default-1.given c.places_of-p.result.count)
+
+pub overflow_add-end : goal.overflow_add-end
+overflow_add-end c = omega (arith, within c)
+
+pub slice_bounds-copy-end-2 : goal.slice_bounds-copy-end-2
+slice_bounds-copy-end-2 c = omega (arith, within (goal.at.slice_bounds-copy-end-2 c).In-Numbered)
