@@ -42,7 +42,7 @@ fn write_half(
 }
 
 // A register that is heeded, as it reads: CLEAR as 0, ISR without the masked inputs.
-fn value_of_lem(w: Watched, register: Register) -> u64
+fn value_of(w: Watched, register: Register) -> u64
     ensures { ReadsAs (lines_of w) result (register_view register) }
 {
     match register {
@@ -70,7 +70,7 @@ fn value_in(w: Watched, register: Register, high: bool, offset: usize, narrow: b
 {
     let low = bits::half(x, false);
     if narrow {
-        let old = bits::half(value_of_lem(w, register), high);
+        let old = bits::half(value_of(w, register), high);
         let place = offset & 0x3;
         return bits::with_byte(old, place, bits::byte_of(low, 0));
     }

@@ -13,7 +13,7 @@ use trace::Tested;
 use trace::blocks::two_at;
 use trace::contents::{Contents, contents_of};
 use trace::record_bytes::LENGTH;
-use trace::trace_refusals::{no_room_lem, of_trace};
+use trace::trace_refusals::{no_room, of_trace};
 
 // 16: every block has a bad record.
 fn nothing_left() -> Told
@@ -42,10 +42,10 @@ pub fn salvage(trace: &[u8], second: &mut [u8], list: &mut [u8]) -> Told
     let start = 2 + 4 * kept;
     let length = start + LENGTH * left.records;
     if second.len() < length {
-        return no_room_lem();
+        return no_room();
     }
     if list.len() < 4 * (blocks - kept) {
-        return no_room_lem();
+        return no_room();
     }
     put_contents(trace, blocks, &bads, kept, second);
     put_blocks(trace, blocks, &bads, &mut second[start..]);

@@ -8,7 +8,7 @@ ghost use Rattle.table.specs.Meaning.{Agrees};
 
 use fields::entries::{put_routes, put_vectors, route, vector};
 use image::form::Form;
-use lines::halves::{value_of_lem, write_half};
+use lines::halves::{value_of, write_half};
 use table::{Place, look};
 
 pub fn read_byte(image: &[u8], form: Form, table: &[[u8; 32]; 32], offset: usize) -> u8
@@ -20,7 +20,7 @@ pub fn read_byte(image: &[u8], form: Form, table: &[[u8; 32]; 32], offset: usize
             if silent {
                 return 0;
             }
-            bits::byte_of(bits::half(value_of_lem(image, form, register), high), byte)
+            bits::byte_of(bits::half(value_of(image, form, register), high), byte)
         }
         Place::Route(input) => route(image, form, input),
         Place::Vector(input) => vector(image, form, input),
@@ -43,7 +43,7 @@ pub fn write_byte(
             if silent {
                 return 0;
             }
-            let old = bits::half(value_of_lem(image, form, register), high);
+            let old = bits::half(value_of(image, form, register), high);
             write_half(image, form, register, bits::with_byte(old, byte, val), high)
         }
         Place::Route(input) => {

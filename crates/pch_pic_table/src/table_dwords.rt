@@ -9,7 +9,7 @@ ghost use Rattle.table.specs.Meaning.{Agrees};
 
 use crate::table_bytes::{read_byte, write_byte};
 use image::form::Form;
-use lines::halves::{value_of_lem, write_half};
+use lines::halves::{value_of, write_half};
 use table::{Place, look};
 
 fn read_four(image: &[u8], form: Form, table: &[[u8; 32]; 32], offset: usize) -> u32
@@ -32,7 +32,7 @@ pub fn read_dword(image: &[u8], form: Form, table: &[[u8; 32]; 32], offset: usiz
             if byte != 0 {
                 return 0;
             }
-            bits::half(value_of_lem(image, form, register), high)
+            bits::half(value_of(image, form, register), high)
         }
         Place::Route(input) => read_four(image, form, table, offset),
         Place::Vector(input) => read_four(image, form, table, offset),

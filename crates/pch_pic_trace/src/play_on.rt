@@ -10,7 +10,7 @@ use answer::{Told, Value, done};
 use image::bodies::{Bodies, test_bodies};
 use image::head::{Head, test_head};
 use trace::Tested;
-use trace::trace_refusals::{no_room_lem, of_trace};
+use trace::trace_refusals::{no_room, of_trace};
 
 // What is refused changes nothing: the image first, then the trace, and last the room.
 pub fn play(trace: &[u8], image: &mut [u8], answers: &mut [u8], events: &mut [u8]) -> Told
@@ -29,11 +29,11 @@ pub fn play(trace: &[u8], image: &mut [u8], answers: &mut [u8], events: &mut [u8
         return of_trace(tested);
     };
     if answers.len() < ANSWER * records {
-        return no_room_lem();
+        return no_room();
     }
     let drains = count_drains(trace, first, records);
     if events.len() < ROOM * drains {
-        return no_room_lem();
+        return no_room();
     }
     play_all(trace, first, records, image, form, answers, events);
     done(Value::Present(records as u64))

@@ -10,7 +10,7 @@ use answer::{Told, Value, done};
 use image::form::{KnownForm, form_of};
 use six_calls::reset_drain;
 use trace::Tested;
-use trace::trace_refusals::{no_room_lem, of_trace};
+use trace::trace_refusals::{no_room, of_trace};
 
 // Of the image the length alone is tested; what is refused changes nothing.
 pub fn play(trace: &[u8], image: &mut [u8], answers: &mut [u8], events: &mut [u8]) -> Told
@@ -26,11 +26,11 @@ pub fn play(trace: &[u8], image: &mut [u8], answers: &mut [u8], events: &mut [u8
         return of_trace(tested);
     };
     if answers.len() < ANSWER * records {
-        return no_room_lem();
+        return no_room();
     }
     let drains = count_drains(trace, first, records);
     if events.len() < ROOM * drains {
-        return no_room_lem();
+        return no_room();
     }
     reset_drain::reset(image);
     play_all(trace, first, records, image, form, answers, events);

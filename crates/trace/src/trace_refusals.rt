@@ -9,7 +9,7 @@ use answer::{Told, Value};
 
 pub const NO_ROOM: u8 = 7;
 
-pub fn no_room_lem() -> Told
+pub fn no_room() -> Told
     ensures { Tells result 7 none }
 {
     Told {
