@@ -7,12 +7,10 @@ use Rattle.rules.specs.{Numbering.Numbers, Numbering.from_zero, Numbering.WellNu
 use Rattle.rules.specs.Account.{tally, asserts, deasserts, carrying, asserts_among, deasserts_among}
 use Rattle.images.specs.{Form.Form, Form.one, Form.two, Form.numbered, Form.copy, Image.word_in, Image.encode_as, Image.decode, Image.numbers_in, Image.image_test, Image.accepted}
 use Rattle.calls.{specs.Calls.pass, specs.Calls.Request, specs.Calls.asked_by, specs.Calls.answered, specs.Calls.value_in, specs.Calls.outcome, specs.Convert.converted, proofs.laws.Computing.computing}
-use Rattle.calls.specs.Untouched.{left_of, Untouched}
-use Rattle.calls.proofs.demands.Refused.{refused_changes_nothing}
+use Rattle.calls.proofs.demands.Refused.{Unchanged, refused_changes_nothing}
 use Rattle.histories.specs.{Premises.Along, Premises.Admitted, Demands.in_service, Demands.some_act, Demands.ring_acts}
 use Rattle.histories.specs.exported.Exported.{Exported, left_by, is_reset, is_load, Underway, carried_on, carried_through, NoLoads, HandedOn, done_calls, left_after, in_image, Faithful, numbers_through, after_reset, at_load, returned_by, drained_by, losses_read, Balances}
-use Rattle.histories.specs.exported.Alike.{Asking, made_on, AllAlike, AllAlikeBut}
-use Rattle.histories.specs.exported.Forms.{NoFifth}
+use Rattle.histories.specs.exported.Alike.{Asking, made_on, NoFifth, AllAlike, AllAlikeBut}
 use Rattle.histories.proofs.{laws.WellFormed.history_well, exported.laws.Chains.faithful_after_reset, exported.laws.Chains.faithful_at_load, exported.laws.Chains.through_numbered}
 use Rattle.histories.proofs.exported.demands.FromCalls.{handed_on_is_no_load}
 use Rattle.histories.proofs.exported.demands.HandedBack.{account_from_load, drops_of_calls, service_of_calls, service_once_raised, account_since_load, account_under_way}
@@ -467,7 +465,7 @@ three_had_waited =
 -- ---- refusals
 
 -- an answer area of 20 bytes, and one of 15
-input_refused : Untouched (image_of one begun ∷ [] ∷ []) (replicate 20 0xaa) (left_of (outcome (request.level 64 1) (image_of one begun) (replicate 20 0xaa)))
+input_refused : Unchanged (request.level 64 1) (image_of one begun) (replicate 20 0xaa)
 unfolding computing
 input_refused = refused_changes_nothing (request.level 64 1) (image_of one begun) (replicate 20 0xaa) (λ e. let z : ◌≡◌ {A = ℕ} 3 0 = e in omega arith)
 

@@ -1,12 +1,10 @@
 -- Calls under the hoist profile, one after another (02, C-22): which exported calls of the full device they are, and what a host reads of them.
 use Rattle.std.specs.Prelude.{Bool, true, false, cond, List, [], ◌∷◌, ◌++◌, map, ◌≡◌, ℕ, ◌+◌, eqb}
-use Rattle.basics.specs.Lists.{Each}
 use Rattle.rules.specs.Ring.{Event}
 use Rattle.rules.specs.Device.{Device}
 use Rattle.rules.specs.Account.{carrying, asserts_among, deasserts_among}
 use Rattle.calls.specs.Calls.{Request, Outcome, leaves, outcome}
 use Rattle.calls.specs.Calls as request
-use Rattle.histories.specs.Chains.{ChainOn, last_left, made_from}
 use Rattle.histories.specs.exported.Exported.{Exported, returned_to, drained_to}
 use Rattle.hoists.specs.HoistCalls.{hoist_read, hoist_write, PhaseLeft, hoist_reset, end_startup}
 
@@ -110,7 +108,8 @@ is_reset (drains events place) = false
 
 -- each is given the image that the one before it left, done or refused, and none is a reset: so none is a load (01, Saved image)
 unfoldable pub HandedOn : List ℕ → List Hoisted → Type 0
-HandedOn = ChainOn (λ (x : Hoisted). x.given) (λ x. (left_by x).image) (λ x. is_reset x.asks ≡ false)
+HandedOn left [] = Unit {0}
+HandedOn left (x ∷ xs) = (x.given ≡ left) × (is_reset x.asks ≡ false) × HandedOn (left_by x).image xs
 
 -- what a host asks, and the phase and the answer area that it lends
 pub record Lent : Type 0 where
@@ -126,12 +125,15 @@ lent_by x = record { phase = x.phase; asks = x.asks; answer = x.answer }
 
 -- made one after another on an image: each is given the image that the one before it left, done or refused
 unfoldable pub made_on : List ℕ → List Lent → List Hoisted
-made_on = made_from asked_of (λ (x : Hoisted). (left_by x).image)
+made_on i [] = []
+made_on i (q ∷ qs) = asked_of i q ∷ made_on (left_by (asked_of i q)).image qs
 
 -- none of them is a reset
 unfoldable pub NoResets : List Lent → Type 0
-NoResets = Each (λ (q : Lent). is_reset q.asks ≡ false)
+NoResets [] = Unit {0}
+NoResets (q ∷ qs) = (is_reset q.asks ≡ false) × NoResets qs
 
 -- the image left at last
 unfoldable pub left_after : List ℕ → List Hoisted → List ℕ
-left_after = last_left (λ (x : Hoisted). (left_by x).image)
+left_after i [] = i
+left_after i (x ∷ xs) = left_after (left_by x).image xs

@@ -35,13 +35,13 @@ pub record CopyDiffers (f : Form) (l : List ℕ) (a : ℕ) : Type 0 where
 
 -- 9: the copy is right, and more than 16 wait
 pub record ManyWait (f : Form) (l : List ℕ) (a : ℕ) : Type 0 where
-  pub copied : Copied f l
+  pub copied : has f (word copy) ≡ true → word_in f l copy ≡ word_in f l irr
   pub place : a ≡ place f count
   pub many : capacity < get_or l a 0
 
 -- 10: copy and count are right, and a waiting pair's flag is neither 0 nor 1, the first such
 pub record BadFlag (f : Form) (l : List ℕ) (a : ℕ) : Type 0 where
-  pub copied : Copied f l
+  pub copied : has f (word copy) ≡ true → word_in f l copy ≡ word_in f l irr
   pub counted : count_in f l ≤ capacity
   pub pair : ℕ
   pub waits : pair < count_in f l
@@ -62,7 +62,7 @@ NoneBehind f l p = (b : ℕ) → behind_at f l p ≤ b → b < place f p + size 
 
 -- 11: copy, count and flags are right, and an unused pair is not zero; or all of them are, and an unused number is not (02, C-19)
 pub record UnusedSet (f : Form) (l : List ℕ) (a : ℕ) : Type 0 where
-  pub copied : Copied f l
+  pub copied : has f (word copy) ≡ true → word_in f l copy ≡ word_in f l irr
   pub counted : count_in f l ≤ capacity
   pub flagged : (m : ℕ) → m < count_in f l → get_or l (flag_at f m) 0 ≤ 1
   pub found : SetBehind f l pairs a ⊎ (NoneBehind f l pairs × SetBehind f l numbers a)

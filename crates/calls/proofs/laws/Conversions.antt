@@ -1,8 +1,8 @@
 -- How a conversion ends, by the test that decides it: one law for each way; and its outcome once it has ended.
-use Rattle.basics.proofs.Prelude.{◌≡◌, refl, sym, ap, ◌∙◌, List, [], ◌∷◌, ℕ, ◌<◌, arith, length, replicate, le-leb, lt-leb}
+use Rattle.basics.proofs.Prelude.{◌≡◌, refl, sym, ap, ◌∙◌, List, [], ◌∷◌, ℕ, ◌<◌, arith, length, replicate, le-leb, lt-leb, ◌≤◌}
 use Rattle.rules.specs.Device.{none}
 use Rattle.images.specs.{Form.Form, Form.Known, Form.unknown, Form.known, Form.form_of, Image.ImageTest, Image.image_test, Image.encode_as, Image.decode, Image.numbers_in}
-use Rattle.calls.specs.Calls.{wrong_length, no_room, refusal_number, pass, refuse, on_pass, image_answer, image_number, image_value, answer_length, answered, leaves, Ending, AnswerRoom}
+use Rattle.calls.specs.Calls.{wrong_length, no_room, refusal_number, pass, refuse, on_pass, image_answer, image_number, image_value, answer_length, answered, leaves, Ending}
 use Rattle.calls.specs.Convert.{length_test, converted, convert_ended, convert_ending, conversion}
 use Rattle.images.specs.Image as image
 
@@ -60,7 +60,7 @@ module _ (i t a : List ℕ) where
   unfolding conversion
   conversion_short h = rw (lt-leb answer_length (length a) h)
 
-  pub conversion_room : AnswerRoom a → (x : Ending) → x ≡ convert_ending i t → {b : List ℕ} → b ≡ answered x.number x.value a
+  pub conversion_room : answer_length ≤ length a → (x : Ending) → x ≡ convert_ending i t → {b : List ℕ} → b ≡ answered x.number x.value a
       → leaves x.number x.image b x.events ≡ conversion i t a
   unfolding conversion
   conversion_room roomy x e {b} f =

@@ -10,6 +10,10 @@ use Rattle.calls.specs.Calls as asked
 
 -- ---- 7, or how it ends
 
+-- room is asked for 16 bytes
+pub room_is_16 : (a : List ℕ) → AnswerRoom a → answer_length ≤ length a
+room_is_16 a h = omega (arith, h)
+
 module _ (q : Request) (i a : List ℕ) where
   abbrev undone : Outcome
   undone = leaves (refusal_number no_room) i a (buffer_of q)
@@ -23,7 +27,7 @@ module _ (q : Request) (i a : List ℕ) where
   place_past h = rw (lt-leb (place_of q) (length (buffer_of q)) h, and-false)
 
   -- with room, the answer area has the number and the value with which it ends
-  pub room : AnswerRoom a → place_of q ≤ length (buffer_of q) → (x : Ending) → x ≡ ending q i → {b : List ℕ} → b ≡ answered x.number x.value a
+  pub room : answer_length ≤ length a → place_of q ≤ length (buffer_of q) → (x : Ending) → x ≡ ending q i → {b : List ℕ} → b ≡ answered x.number x.value a
       → leaves x.number x.image b x.events ≡ outcome q i a
   unfolding outcome
   room roomy inside x e {b} f =

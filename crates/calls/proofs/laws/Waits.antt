@@ -1,8 +1,8 @@
 -- How the call that tells who waits ends, by the test that decides it: one law for each way; and its outcome once it has ended.
-use Rattle.basics.proofs.Prelude.{◌≡◌, refl, sym, ap, ◌∙◌, List, [], ◌∷◌, ◌++◌, ℕ, ◌+◌, ◌^◌, ◌<◌, arith, length, replicate, le-leb, lt-leb}
+use Rattle.basics.proofs.Prelude.{◌≡◌, refl, sym, ap, ◌∙◌, List, [], ◌∷◌, ◌++◌, ℕ, ◌+◌, ◌^◌, ◌<◌, arith, length, replicate, le-leb, lt-leb, ◌≤◌}
 use Rattle.rules.specs.Device.{some}
 use Rattle.images.specs.Image.{ImageTest, image_test, decode}
-use Rattle.calls.specs.Calls.{no_room, refusal_number, pass, on_pass, image_answer, image_number, image_value, answer_length, answered, leaves, Ending, AnswerRoom}
+use Rattle.calls.specs.Calls.{no_room, refusal_number, pass, on_pass, image_answer, image_number, image_value, answer_length, answered, leaves, Ending}
 use Rattle.calls.specs.Waiting.{waiting_in, waiting_told, waiting_ended, waiting_ending, waiting}
 use Rattle.calls.proofs.laws.Computing.{computing}
 use Rattle.images.specs.Image as image
@@ -49,7 +49,7 @@ module _ (i a : List ℕ) where
   unfolding waiting
   waiting_short h = rw (lt-leb answer_length (length a) h)
 
-  pub waiting_room : AnswerRoom a → (x : Ending) → x ≡ waiting_ending i → {b : List ℕ} → b ≡ answered x.number x.value a
+  pub waiting_room : answer_length ≤ length a → (x : Ending) → x ≡ waiting_ending i → {b : List ℕ} → b ≡ answered x.number x.value a
       → leaves x.number x.image b x.events ≡ waiting i a
   unfolding waiting
   waiting_room roomy x e {b} f =

@@ -45,14 +45,14 @@ module _ (d : Device) (c : Call) (earlier : List Made) (m : Made) (rest : List M
 
   -- 'An offered event that finds k waiting is, if k is below 16, the (k+1)th drained from then, once so many are': place 0 is the first. Drained from then
   -- on is all that c and the calls after it drain, each with any room.
-  pub drained_in_turn : (k : ℕ) → length (found_by d earlier).waiting ≡ k → FindsRoom k
+  pub drained_in_turn : (k : ℕ) → length (found_by d earlier).waiting ≡ k → k < 16
       → (later : List Call) → k < length (history d (c ∷ later)).drained → (x : Event) → get_or (history d (c ∷ later)).drained k x ≡ as_event m
   drained_in_turn k e h later g x =
       rw (← e, drained_since later)
       (kept_place (found_by d earlier) (as_event m) (since later) x (omega (arith, room_is_less k h, e)) (rw (← e, drained_since later) at g))
 
   -- 'else dropped and counted up to 01's stop': the next event finds what m found, but the count one higher, up to the stop
-  pub else_dropped : (k : ℕ) → length (found_by d earlier).waiting ≡ k → FindsNone k
+  pub else_dropped : (k : ℕ) → length (found_by d earlier).waiting ≡ k → 16 ≤ k
       → found_by d (earlier ++ (m ∷ [])) ≡ record { waiting = (found_by d earlier).waiting; drops = min ((found_by d earlier).drops + 1) 4294967295 }
   unfolding offers ring_run ring_step
   else_dropped k e h =

@@ -1,9 +1,8 @@
 -- Requests made one after another on an image, and what it is that two images answer them alike (02, C-17).
 use Rattle.std.specs.Prelude.{false, List, [], ◌∷◌, ◌≡◌, ℕ, length}
-use Rattle.basics.specs.Lists.{Each}
+use Rattle.images.specs.Form.{numbered, form_length}
 use Rattle.images.specs.Image.{decode, numbers_in}
 use Rattle.calls.specs.Calls.{Request, asked_by}
-use Rattle.histories.specs.Chains.{made_from}
 use Rattle.histories.specs.exported.Exported.{Exported, left_by, is_reset, answer_without, events_without, done_calls, returned_by, drained_by, losses_read}
 
 -- what a host asks, and the answer area that it lends
@@ -16,11 +15,13 @@ asked_of i q = record { given = i; asked = q.asked; answer = q.answer }
 
 -- made one after another on an image: each is given the image that the one before it left, done or refused
 unfoldable pub made_on : List ℕ → List Asking → List Exported
-made_on = made_from asked_of (λ (x : Exported). (left_by x).image)
+made_on i [] = []
+made_on i (q ∷ qs) = asked_of i q ∷ made_on (left_by (asked_of i q)).image qs
 
 -- none of them is a reset
 unfoldable pub NoResets : List Asking → Type 0
-NoResets = Each (λ (q : Asking). is_reset (asked_by q.asked) ≡ false)
+NoResets [] = Unit {0}
+NoResets (q ∷ qs) = (is_reset (asked_by q.asked) ≡ false) × NoResets qs
 
 -- what an exported call asks
 abbrev pub asking_of : Exported → Asking
@@ -46,6 +47,10 @@ pub record AlikeBut (x y : Exported) : Type 0 where
   pub events : events_without x ≡ events_without y
   pub images : SameDevice x y
   pub whole : numbers_in x.given ≡ numbers_in y.given → Alike x y
+
+-- an image without the fifth body loads with numbers from 0, whatever was told before (02, C-19)
+abbrev pub NoFifth : List ℕ → Type 0
+NoFifth i = length i ≡ form_length numbered → ⊥
 
 -- so do exported calls, each beside the other's
 unfoldable pub AllAlike : List Exported → List Exported → Type 0

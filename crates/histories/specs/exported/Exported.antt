@@ -1,6 +1,6 @@
 -- Exported calls: which of them are loads, the history that they carry on, and what a host reads of them.
 use Rattle.std.specs.Prelude.{Bool, true, false, cond, not, ◌&&◌, ◌||◌, List, [], ◌∷◌, ◌++◌, map, ◌≡◌, ℕ, zero, suc, ◌+◌, ◌/◌, ◌%◌, ◌^◌, eqb, take, drop, set}
-use Rattle.basics.specs.{Numbers.Bytes, Lists.Each}
+use Rattle.basics.specs.Numbers.{Bytes}
 use Rattle.rules.specs.Ring.{Event}
 use Rattle.rules.specs.Device.{Device, WellFormed, Call, step, value}
 use Rattle.rules.specs.Device as device
@@ -10,10 +10,8 @@ use Rattle.images.specs.Image.{encode_as, encode_like, decode, numbers_in}
 use Rattle.basics.specs.Numbers.{same}
 use Rattle.calls.specs.Calls as request
 use Rattle.calls.specs.Calls.{Request, pass, refuse, Asked, afresh, calls, asked_by, answered, present_in, value_in, buffer_of, place_of, written, Outcome, outcome}
-use Rattle.calls.specs.Untouched.{IsDone}
 use Rattle.rules.specs.History.{history}
 use Rattle.rules.specs.Account.{carrying, asserts_among, deasserts_among}
-use Rattle.histories.specs.Chains.{ChainOn, last_left}
 
 -- ---- one call
 
@@ -125,11 +123,13 @@ NoLoads h (x ∷ xs) = (is_load h.left x ≡ false) × NoLoads (carried_on h x) 
 
 -- each is given the image that the one before it left, done or refused, and none is a reset (01, Saved image: handing that same image on is no load)
 unfoldable pub HandedOn : List ℕ → List Exported → Type 0
-HandedOn = ChainOn (λ (x : Exported). x.given) (λ x. (left_by x).image) (λ x. is_reset (asked_by x.asked) ≡ false)
+HandedOn left [] = Unit {0}
+HandedOn left (x ∷ xs) = (x.given ≡ left) × (is_reset (asked_by x.asked) ≡ false) × HandedOn (left_by x).image xs
 
 -- the image left at last, done or refused, where each call is given the image that the one before it left
 unfoldable pub left_after : List ℕ → List Exported → List ℕ
-left_after = last_left (λ (x : Exported). (left_by x).image)
+left_after i [] = i
+left_after i (x ∷ xs) = left_after (left_by x).image xs
 
 -- the call of the device that an exported call is, if it is one; a refused call counts as no call (01, Saved image)
 abbrev pub done_call : Exported → List Call
@@ -145,7 +145,7 @@ done_calls (x ∷ xs) = done_call x ++ done_calls xs
 pub record IsStep (d : Device) (x : Exported) : Type 0 where
   pub call : Call
   pub is : done_call x ≡ call ∷ []
-  pub number : IsDone (left_by x).number
+  pub number : (left_by x).number ≡ 0
   pub image : (left_by x).image ≡ encode_like x.given (step d call).after (numbers_after d (numbers_in x.given) call)
   pub answer : (left_by x).answer ≡ answered 0 (value_with d (numbers_in x.given) call) x.answer
   pub events : (left_by x).events ≡ written (buffer_of x.asked) (place_of x.asked) (drained_with d (numbers_in x.given) call)
@@ -154,7 +154,8 @@ pub record IsStep (d : Device) (x : Exported) : Type 0 where
 
 -- the images that they are given are bytes
 abbrev pub GivenBytes : List Exported → Type 0
-GivenBytes = Each (λ (x : Exported). Bytes x.given)
+GivenBytes [] = Unit {0}
+GivenBytes (x ∷ xs) = Bytes x.given × GivenBytes xs
 
 -- the device to which a history under way has come
 abbrev pub current : Underway → Device

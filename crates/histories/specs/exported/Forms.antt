@@ -6,12 +6,9 @@ use Rattle.images.specs.Form.{one, numbered, form_length}
 abbrev pub HoldsCopy : List ℕ → Type 0
 HoldsCopy i = length i ≡ form_length one
 
--- one that holds numbers: that of 290 bytes, with the fifth body; and one without them, which loads with numbers from 0, whatever was told before (02, C-19)
+-- one that holds numbers: that of 290 bytes, with the fifth body (02, C-19)
 abbrev pub HoldsNumbers : List ℕ → Type 0
 HoldsNumbers i = length i ≡ form_length numbered
-
-abbrev pub NoFifth : List ℕ → Type 0
-NoFifth i = HoldsNumbers i → ⊥
 
 -- what an image has of numbers finds room in the target that it is moved to (02, C-19)
 abbrev pub RoomForNumbers : (image target : List ℕ) → Type 0

@@ -5,7 +5,7 @@ use Rattle.rules.specs.{Device.WellFormed, Numbering.WellNumbered, Numbering.fro
 use Rattle.images.specs.Form.{Form, one, two, numbered, numbers, forms, has, Known, unknown, known, form_of, form_length}
 use Rattle.images.specs.Image.{ImageTest, accepted, wrong_length, wrong_contents, broken, image_test, encode_as, encode_like, decode, numbers_in}
 use Rattle.images.proofs.laws.{Tests.form_known_lem, Tests.form_found, Saved.bytes_encode, Saved.length_encode, Saved.encode_without}
-use Rattle.calls.{specs.Calls.pass, specs.Calls.leaves, specs.Convert.converted, specs.Convert.conversion, proofs.laws.Conversions.is_converted, proofs.demands.OneOutcome.one_left}
+use Rattle.calls.{specs.Calls.pass, specs.Calls.leaves, specs.Calls.Outcome, specs.Convert.converted, specs.Convert.conversion, proofs.laws.Conversions.is_converted, proofs.demands.OneOutcome.one_left}
 use Rattle.calls.proofs.laws.Requests.{never, passed}
 use Rattle.laws.proofs.laws.Images.{form_of_lem, encode_as_lem, accepted_has, encode_decode, decode_well_formed, numbers_well, accepted_encode, decode_encode, numbers_encode, numbers_lost}
 use Rattle.calls.specs.Calls as calls
@@ -118,6 +118,10 @@ module _ (i : List ℕ) (b : Bytes i) (e : image_test i ≡ accepted) (f g : For
       there_and_back i t _ b (can_be_converted i t e g m) u (n ∙ sym s)
       (λ h. m ∙ ap form_length (with_numbers_lem g (keeps (ap (λ x. has x numbers) (same_form f numbered (sym s ∙ h))))))
 
--- no second outcome keeps the promise of the call: of two runs whose contract holds, the numbers handed back, the targets and the answer areas are the same
-pub one_conversion : (i t a : List ℕ) {r s : ℕ} {t₁ t₂ a₁ a₂ : List ℕ} → leaves r t₁ a₁ [] ≡ conversion i t a → leaves s t₂ a₂ [] ≡ conversion i t a → (r ≡ s) × (t₁ ≡ t₂) × (a₁ ≡ a₂)
-one_conversion i t a x y = let o = one_left x y in (o.0, o.1, o.2)
+-- no second outcome keeps the promise of the call
+pub one_conversion : (i t a : List ℕ) (x y : Outcome) → x ≡ conversion i t a → y ≡ conversion i t a → x ≡ y
+one_conversion i t a x y p q = p ∙ sym q
+
+-- in the contracts' own words: of two runs whose contract holds, the numbers handed back, the targets and the answer areas are the same
+pub one_conversion_result : (i t a : List ℕ) {r s : ℕ} {t₁ t₂ a₁ a₂ : List ℕ} → leaves r t₁ a₁ [] ≡ conversion i t a → leaves s t₂ a₂ [] ≡ conversion i t a → (r ≡ s) × (t₁ ≡ t₂) × (a₁ ≡ a₂)
+one_conversion_result i t a x y = let o = one_left x y in (o.0, o.1, o.2)

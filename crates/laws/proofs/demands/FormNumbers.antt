@@ -4,7 +4,7 @@ use Rattle.basics.proofs.Prelude.{◌≡◌, refl, sym, ◌∙◌, Bool, true, f
 use Rattle.images.specs.Form.{Form, one, two, numbered, forms, Known, unknown, known, form_of, form_length, contents_length, contents_of}
 use Rattle.images.specs.Image.{copy_differs, Finding, clear, found, rules, first_fault, wrong_length, wrong_contents, broken, body_test, image_test}
 use Rattle.images.proofs.laws.Tests.{test_known_lem, known_length, form_known_lem, test_contents, test_body}
-use Rattle.laws.specs.Wrong.{NoForm, OtherContents, Why}
+use Rattle.laws.specs.Wrong.{Why}
 use Rattle.laws.proofs.demands.Broken.{told_is_so}
 
 -- ---- what is found is one thing
@@ -37,7 +37,7 @@ four_is_the_length l n m k =
     test_known_lem l none
 
 -- and it is told of no other length
-pub four_only_of_the_length : (l : List ℕ) → image_test l ≡ wrong_length → NoForm l
+pub four_only_of_the_length : (l : List ℕ) → image_test l ≡ wrong_length → (length l ≡ 259 → ⊥) × (length l ≡ 251 → ⊥) × (length l ≡ 290 → ⊥)
 four_only_of_the_length l e = (λ s. not_four one l s e, λ s. not_four two l s e, λ s. not_four numbered l s e)
 
 -- 5: of any of these lengths, other contents than those of that length
@@ -45,10 +45,11 @@ pub five_is_the_contents : (f : Form) (l : List ℕ) → length l ≡ form_lengt
 five_is_the_contents f l s n = known_length f l s ∙ test_contents f l s n
 
 -- and it is told of nothing else: some form has that length, and the contents are not its own
-pub five_only_of_the_contents : (l : List ℕ) → image_test l ≡ wrong_contents → OtherContents l
+pub five_only_of_the_contents : (l : List ℕ) → image_test l ≡ wrong_contents
+    → (f : Form) × (length l ≡ form_length f) × (part 0 (contents_length f) l ≡ contents_of f → ⊥)
 five_only_of_the_contents l e = go (form_of (length l)) refl
   where
-    go : (k : Known) → form_of (length l) ≡ k → OtherContents l
+    go : (k : Known) → form_of (length l) ≡ k → (f : Form) × (length l ≡ form_length f) × (part 0 (contents_length f) l ≡ contents_of f → ⊥)
     go unknown k = absurd (two_findings (sym (test_known_lem l k) ∙ e))
     go (known f) k =
         let s = form_known_lem forms (length l) f k in

@@ -3,8 +3,7 @@ use Rattle.basics.proofs.Prelude.{◌≡◌, refl, ap, cond, List, [], ℕ, zero
 use Rattle.rules.specs.{Device.reset, Numbering.drained_length, Numbering.from_zero}
 use Rattle.images.specs.{Form.Form, Form.known, Form.form_of, Image.encode_like}
 use Rattle.calls.specs.Calls.{Request, answer_length, answered, value_in, has_room, Ending, outcome}
-use Rattle.calls.proofs.{laws.Outcomes.reset_done, laws.Tables.first_kept, demands.Refused.refused_changes_nothing}
-use Rattle.calls.specs.Untouched.{IsDone}
+use Rattle.calls.proofs.{laws.Outcomes.reset_done, demands.Refused.refused_changes_nothing}
 use Rattle.traces.specs.{Trace.Record, Trace.record_count, Trace.nth, Played.request_of, Played.asked, Played.played_on, Played.drained_in, Played.played_from, Played.afresh, Played.played}
 use Rattle.traces.proofs.laws.Plays.{played_none, played_next}
 
@@ -14,9 +13,9 @@ unfolding outcome
 plays_from_reset i f e = ap (λ (x : Ending). x.image) (reset_done i f e)
 
 -- a record whose call is refused leaves the image as it was, and drains nothing
-pub refused_record : (i : List ℕ) (r : Record) → (IsDone (played_on i r).number → ⊥) → ((played_on i r).image ≡ i) × (drained_in (played_on i r) ≡ [])
+pub refused_record : (i : List ℕ) (r : Record) → ((played_on i r).number ≡ 0 → ⊥) → ((played_on i r).image ≡ i) × (drained_in (played_on i r) ≡ [])
 refused_record i r n = (
-  first_kept (refused_changes_nothing (request_of r) i (replicate answer_length 0) n),
+  (refused_changes_nothing (request_of r) i (replicate answer_length 0) n).image,
   ap (λ t. cond t (take (drained_length * value_in (played_on i r).answer) (played_on i r).events) []) (ne_eqb (played_on i r).number 0 n),
 )
 

@@ -12,8 +12,7 @@ use Rattle.calls.proofs.laws.Requests.{passed}
 use Rattle.calls.specs.Calls.{no_room, refusal_number, Tested, pass, refuse, on_pass, image_answer, Request, Asked, afresh, calls, asked_by, Done, done_on, reset_as, performed, buffer_of, Outcome, leaves, ended, settled, has_room, outcome}
 use Rattle.calls.specs.Convert.{converted}
 use Rattle.histories.specs.exported.Exported.{Exported, left_by, is_done, answer_left, events_left, is_reset, at_load, left_after}
-use Rattle.histories.specs.exported.Alike.{Asking, asked_of, made_on, SameDevice, Alike, AlikeBut, AllAlike, AllAlikeBut}
-use Rattle.histories.specs.exported.Forms.{NoFifth}
+use Rattle.histories.specs.exported.Alike.{Asking, asked_of, made_on, SameDevice, Alike, AlikeBut, NoFifth, AllAlike, AllAlikeBut}
 use Rattle.laws.proofs.laws.Images.{form_of_lem, encode_as_lem, accepted_has, encode_decode, decode_well_formed, numbers_well, accepted_encode, decode_encode, numbers_encode, numbers_lost, reset_well_formed, reset_numbered}
 use Rattle.laws.proofs.demands.Convert.{Converted, was_converted, can_be_converted, copied_as_it_is}
 use Rattle.histories.proofs.laws.WellFormed.{step_well}

@@ -41,7 +41,7 @@ same_bytes l b n e =
 
 -- ---- exported calls
 
-module _ (h : Underway) (f : Faithful h) (l : HoldsCopy h.left) (xs : List Exported) (n : NoLoads h xs) where
+module _ (h : Underway) (f : Faithful h) (l : length h.left ≡ form_length one) (xs : List Exported) (n : NoLoads h xs) where
   long : HoldsCopy (carried_through h xs).left
   long = length_through h f xs n ∙ l
 
@@ -79,7 +79,7 @@ copy_of_calls_from_reset xs n =
     )
 
 -- From an accepted image of that form on, whatever it holds.
-pub copy_of_calls_from_image : (i : List ℕ) → Bytes i → HoldsCopy i → image_test i ≡ accepted → (xs : List Exported) → NoLoads (at_load i) xs
+pub copy_of_calls_from_image : (i : List ℕ) → Bytes i → length i ≡ form_length one → image_test i ≡ accepted → (xs : List Exported) → NoLoads (at_load i) xs
     → (word_in one (carried_through (at_load i) xs).left copy ≡ copy_through (decode i) (word_in one i copy) (done_calls xs))
     × (word_in one (carried_through (at_load i) xs).left copy ≡ word_in one (carried_through (at_load i) xs).left irr)
 copy_of_calls_from_image i b l e xs n =
@@ -87,7 +87,7 @@ copy_of_calls_from_image i b l e xs n =
     (copy_of_calls (at_load i) f l xs n, copy_of_calls_is_irr (at_load i) f l xs n)
 
 -- With loads and resets anywhere among the calls, where the image left last is of that form: carried from the IRR of the last of them.
-pub copy_since_load : (h : Underway) (xs : List Exported) → Faithful h → GivenBytes xs → let u = carried_through h xs in HoldsCopy u.left
+pub copy_since_load : (h : Underway) (xs : List Exported) → Faithful h → GivenBytes xs → let u = carried_through h xs in length u.left ≡ form_length one
     → (word_in one u.left copy ≡ copy_through u.began u.began.core.lines.irr u.calls) × (word_in one u.left copy ≡ word_in one u.left irr)
 copy_since_load h xs f b l =
     let u = carried_through h xs in

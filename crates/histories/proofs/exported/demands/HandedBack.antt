@@ -6,7 +6,7 @@ use Rattle.rules.{specs.Account.carrying, specs.Account.asserts, specs.Account.d
 use Rattle.images.specs.{Form.Form, Image.decode}
 use Rattle.calls.specs.Calls.{asked_by}
 use Rattle.histories.specs.Premises.{Along, Admitted}
-use Rattle.histories.specs.Demands.{in_service, Eligible, Spared, Undisturbed, polls_or_raises, as_event, found_by, FindsRoom, ring_acts, returned_in}
+use Rattle.histories.specs.Demands.{in_service, Eligible, Spared, Undisturbed, polls_or_raises, as_event, found_by, ring_acts, returned_in}
 use Rattle.histories.specs.exported.Exported.{Exported, is_reset, is_load, Underway, carried_on, carried_through, NoLoads, done_call, done_calls, GivenBytes, current, in_image, Faithful, after_reset, at_load, returned_by, drained_by, Balances}
 use Rattle.histories.proofs.{laws.Draining.all_accounted, exported.laws.Chains.faithful_after_reset, exported.laws.Chains.faithful_at_load, exported.laws.Chains.calls_split}
 use Rattle.histories.proofs.{laws.WellFormed.history_well, exported.laws.Readings.read_as, demands.Account.none_served, demands.Account.asserts_match_service_from}
@@ -126,7 +126,7 @@ module _ (h : Underway) (f : Faithful h) where
   -- buffers of the drains from there on, once it reads so many.
   pub order_of_calls : (x : Exported) (later : List Exported) (c : Call) → NoLoads h (x ∷ later) → done_call x ≡ c ∷ []
       → (earlier : List Made) (m : Made) (rest : List Made) → (step (in_image h) c).made ≡ earlier ++ (m ∷ rest) → m.offered ≡ true
-      → (k : ℕ) → length (found_by (in_image h) earlier).waiting ≡ k → FindsRoom k
+      → (k : ℕ) → length (found_by (in_image h) earlier).waiting ≡ k → k < 16
       → k < length (drained_by (x ∷ later)) → (e : Event) → get_or (drained_by (x ∷ later)) k e ≡ as_event m
   unfolding done_calls
   order_of_calls x later c n o earlier m rest is off k found small many e =

@@ -13,13 +13,17 @@ use Rattle.calls.specs.Calls as request
 
 -- ---- histories
 
+-- a count that has not come to its stop is below 4,294,967,295
+pub below_the_stop : (d : Device) → BelowStop d → d.ring.drops < 4294967295
+below_the_stop d h = omega (arith, h)
+
 module _ (d : Device) (cs : List Call) (within : d.ring.drops ≤ 4294967295) where
   -- From any device whose count is not past its stop: the count after is that before and the sum of what the writes say, up to the stop.
   pub losses_counted : (history d cs).after.ring.drops ≡ min (d.ring.drops + losses_in d cs) 4294967295
   losses_counted = drops_counted d cs within ∙ ap (λ n. min (d.ring.drops + n) 4294967295) (losses_dropped d cs)
 
   -- 'The sum over a history equals the rise of the drop count while that is below its stop' (02, C-15)
-  pub losses_are_the_rise : BelowStop (history d cs).after → d.ring.drops + losses_in d cs ≡ (history d cs).after.ring.drops
+  pub losses_are_the_rise : (history d cs).after.ring.drops < 4294967295 → d.ring.drops + losses_in d cs ≡ (history d cs).after.ring.drops
   losses_are_the_rise below = omega (arith, losses_counted)
 
   -- and where the sum is as much as fits below the stop or more, the rise is what fits
@@ -56,7 +60,7 @@ module _ (h : Underway) (f : Faithful h) (xs : List Exported) (n : NoLoads h xs)
       (losses_counted (current h) (done_calls xs) (history_well h.began h.calls f.began).drops)
 
   -- Below the stop the sum is the rise; where it is as much as fits below the stop or more, the rise is what fits.
-  pub losses_below_the_stop : BelowStop (in_image (carried_through h xs))
+  pub losses_below_the_stop : (in_image (carried_through h xs)).ring.drops < 4294967295
       → (in_image h).ring.drops + losses_read xs ≡ (in_image (carried_through h xs)).ring.drops
   losses_below_the_stop below = omega (arith, losses_of_calls)
 

@@ -1,15 +1,15 @@
 -- Calls that are handed on, from their other side: they are what is made one after another on an image, with no reset among it. Refused ones may stand anywhere.
-use Rattle.basics.proofs.Prelude.{◌≡◌, refl, List, map, ℕ, false}
-use Rattle.calls.specs.Calls.{asked_by}
-use Rattle.histories.specs.exported.{Exported.Exported, Exported.HandedOn, Exported.left_by, Exported.is_reset, Alike.Asking, Alike.asked_of, Alike.made_on, Alike.NoResets, Alike.asking_of}
-use Rattle.histories.proofs.laws.Chained.{each_made, made_chained, chained_made}
+use Rattle.basics.proofs.Prelude.{◌≡◌, refl, ap, ◌∙◌, List, [], ◌∷◌, map, ℕ}
+use Rattle.histories.specs.exported.{Exported.Exported, Exported.left_by, Exported.HandedOn, Alike.Asking, Alike.asked_of, Alike.made_on, Alike.NoResets, Alike.asking_of}
 
 pub made_handed_on : (i : List ℕ) (qs : List Asking) → NoResets qs → HandedOn i (made_on i qs)
 unfolding made_on HandedOn NoResets
-made_handed_on i qs n =
-    made_chained (λ (x : Exported). (left_by x).image) (λ (x : Exported). is_reset (asked_by x.asked) ≡ false) asked_of (λ (x : Exported). x.given) (λ s q. refl) i qs
-    (each_made (λ (x : Exported). (left_by x).image) (λ (x : Exported). is_reset (asked_by x.asked) ≡ false) asked_of (λ s q f. f) i qs n)
+made_handed_on i [] n = tt
+made_handed_on i (q ∷ qs) n = (refl, n.0, made_handed_on (left_by (asked_of i q)).image qs n.1)
 
 pub handed_on_made : (i : List ℕ) (xs : List Exported) → HandedOn i xs → xs ≡ made_on i (map asking_of xs)
 unfolding made_on HandedOn
-handed_on_made i xs h = (chained_made _ _ asked_of _ asking_of (λ s x e t. record { given = e t; asked = x.asked; answer = x.answer }) i xs h).0
+handed_on_made i [] h = refl
+handed_on_made i (x ∷ xs) h =
+    let same : x ≡ asked_of i (asking_of x) = (λ t. record { given = h.0 t; asked = x.asked; answer = x.answer }) in
+    (λ t. same t ∷ handed_on_made (left_by x).image xs h.2 t) ∙ ap (λ (y : Exported). asked_of i (asking_of x) ∷ made_on (left_by y).image (map asking_of xs)) same

@@ -7,7 +7,6 @@ use Rattle.histories.specs.exported.Exported.{Underway, carried_on, carried_thro
 use Rattle.histories.proofs.exported.{laws.Chains.left_last, demands.FromCalls.a_reset_begins}
 use Rattle.hoists.specs.{Profile.running, HoistCalls.hoist_room, HoistCalls.cannot_end, HoistCalls.end_told, HoistCalls.hoist_reset, HoistCalls.end_startup}
 use Rattle.histories.specs.Chains.{ChainOn}
-use Rattle.histories.proofs.laws.Chained.{made_chained, each_made, chained_made, chain_part}
 use Rattle.hoists.specs.Phased.{starts_over}
 use Rattle.hoists.specs.Hoisted.{Asks, resets, reads, writes, ends, levels, polls, drains, Hoisted, left_under, left_by, is_done, request_of, exported_as, plain_call, plain_calls, is_reset, HandedOn, Lent, asked_of, lent_by, made_on, NoResets, left_after}
 use Rattle.hoists.proofs.under_profile.demands.ByNumber.{refused_write_untouched, refused_read_untouched}
@@ -40,7 +39,7 @@ module _ (i p a : List ℕ) where
       test (leb 1 (length p))
       (λ t.
       let same = reset_is_full i p a (leb-true 1 (length p) t) in
-      ap (λ (o : Outcome). o.image) same ∙ first_kept (refused_changes_nothing request.reset i a (λ z. not_zero (hoist_reset i p a).number n (ap (λ (o : Outcome). o.number) same ∙ z))))
+      ap (λ (o : Outcome). o.image) same ∙ (refused_changes_nothing request.reset i a (λ z. not_zero (hoist_reset i p a).number n (ap (λ (o : Outcome). o.number) same ∙ z))).image)
       (λ t. rw (t, and-false (leb 16 (length a))))
 
   refused_keeps : (k : Asks) → eqb (left_under i p a k).number 0 ≡ false → (left_under i p a k).image ≡ i
@@ -48,9 +47,9 @@ module _ (i p a : List ℕ) where
   refused_keeps (reads base size address width) n = first_kept (refused_read_untouched base size address width i a (not_zero _ n))
   refused_keeps (writes base size address width v) n = first_kept (refused_write_untouched base size address width v i p a (not_zero _ n))
   refused_keeps ends n = end_keeps_image i p a
-  refused_keeps (levels m v) n = first_kept (refused_changes_nothing (request.level m v) i a (not_zero _ n))
-  refused_keeps (polls m) n = first_kept (refused_changes_nothing (request.poll m) i a (not_zero _ n))
-  refused_keeps (drains events place) n = first_kept (refused_changes_nothing (request.drain events place) i a (not_zero _ n))
+  refused_keeps (levels m v) n = (refused_changes_nothing (request.level m v) i a (not_zero _ n)).image
+  refused_keeps (polls m) n = (refused_changes_nothing (request.poll m) i a (not_zero _ n)).image
+  refused_keeps (drains events place) n = (refused_changes_nothing (request.drain events place) i a (not_zero _ n)).image
 
   none_keeps : (k : Asks) → request_of k ≡ [] → (left_under i p a k).image ≡ i
   none_keeps resets e = absurd (let z = ap length e in omega arith)
@@ -98,13 +97,15 @@ module _ (h : Underway) (x : Hoisted) (q : Request) (e : request_of x.asks ≡ q
 -- Calls are handed on exactly if they are what is made one after another on an image, with whatever phases, and no reset is among it. Refused ones may stand anywhere.
 pub made_handed_on : (i : List ℕ) (qs : List Lent) → NoResets qs → HandedOn i (made_on i qs)
 unfolding made_on HandedOn NoResets
-made_handed_on i qs n =
-    made_chained (λ (x : Hoisted). (left_by x).image) (λ (x : Hoisted). is_reset x.asks ≡ false) asked_of (λ (x : Hoisted). x.given) (λ s q. refl) i qs
-    (each_made (λ (x : Hoisted). (left_by x).image) (λ (x : Hoisted). is_reset x.asks ≡ false) asked_of (λ s q f. f) i qs n)
+made_handed_on i [] n = tt
+made_handed_on i (q ∷ qs) n = (refl, n.0, made_handed_on (left_by (asked_of i q)).image qs n.1)
 
 pub handed_on_made : (i : List ℕ) (xs : List Hoisted) → HandedOn i xs → xs ≡ made_on i (map lent_by xs)
 unfolding made_on HandedOn
-handed_on_made i xs h = (chained_made _ _ asked_of _ lent_by (λ s x e t. record { given = e t; phase = x.phase; asks = x.asks; answer = x.answer }) i xs h).0
+handed_on_made i [] h = refl
+handed_on_made i (x ∷ xs) h =
+    let same : x ≡ asked_of i (lent_by x) = (λ t. record { given = h.0 t; phase = x.phase; asks = x.asks; answer = x.answer }) in
+    (λ t. same t ∷ handed_on_made (left_by x).image xs h.2 t) ∙ ap (λ (y : Hoisted). asked_of i (lent_by x) ∷ made_on (left_by y).image (map lent_by xs)) same
 
 -- ---- handed on with no done reset among them, whatever the phases: none is a load
 
@@ -142,7 +143,8 @@ images_left h (x ∷ xs) c = go (plain_is x) (λ k. images_left k xs)
 -- with no reset among them there is no done one
 handed_images : (i : List ℕ) (xs : List Hoisted) → HandedOn i xs → ImagesOn i xs
 unfolding HandedOn
-handed_images i xs c = chain_part _ _ _ (λ i. i) (λ x n. (λ s. is_done x && n s) ∙ and-false (is_done x)) i xs c
+handed_images i [] c = tt
+handed_images i (x ∷ xs) c = (c.0, (λ s. is_done x && c.1 s) ∙ and-false (is_done x), handed_images (left_by x).image xs c.2)
 
 pub handed_on_is_no_load : (h : Underway) (xs : List Hoisted) → HandedOn h.left xs → NoLoads h (plain_calls xs)
 handed_on_is_no_load h xs c = images_no_load h xs (handed_images h.left xs c)

@@ -16,7 +16,7 @@ use Rattle.histories.proofs.exported.demands.Dropped.{else_dropped_of_calls}
 use Rattle.hoists.specs.{Profile.running, Profile.after_start_up, Profile.aligned_dword, HoistCalls.hoist_reset, HoistCalls.end_startup, Profile.PhaseLent}
 use Rattle.hoists.specs.Hoisted.{Asks, resets, reads, writes, ends, levels, polls, drains, Hoisted, left_under, left_by, is_done, exported_as, plain_call, plain_calls, returned_under, drained_under, is_reset, left_after}
 use Rattle.histories.specs.Chains.{last_left}
-use Rattle.histories.proofs.laws.Chained.{made_chained, chained_made, chain_split, chain_part, last_append, last_part}
+use Rattle.histories.proofs.laws.Chained.{made_chained, chained_made, chain_split, chain_part, last_part}
 use Rattle.hoists.specs.Phased.{phase_under, phase_left, starts_over, Pair, pair_left, PhasedOn, phase_after, Posed, posed_on, posed_by, phased_on, NoneStartsOver, Guest, Started}
 use Rattle.hoists.proofs.under_profile.demands.Answers.{unaligned_is_14, forbidden_is_15}
 use Rattle.hoists.proofs.under_profile.demands.Under.{done_is_full, PlainIs, none, one, plain_is, EachCall}
@@ -55,17 +55,24 @@ phased_no_load h p xs c = images_no_load h xs (phased_images h.left p xs c)
 pub phased_left : (h : Underway) (p : List ℕ) (xs : List Hoisted) → PhasedOn h.left p xs → (carried_through h (plain_calls xs)).left ≡ left_after h.left xs
 phased_left h p xs c = images_left h xs (phased_images h.left p xs c)
 
+-- the image left at last is the one of the pair left at last
+last_image : (k : Pair) (xs : List Hoisted) → (last_left pair_left k xs).0 ≡ left_after k.0 xs
+unfolding left_after
+last_image k [] = refl
+last_image k (x ∷ xs) = last_image (pair_left x) xs
+
 -- what is handed on comes apart where one will
 pub phased_split : (i p : List ℕ) (xs ys : List Hoisted) → PhasedOn i p (xs ++ ys) → PhasedOn i p xs × PhasedOn (left_after i xs) (phase_after p xs) ys
 unfolding PhasedOn left_after phase_after
 phased_split i p xs ys c =
     let r = chain_split _ _ _ (i, p) xs ys c in
-    let last : last_left pair_left (i, p) xs ≡ (left_after i xs, phase_after p xs) = (λ t. (last_part pair_left (λ (k : Pair). k.0) (i, p) xs t, last_part pair_left (λ (k : Pair). k.1) (i, p) xs t)) in
+    let last : last_left pair_left (i, p) xs ≡ (left_after i xs, phase_after p xs) = (λ t. (last_image (i, p) xs t, last_part pair_left (λ (k : Pair). k.1) (i, p) xs t)) in
     (r.0, subst (λ (k : Pair). PhasedOn k.0 k.1 ys) last r.1)
 
 left_append : (i : List ℕ) (xs ys : List Hoisted) → left_after i (xs ++ ys) ≡ left_after (left_after i xs) ys
 unfolding left_after
-left_append = last_append (λ (x : Hoisted). (left_by x).image)
+left_append i [] ys = refl
+left_append i (x ∷ xs) ys = left_append (left_by x).image xs ys
 
 -- ---- the second phase lasts until a done reset
 
