@@ -1,10 +1,10 @@
 -- How the call that tells who waits ends, by the tests of its image: refused, or told the set that the three registers give.
-use Rattle.basics.proofs.Prelude.{◌≡◌, refl, sym, ap, ◌∙◌, true, not, ◌&&◌, List, [], ◌∷◌, ℕ, ◌-◌, ◌^◌, ◌<◌, lit<, OneOf, tag_of, register, on, register_ext, on_not, on_none}
+use Rattle.basics.proofs.Prelude.{◌≡◌, refl, sym, ap, ◌∙◌, not, ◌&&◌, List, [], ◌∷◌, ℕ, ◌-◌, ◌^◌, lit<, OneOf, tag_of, register, register_ext, on_not, on_none}
 use Rattle.rules.specs.{Lines.Lines, Lines.is_pending, Device.none, Device.some}
 use Rattle.images.specs.{Form.Form, Image.image_test, Image.decode, Image.numbers_in}
 use Rattle.calls.{specs.Calls.image_number, specs.Calls.image_value, specs.Waiting.waiting_in, specs.Waiting.waiting_ending, proofs.laws.Waits.untold, proofs.laws.Waits.waiting_told_lem}
 use Rattle.image.specs.{declared.head.Head.Head, declared.head.Head.TheVariants.Of, declared.bodies.Bodies.Bodies, declared.bodies.Bodies.TheVariants.Broken, head.Good.head_test, head.Good.Headed}
-use Rattle.image.{specs.bodies.Good.holds, specs.bodies.Good.bodies_good, specs.bodies.Good.bodies_test, specs.Shown.form_view, proofs.head.Head.the_type, proofs.head.Orders.head_refuses}
+use Rattle.image.{specs.bodies.Good.holds, specs.bodies.Good.bodies_good, specs.bodies.Good.bodies_test, specs.Shown.form_view, specs.contracts.head.Head.the_type, proofs.head.Orders.head_refuses}
 use Rattle.device.specs.decide.Sets.{waiting_of}
 use Rattle.fields.{specs.inplace.Held.Reads, specs.inplace.Passed.Passed, proofs.inplace.Passing.here}
 use Rattle.answer.{specs.Given.Tells, specs.Given.ends, specs.declared.Told.Told, proofs.refusals.Ends.tells, proofs.refusals.Ends.head_told, proofs.refusals.Ends.broken_refused, proofs.refusals.Ends.bodies_told}
