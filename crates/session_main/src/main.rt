@@ -1,11 +1,18 @@
 // The session program: lines from standard input, their answers to standard output. The work is done, and proved, in `session`; here bytes are
-// read and written. What is read or written cannot be in a contract. A read or write that fails is told on standard error; `main` has no status to
-// end with, so `./run` ends with 1 where something was told there.
+// read and written. What is read or written cannot be in a contract. A read or write that fails is told on standard error; `main` ends with 0 all the
+// same, and `./run` with 1 where something was told there.
+#![tactic(auto)]
+
 ghost use Rattle.std.specs.Prelude.{◌≤◌, length};
 ghost use Rattle.session.specs.Feeds.{Ready};
 
-use libc::{STDIN_FILENO, STDOUT_FILENO};
 use session::Session;
+use std::io;
+use std::io::{ErrorKind, Read};
+use std::process::ExitCode;
+
+// The status that a shell tells of a program which ends because its reader has closed the pipe.
+const CLOSED_PIPE: u8 = 141;
 
 // Where the program stands, and whether it goes on.
 #[derive(Clone, Copy)]
@@ -14,28 +21,30 @@ struct Turn {
     more: bool,
 }
 
-// Whether it was written, all of it.
-fn put(text: &[u8]) -> bool {
-    if io::write_all(STDOUT_FILENO, text) {
-        return true;
+// Whether it was written, all of it. Of a reader that has closed its pipe nothing is told.
+fn put(rt: &(impl Print + Eprint), text: &[u8]) -> io::Result<()> {
+    let written = rt.write_all(text);
+    if let Err(error) = &written {
+        if error.kind() != ErrorKind::BrokenPipe {
+            let _ = eprintln!(rt; "session: standard output cannot be written: {error}");
+        }
     }
-    os::fail(b"session: standard output cannot be written");
-    false
+    written
 }
 
 // The answers to a chunk are written together, as many as the buffer holds. The program ends where they cannot be written.
-fn play_chunk(session: Session, line: &mut [u8], chunk: &[u8]) -> Turn
+fn play_chunk(rt: &(impl Print + Eprint), session: Session, line: &mut [u8], chunk: &[u8]) -> Turn
     requires { Ready session line.old }
     ensures { Ready result.session line.new }
 {
-    let mut out = io::buffer();
+    let mut out = [0u8; 4096];
     let mut next = session;
     let mut more = true;
     let mut at = 0;
     while more && at < chunk.len() {
         let fed = session::feed(next, line, &chunk[at..], &mut out);
         let len = fed.len;
-        more = put(&out[..len]);
+        more = put(rt, &out[..len]).is_ok();
         next = fed.session;
         at += fed.taken;
     }
@@ -46,27 +55,34 @@ fn play_chunk(session: Session, line: &mut [u8], chunk: &[u8]) -> Turn
 }
 
 // One read. It gives nothing where the input ends, or fails.
-fn play_some(session: Session, line: &mut [u8]) -> Turn
+fn play_some(
+    rt: &(impl Print + Eprint),
+    input: &mut impl Read,
+    session: Session,
+    line: &mut [u8],
+) -> Turn
     requires { Ready session line.old }
     ensures { Ready result.session line.new }
 {
-    let mut buf = io::buffer();
-    let got = libc::read(STDIN_FILENO, &mut buf);
-    if got < 0 {
-        os::fail(b"session: standard input cannot be read");
-    }
-    let n = io::count(got, &buf);
+    let mut buf = [0u8; 4096];
+    let n = match input.read(&mut buf) {
+        Ok(n) => n,
+        Err(error) => {
+            let _ = eprintln!(rt; "session: standard input cannot be read: {error}");
+            0
+        }
+    };
     if n == 0 {
         return Turn {
             session,
             more: false,
         };
     }
-    play_chunk(session, line, &buf[..n])
+    play_chunk(rt, session, line, &buf[..n])
 }
 
 // A proved loop has to end, and nothing says that the input does. So the loop counts its turns down, from a number that no run uses up.
-fn play_all(line: &mut [u8]) -> Session
+fn play_all(rt: &(impl Print + Eprint), input: &mut impl Read, line: &mut [u8]) -> Session
     requires { 32 ≤ length line.old }
     ensures { Ready result line.new }
 {
@@ -74,7 +90,7 @@ fn play_all(line: &mut [u8]) -> Session
     let mut more = true;
     let mut turns = u64::MAX;
     while more && 0 < turns {
-        let turn = play_some(session, line);
+        let turn = play_some(rt, input, session, line);
         session = turn.session;
         more = turn.more;
         turns -= 1;
@@ -82,10 +98,13 @@ fn play_all(line: &mut [u8]) -> Session
     session
 }
 
-fn main() {
+fn main(rt: HostRuntime) -> ExitCode {
     let mut line = [0u8; 32];
-    let session = play_all(&mut line);
+    let session = play_all(&rt, &mut rt.stdin(), &mut line);
     let mut out = [0u8; 128];
     let len = session::close(session, &line, &mut out);
-    put(&out[..len]);
+    match put(&rt, &out[..len]) {
+        Err(error) if error.kind() == ErrorKind::BrokenPipe => ExitCode::from(CLOSED_PIPE),
+        _ => ExitCode::SUCCESS,
+    }
 }
