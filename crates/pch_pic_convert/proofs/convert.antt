@@ -1,1 +1,2 @@
--- The laws that the proof of this module cites are those of rules and refusals.
+-- The laws that the proof of this module cites: the order of its tests.
+pub mod Orders

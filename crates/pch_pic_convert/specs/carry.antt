@@ -1,0 +1,2 @@
+-- What is carried over.
+pub mod Carried

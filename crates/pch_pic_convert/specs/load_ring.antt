@@ -1,0 +1,2 @@
+-- What loading the ring promises.
+pub mod Ring
