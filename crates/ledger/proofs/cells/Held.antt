@@ -1,5 +1,5 @@
 -- The numbers of a sheet or a tally, as the functions of this module read and write them.
-use Rattle.basics.proofs.Prelude.{◌≡◌, refl, sym, ap, subst, ◌∙◌, Bool, true, false, not, ◌||◌, List, [], ◌∷◌, ◌++◌, ℕ, ◌+◌, ◌-◌, ◌%◌, ◌^◌, ◌<◌, max, arith, eqb, take, drop, drop-drop, eq-eqb, ne_eqb, true≢false, bytes_of, number_of, part}
+use Rattle.basics.proofs.Prelude.{◌≡◌, refl, sym, ap, subst, ◌∙◌, Bool, true, false, ◌||◌, List, [], ◌∷◌, ◌++◌, ℕ, ◌+◌, ◌-◌, ◌%◌, ◌^◌, ◌<◌, max, arith, eqb, take, drop-drop, eq-eqb, ne_eqb, true≢false, bytes_of, number_of, part}
 use Rattle.bits.specs.bytes.Put.{with_bytes}
 use Rattle.passes.specs.tallies.{Grid.Grid, Grid.cell_bytes, Grid.cell_place, Grid.limit, Grid.record_limit, Grid.is_wait, Grid.Fits, Grid.put, Grid.bump, Grid.Holds, Grid.Reads, Grid.Puts, Grid.Becomes, Following.Takes}
 use Rattle.passes.specs.tallies.Marks.{happened, kind_column, fate_columns, bumped, settled, withdrawn, began}

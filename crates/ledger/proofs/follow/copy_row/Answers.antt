@@ -1,5 +1,5 @@
 -- `copy_row`: a number in each round.
-use Rattle.basics.proofs.Prelude.{rules, ◌-◌, arith, refl}
+use Rattle.basics.proofs.Prelude.{rules, arith, refl}
 use Rattle.ledger.proofs.follow.{Loops.copies, Loops.copies_next, Loops.copies_none, Loops.all_copied}
 use Rattle.ledger.proofs.follow.copy_row.Goals as goal
 

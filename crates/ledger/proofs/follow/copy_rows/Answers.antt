@@ -1,5 +1,5 @@
 -- `copy_rows`: a row in each round.
-use Rattle.basics.proofs.Prelude.{List, ℕ, arith, trailing_le, lt_of_le_of_lt, rules, refl, inputs}
+use Rattle.basics.proofs.Prelude.{List, ℕ, arith, trailing_le, lt_of_le_of_lt, rules, refl}
 use Rattle.ledger.proofs.follow.Loops.{copied_none, copied_next}
 use Rattle.ledger.proofs.watch.Visiting.{visiting_starts, visited, lowest_below, fewer, visiting_next}
 use Rattle.passes.specs.Finish.{rows_from}

@@ -1,5 +1,5 @@
 -- `follow`: a record in each round.
-use Rattle.basics.proofs.Prelude.{rules, map, ℕ, ◌-◌, arith, ◌≡◌, subst}
+use Rattle.basics.proofs.Prelude.{rules, map, ℕ, arith, ◌≡◌, subst}
 use Rattle.ledger.proofs.follow.{Rounds.first_round, Rounds.next_round}
 use Rattle.passes.specs.tallies.{Following.FollowsDay}
 use Rattle.passes.proofs.tallies.laws.Grids.{number_soon, number_u64}

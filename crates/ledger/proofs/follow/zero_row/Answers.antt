@@ -1,4 +1,4 @@
-use Rattle.basics.proofs.Prelude.{rules, ◌-◌, arith, ◌≡◌, refl}
+use Rattle.basics.proofs.Prelude.{rules, arith, ◌≡◌, refl}
 use Rattle.ledger.proofs.{follow.Loops.zero_none, follow.Loops.zero_next, totals.Rows.all_done}
 use Rattle.passes.specs.{Finish.row_cleared}
 use Rattle.ledger.proofs.follow.zero_row.Goals as goal

@@ -1,5 +1,5 @@
 -- `join_all`: after each turn, the rows so far are shut and joined.
-use Rattle.basics.proofs.Prelude.{rules, ◌-◌, arith, ◌≡◌, refl}
+use Rattle.basics.proofs.Prelude.{rules, arith, ◌≡◌, refl}
 use Rattle.ledger.proofs.totals.{Rows.finished_none, Rows.finished_next, Rows.all_done}
 use Rattle.passes.specs.{Finish.finished}
 use Rattle.ledger.proofs.totals.join_all.Goals as goal

@@ -1,5 +1,5 @@
 -- `join_row`: after each turn, the columns so far are joined.
-use Rattle.basics.proofs.Prelude.{rules, ◌-◌, arith, ◌≡◌, refl}
+use Rattle.basics.proofs.Prelude.{rules, arith, ◌≡◌, refl}
 use Rattle.ledger.proofs.totals.{Rows.row_none, Rows.row_next, Rows.all_done}
 use Rattle.passes.specs.{Finish.row_joined}
 use Rattle.ledger.proofs.totals.join_row.Goals as goal

@@ -1,4 +1,4 @@
--- `value_of_lem`: MASK, CLEAR and ISR as they read.
+-- `value_of`: MASK, CLEAR and ISR as they read.
 use Rattle.basics.proofs.Prelude.{refl, rules}
 use Rattle.ledger.specs.watch.Kept.{lines_of}
 use Rattle.ledger.proofs.watch_write.{Arms.unheeded, Arms.reads_mask, Arms.reads_clear, Arms.reads_isr}

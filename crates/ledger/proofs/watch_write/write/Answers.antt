@@ -1,4 +1,4 @@
-use Rattle.basics.proofs.Prelude.{refl, inl, inr, ◌-◌, arith, rules}
+use Rattle.basics.proofs.Prelude.{refl, inl, inr, arith, rules}
 use Rattle.ledger.proofs.watch_write.{Arms.last_part, Arms.parts, Arms.sized_half, Arms.sized_few, Arms.next_small}
 use Rattle.ledger.proofs.watch_write.write.Goals as goal
 
