@@ -1,2 +1,1 @@
--- The laws that the proof of this module cites: the order of its tests.
-pub mod Orders
+-- The laws that the proof of this module cites are those of rules and refusals.

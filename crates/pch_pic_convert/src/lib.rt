@@ -1,9 +1,9 @@
-// The call that moves a lent image to another form (02, C-17). It requires nothing: every input has its outcome. It stands apart from the six, so that the code which stores
-// the parts of a device has few callers in each object and becomes part of them.
-pub mod carry;
+// The call that moves a lent image to another form (02, C-17). It requires nothing: every input has its outcome. It stands apart from the six, so that the code which saves a state has one caller in
+// each object and becomes part of it: a reset is then a block of constants.
 pub mod convert;
 pub mod load_numbers;
 pub mod load_ring;
+pub mod load_state;
 pub mod load_tables;
 pub mod load_words;
 

@@ -17,7 +17,7 @@ use Rattle.image.specs.Shown.{form_view, PlacesOf}
 use Rattle.image.specs.declared.form.Form.{Form}
 use Rattle.image.specs.declared.form.Form.TheVariants.{Numbered}
 use Rattle.image.specs.declared.form.Places.{Places}
-use Rattle.image.proofs.Forms.{placed, always_within, has_numbers, has_next, among, no_numbers, body_within}
+use Rattle.image.proofs.Forms.{among, placed, always_within, has_numbers, has_next, no_numbers, body_within}
 use Rattle.pch_pic_convert.proofs.load_numbers.load_numbers.Goals as goal
 use Rattle.pch_pic_convert.proofs.load_numbers.load_numbers.Goals.{After-places_of-p, In-Numbered}
 

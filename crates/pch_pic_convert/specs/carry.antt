@@ -1,2 +1,0 @@
--- What is carried over.
-pub mod Carried

@@ -1,2 +1,0 @@
--- What loading the ring promises.
-pub mod Ring
