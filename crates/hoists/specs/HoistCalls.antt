@@ -5,7 +5,6 @@ use Rattle.images.specs.Image.{ImageTest, image_test, decode}
 use Rattle.images.specs.Image as image
 use Rattle.calls.specs.Calls.{refusal_number, no_room, Tested, pass, refuse, on_pass, image_answer, image_number, image_value, Request, read, write, Asked, afresh, calls, asked_by}
 use Rattle.calls.specs.Calls.{answer_length, answered, buffer_of, Outcome, leaves, Ending, ending, settled}
-use Rattle.calls.specs.Reasons.{not_aligned, not_fit, of_profile, reason_number}
 use Rattle.calls.specs.Calls as request
 use Rattle.hoists.specs.Profile.{running, in_start_up, after_start_up, any_served, Verdict, passes, unaligned, unfit, verdict}
 
@@ -13,10 +12,10 @@ use Rattle.hoists.specs.Profile.{running, in_start_up, after_start_up, any_serve
 
 -- the numbers of its refusals (02, C-22)
 abbrev pub unaligned_number : ℕ
-unaligned_number = reason_number (of_profile not_aligned)
+unaligned_number = 14
 
 abbrev pub unfit_number : ℕ
-unfit_number = reason_number (of_profile not_fit)
+unfit_number = 15
 
 -- the profile is asked where the full device would do the call, and has nothing to say where that refuses it: 14 and 15 come after all else (02, C-22)
 abbrev pub said_of : Tested Verdict → Verdict

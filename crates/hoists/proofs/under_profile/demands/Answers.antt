@@ -1,14 +1,21 @@
 -- 02, C-22: 'every accepted call answers as the full device does'. A read or a write that the profile does not refuse with 14 or 15 leaves what the full device's leaves, in its number and in every byte;
--- these two are given only where that would be done.
-use Rattle.basics.proofs.Prelude.{◌≡◌, refl, sym, ap, ◌∙◌, ◌⊎◌, inl, inr, ⊎_elim, Bool, true, false, cond, true≢false, and-false, List, ℕ, arith, leb, length, le-leb, leb-true, test}
+-- these two are given only where that would be done; and a refused call changes no byte but the answer area's.
+use Rattle.basics.proofs.Prelude.{◌≡◌, refl, sym, ap, ◌∙◌, ◌⊎◌, inl, inr, ⊎_elim, Bool, true, false, cond, true≢false, and-false, List, ℕ, arith, leb, length, le-leb, leb-true, test, and-eq-true_iff, ◌≤◌, drop}
 use Rattle.rules.specs.Access.{Width}
 use Rattle.images.specs.Image.{image_test, accepted, decode}
-use Rattle.calls.specs.Calls.{pass, access_call, Request, read, write, asked_by, answer_length, buffer_of, Outcome, leaves, ending, settled, outcome, AnswerRoom}
+use Rattle.calls.specs.Calls.{pass, access_call, Request, read, write, asked_by, answer_length, buffer_of, Outcome, leaves, ending, settled, outcome, answered}
 use Rattle.calls.specs.Untouched.{IsDone}
 use Rattle.hoists.specs.Profile.{running, PhaseLent, aligned_dword, forbidden, Verdict, passes, unaligned, unfit, verdict}
 use Rattle.hoists.specs.HoistCalls.{judged, ends_by, hoist_ending, hoist_room, hoist_read, hoist_write}
 use Rattle.hoists.proofs.laws.Judged.{is_unfit, read_fits, ending_below, ends_by_lem, then_verdict, refuses_done}
+use Rattle.calls.proofs.demands.Refused.{refused_changes_nothing}
 use Rattle.rules.specs.Device as device
+
+-- what a refused call leaves, of an image i and an answer area a: the image, and of the answer area the bytes past its 16; with refusal 7 every byte
+pub record Untouched (x : Outcome) (i a : List ℕ) : Type 0 where
+  pub image : x.image ≡ i
+  pub past : drop answer_length x.answer ≡ drop answer_length a
+  pub seven : x.number ≡ 7 → x.answer ≡ a
 
 -- ---- one law for both: b, there is room
 
@@ -47,6 +54,30 @@ module _ (r : Bool) (q : Request) (i a : List ℕ) (b : Bool) where
       go unaligned t e u = rw t (refuses_done r q i unaligned e (λ z. let y = sym (ap (λ v. (ends_by v q i).number) z) in let s = ending_below q i in omega arith))
       go unfit t e u = rw t (refuses_done r q i unfit e (λ z. let y = sym (ap (λ v. (ends_by v q i).number) z) in let s = ending_below q i in omega arith))
 
+  refused_untouched : (b ≡ true → full ≡ outcome q i a) → (under.number ≡ 0 → ⊥) → Untouched under i a
+  unfolding answered
+  refused_untouched is n = by_verdict (λ t. record { image = rw t; past = rw t; seven = λ z. rw t }) go
+    where
+      go : (v : Verdict) → b ≡ true → judged r (asked_by q) i ≡ v → under ≡ settled a (ends_by v q i) → Untouched under i a
+      go passes t e u =
+          let same : under ≡ outcome q i a = u ∙ sym (rw t) ∙ is t in
+          let c = refused_changes_nothing q i a (λ z. n (ap (λ (o : Outcome). o.number) same ∙ z)) in
+          record {
+            image = ap (λ (o : Outcome). o.image) same ∙ c.image;
+            past = ap (λ (o : Outcome). drop answer_length o.answer) same ∙ c.past;
+            seven = λ z. ap (λ (o : Outcome). o.answer) same ∙ c.seven (sym (ap (λ (o : Outcome). o.number) same) ∙ z);
+          }
+      go unaligned t e u = record {
+        image = ap (λ (o : Outcome). o.image) u;
+        past = ap (λ (o : Outcome). drop answer_length o.answer) u;
+        seven = λ z. absurd (let y : ◌≡◌ {A = ℕ} 14 7 = sym (ap (λ (o : Outcome). o.number) u) ∙ z in omega arith);
+      }
+      go unfit t e u = record {
+        image = ap (λ (o : Outcome). o.image) u;
+        past = ap (λ (o : Outcome). drop answer_length o.answer) u;
+        seven = λ z. absurd (let y : ◌≡◌ {A = ℕ} 15 7 = sym (ap (λ (o : Outcome). o.number) u) ∙ z in omega arith);
+      }
+
 -- ---- a write
 
 module _ (base size address width v : ℕ) (i p a : List ℕ) where
@@ -69,22 +100,31 @@ module _ (base size address width v : ℕ) (i p a : List ℕ) where
   full_write e = rw e
 
   -- With a phase lent, whatever its bytes: not refused with 14 or 15, it leaves what the full device's write leaves; so with every other refusal, and where it is done.
-  pub write_answers_alike : PhaseLent p → (wrote.number ≡ 14 → ⊥) → (wrote.number ≡ 15 → ⊥) → wrote ≡ outcome asks_write i a
+  pub write_answers_alike : 1 ≤ length p → (wrote.number ≡ 14 → ⊥) → (wrote.number ≡ 15 → ⊥) → wrote ≡ outcome asks_write i a
   unfolding hoist_write
   write_answers_alike h m n = alike (running p) asks_write i a (hoist_room p a) m n ∙ full_write (has_phase h)
 
-  pub done_write_is_full : IsDone wrote.number → wrote ≡ outcome asks_write i a
+  pub done_write_is_full : wrote.number ≡ 0 → wrote ≡ outcome asks_write i a
   done_write_is_full d = write_answers_alike (lent_unless_7 (λ e. omega (arith, d, e))) (λ e. omega (arith, d, e)) (λ e. omega (arith, d, e))
 
   -- 14 and 15 are given only where the full device's write would be done.
-  pub refused_write_was_done : (wrote.number ≡ 14) ⊎ (wrote.number ≡ 15) → IsDone (outcome asks_write i a).number
+  pub forbidden_write_was_done : (wrote.number ≡ 14) ⊎ (wrote.number ≡ 15) → IsDone (outcome asks_write i a).number
   unfolding hoist_write
-  refused_write_was_done n =
+  forbidden_write_was_done n =
       let h = lent_unless_7 (λ e. ⊎_elim (λ f. omega (arith, e, f)) (λ f. omega (arith, e, f)) n) in
       sym (ap (λ (o : Outcome). o.number) (full_write (has_phase h))) ∙ would_be_done (running p) asks_write i a (hoist_room p a) n
 
+  pub refused_write_was_done : 1 ≤ length p → (wrote.number ≡ 14) ⊎ (wrote.number ≡ 15) → (outcome asks_write i a).number ≡ 0
+  refused_write_was_done h n = forbidden_write_was_done n
+
+  -- Refused, it changes no byte but the answer area's, and with 7 not even that.
+  pub refused_write_untouched : (wrote.number ≡ 0 → ⊥) → Untouched wrote i a
+  unfolding hoist_write
+  refused_write_untouched n =
+      refused_untouched (running p) asks_write i a (hoist_room p a) (λ t. full_write ((and-eq-true_iff (leb answer_length (length a)) (leb 1 (length p))).0 t).1) n
+
   -- Where the full device would do it, the profile's verdict decides: 14 where it is no aligned Dword, whatever else it is, and then 15.
-  module _ (w : Width) (o : ℕ) (good : image_test i ≡ accepted) (asks : access_call base size address width (λ w o. device.write w o v) ≡ pass (device.write w o v)) (room : AnswerRoom a) (lent : PhaseLent p) where
+  module _ (w : Width) (o : ℕ) (good : image_test i ≡ accepted) (asks : access_call base size address width (λ w o. device.write w o v) ≡ pass (device.write w o v)) (room : answer_length ≤ length a) (lent : 1 ≤ length p) where
     pub write_judged : wrote ≡ settled a (ends_by (verdict (running p) (decode i) (device.write w o v)) asks_write i)
     unfolding hoist_write
     write_judged =
@@ -129,15 +169,19 @@ module _ (base size address width : ℕ) (i a : List ℕ) where
   unfolding hoist_read
   read_answers_alike m = alike false asks_read i a (leb answer_length (length a)) m not_15 ∙ full_read
 
-  pub done_read_is_full : IsDone read_under.number → read_under ≡ outcome asks_read i a
+  pub done_read_is_full : read_under.number ≡ 0 → read_under ≡ outcome asks_read i a
   done_read_is_full d = read_answers_alike (λ e. let z : ◌≡◌ {A = ℕ} 0 14 = sym d ∙ e in omega arith)
 
-  pub refused_read_was_done : read_under.number ≡ 14 → IsDone (outcome asks_read i a).number
+  pub refused_read_was_done : read_under.number ≡ 14 → (outcome asks_read i a).number ≡ 0
   unfolding hoist_read
   refused_read_was_done n = sym (ap (λ (o : Outcome). o.number) full_read) ∙ would_be_done false asks_read i a (leb answer_length (length a)) (inl n)
 
+  pub refused_read_untouched : (read_under.number ≡ 0 → ⊥) → Untouched read_under i a
+  unfolding hoist_read
+  refused_read_untouched n = refused_untouched false asks_read i a (leb answer_length (length a)) (λ t. full_read) n
+
   -- 14 exactly where it is no aligned Dword
-  module _ (w : Width) (o : ℕ) (good : image_test i ≡ accepted) (asks : access_call base size address width device.read ≡ pass (device.read w o)) (room : AnswerRoom a) where
+  module _ (w : Width) (o : ℕ) (good : image_test i ≡ accepted) (asks : access_call base size address width device.read ≡ pass (device.read w o)) (room : answer_length ≤ length a) where
     pub read_judged : read_under ≡ settled a (ends_by (verdict false (decode i) (device.read w o)) asks_read i)
     unfolding hoist_read
     read_judged = rw (le-leb answer_length (length a) room) (ap (settled a) (ends_by_lem false asks_read i (then_verdict false asks_read i _ refl good (device.read w o) asks)))

@@ -10,7 +10,7 @@ use Rattle.laws.proofs.demands.{Found.found_exactly, Found.accepted_exactly, Fou
 use Rattle.hoists.specs.Profile.{running, in_start_up, any_served, forbidden, verdict, PhaseLent}
 use Rattle.hoists.specs.HoistCalls.{hoist_read, hoist_write, PhaseLeft, phase_settled, hoist_reset, cannot_end, end_startup}
 use Rattle.hoists.specs.Refusals.{AlignedDword, WriteGiven, ReadGiven, lent_with_phase, ResetGiven, EndGiven}
-use Rattle.hoists.proofs.under_profile.demands.Answers.{write_judged, write_answers_alike, refused_write_was_done, allowed_is_full, read_judged, read_answers_alike, refused_read_was_done, aligned_read_is_full}
+use Rattle.hoists.proofs.under_profile.demands.Answers.{write_judged, write_answers_alike, forbidden_write_was_done, allowed_is_full, read_judged, read_answers_alike, refused_read_was_done, aligned_read_is_full}
 use Rattle.rules.specs.Device as device
 use Rattle.calls.specs.Calls as request
 
@@ -101,7 +101,7 @@ module _ (base size address width v : ℕ) (i p a : List ℕ) where
   write_as_full l r g =
       let e = (refusals_of_calls full i a).refused r g in
       let n : IsDone (outcome full i a).number → ⊥ = λ z. never_zero r (sym (ap (λ (y : Left). y.number) e) ∙ z) in
-      ap left_of (write_answers_alike base size address width v i p a l (λ z. n (refused_write_was_done base size address width v i p a (inl z))) (λ z. n (refused_write_was_done base size address width v i p a (inr z)))) ∙ e
+      ap left_of (write_answers_alike base size address width v i p a l (λ z. n (forbidden_write_was_done base size address width v i p a (inl z))) (λ z. n (forbidden_write_was_done base size address width v i p a (inr z)))) ∙ e
 
   write_refuses : (r : Reason) → WriteGiven base size address width v i p a r → left_of wrote ≡ refused_for r lent a
   unfolding hoist_write

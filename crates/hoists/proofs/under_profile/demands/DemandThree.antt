@@ -5,7 +5,7 @@ use Rattle.rules.specs.{Lines.Made, Ring.Event, Ring.dropped, Device.Device, Dev
 use Rattle.rules.specs.Account.{carrying, asserts_among, deasserts_among}
 use Rattle.images.specs.{Form.Form, Image.decode}
 use Rattle.histories.specs.Premises.{Along, Admitted}
-use Rattle.histories.specs.Demands.{in_service, Eligible, Spared, Undisturbed, polls_or_raises, as_event, found_by, FindsRoom, ring_acts}
+use Rattle.histories.specs.Demands.{in_service, Eligible, Spared, Undisturbed, polls_or_raises, as_event, found_by, ring_acts}
 use Rattle.histories.specs.exported.Exported.{Exported, Underway, carried_through, NoLoads, done_call, done_calls, in_image, Faithful, after_reset, drained_by}
 use Rattle.histories.proofs.{laws.Folds.along_append, exported.laws.Chains.faithful_after_reset, exported.demands.FromCalls.image_holds_device}
 use Rattle.histories.proofs.exported.demands.HandedBack.{account_under_way, account_of_calls, account_without_drops, service_of_calls, service_once_raised, order_of_calls, drops_of_calls}
@@ -138,7 +138,7 @@ module _ (h : Underway) (f : Faithful h) where
   -- there on, once it reads so many.
   pub order_under_profile : (x : Hoisted) (later : List Hoisted) (c : Call) → NoLoads h (plain_calls (x ∷ later)) → done_calls (plain_call x) ≡ c ∷ []
       → (earlier : List Made) (m : Made) (rest : List Made) → (step (in_image h) c).made ≡ earlier ++ (m ∷ rest) → m.offered ≡ true
-      → (k : ℕ) → length (found_by (in_image h) earlier).waiting ≡ k → FindsRoom k
+      → (k : ℕ) → length (found_by (in_image h) earlier).waiting ≡ k → k < 16
       → k < length (drained_under (x ∷ later)) → (e : Event) → get_or (drained_under (x ∷ later)) k e ≡ as_event m
   unfolding plain_calls
   order_under_profile x later c n is earlier m rest made off k found small many e =

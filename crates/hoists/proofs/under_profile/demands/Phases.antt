@@ -1,14 +1,14 @@
 -- The two phases (02, C-22): a reset starts the first; start-up ends only where no input is in service, and once; after it no vector byte changes.
-use Rattle.basics.proofs.Prelude.{neither, ◌≡◌, refl, sym, ap, ◌∙◌, Bool, true, false, cond, true≢false, and-eq-true_iff, List, [], ◌∷◌, ℕ, ◌%◌, arith, eqb, leb, length, eqb-true, eq-eqb, le-leb, leb-true, test}
+use Rattle.basics.proofs.Prelude.{neither, ◌≡◌, refl, sym, ap, ◌∙◌, Bool, true, false, cond, true≢false, and-eq-true_iff, List, [], ◌∷◌, ℕ, ◌%◌, arith, eqb, leb, length, eqb-true, eq-eqb, le-leb, leb-true, test, ◌≤◌}
 use Rattle.rules.specs.{Core.turns, Core.vectors_after, Access.byte, Access.word, Access.dword, Access.qword}
 use Rattle.rules.specs.{Device.Device, Device.Call, Device.level, Device.poll, Device.read, Device.write, Device.drain, Device.none, Device.acts_of, Device.acted, Device.step, History.history}
 use Rattle.images.specs.Image.{ImageTest, image_test, decode}
-use Rattle.calls.specs.Calls.{fault_number, answer_length, answered, ending, AnswerRoom}
+use Rattle.calls.specs.Calls.{fault_number, answer_length, answered, ending}
 use Rattle.calls.specs.Untouched.{IsDone}
 use Rattle.histories.specs.Premises.{Along}
 use Rattle.histories.specs.exported.Exported.{Underway, carried_through, NoLoads, done_calls, current, in_image, Faithful}
 use Rattle.histories.proofs.{laws.Folds.fold_calls, exported.demands.FromCalls.image_holds_device, exported.demands.FromCalls.image_holds_history}
-use Rattle.hoists.specs.Profile.{running, PhaseLent, in_start_up, after_start_up, any_served, forbidden, passes, unaligned, unfit, verdict}
+use Rattle.hoists.specs.Profile.{running, in_start_up, after_start_up, any_served, forbidden, passes, unaligned, unfit, verdict}
 use Rattle.hoists.specs.HoistCalls.{hoist_room, PhaseLeft, phase_leaves, hoist_reset, cannot_end, end_ending, end_startup}
 use Rattle.hoists.specs.Hoisted.{Hoisted, plain_calls}
 use Rattle.hoists.proofs.{laws.Vectors.no_vector_written, under_profile.demands.Admits.allowed, under_profile.demands.Admits.passed, under_profile.demands.Admits.no_verdict}
@@ -23,7 +23,7 @@ module _ (i p a : List ℕ) where
   end = end_startup i p a
 
   -- With room and an accepted image: 15, or it is done and the second phase begins.
-  pub end_is : AnswerRoom a → PhaseLent p → image_test i ≡ image.accepted
+  pub end_is : answer_length ≤ length a → 1 ≤ length p → image_test i ≡ image.accepted
       → end ≡ cond (cannot_end (running p) (decode i)) (phase_leaves 15 i p (answered 15 none a)) (phase_leaves 0 i (after_start_up p) (answered 0 none a))
   unfolding end_startup
   end_is r l e =
@@ -31,13 +31,13 @@ module _ (i p a : List ℕ) where
 
   -- done, the image was accepted, it was start-up, and no input was in service
   pub record Ended : Type 0 where
-    pub lent : PhaseLent p
+    pub lent : 1 ≤ length p
     pub good : image_test i ≡ image.accepted
     pub was_start_up : running p ≡ false
     pub none_served : any_served (decode i) ≡ false
     pub phase : end.phase ≡ after_start_up p
 
-  pub done_end : IsDone end.number → Ended
+  pub done_end : end.number ≡ 0 → Ended
   unfolding end_startup
   done_end d = test (hoist_room p a) (λ t. go t (image_test i) refl (cannot_end (running p) (decode i)) refl (rw t at d)) (λ t. absurd (let z : ◌≡◌ {A = ℕ} 7 0 = rw t at d in omega arith))
     where
@@ -58,7 +58,7 @@ module _ (i p a : List ℕ) where
       go t (image.broken k x) e b c z = absurd (faults k (rw e at z))
 
   -- refused, the phase stays
-  pub refused_end_keeps : (IsDone end.number → ⊥) → end.phase ≡ p
+  pub refused_end_keeps : (end.number ≡ 0 → ⊥) → end.phase ≡ p
   unfolding end_startup
   refused_end_keeps n = test (hoist_room p a) (λ t. rw t (kept (eqb (end_ending (running p) i).number 0) refl (λ z. n (rw t z)))) (λ t. rw t)
     where
@@ -67,11 +67,11 @@ module _ (i p a : List ℕ) where
       kept false e m = rw e
 
 -- Once it has ended it does not end again, whatever the image: the phase that a done call leaves is refused by the next.
-pub after_runs : (p : List ℕ) → PhaseLent p → running (after_start_up p) ≡ true
+pub after_runs : (p : List ℕ) → 1 ≤ length p → running (after_start_up p) ≡ true
 after_runs [] h = absurd (omega arith)
 after_runs (x ∷ p) h = refl
 
-pub ends_once : (i p a : List ℕ) → IsDone (end_startup i p a).number → (j b : List ℕ) → IsDone (end_startup j (end_startup i p a).phase b).number → ⊥
+pub ends_once : (i p a : List ℕ) → (end_startup i p a).number ≡ 0 → (j b : List ℕ) → (end_startup j (end_startup i p a).phase b).number ≡ 0 → ⊥
 ends_once i p a d j b again =
     let e = done_end i p a d in
     let f = done_end j (end_startup i p a).phase b again in
@@ -84,11 +84,11 @@ starts : (p : List ℕ) → running (in_start_up p) ≡ false
 starts [] = refl
 starts (x ∷ p) = refl
 
-pub reset_starts : (i p a : List ℕ) → IsDone (hoist_reset i p a).number → running (hoist_reset i p a).phase ≡ false
+pub reset_starts : (i p a : List ℕ) → (hoist_reset i p a).number ≡ 0 → running (hoist_reset i p a).phase ≡ false
 unfolding hoist_reset
 reset_starts i p a d = test (hoist_room p a) (λ t. rw (t, eq-eqb (ending request.reset i).number 0 (rw t at d)) (starts p)) (λ t. absurd (let z : ◌≡◌ {A = ℕ} 7 0 = rw t at d in omega arith))
 
-pub refused_reset_keeps : (i p a : List ℕ) → (IsDone (hoist_reset i p a).number → ⊥) → (hoist_reset i p a).phase ≡ p
+pub refused_reset_keeps : (i p a : List ℕ) → ((hoist_reset i p a).number ≡ 0 → ⊥) → (hoist_reset i p a).phase ≡ p
 unfolding hoist_reset
 refused_reset_keeps i p a n =
     test (hoist_room p a)

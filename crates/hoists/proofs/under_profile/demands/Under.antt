@@ -7,7 +7,7 @@ use Rattle.calls.proofs.laws.Requests.{access_is, input_is, asked_is, passed}
 use Rattle.histories.specs.Premises.{Along, Admitted}
 use Rattle.histories.specs.exported.Exported.{Underway, carried_on, NoLoads, done_call, done_calls, current, Faithful, returned_to, drained_to, returned_by, drained_by}
 use Rattle.histories.proofs.exported.laws.Chains.{left_holds, handed, done_call_lem, carried_on_lem, faithful_kept}
-use Rattle.hoists.specs.Profile.{running, PhaseLent, Verdict, passes, unaligned, unfit, verdict}
+use Rattle.hoists.specs.Profile.{running, Verdict, passes, unaligned, unfit, verdict}
 use Rattle.hoists.specs.HoistCalls.{judged, ends_by, hoist_ending, hoist_room, hoist_read, hoist_write, hoist_reset}
 use Rattle.hoists.specs.Hoisted.{Asks, resets, reads, writes, ends, levels, polls, drains, Hoisted, unphased, left_under, left_by, is_done, request_of, exported_as, plain_call, plain_calls, returned_of, drained_of, returned_under, drained_under}
 use Rattle.hoists.proofs.{laws.Judged.then_verdict, under_profile.demands.Admits.passed_is_admitted}
@@ -28,7 +28,7 @@ reset_events i = go (form_of (length i))
     go (known f) = refl
 
 -- A reset with a phase lent is the full device's, but for the phase.
-pub reset_is_full : (i p a : List ℕ) → PhaseLent p → unphased (hoist_reset i p a) ≡ outcome request.reset i a
+pub reset_is_full : (i p a : List ℕ) → 1 ≤ length p → unphased (hoist_reset i p a) ≡ outcome request.reset i a
 unfolding hoist_reset outcome
 reset_is_full i p a h =
     let e = ending request.reset i in
