@@ -1,7 +1,8 @@
 -- How a salvage ends, by the test that decides it: one law for each way; and the sizes that are tested.
 use Rattle.basics.proofs.Prelude.{◌≡◌, refl, sym, ap, ◌∙◌, Bool, true, false, ◌&&◌, and-false, List, [], ◌∷◌, ℕ, ◌+◌, ◌-◌, ◌*◌, ◌<◌, ◌≤◌, arith, OneOf, tag_of, leb, length, eq-eqb, ne_eqb, le-leb, lt-leb, put_mid, part}
 use Rattle.trace.specs.declared.contents.Contents.{TheVariants.Good, TheVariants.Wrong, Contents}
-use Rattle.trace.{specs.contents.Found.contents_if, specs.contents.Found.contents_as, proofs.contents.Contents.the_type}
+use Rattle.trace.specs.contents.Found.{contents_if, contents_as}
+use Rattle.trace.specs.contracts.contents.Contents.{the_type}
 use Rattle.rules.specs.Device.{Value, none, some}
 use Rattle.traces.specs.{Trace.first_place, Trace.record_count, Trace.contents_good, plays.Playing.in_front}
 use Rattle.traces.specs.salvages.Kept.{bodies_from, bodies, kept, dropped_from, joined, trace_of, new_trace, drop_list}
