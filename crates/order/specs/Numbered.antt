@@ -75,6 +75,6 @@ pub record InOrder (d : Device) (s : Numbers) (cs : List Call) (back drained : L
       → tally q back + tally q drained + tally q (all_from s.next (with_fate is_dropped (events_made d cs))) + tally q (waiting_with e t)
       ≡ tally q (all_from s.next (events_made d cs)) + tally q (waiting_with d s)
   -- where none waited at first and at most 65,536 were made, the numbers missing among those handed back are exactly those of the dropped and of the waiting events
-  pub missing : NoneWaits d → length (events_made d cs) ≤ 65536
+  pub missing : d.ring.waiting ≡ [] → length (events_made d cs) ≤ 65536
       → (n : ℕ) → (some_has n (all_from s.next (events_made d cs)) && not (some_has n back || some_has n drained))
       ≡ (some_has n (all_from s.next (with_fate is_dropped (events_made d cs))) || some_has n (waiting_with e t))

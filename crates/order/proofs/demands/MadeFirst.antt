@@ -7,10 +7,9 @@ use lib.{IntN.ℤ, IntN.pos, IntN.◌-ℤ◌, Signed.◌<ℤ◌}
 use Rattle.rules.specs.{Device.Device, Device.Call, Device.up_from, Numbering.Numbers, Numbering.Numbered, History.history}
 use Rattle.images.specs.{Form.decided, Image.decode, Image.numbers_in, Image.image_test, Image.accepted}
 use Rattle.histories.specs.exported.Exported.{Exported, HandedOn, done_calls, left_after}
-use Rattle.histories.specs.exported.Forms.{HoldsNumbers}
 use Rattle.order.specs.Fates.{Fate, Fate-discrete, is_returned, is_kept, Placed, events_made, with_fate}
-use Rattle.order.specs.Numbered.{NoneWaits, number_at, numbered_from, all_from, waiting_with, InOrder}
-use Rattle.order.specs.{MadeFirst.Among, MadeFirst.HandedBack, MadeFirst.MadeAfter, MadeFirst.Near, MadeFirst.Few, MadeFirst.TellsFirst, MadeFirst.InTheirOrder, Read.returned_read, Read.drained_read}
+use Rattle.order.specs.Numbered.{number_at, numbered_from, all_from, waiting_with, InOrder}
+use Rattle.order.specs.{MadeFirst.Among, MadeFirst.HandedBack, MadeFirst.MadeAfter, MadeFirst.Near, MadeFirst.TellsFirst, MadeFirst.InTheirOrder, Read.returned_read, Read.drained_read}
 use Rattle.order.proofs.{laws.Positions.all_positions, demands.OfHistories.none_with, demands.OfCalls.numbers_of_an_image}
 
 -- ---- of two positions
@@ -67,7 +66,7 @@ module _ (start : ℕ) (d : Device) (cs : List Call) where
     sign_tells_first near = tells_first (length us) (length vs) (difference_of u.number v.number) (difference_of_events near)
 
     -- while at most 32,768 events were made, any two are that near
-    pub few_are_near : Few (events_made d cs) → Near (length us) (length vs)
+    pub few_are_near : length (events_made d cs) ≤ 32768 → Near (length us) (length vs)
     few_are_near few =
         let a = ap length m.stands ∙ length-append us (m.event ∷ m.after) in
         let b = ap length n.stands ∙ length-append vs (n.event ∷ n.after) in
@@ -99,7 +98,7 @@ made_of start f (y ∷ xs) us u vs e =
 
 -- Where none waited at first, every event that calls handed back is one that they made, with its number: so the two theorems above hold of any two of them.
 pub handed_back_was_made : (d : Device) (s : Numbers) (cs : List Call) (back drained : List Numbered) (e : Device) (t : Numbers) → InOrder d s cs back drained e t
-    → NoneWaits d → (u : Numbered) → HandedBack back drained u → (before : List Placed) × MadeAfter s.next (events_made d cs) before u
+    → d.ring.waiting ≡ [] → (u : Numbered) → HandedBack back drained u → (before : List Placed) × MadeAfter s.next (events_made d cs) before u
 handed_back_was_made d s cs back drained e t o none u h = ⊎_elim (λ a. returned a) (λ a. was_drained a) h
   where
     returned : Among u back → (before : List Placed) × MadeAfter s.next (events_made d cs) before u
@@ -113,8 +112,8 @@ handed_back_was_made d s cs back drained e t o none u h = ⊎_elim (λ a. return
 
 -- From an accepted image of 290 bytes in which none waits, while at most 32,768 events are made: of any two events that a host reads, returned or drained, the sign of the
 -- difference of their numbers tells which was made first.
-pub order_restored : (i : List ℕ) → Bytes i → HoldsNumbers i → image_test i ≡ accepted → NoneWaits (decode i) → (xs : List Exported) → HandedOn i xs
-    → Few (events_made (decode i) (done_calls xs))
+pub order_restored : (i : List ℕ) → Bytes i → length i ≡ 290 → image_test i ≡ accepted → (decode i).ring.waiting ≡ [] → (xs : List Exported) → HandedOn i xs
+    → length (events_made (decode i) (done_calls xs)) ≤ 32768
     → (u v : Numbered) → HandedBack (returned_read xs) (drained_read xs) u → HandedBack (returned_read xs) (drained_read xs) v
     → InTheirOrder (numbers_in i).next (events_made (decode i) (done_calls xs)) u v (difference_of u.number v.number)
 order_restored i b l a none xs h few u v p q =

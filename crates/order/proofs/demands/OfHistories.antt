@@ -6,7 +6,7 @@ use Rattle.rules.specs.{Numbering.Numbers, Numbering.WellNumbered, Numbering.Num
 use Rattle.rules.proofs.{laws.Numbered.fits, demands.Numbered.numbers_with}
 use Rattle.histories.{specs.exported.Exported.numbers_through, proofs.laws.WellFormed.step_well, proofs.exported.laws.Chains.through_numbered}
 use Rattle.order.specs.Fates.{is_returned, is_kept, Placed, placed, placed_from, events_made, with_fate}
-use Rattle.order.specs.Numbered.{NoneWaits, number_at, all_from, returned_through, drained_through, waiting_with, InOrder}
+use Rattle.order.specs.Numbered.{number_at, all_from, returned_through, drained_through, waiting_with, InOrder}
 use Rattle.order.proofs.laws.{Positions.first_number, Positions.all_events, Positions.all_positions, Positions.from_append, Standing.Stands, Standing.call_stands, Standing.call_waits}
 use Rattle.order.proofs.laws.{Returned.call_returns, Counted.counted, Counted.missing_ones}
 
@@ -53,7 +53,7 @@ module _ (start : ℕ) where
 made_length : (d : Device) (cs : List Call) → length (events_made d cs) ≡ length (history d cs).made
 made_length d cs = sym (length-map (events_made d cs) (λ (x : Placed). x.event)) ∙ ap length (all_events 0 d cs)
 
-pub none_with : (d : Device) (s : Numbers) → NoneWaits d → waiting_with d s ≡ []
+pub none_with : (d : Device) (s : Numbers) → d.ring.waiting ≡ [] → waiting_with d s ≡ []
 none_with d s e = ap (λ es. with_numbers es s.waiting) e
 
 -- what is counted and what is missing follows from the others
