@@ -12,13 +12,12 @@ pub fn required(specs: &Specs, known: &Known) -> Vec<Term> {
     let names: Vec<(String, String)> = uses.flat_map(imports).collect();
     let named = |name: &str| names.iter().find(|(known, _)| known == name).map_or_else(|| name.to_string(), |(_, whole)| whole.clone());
     let contracts = known.function.contracts.iter().map(|span| &text[span.start..span.end]);
-    let said =
-        contracts.filter_map(|contract| contract.strip_prefix("requires")?.split_once('⌜')?.1.rsplit_once('⌝').map(|(said, _)| said));
+    let said = contracts.filter_map(|contract| contract.strip_prefix("requires")?.split_once('{')?.1.strip_suffix('}'));
     let found: Vec<Term> = said.flat_map(conjuncts).filter_map(|one| term(&one, &named)).collect();
     found.iter().flat_map(|one| specs.unfold(one)).collect()
 }
 
-/// `length (now name)`: the name.
+/// `length name.now`: the name.
 pub fn length_of(one: &Term) -> Option<&str> {
     let [lent] = one.applied("length", 1)? else { return None };
     let [Term::Name(name)] = lent.applied("now", 1)? else { return None };
@@ -32,9 +31,9 @@ pub fn says_form(one: &Term, image: &str, form: &str) -> bool {
         return true;
     }
     let Term::Pair(sign, left, right) = one else { return false };
-    let is_form = |of: &Term| of.applied("formView", 1).is_some_and(|all| all == [Term::Name(form.to_string())]);
-    let by_length = length_of(left) == Some(image) && right.applied("formLength", 1).is_some_and(|all| is_form(&all[0]));
-    let by_form = left.applied("formOf", 1).is_some_and(|all| length_of(&all[0]) == Some(image))
+    let is_form = |of: &Term| of.applied("form_view", 1).is_some_and(|all| all == [Term::Name(form.to_string())]);
+    let by_length = length_of(left) == Some(image) && right.applied("form_length", 1).is_some_and(|all| is_form(&all[0]));
+    let by_form = left.applied("form_of", 1).is_some_and(|all| length_of(&all[0]) == Some(image))
         && right.applied("known", 1).is_some_and(|all| is_form(&all[0]));
     sign == "≡" && (by_length || by_form)
 }

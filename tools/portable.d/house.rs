@@ -72,19 +72,22 @@ fn has_code(module: &Module) -> bool {
     module.syntax.items.iter().any(|item| !matches!(item.kind, ItemKind::Ghost | ItemKind::Mod(_)))
 }
 
-/// The lines of crates.txt: a crate, and what it rests on.
+/// The lines of crates.txt: a crate, and what it rests on. `name staticlib: ..` is a crate for C.
 fn listed(text: &str) -> Vec<(String, Vec<String>)> {
     let lines = text.lines().filter(|line| !line.starts_with('#'));
     let pairs = lines.filter_map(|line| line.split_once(':'));
-    pairs.map(|(name, rests)| (name.to_string(), rests.split_whitespace().map(str::to_string).collect())).collect()
+    let name = |head: &str| head.split_whitespace().next().unwrap_or("").to_string();
+    pairs.map(|(head, rests)| (name(head), rests.split_whitespace().map(str::to_string).collect())).collect()
 }
 
+/// The crates that export calls. One that is a library over another for C, NAME_c over NAME, has no code that is not there.
 fn fronts(root: &Path, rests: &[(String, Vec<String>)]) -> Told<Vec<String>> {
+    let over = |name: &str| name.strip_suffix("_c").is_some_and(|under| rests.iter().any(|(listed, _)| listed == under));
     let mut found = Vec::new();
-    for (name, _) in rests {
+    for (name, _) in rests.iter().filter(|(name, _)| !over(name)) {
         for source in sources(&root.join("crates").join(name).join("src")) {
             let text = fs::read_to_string(&source).map_err(|error| format!("{}: {error}", source.display()))?;
-            if text.lines().any(|line| line.trim_start().starts_with("#[no_mangle]")) && !found.contains(name) {
+            if text.lines().any(|line| line.trim_start().starts_with("#[unsafe(no_mangle)]")) && !found.contains(name) {
                 found.push(name.clone());
             }
         }

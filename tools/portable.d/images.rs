@@ -251,7 +251,7 @@ fn told_lengths(known: &Known) -> Option<Lengths> {
         return None;
     };
     let text = &known.module.text;
-    let said = known.function.contracts.iter().any(|span| text[span.start..span.end].contains(&format!("≡ formOf {}", param.name)));
+    let said = known.function.contracts.iter().any(|span| text[span.start..span.end].contains(&format!("≡ form_of {}", param.name)));
     if !said || lent_name(over) != Some(&param.name) {
         return None;
     }

@@ -14,15 +14,15 @@ type Fine<'a> = &'a dyn Fn(&str) -> bool;
 /// The names that the items of a file bring.
 pub fn brought(items: &[Item]) -> BTreeSet<String> {
     let of = |item: &Item| match &item.kind {
-        ItemKind::Use(path) => path.last().cloned(),
-        ItemKind::Mod(name) => Some(name.clone()),
-        ItemKind::Struct(structure) => Some(structure.name.clone()),
-        ItemKind::Enum(enumeration) => Some(enumeration.name.clone()),
-        ItemKind::Const(constant) => Some(constant.name.clone()),
-        ItemKind::Fn(function) => Some(function.name.clone()),
-        ItemKind::Impl(..) | ItemKind::Ghost => None,
+        ItemKind::Use(paths) => paths.iter().filter_map(|path| path.last().cloned()).collect(),
+        ItemKind::Mod(name) => vec![name.clone()],
+        ItemKind::Struct(structure) => vec![structure.name.clone()],
+        ItemKind::Enum(enumeration) => vec![enumeration.name.clone()],
+        ItemKind::Const(constant) => vec![constant.name.clone()],
+        ItemKind::Fn(function) => vec![function.name.clone()],
+        ItemKind::Impl(..) | ItemKind::Ghost => Vec::new(),
     };
-    items.iter().filter_map(of).collect()
+    items.iter().flat_map(of).collect()
 }
 
 /// Names that stand alone: a variable of the function, or what the file brings; of types also Rust's numbers.

@@ -5,11 +5,15 @@ use crate::syntax::*;
 pub fn parse(text: &str) -> Result<File, Refused> {
     let Tokens { tokens, comments } = tokens(text)?;
     let mut parser = Parser { text, tokens, at: 0, structs: true };
-    let mut items = Vec::new();
+    let (mut asked, mut items) = (Vec::new(), Vec::new());
     while parser.token().kind != Kind::End {
-        items.push(parser.item()?);
+        if parser.is("#") && parser.ahead(1, "!") {
+            asked.push(parser.attribute(2)?.1);
+        } else {
+            items.push(parser.item()?);
+        }
     }
-    Ok(File { items, comments })
+    Ok(File { asked, items, comments })
 }
 
 struct Parser<'a> {
@@ -114,9 +118,11 @@ impl Parser<'_> {
         let start = self.start();
         if self.token().kind == Kind::Ghost {
             self.at += 1;
-            return Ok(Item { span: self.since(start), public: false, kind: ItemKind::Ghost });
+            let span = self.since(start);
+            return Ok(Item { span, attributes: Span { start, end: start }, public: false, kind: ItemKind::Ghost });
         }
         let exported = self.exported()?;
+        let attributes = Span { start, end: self.start() };
         let public = self.take("pub");
         let kind = match self.word() {
             "use" if !public && !exported => self.used()?,
@@ -129,29 +135,55 @@ impl Parser<'_> {
             "fn" if !exported => ItemKind::Fn(self.function(false)?),
             _ => return self.unknown("an item that is known is wanted here (use, mod, const, struct, enum, impl, fn)"),
         };
-        Ok(Item { span: self.since(start), public, kind })
+        Ok(Item { span: self.since(start), attributes, public, kind })
     }
 
-    /// The only attribute is #[no_mangle].
+    /// The attributes of an item, and whether one exports it to C.
     fn exported(&mut self) -> Read<bool> {
-        if !self.is("#") {
-            return Ok(false);
+        let mut exported = false;
+        while self.is("#") {
+            let start = self.start();
+            match self.attribute(1)?.0.as_str() {
+                "unsafe(no_mangle)" => exported = true,
+                "derive(Clone, Copy)" => {}
+                said if said.starts_with("cycle(") || said.starts_with("tactic(") => {}
+                said => return refuse(start, format!("the attribute '{said}' is not known")),
+            }
         }
-        if !(self.ahead(1, "[") && self.ahead(2, "no_mangle") && self.ahead(3, "]")) {
-            return self.unknown("the only attribute that is known is #[no_mangle]");
+        Ok(exported)
+    }
+
+    /// What an attribute says, and its place, to the bracket that closes it.
+    fn attribute(&mut self, before: usize) -> Read<(String, Span)> {
+        let start = self.start();
+        self.at += before;
+        self.want("[")?;
+        let inner = self.start();
+        while !self.is("]") {
+            if self.token().kind == Kind::End {
+                return refuse(start, "an attribute without an end");
+            }
+            self.at += 1;
         }
-        self.at += 4;
-        Ok(true)
+        let said = self.text[inner..self.start()].to_string();
+        self.at += 1;
+        Ok((said, self.since(start)))
     }
 
     fn used(&mut self) -> Read<ItemKind> {
         self.at += 1;
         let mut path = vec![if self.take("crate") { "crate".to_string() } else { self.name()? }];
+        let mut last = Vec::new();
         while self.take("::") {
+            if self.take("{") {
+                last = self.list("}", Self::name)?;
+                break;
+            }
             path.push(self.name()?);
         }
         self.want(";")?;
-        Ok(ItemKind::Use(path))
+        let all = last.into_iter().map(|name| [path.clone(), vec![name]].concat()).collect::<Vec<_>>();
+        Ok(ItemKind::Use(if all.is_empty() { vec![path] } else { all }))
     }
 
     fn module(&mut self) -> Read<ItemKind> {

@@ -68,6 +68,7 @@ impl<'a> Copy<'a> {
     pub fn of(house: &'a House, module: &'a Module, steps: Option<&'a Steps<'a>>) -> Result<Copy<'a>, Refused> {
         let names = names::brought(&module.syntax.items);
         let mut copy = Copy { house, module, edits: Edits::default(), steps, names, crates: BTreeSet::new(), near: false };
+        module.syntax.asked.iter().for_each(|asked| copy.edits.replace(*asked, ""));
         for item in &module.syntax.items {
             names::check(item, &copy.names)?;
             copy.item(item)?;
@@ -140,8 +141,8 @@ impl<'a> Copy<'a> {
             ItemKind::Enum(enumeration) => !enumeration.variants.iter().any(|variant| variant.holds.iter().any(changes)),
             _ => false,
         };
-        if copied {
-            self.edits.insert(item.span.start, "#[derive(Clone, Copy)]\n");
+        if matches!(item.kind, ItemKind::Struct(_) | ItemKind::Enum(_)) {
+            self.edits.replace(item.attributes, if copied { "#[derive(Clone, Copy)]\n" } else { "" });
         }
         self.places(item);
         self.ghosts(item);
@@ -206,8 +207,10 @@ impl<'a> Copy<'a> {
         let mut place = None;
         for item in &self.module.syntax.items {
             match &item.kind {
-                ItemKind::Use(path) => {
-                    lines.insert(self.used(path, item.span)?);
+                ItemKind::Use(paths) => {
+                    for path in paths {
+                        lines.insert(self.used(path, item.span)?);
+                    }
                     place.get_or_insert(item.span.start);
                     self.edits.replace(item.span, "");
                 }
@@ -257,13 +260,25 @@ impl<'a> Copy<'a> {
         })
     }
 
+    /// Where the file's own words begin: behind what it asks of the prover.
+    fn front_of_file(&self) -> usize {
+        let text = &self.module.text;
+        let mut at = 0;
+        loop {
+            at += text[at..].len() - text[at..].trim_start().len();
+            let Some(asked) = self.module.syntax.asked.iter().find(|asked| asked.start == at) else { return at };
+            at = asked.end;
+        }
+    }
+
     /// The first block is the file's own docs; a block right above an item, a field or a variant is the docs of that. All others stay.
     fn comments(&mut self) {
         let mut owners = Vec::new();
         owned(&self.module.syntax.items, &mut owners);
         let mut docs: Vec<(Span, &str)> = owners.iter().filter_map(|at| self.above(*at)).map(|block| (block, "///")).collect();
-        docs.retain(|(block, _)| block.start != 0);
-        docs.extend(blocks(&self.module.text, &self.module.syntax.comments).into_iter().filter(|b| b.start == 0).map(|b| (b, "//!")));
+        let front = self.front_of_file();
+        docs.retain(|(block, _)| block.start != front);
+        docs.extend(blocks(&self.module.text, &self.module.syntax.comments).into_iter().filter(|b| b.start == front).map(|b| (b, "//!")));
         for (block, mark) in docs {
             for comment in self.module.syntax.comments.iter().filter(|comment| block.start <= comment.start && comment.end <= block.end) {
                 let words = documented(&self.module.text[comment.start + 2..comment.end]);
@@ -328,7 +343,7 @@ impl<'a> Copy<'a> {
             return String::new();
         }
         let indent = self.indent(item.span.start);
-        let documented = self.above(item.span.start).is_some_and(|block| block.start != 0);
+        let documented = self.above(item.span.start).is_some_and(|block| block.start != self.front_of_file());
         let mut lines = if documented { vec![String::new()] } else { Vec::new() };
         lines.push("```text".to_string());
         for contract in &function.contracts {

@@ -68,8 +68,8 @@ impl<'a> Scope<'a> {
 
 /// What a `use` line makes of a name.
 fn used(module: &Module, name: &str) -> Option<String> {
-    let paths = module.syntax.items.iter().filter_map(|item| if let ItemKind::Use(path) = &item.kind { Some(path) } else { None });
-    let path = paths.into_iter().find(|path| path.last().is_some_and(|last| last == name))?;
+    let paths = module.syntax.items.iter().filter_map(|item| if let ItemKind::Use(paths) = &item.kind { Some(paths) } else { None });
+    let path = paths.flatten().find(|path| path.last().is_some_and(|last| last == name))?;
     let front = if path[0] == "crate" { &module.krate } else { &path[0] };
     Some(std::iter::once(front).chain(&path[1..]).cloned().collect::<Vec<_>>().join("::"))
 }

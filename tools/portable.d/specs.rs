@@ -27,12 +27,12 @@ pub struct Specs {
     read: RefCell<BTreeMap<String, Rc<Spec>>>,
 }
 
-/// The file of `Rattle·CRATE.specs.A.B` or `Rattle·CRATE·specs.specs.A.B`; what is the kit's own keeps its name.
+/// The file of `Rattle.CRATE.specs.A.B`; what is the kit's own keeps its name.
 fn file_of(module: &str) -> String {
-    let Some((krate, inner)) = module.strip_prefix("Rattle·").and_then(|rest| rest.split_once(".specs.")) else {
+    let Some((krate, inner)) = module.strip_prefix("Rattle.").and_then(|rest| rest.split_once(".specs.")) else {
         return module.to_string();
     };
-    format!("crates/{}/specs/{}.antt", krate.trim_end_matches("·specs"), inner.replace('.', "/"))
+    format!("crates/{krate}/specs/{}.antt", inner.replace('.', "/"))
 }
 
 /// The names of a line `use MODULE.{a, b}`, as FILE#NAME.
@@ -161,7 +161,7 @@ impl Spec {
             } else if let Some((held, of)) = line.strip_prefix("  ").and_then(|line| line.split_once(" : ")) {
                 match within.as_ref().and_then(|name| spec.records.get_mut(name)) {
                     Some(record) => record.holds.push(of.to_string()),
-                    None => held.split_whitespace().for_each(|name| spec.define(file, name)),
+                    None => held.split_whitespace().filter(|name| *name != "pub").for_each(|name| spec.define(file, name)),
                 }
             } else if !line.starts_with(' ') {
                 within = None;

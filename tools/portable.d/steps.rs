@@ -78,18 +78,18 @@ impl<'a> Steps<'a> {
     pub fn body(&self, known: &Known) -> Option<String> {
         let text = &known.module.text;
         let said =
-            |what: String| known.function.contracts.iter().any(|span| text[span.start..span.end] == format!("ensures {{ {what} ⌝ }}"));
+            |what: String| known.function.contracts.iter().any(|span| text[span.start..span.end] == format!("ensures {{ {what} }}"));
         let names: Vec<&str> = known.function.params.iter().map(|param| param.name.as_str()).collect();
         match names.as_slice() {
-            [bytes, at] if said(format!("λ r. ⌜ r ≡ registerAt {at} (now ({bytes} .entry))")) => {
+            [bytes, at] if said(format!("result ≡ register_at {at} {bytes}.now")) => {
                 let part = format!("{bytes}[{at}..].first_chunk::<8>()");
                 Some(format!("match {part} {{\n        Some(word) => u64::from_le_bytes(*word),\n        None => 0,\n    }}"))
             }
-            [bytes, at, x] if said(format!("λ _. ⌜ now ({bytes} .exit) ≡ withWord {at} {x} (now ({bytes} .entry))")) => {
+            [bytes, at, x] if said(format!("{bytes}.new ≡ with_word {at} {x} {bytes}.old")) => {
                 let part = format!("{bytes}[{at}..].first_chunk_mut::<8>()");
                 Some(format!("if let Some(word) = {part} {{\n        *word = {x}.to_le_bytes();\n    }}"))
             }
-            [to, from, ..] if said(format!("λ _. ⌜ now ({to} .exit) ≡ now ({from} .entry)")) => {
+            [to, from, ..] if said(format!("{to}.new ≡ {from}.now")) => {
                 Some(format!("{to}.copy_from_slice({from});"))
             }
             _ => None,

@@ -2,20 +2,25 @@
 use crate::lexer::Span;
 
 pub struct File {
+    /// `#![tactic(auto)]`: what the whole file asks of the prover.
+    pub asked: Vec<Span>,
     pub items: Vec<Item>,
     pub comments: Vec<Span>,
 }
 
 pub struct Item {
-    /// With its attribute and `pub`.
+    /// With its attributes and `pub`.
     pub span: Span,
+    /// The attributes alone, up to what they stand before.
+    pub attributes: Span,
     pub public: bool,
     pub kind: ItemKind,
 }
 
 pub enum ItemKind {
     Ghost,
-    Use(Vec<String>),
+    /// The paths of a `use`, one for each name.
+    Use(Vec<Vec<String>>),
     Mod(String),
     Const(Const),
     Struct(Struct),
@@ -53,7 +58,7 @@ pub struct Variant {
 
 pub struct Function {
     pub name: String,
-    /// Exported to C by #[no_mangle]: a front's call.
+    /// Exported to C by #[unsafe(no_mangle)]: a front's call.
     pub exported: bool,
     pub lifetime: Option<String>,
     pub params: Vec<Param>,

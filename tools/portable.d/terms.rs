@@ -101,6 +101,10 @@ impl Reader<'_> {
         if word == ")" || OTHERS.contains(&word) || word.starts_with('.') {
             return None;
         }
+        // What is lent, as it is, or as it was before the call: a requires speaks of no other time.
+        if let Some(lent) = word.strip_suffix(".now").or_else(|| word.strip_suffix(".old")) {
+            return Some(Term::Apply(Box::new(Term::Name("now".to_string())), vec![Term::Name((self.named)(lent))]));
+        }
         Some(word.parse().map_or_else(|_| Term::Name((self.named)(word)), Term::Number))
     }
 }

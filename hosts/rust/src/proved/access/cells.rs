@@ -17,8 +17,8 @@ use super::super::lines::halves::write_half;
 // ---- route and vector bytes: 64 each, from offsets that 64 divides
 
 /// ```text
-/// requires { ⌜ length (now image) ≡ formLength (formView form) ⌝ }
-/// ensures { λ r. ⌜ Reads (now (image .entry)) r (λ d. entry (d .core) offset) ⌝ }
+/// requires { length image.now ≡ form_length (form_view form) }
+/// ensures { Reads image.now result (λ d. entry d.core offset) }
 /// ```
 pub fn read_entry(image: &[u8], form: Form, offset: usize) -> u8 {
     match offset / 64 {
@@ -29,8 +29,8 @@ pub fn read_entry(image: &[u8], form: Form, offset: usize) -> u8 {
 }
 
 /// ```text
-/// requires { ⌜ length (now image) ≡ formLength (formView form) ⌝ }
-/// ensures { λ _. ⌜ Writes (now (image .entry)) (now (image .exit)) 0 (λ c. entryActs offset val) ⌝ }
+/// requires { length image.old ≡ form_length (form_view form) }
+/// ensures { Writes image.old image.new 0 (λ c. entry_acts offset val) }
 /// ```
 pub fn write_entry(image: &mut [u8], form: Form, offset: usize, val: u8) {
     match offset / 64 {
@@ -43,8 +43,8 @@ pub fn write_entry(image: &mut [u8], form: Form, offset: usize, val: u8) {
 /// Several at once, where none is past the last input's.
 ///
 /// ```text
-/// requires { ⌜ (length (now image) ≡ formLength (formView form)) × Run offset n × (n ≤ 8) ⌝ }
-/// ensures { λ r. ⌜ Reads (now (image .entry)) r (λ d. numberOf (entriesOf (d .core) offset n)) ⌝ }
+/// requires { (length image.now ≡ form_length (form_view form)) × Run offset n × (n ≤ 8) }
+/// ensures { Reads image.now result (λ d. number_of (entries_of d.core offset n)) }
 /// ```
 pub fn read_run(image: &[u8], form: Form, offset: usize, n: usize) -> u64 {
     if offset < 0x200 {
@@ -57,8 +57,8 @@ pub fn read_run(image: &[u8], form: Form, offset: usize, n: usize) -> u64 {
 /// By the table, in arms that are no two ways out of one test: of such the compiler brings the shifts together, and stores byte by byte.
 ///
 /// ```text
-/// requires { ⌜ (length (now image) ≡ formLength (formView form)) × Run offset n ⌝ }
-/// ensures { λ _. ⌜ Writes (now (image .entry)) (now (image .exit)) 0 (λ c. entriesActs offset n x) ⌝ }
+/// requires { (length image.old ≡ form_length (form_view form)) × Run offset n }
+/// ensures { Writes image.old image.new 0 (λ c. entries_acts offset n x) }
 /// ```
 pub fn write_run(image: &mut [u8], form: Form, offset: usize, n: usize, x: u64) {
     match offset / 64 {
@@ -69,8 +69,8 @@ pub fn write_run(image: &mut [u8], form: Form, offset: usize, n: usize, x: u64) 
 }
 
 /// ```text
-/// requires { ⌜ (length (now image) ≡ formLength (formView form)) × (cellAt offset ≡ bytes) ⌝ }
-/// ensures { λ r. ⌜ Reads (now (image .entry)) r (λ d. readCell (d .core) offset bytes) ⌝ }
+/// requires { (length image.now ≡ form_length (form_view form)) × (cell_at offset ≡ bytes) }
+/// ensures { Reads image.now result (λ d. read_cell d.core offset bytes) }
 /// ```
 fn read_four(image: &[u8], form: Form, offset: usize) -> u32 {
     if offset % 64 <= 60 {
@@ -84,8 +84,8 @@ fn read_four(image: &[u8], form: Form, offset: usize) -> u32 {
 }
 
 /// ```text
-/// requires { ⌜ (length (now image) ≡ formLength (formView form)) × (cellAt offset ≡ bytes) ⌝ }
-/// ensures { λ _. ⌜ Writes (now (image .entry)) (now (image .exit)) 0 (λ c. cellActs offset val bytes) ⌝ }
+/// requires { (length image.old ≡ form_length (form_view form)) × (cell_at offset ≡ bytes) }
+/// ensures { Writes image.old image.new 0 (λ c. cell_acts offset val bytes) }
 /// ```
 fn write_four(image: &mut [u8], form: Form, offset: usize, val: u32) {
     if offset % 64 <= 60 {
@@ -103,8 +103,8 @@ fn write_four(image: &mut [u8], form: Form, offset: usize, val: u32) {
 /// The image is lent anew in each arm: a shared slice that is passed on as it is gets copied, and then each caller hands it over in memory.
 ///
 /// ```text
-/// requires { ⌜ length (now image) ≡ formLength (formView form) ⌝ }
-/// ensures { λ r. ⌜ Reads (now (image .entry)) r (λ d. readDword (d .core) offset) ⌝ }
+/// requires { length image.now ≡ form_length (form_view form) }
+/// ensures { Reads image.now result (λ d. read_dword d.core offset) }
 /// ```
 pub fn read_dword(image: &[u8], form: Form, offset: usize) -> u32 {
     match map_low::decode_low(offset) {
@@ -115,8 +115,8 @@ pub fn read_dword(image: &[u8], form: Form, offset: usize) -> u32 {
 }
 
 /// ```text
-/// requires { ⌜ length (now image) ≡ formLength (formView form) ⌝ }
-/// ensures { λ r. ⌜ (r ≤ 65) × Writes (now (image .entry)) (now (image .exit)) r (λ c. dwordActs offset val) ⌝ }
+/// requires { length image.old ≡ form_length (form_view form) }
+/// ensures { (result ≤ 65) × Writes image.old image.new result (λ c. dword_acts offset val) }
 /// ```
 pub fn write_dword(image: &mut [u8], form: Form, offset: usize, val: u32) -> u32 {
     match map_low::decode_low(offset) {

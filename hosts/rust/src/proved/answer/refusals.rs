@@ -12,7 +12,7 @@ use super::Value;
 /// The access is not wholly inside the window.
 ///
 /// ```text
-/// ensures { λ r. ⌜ Tells r (refusalNumber (asked.outside address)) (refusalValue (asked.outside address)) ⌝ }
+/// ensures { Tells result (refusal_number (asked.outside address)) (refusal_value (asked.outside address)) }
 /// ```
 pub fn outside(address: u64) -> Told {
     Told {
@@ -22,7 +22,7 @@ pub fn outside(address: u64) -> Told {
 }
 
 /// ```text
-/// ensures { λ r. ⌜ Tells r (refusalNumber noWidth) (refusalValue noWidth) ⌝ }
+/// ensures { Tells result (refusal_number no_width) (refusal_value no_width) }
 /// ```
 pub fn no_width() -> Told {
     Told {
@@ -32,7 +32,7 @@ pub fn no_width() -> Told {
 }
 
 /// ```text
-/// ensures { λ r. ⌜ Tells r (refusalNumber noInput) (refusalValue noInput) ⌝ }
+/// ensures { Tells result (refusal_number no_input) (refusal_value no_input) }
 /// ```
 pub fn no_input() -> Told {
     Told {
@@ -42,7 +42,7 @@ pub fn no_input() -> Told {
 }
 
 /// ```text
-/// ensures { λ r. ⌜ Tells r (refusalNumber wrongLength) (refusalValue wrongLength) ⌝ }
+/// ensures { Tells result (refusal_number wrong_length) (refusal_value wrong_length) }
 /// ```
 pub fn wrong_length() -> Told {
     Told {
@@ -52,7 +52,7 @@ pub fn wrong_length() -> Told {
 }
 
 /// ```text
-/// ensures { λ r. ⌜ r ≡ faultNumber (faultView fault) ⌝ }
+/// ensures { result ≡ fault_number (fault_view fault) }
 /// ```
 fn fault_number(fault: Fault) -> u8 {
     match fault {
@@ -66,7 +66,7 @@ fn fault_number(fault: Fault) -> u8 {
 /// The number for what the test of an image found, and its value: the place of what is wrong in a body.
 ///
 /// ```text
-/// ensures { λ r. ⌜ r ≡ imageNumber (checkedView checked) ⌝ }
+/// ensures { result ≡ image_number (checked_view checked) }
 /// ```
 fn image_number(checked: Checked) -> u8 {
     match checked {
@@ -78,7 +78,7 @@ fn image_number(checked: Checked) -> u8 {
 }
 
 /// ```text
-/// ensures { λ r. ⌜ valueView r ≡ imageValue (checkedView checked) ⌝ }
+/// ensures { value_view result ≡ image_value (checked_view checked) }
 /// ```
 fn image_value(checked: Checked) -> Value {
     match checked {
@@ -90,7 +90,7 @@ fn image_value(checked: Checked) -> Value {
 }
 
 /// ```text
-/// ensures { λ r. ⌜ r ≡ imageNumber (headTest head) ⌝ }
+/// ensures { result ≡ image_number (head_test head) }
 /// ```
 fn head_number(head: Head) -> u8 {
     match head {
@@ -103,7 +103,7 @@ fn head_number(head: Head) -> u8 {
 /// By the length or the contents.
 ///
 /// ```text
-/// ensures { λ r. ⌜ Tells r (imageNumber (headTest head)) none ⌝ }
+/// ensures { Tells result (image_number (head_test head)) none }
 /// ```
 pub fn of_head(head: Head) -> Told {
     Told {
@@ -115,8 +115,8 @@ pub fn of_head(head: Head) -> Told {
 /// By the first rule that a body breaks.
 ///
 /// ```text
-/// requires { ⌜ length (now image) ≡ formLength (formView form) ⌝ }
-/// ensures { λ r. ⌜ Tells r (imageNumber (bodiesTest (formView form) (now (image .entry)))) (imageValue (bodiesTest (formView form) (now (image .entry)))) ⌝ }
+/// requires { length image.now ≡ form_length (form_view form) }
+/// ensures { Tells result (image_number (bodies_test (form_view form) image.now)) (image_value (bodies_test (form_view form) image.now)) }
 /// ```
 pub fn of_bodies(image: &[u8], form: Form) -> Told {
     let checked = first_fault(&*image, form);

@@ -2,7 +2,7 @@
 //! A number and its bytes, little end first, read and written where they stand; runs of bytes copied and zeroed.
 
 /// ```text
-/// ensures { λ r. ⌜ r ≡ x ⌝ }
+/// ensures { result ≡ x }
 /// ```
 pub fn wide(x: u8) -> u64 {
     x as u64
@@ -11,8 +11,8 @@ pub fn wide(x: u8) -> u64 {
 /// The number that at most eight bytes spell, the low one first. Read from the front, so that eight bytes become one load.
 ///
 /// ```text
-/// requires { ⌜ length (now b) ≤ 8 ⌝ }
-/// ensures { λ r. ⌜ r ≡ numberOf (now (b .entry)) ⌝ }
+/// requires { length b.now ≤ 8 }
+/// ensures { result ≡ number_of b.now }
 /// ```
 pub fn number(b: &[u8]) -> u64 {
     let mut x = 0u64;
@@ -27,7 +27,7 @@ pub fn number(b: &[u8]) -> u64 {
 /// The low bytes of x, as many as there are places.
 ///
 /// ```text
-/// ensures { λ _. ⌜ now (dst .exit) ≡ bytesOf (length (now (dst .entry))) x ⌝ }
+/// ensures { dst.new ≡ bytes_of (length dst.old) x }
 /// ```
 pub fn put_number(dst: &mut [u8], x: u64) {
     let mut y = x;
@@ -42,8 +42,8 @@ pub fn put_number(dst: &mut [u8], x: u64) {
 /// The number that the eight bytes from a place on spell.
 ///
 /// ```text
-/// requires { ⌜ at + 8 ≤ length (now image) ⌝ }
-/// ensures { λ r. ⌜ r ≡ registerAt at (now (image .entry)) ⌝ }
+/// requires { at + 8 ≤ length image.now }
+/// ensures { result ≡ register_at at image.now }
 /// ```
 pub fn word_at(image: &[u8], at: usize) -> u64 {
     let end = at + 8;
@@ -53,8 +53,8 @@ pub fn word_at(image: &[u8], at: usize) -> u64 {
 /// The n low bytes of x from a place on; every other byte stays.
 ///
 /// ```text
-/// requires { ⌜ at + n ≤ length (now dst) ⌝ }
-/// ensures { λ _. ⌜ now (dst .exit) ≡ withBytes at n x (now (dst .entry)) ⌝ }
+/// requires { at + n ≤ length dst.old }
+/// ensures { dst.new ≡ with_bytes at n x dst.old }
 /// ```
 pub fn put_bytes(dst: &mut [u8], at: usize, n: usize, x: u64) {
     let end = at + n;
@@ -64,8 +64,8 @@ pub fn put_bytes(dst: &mut [u8], at: usize, n: usize, x: u64) {
 /// All eight bytes of x.
 ///
 /// ```text
-/// requires { ⌜ at + 8 ≤ length (now dst) ⌝ }
-/// ensures { λ _. ⌜ now (dst .exit) ≡ withWord at x (now (dst .entry)) ⌝ }
+/// requires { at + 8 ≤ length dst.old }
+/// ensures { dst.new ≡ with_word at x dst.old }
 /// ```
 pub fn put_word(dst: &mut [u8], at: usize, x: u64) {
     put_bytes(dst, at, 8, x);
@@ -74,8 +74,8 @@ pub fn put_word(dst: &mut [u8], at: usize, x: u64) {
 /// All of src over all of dst.
 ///
 /// ```text
-/// requires { ⌜ length (now dst) ≡ length (now src) ⌝ }
-/// ensures { λ _. ⌜ now (dst .exit) ≡ now (src .entry) ⌝ }
+/// requires { length dst.old ≡ length src.now }
+/// ensures { dst.new ≡ src.now }
 /// ```
 pub fn copy(dst: &mut [u8], src: &[u8]) {
     let mut i = 0;
@@ -88,7 +88,7 @@ pub fn copy(dst: &mut [u8], src: &[u8]) {
 /// Every byte becomes zero.
 ///
 /// ```text
-/// ensures { λ _. ⌜ now (dst .exit) ≡ replicate (length (now (dst .entry))) 0 ⌝ }
+/// ensures { dst.new ≡ replicate (length dst.old) 0 }
 /// ```
 pub fn put_zeros(dst: &mut [u8]) {
     let mut i = 0;

@@ -10,7 +10,7 @@ const HALF: u64 = 0x1_0000_0000;
 /// old with its high or its low half replaced by val. Every half of a register that is replaced, by value and in place, is replaced here.
 ///
 /// ```text
-/// ensures { λ r. ⌜ r ≡ withHalf high old val ⌝ }
+/// ensures { result ≡ with_half high old val }
 /// ```
 pub fn replace_u32(old: u64, val: u32, high: bool) -> u64 {
     if high {
@@ -23,7 +23,7 @@ pub fn replace_u32(old: u64, val: u32, high: bool) -> u64 {
 /// The high or the low half of x. A cast must not lose bits, so the low half is masked out first.
 ///
 /// ```text
-/// ensures { λ r. ⌜ r ≡ half high x ⌝ }
+/// ensures { result ≡ half high x }
 /// ```
 pub fn half(x: u64, high: bool) -> u32 {
     if high {
@@ -36,7 +36,7 @@ pub fn half(x: u64, high: bool) -> u32 {
 /// The register that has v as its high or its low half, and nothing else.
 ///
 /// ```text
-/// ensures { λ r. ⌜ r ≡ asHalf high v ⌝ }
+/// ensures { result ≡ as_half high v }
 /// ```
 pub fn in_half(v: u32, high: bool) -> u64 {
     if high { (v as u64) << 32 } else { v as u64 }
@@ -45,8 +45,8 @@ pub fn in_half(v: u32, high: bool) -> u64 {
 /// Byte k of x, the low one being 0.
 ///
 /// ```text
-/// requires { ⌜ k < 4 ⌝ }
-/// ensures { λ r. ⌜ r ≡ byteOf x k ⌝ }
+/// requires { k < 4 }
+/// ensures { result ≡ byte_of x k }
 /// ```
 pub fn byte_of(x: u32, k: usize) -> u8 {
     let shift = k * 8;
@@ -56,8 +56,8 @@ pub fn byte_of(x: u32, k: usize) -> u8 {
 /// old with its byte k replaced by val.
 ///
 /// ```text
-/// requires { ⌜ k < 4 ⌝ }
-/// ensures { λ r. ⌜ r ≡ withByte old k val ⌝ }
+/// requires { k < 4 }
+/// ensures { result ≡ with_byte old k val }
 /// ```
 pub fn with_byte(old: u32, k: usize, val: u8) -> u32 {
     let shift = k * 8;

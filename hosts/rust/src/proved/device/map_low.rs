@@ -9,14 +9,14 @@ use super::state::PchPicState;
 /// The offset of the low half, of a register whose half stands at an offset.
 ///
 /// ```text
-/// ensures { λ r. ⌜ r ≡ offset - 4 * (offset / 4 % 2) ⌝ }
+/// ensures { result ≡ offset - 4 * (offset / 4 % 2) }
 /// ```
 fn low_offset(offset: usize) -> usize {
     offset - 4 * (offset / 4 % 2)
 }
 
 /// ```text
-/// ensures { λ r. ⌜ r ≡ eqb (offset / 4 % 2) 1 ⌝ }
+/// ensures { result ≡ (offset / 4 % 2 == 1) }
 /// ```
 fn is_high(offset: usize) -> bool {
     offset / 4 % 2 == 1
@@ -25,7 +25,7 @@ fn is_high(offset: usize) -> bool {
 /// What stands at an offset, as decode says it.
 ///
 /// ```text
-/// ensures { λ r. ⌜ cellView r ≡ cellAt offset ⌝ }
+/// ensures { cell_view result ≡ cell_at offset }
 /// ```
 pub fn decode_low(offset: usize) -> Cell {
     let high = is_high(offset);

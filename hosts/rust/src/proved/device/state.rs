@@ -105,7 +105,7 @@ impl PchPicState {
     /// The state after reset.
     ///
     /// ```text
-    /// ensures { λ r. ⌜ Is r reset ⌝ }
+    /// ensures { Is result reset }
     /// ```
     pub fn reset() -> Self {
         let mut vectors = [0u8; PchPicState::IRQ_COUNT];

@@ -5,7 +5,7 @@
 /// wraps; and it wraps numbers without a sign alone, so the sign is given here: from 32,768 on, what is left of the way round is the way back.
 ///
 /// ```text
-/// ensures { λ r. ⌜ r ≡ differenceOf later earlier ⌝ }
+/// ensures { result ≡ difference_of later earlier }
 /// ```
 pub fn pch_pic_difference(later: u16, earlier: u16) -> i16 {
     let ahead = u16::wrapping_sub(later, earlier);

@@ -9,8 +9,8 @@ use super::move_up::leave;
 /// The numbers of the first n go as their events do.
 ///
 /// ```text
-/// requires { ⌜ (length (now image) ≡ formLength (formView form)) × (n ≤ len) × (len ≤ capacity) ⌝ }
-/// ensures { λ _. ⌜ NumbersLeave (formView form) (now (image .entry)) (now (image .exit)) len n ⌝ }
+/// requires { (length image.old ≡ form_length (form_view form)) × (n ≤ len) × (len ≤ capacity) }
+/// ensures { NumbersLeave (form_view form) image.old image.new len n }
 /// ```
 fn leave_numbers(image: &mut [u8], form: Form, n: usize, len: usize) {
     let Form::Numbered = form else {
@@ -25,8 +25,8 @@ fn leave_numbers(image: &mut [u8], form: Form, n: usize, len: usize) {
 /// Of `len` waiting events the first n no longer wait.
 ///
 /// ```text
-/// requires { ⌜ (length (now image) ≡ formLength (formView form)) × (n ≤ len) × (len ≤ capacity) ⌝ }
-/// ensures { λ _. ⌜ Shifts (now (image .entry)) (now (image .exit)) len n ⌝ }
+/// requires { (length image.old ≡ form_length (form_view form)) × (n ≤ len) × (len ≤ capacity) }
+/// ensures { Shifts image.old image.new len n }
 /// ```
 pub fn shift(image: &mut [u8], form: Form, n: usize, len: usize) {
     let p = places_of(form);

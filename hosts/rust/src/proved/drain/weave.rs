@@ -11,8 +11,8 @@ const BEHIND: u64 = 65536;
 /// Each pair, and then its number: the four bytes of an event are written as one.
 ///
 /// ```text
-/// requires { ⌜ (length (now out) ≡ 4 * n) × (length (now pairs) ≡ 2 * n) × (length (now numbers) ≡ 2 * n) ⌝ }
-/// ensures { λ _. ⌜ now (out .exit) ≡ woven (now (pairs .entry)) (now (numbers .entry)) ⌝ }
+/// requires { (length out.old ≡ 4 * n) × (length pairs.now ≡ 2 * n) × (length numbers.now ≡ 2 * n) }
+/// ensures { out.new ≡ woven pairs.now numbers.now }
 /// ```
 pub fn put_events(out: &mut [u8], pairs: &[u8], numbers: &[u8], n: usize) {
     let mut k = 0;

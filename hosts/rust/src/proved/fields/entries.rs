@@ -7,8 +7,8 @@ use super::super::image::form::places_of;
 use super::super::image::form::Form;
 
 /// ```text
-/// requires { ⌜ (length (now image) ≡ formLength (formView form)) × (input < 64) ⌝ }
-/// ensures { λ r. ⌜ Reads (now (image .entry)) r (λ d. getD (d .core .stored .routes) input 0) ⌝ }
+/// requires { (length image.now ≡ form_length (form_view form)) × (input < 64) }
+/// ensures { Reads image.now result (λ d. slice_index d.core.stored.routes input) }
 /// ```
 pub fn route(image: &[u8], form: Form, input: usize) -> u8 {
     let p = places_of(form);
@@ -17,8 +17,8 @@ pub fn route(image: &[u8], form: Form, input: usize) -> u8 {
 }
 
 /// ```text
-/// requires { ⌜ (length (now image) ≡ formLength (formView form)) × (input < 64) ⌝ }
-/// ensures { λ r. ⌜ Reads (now (image .entry)) r (λ d. getD (d .core .vectors) input 0) ⌝ }
+/// requires { (length image.now ≡ form_length (form_view form)) × (input < 64) }
+/// ensures { Reads image.now result (λ d. slice_index d.core.vectors input) }
 /// ```
 pub fn vector(image: &[u8], form: Form, input: usize) -> u8 {
     let p = places_of(form);
@@ -27,8 +27,8 @@ pub fn vector(image: &[u8], form: Form, input: usize) -> u8 {
 }
 
 /// ```text
-/// requires { ⌜ (length (now image) ≡ formLength (formView form)) × (input + n ≤ bytesLength) × (n ≤ 8) ⌝ }
-/// ensures { λ r. ⌜ Reads (now (image .entry)) r (λ d. numberOf (part input n (d .core .stored .routes))) ⌝ }
+/// requires { (length image.now ≡ form_length (form_view form)) × (input + n ≤ bytes_length) × (n ≤ 8) }
+/// ensures { Reads image.now result (λ d. number_of (part input n d.core.stored.routes)) }
 /// ```
 pub fn routes(image: &[u8], form: Form, input: usize, n: usize) -> u64 {
     let p = places_of(form);
@@ -38,8 +38,8 @@ pub fn routes(image: &[u8], form: Form, input: usize, n: usize) -> u64 {
 }
 
 /// ```text
-/// requires { ⌜ (length (now image) ≡ formLength (formView form)) × (input + n ≤ bytesLength) × (n ≤ 8) ⌝ }
-/// ensures { λ r. ⌜ Reads (now (image .entry)) r (λ d. numberOf (part input n (d .core .vectors))) ⌝ }
+/// requires { (length image.now ≡ form_length (form_view form)) × (input + n ≤ bytes_length) × (n ≤ 8) }
+/// ensures { Reads image.now result (λ d. number_of (part input n d.core.vectors)) }
 /// ```
 pub fn vectors(image: &[u8], form: Form, input: usize, n: usize) -> u64 {
     let p = places_of(form);
@@ -49,9 +49,9 @@ pub fn vectors(image: &[u8], form: Form, input: usize, n: usize) -> u64 {
 }
 
 /// ```text
-/// requires { ⌜ (length (now image) ≡ formLength (formView form)) × (input + n ≤ bytesLength) ⌝ }
-/// ensures { λ _. ⌜ Becomes (now (image .entry)) (now (image .exit))
-///     (λ d. withStored d (withRoutes (d .core .stored) (withBytes input n x (d .core .stored .routes)))) ⌝ }
+/// requires { (length image.old ≡ form_length (form_view form)) × (input + n ≤ bytes_length) }
+/// ensures { Becomes image.old image.new
+///     (λ d. with_stored d (with_routes d.core.stored (with_bytes input n x d.core.stored.routes))) }
 /// ```
 pub fn put_routes(image: &mut [u8], form: Form, input: usize, n: usize, x: u64) {
     let p = places_of(form);
@@ -59,8 +59,8 @@ pub fn put_routes(image: &mut [u8], form: Form, input: usize, n: usize, x: u64) 
 }
 
 /// ```text
-/// requires { ⌜ (length (now image) ≡ formLength (formView form)) × (input + n ≤ bytesLength) ⌝ }
-/// ensures { λ _. ⌜ Becomes (now (image .entry)) (now (image .exit)) (λ d. withVectors d (withBytes input n x (d .core .vectors))) ⌝ }
+/// requires { (length image.old ≡ form_length (form_view form)) × (input + n ≤ bytes_length) }
+/// ensures { Becomes image.old image.new (λ d. with_vectors d (with_bytes input n x d.core.vectors)) }
 /// ```
 pub fn put_vectors(image: &mut [u8], form: Form, input: usize, n: usize, x: u64) {
     let p = places_of(form);

@@ -10,8 +10,8 @@ use super::number_bytes::take_next;
 /// The number of an event that is returned.
 ///
 /// ```text
-/// requires { ⌜ length (now image) ≡ formLength (formView form) ⌝ }
-/// ensures { λ r. ⌜ Taken (now (image .entry)) (now (image .exit)) r ⌝ }
+/// requires { length image.old ≡ form_length (form_view form) }
+/// ensures { Taken image.old image.new result }
 /// ```
 pub fn take(image: &mut [u8], form: Form) -> u16 {
     let p = places_of(form);
@@ -25,8 +25,8 @@ pub fn take(image: &mut [u8], form: Form) -> u16 {
 /// The number of an event that is about to be offered to the ring: it waits there, if the event will be kept.
 ///
 /// ```text
-/// requires { ⌜ length (now image) ≡ formLength (formView form) ⌝ }
-/// ensures { λ _. ⌜ NumberOffered (now (image .entry)) (now (image .exit)) ⌝ }
+/// requires { length image.old ≡ form_length (form_view form) }
+/// ensures { NumberOffered image.old image.new }
 /// ```
 pub fn take_offered(image: &mut [u8], form: Form) {
     let Form::Numbered = form else {

@@ -12,8 +12,8 @@ use super::event_numbers;
 /// How many events wait.
 ///
 /// ```text
-/// requires { ⌜ length (now image) ≡ formLength (formView form) ⌝ }
-/// ensures { λ r. ⌜ Reads (now (image .entry)) r (λ d. length (d .ring .waiting)) ⌝ }
+/// requires { length image.now ≡ form_length (form_view form) }
+/// ensures { Reads image.now result (λ d. length d.ring.waiting) }
 /// ```
 pub fn waiting(image: &[u8], form: Form) -> u64 {
     let p = places_of(form);
@@ -24,7 +24,7 @@ pub fn waiting(image: &[u8], form: Form) -> u64 {
 /// The drops with one more, up to their stop.
 ///
 /// ```text
-/// ensures { λ r. ⌜ r ≡ min (drops + 1) stop ⌝ }
+/// ensures { result ≡ min (drops + 1) stop }
 /// ```
 fn counted(drops: u64) -> u64 {
     if drops < 0xffff_ffff {
@@ -35,7 +35,7 @@ fn counted(drops: u64) -> u64 {
 }
 
 /// ```text
-/// ensures { λ r. ⌜ r ≡ flag asserted ⌝ }
+/// ensures { result ≡ flag asserted }
 /// ```
 fn flag_of(asserted: bool) -> u8 {
     if asserted { 1 } else { 0 }
@@ -44,8 +44,8 @@ fn flag_of(asserted: bool) -> u8 {
 /// An event is offered to body 4; the answer is how many were dropped.
 ///
 /// ```text
-/// requires { ⌜ length (now body) ≡ ringLength ⌝ }
-/// ensures { λ r. ⌜ (r ≤ 1) × RingOffered (now (body .entry)) (now (body .exit)) r (event vector asserted) ⌝ }
+/// requires { length body.old ≡ ring_length }
+/// ensures { (result ≤ 1) × RingOffered body.old body.new result (event vector asserted) }
 /// ```
 fn offer_to(body: &mut [u8], vector: u8, asserted: bool) -> u32 {
     let len = body[form::COUNT] as usize;
@@ -64,8 +64,8 @@ fn offer_to(body: &mut [u8], vector: u8, asserted: bool) -> u32 {
 /// An event is offered to the ring of an image of a form, and takes its number.
 ///
 /// ```text
-/// requires { ⌜ length (now image) ≡ formLength (formView form) ⌝ }
-/// ensures { λ r. ⌜ (r ≤ 1) × Offers (now (image .entry)) (now (image .exit)) r (λ d. offering vector asserted) ⌝ }
+/// requires { length image.old ≡ form_length (form_view form) }
+/// ensures { (result ≤ 1) × Offers image.old image.new result (λ d. offering vector asserted) }
 /// ```
 pub fn offer(image: &mut [u8], form: Form, vector: u8, asserted: bool) -> u32 {
     event_numbers::take_offered(image, form);

@@ -8,8 +8,8 @@ use super::super::image::form::places_of;
 use super::super::image::form::Form;
 
 /// ```text
-/// requires { ⌜ length (now image) ≡ formLength (formView form) ⌝ }
-/// ensures { λ r. ⌜ Reads (now (image .entry)) r (λ d. d .core .lines .mask) ⌝ }
+/// requires { length image.now ≡ form_length (form_view form) }
+/// ensures { Reads image.now result (λ d. d.core.lines.mask) }
 /// ```
 pub fn mask(image: &[u8], form: Form) -> u64 {
     let p = places_of(form);
@@ -17,8 +17,8 @@ pub fn mask(image: &[u8], form: Form) -> u64 {
 }
 
 /// ```text
-/// requires { ⌜ length (now image) ≡ formLength (formView form) ⌝ }
-/// ensures { λ r. ⌜ Reads (now (image .entry)) r (λ d. d .core .lines .irr) ⌝ }
+/// requires { length image.now ≡ form_length (form_view form) }
+/// ensures { Reads image.now result (λ d. d.core.lines.irr) }
 /// ```
 pub fn irr(image: &[u8], form: Form) -> u64 {
     let p = places_of(form);
@@ -26,8 +26,8 @@ pub fn irr(image: &[u8], form: Form) -> u64 {
 }
 
 /// ```text
-/// requires { ⌜ length (now image) ≡ formLength (formView form) ⌝ }
-/// ensures { λ r. ⌜ Reads (now (image .entry)) r (λ d. d .core .lines .isr) ⌝ }
+/// requires { length image.now ≡ form_length (form_view form) }
+/// ensures { Reads image.now result (λ d. d.core.lines.isr) }
 /// ```
 pub fn isr(image: &[u8], form: Form) -> u64 {
     let p = places_of(form);
@@ -35,8 +35,8 @@ pub fn isr(image: &[u8], form: Form) -> u64 {
 }
 
 /// ```text
-/// requires { ⌜ length (now image) ≡ formLength (formView form) ⌝ }
-/// ensures { λ _. ⌜ Becomes (now (image .entry)) (now (image .exit)) (λ d. withLines d (withMask (d .core .lines) x)) ⌝ }
+/// requires { length image.old ≡ form_length (form_view form) }
+/// ensures { Becomes image.old image.new (λ d. with_lines d (with_mask d.core.lines x)) }
 /// ```
 pub fn put_mask(image: &mut [u8], form: Form, x: u64) {
     let p = places_of(form);
@@ -46,8 +46,8 @@ pub fn put_mask(image: &mut [u8], form: Form, x: u64) {
 /// IRR and its copy; in a form that has none, IRR twice.
 ///
 /// ```text
-/// requires { ⌜ length (now image) ≡ formLength (formView form) ⌝ }
-/// ensures { λ _. ⌜ Becomes (now (image .entry)) (now (image .exit)) (λ d. withLines d (withIrr (d .core .lines) x)) ⌝ }
+/// requires { length image.old ≡ form_length (form_view form) }
+/// ensures { Becomes image.old image.new (λ d. with_lines d (with_irr d.core.lines x)) }
 /// ```
 pub fn put_irr(image: &mut [u8], form: Form, x: u64) {
     let p = places_of(form);
@@ -56,8 +56,8 @@ pub fn put_irr(image: &mut [u8], form: Form, x: u64) {
 }
 
 /// ```text
-/// requires { ⌜ length (now image) ≡ formLength (formView form) ⌝ }
-/// ensures { λ _. ⌜ Becomes (now (image .entry)) (now (image .exit)) (λ d. withLines d (withIsr (d .core .lines) x)) ⌝ }
+/// requires { length image.old ≡ form_length (form_view form) }
+/// ensures { Becomes image.old image.new (λ d. with_lines d (with_isr d.core.lines x)) }
 /// ```
 pub fn put_isr(image: &mut [u8], form: Form, x: u64) {
     let p = places_of(form);
@@ -67,7 +67,7 @@ pub fn put_isr(image: &mut [u8], form: Form, x: u64) {
 // ---- the registers that are only stored
 
 /// ```text
-/// ensures { λ r. ⌜ r ≡ place (formView form) (word (stored (plainView register))) ⌝ }
+/// ensures { result ≡ place (form_view form) (word (stored (plain_view register))) }
 /// ```
 fn place_of(form: Form, register: Plain) -> usize {
     let p = places_of(form);
@@ -81,16 +81,16 @@ fn place_of(form: Form, register: Plain) -> usize {
 }
 
 /// ```text
-/// requires { ⌜ length (now image) ≡ formLength (formView form) ⌝ }
-/// ensures { λ r. ⌜ Reads (now (image .entry)) r (λ d. plain (d .core .stored) (plainView register)) ⌝ }
+/// requires { length image.now ≡ form_length (form_view form) }
+/// ensures { Reads image.now result (λ d. plain d.core.stored (plain_view register)) }
 /// ```
 pub fn plain(image: &[u8], form: Form, register: Plain) -> u64 {
     word_at(image, place_of(form, register))
 }
 
 /// ```text
-/// requires { ⌜ length (now image) ≡ formLength (formView form) ⌝ }
-/// ensures { λ _. ⌜ Becomes (now (image .entry)) (now (image .exit)) (λ d. withStored d (withPlain (d .core .stored) (plainView register) x)) ⌝ }
+/// requires { length image.old ≡ form_length (form_view form) }
+/// ensures { Becomes image.old image.new (λ d. with_stored d (with_plain d.core.stored (plain_view register) x)) }
 /// ```
 pub fn put_plain(image: &mut [u8], form: Form, register: Plain, x: u64) {
     put_word(image, place_of(form, register), x);

@@ -12,8 +12,8 @@ const LAST_WORD: usize = 24;
 /// The first flag of a waiting pair that is neither 0 nor 1, or the length.
 ///
 /// ```text
-/// requires { ⌜ (length (now pairs) ≡ 2 * capacity) × (count ≤ capacity) ⌝ }
-/// ensures { λ r. ⌜ First (flagRule count .bad) (now (pairs .entry)) r ⌝ }
+/// requires { (length pairs.now ≡ 2 * capacity) × (count ≤ capacity) }
+/// ensures { First (flag_rule count).bad pairs.now result }
 /// ```
 pub fn bad_flag(count: usize, pairs: &[u8]) -> usize {
     let mut i = 0;
@@ -30,8 +30,8 @@ pub fn bad_flag(count: usize, pairs: &[u8]) -> usize {
 /// Where words of zeros from a byte on end.
 ///
 /// ```text
-/// requires { ⌜ (length (now pairs) ≡ 2 * capacity) × (from ≤ 2 * capacity) ⌝ }
-/// ensures { λ r. ⌜ ZerosTo (now (pairs .entry)) from r ⌝ }
+/// requires { (length pairs.now ≡ 2 * capacity) × (from ≤ 2 * capacity) }
+/// ensures { ZerosTo pairs.now from result }
 /// ```
 fn zeros_end(pairs: &[u8], from: usize) -> usize {
     let mut i = from;
@@ -47,8 +47,8 @@ fn zeros_end(pairs: &[u8], from: usize) -> usize {
 /// The first byte behind the waiting pairs, or numbers, that is not zero, or the length.
 ///
 /// ```text
-/// requires { ⌜ (length (now pairs) ≡ 2 * capacity) × (count ≤ capacity) ⌝ }
-/// ensures { λ r. ⌜ First (unusedRule rules-form.pairs count .bad) (now (pairs .entry)) r ⌝ }
+/// requires { (length pairs.now ≡ 2 * capacity) × (count ≤ capacity) }
+/// ensures { First (unused_rule rules-form.pairs count).bad pairs.now result }
 /// ```
 pub fn used_byte(count: usize, pairs: &[u8]) -> usize {
     let mut i = zeros_end(&*pairs, PAIR * count);

@@ -20,7 +20,7 @@ pub enum Bodies {
 /// Where the numbers stand; in a form without numbers, the pairs.
 ///
 /// ```text
-/// ensures { λ r. ⌜ r ≡ spareAt (formView form) ⌝ }
+/// ensures { result ≡ spare_at (form_view form) }
 /// ```
 pub fn spare_of(form: Form) -> usize {
     let p = places_of(form);
@@ -34,8 +34,8 @@ pub fn spare_of(form: Form) -> usize {
 /// The rules of the bodies. A form without a copy of IRR has IRR's own place there, and one without numbers the pairs' place.
 ///
 /// ```text
-/// requires { ⌜ length (now image) ≡ formLength (formView form) ⌝ }
-/// ensures { λ r. ⌜ holds r ≡ bodiesGood (formView form) (now (image .entry)) ⌝ }
+/// requires { length image.now ≡ form_length (form_view form) }
+/// ensures { holds result ≡ bodies_good (form_view form) image.now }
 /// ```
 pub fn test_bodies(image: &[u8], form: Form) -> Bodies {
     let p = places_of(form);
@@ -69,8 +69,8 @@ pub fn test_bodies(image: &[u8], form: Form) -> Bodies {
 /// The same, of an image in which something waits as a rule: that every pair is zero is not looked for first, and with sixteen that wait none is unused.
 ///
 /// ```text
-/// requires { ⌜ length (now image) ≡ formLength (formView form) ⌝ }
-/// ensures { λ r. ⌜ holds r ≡ bodiesGood (formView form) (now (image .entry)) ⌝ }
+/// requires { length image.now ≡ form_length (form_view form) }
+/// ensures { holds result ≡ bodies_good (form_view form) image.now }
 /// ```
 pub fn test_waiting(image: &[u8], form: Form) -> Bodies {
     let p = places_of(form);

@@ -16,7 +16,7 @@ pub enum KnownForm {
 }
 
 /// ```text
-/// ensures { λ r. ⌜ formKnown r ≡ formOf length ⌝ }
+/// ensures { form_known result ≡ form_of length }
 /// ```
 pub fn form_of(length: usize) -> KnownForm {
     match length {
@@ -51,7 +51,7 @@ pub struct Places {
 /// How many bytes the contents take.
 ///
 /// ```text
-/// ensures { λ r. ⌜ (r ≡ contentsLength (formView form)) × (r ≤ 27) ⌝ }
+/// ensures { (result ≡ contents_length (form_view form)) × (result ≤ 27) }
 /// ```
 fn contents_length(form: Form) -> usize {
     match form {
@@ -64,7 +64,7 @@ fn contents_length(form: Form) -> usize {
 /// How many bytes the copy of IRR takes, behind which all stands so much higher.
 ///
 /// ```text
-/// ensures { λ r. ⌜ (r ≡ copyLength (formView form)) × (r ≤ 8) ⌝ }
+/// ensures { (result ≡ copy_length (form_view form)) × (result ≤ 8) }
 /// ```
 fn copy_length(form: Form) -> usize {
     match form {
@@ -77,7 +77,7 @@ fn copy_length(form: Form) -> usize {
 /// One sum for each place, and no table of each form: so the compiler adds what a form has in front to the image's address, once.
 ///
 /// ```text
-/// ensures { λ r. ⌜ PlacesOf (formView form) r ⌝ }
+/// ensures { PlacesOf (form_view form) result }
 /// ```
 pub fn places_of(form: Form) -> Places {
     let head = contents_length(form);
@@ -144,7 +144,7 @@ pub struct Contents {
 }
 
 /// ```text
-/// ensures { λ r. ⌜ ContentsOf (formView form) r ⌝ }
+/// ensures { ContentsOf (form_view form) result }
 /// ```
 pub fn contents_of(form: Form) -> Contents {
     match form {

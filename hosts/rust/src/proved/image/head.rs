@@ -17,8 +17,8 @@ pub enum Head {
 }
 
 /// ```text
-/// requires { ⌜ length (now image) ≡ formLength (formView form) ⌝ }
-/// ensures { λ r. ⌜ r ≡ headGood (formView form) (now (image .entry)) ⌝ }
+/// requires { length image.now ≡ form_length (form_view form) }
+/// ensures { result ≡ head_good (form_view form) image.now }
 /// ```
 fn contents_good(image: &[u8], form: Form) -> bool {
     let c = contents_of(form);
@@ -35,8 +35,8 @@ fn contents_good(image: &[u8], form: Form) -> bool {
 }
 
 /// ```text
-/// requires { ⌜ formOf (length (now image)) ≡ known (formView form) ⌝ }
-/// ensures { λ r. ⌜ Headed r (now (image .entry)) ⌝ }
+/// requires { form_of (length image.now) ≡ known (form_view form) }
+/// ensures { Headed result image.now }
 /// ```
 fn headed(image: &[u8], form: Form) -> Head {
     if contents_good(image, form) {
@@ -48,7 +48,7 @@ fn headed(image: &[u8], form: Form) -> Head {
 /// An arm for each form, so that each compares with constants.
 ///
 /// ```text
-/// ensures { λ r. ⌜ Headed r (now (image .entry)) ⌝ }
+/// ensures { Headed result image.now }
 /// ```
 pub fn test_head(image: &[u8]) -> Head {
     let KnownForm::As(form) = form_of(image.len()) else {

@@ -20,7 +20,7 @@ const FLAGS: u64 = 0xfe00_fe00_fe00_fe00;
 /// 0 exactly where a is b.
 ///
 /// ```text
-/// ensures { λ r. ⌜ eqb r 0 ≡ eqb a b ⌝ }
+/// ensures { (result == 0) ≡ (a == b) }
 /// ```
 fn apart(a: u64, b: u64) -> u64 {
     u64::wrapping_sub(a, b)
@@ -29,8 +29,8 @@ fn apart(a: u64, b: u64) -> u64 {
 /// 0 exactly where the contents are those of the form.
 ///
 /// ```text
-/// requires { ⌜ length (now image) ≡ formLength (formView form) ⌝ }
-/// ensures { λ r. ⌜ eqb r 0 ≡ headGood (formView form) (now (image .entry)) ⌝ }
+/// requires { length image.now ≡ form_length (form_view form) }
+/// ensures { (result == 0) ≡ head_good (form_view form) image.now }
 /// ```
 pub fn contents_apart(image: &[u8], form: Form) -> u64 {
     let c = contents_of(form);
@@ -43,8 +43,8 @@ pub fn contents_apart(image: &[u8], form: Form) -> u64 {
 /// 0 only where the copy of IRR is IRR, nothing waits, and every pair and every number is zero.
 ///
 /// ```text
-/// requires { ⌜ length (now image) ≡ formLength (formView form) ⌝ }
-/// ensures { λ r. ⌜ QuietBodies (formView form) (now (image .entry)) r ⌝ }
+/// requires { length image.now ≡ form_length (form_view form) }
+/// ensures { QuietBodies (form_view form) image.now result }
 /// ```
 fn bodies_odd(image: &[u8], form: Form) -> u64 {
     let p = places_of(form);
@@ -62,8 +62,8 @@ fn bodies_odd(image: &[u8], form: Form) -> u64 {
 /// 0 only of an image that is accepted, and in which nothing waits. Any other number tells nothing.
 ///
 /// ```text
-/// requires { ⌜ length (now image) ≡ formLength (formView form) ⌝ }
-/// ensures { λ r. ⌜ Quiet (formView form) (now (image .entry)) r ⌝ }
+/// requires { length image.now ≡ form_length (form_view form) }
+/// ensures { Quiet (form_view form) image.now result }
 /// ```
 pub fn odd(image: &[u8], form: Form) -> u64 {
     contents_apart(image, form) | bodies_odd(image, form)
@@ -72,8 +72,8 @@ pub fn odd(image: &[u8], form: Form) -> u64 {
 /// 0 only where the rules of the bodies are kept, and never where more than three wait; any other number tells nothing. The flags of all pairs are looked at, since unused ones are zero.
 ///
 /// ```text
-/// requires { ⌜ length (now image) ≡ formLength (formView form) ⌝ }
-/// ensures { λ r. ⌜ Kept (formView form) (now (image .entry)) r ⌝ }
+/// requires { length image.now ≡ form_length (form_view form) }
+/// ensures { Kept (form_view form) image.now result }
 /// ```
 pub fn few_odd(image: &[u8], form: Form) -> u64 {
     let p = places_of(form);
@@ -94,8 +94,8 @@ pub fn few_odd(image: &[u8], form: Form) -> u64 {
 /// Where one waits, 0 only if the rules of the bodies are kept. Its flag is looked at alone.
 ///
 /// ```text
-/// requires { ⌜ (length (now image) ≡ formLength (formView form)) × (countIn (formView form) (now image) ≡ 1) ⌝ }
-/// ensures { λ r. ⌜ Kept (formView form) (now (image .entry)) r ⌝ }
+/// requires { (length image.now ≡ form_length (form_view form)) × (count_in (form_view form) image.now ≡ 1) }
+/// ensures { Kept (form_view form) image.now result }
 /// ```
 pub fn single_odd(image: &[u8], form: Form) -> u64 {
     let p = places_of(form);

@@ -11,8 +11,8 @@ const LAST_WORD: usize = 24;
 /// The bits that any of the four words of the pairs has.
 ///
 /// ```text
-/// requires { ⌜ length (now pairs) ≡ 2 * capacity ⌝ }
-/// ensures { λ r. ⌜ r ≡ bitsOf 4 (now (pairs .entry)) ⌝ }
+/// requires { length pairs.now ≡ 2 * capacity }
+/// ensures { result ≡ bits_of 4 pairs.now }
 /// ```
 pub fn all_bits(pairs: &[u8]) -> u64 {
     let mut found = 0u64;
@@ -27,8 +27,8 @@ pub fn all_bits(pairs: &[u8]) -> u64 {
 /// The word at a place, or the last word where the place is past that.
 ///
 /// ```text
-/// requires { ⌜ length (now events) ≡ 2 * capacity ⌝ }
-/// ensures { λ r. ⌜ r ≡ registerAt (min at lastWord) (now (events .entry)) ⌝ }
+/// requires { length events.now ≡ 2 * capacity }
+/// ensures { result ≡ register_at (min at last_word) events.now }
 /// ```
 fn word_or_last(events: &[u8], at: usize) -> u64 {
     if at < LAST_WORD {
@@ -41,8 +41,8 @@ fn word_or_last(events: &[u8], at: usize) -> u64 {
 /// twelve fewer bytes than a word are left: those that wait are shifted out of the last.
 ///
 /// ```text
-/// requires { ⌜ (length (now events) ≡ 2 * capacity) × (count ≤ capacity) ⌝ }
-/// ensures { λ r. ⌜ eqb r 0 ≡ allZero (drop (2 * count) (now (events .entry))) ⌝ }
+/// requires { (length events.now ≡ 2 * capacity) × (count ≤ capacity) }
+/// ensures { (result == 0) ≡ all_zero (drop (2 * count) events.now) }
 /// ```
 pub fn behind(count: usize, events: &[u8]) -> u64 {
     if count <= 12 {
@@ -61,8 +61,8 @@ pub fn behind(count: usize, events: &[u8]) -> u64 {
 /// Unused pairs and unused numbers are zero.
 ///
 /// ```text
-/// requires { ⌜ (length (now pairs) ≡ 2 * capacity) × (length (now spare) ≡ 2 * capacity) × (count ≤ capacity) ⌝ }
-/// ensures { λ r. ⌜ r ≡ (allZero (drop (2 * count) (now (pairs .entry))) && allZero (drop (2 * count) (now (spare .entry)))) ⌝ }
+/// requires { (length pairs.now ≡ 2 * capacity) × (length spare.now ≡ 2 * capacity) × (count ≤ capacity) }
+/// ensures { result ≡ (all_zero (drop (2 * count) pairs.now) && all_zero (drop (2 * count) spare.now)) }
 /// ```
 pub fn unused_zero(count: usize, pairs: &[u8], spare: &[u8]) -> bool {
     behind(count, pairs) | behind(count, spare) == 0

@@ -36,15 +36,15 @@ pub enum Fate {
 // ---- where a number stands
 
 /// ```text
-/// ensures { λ r. ⌜ r ≡ cellBytes wide ⌝ }
+/// ensures { result ≡ cell_bytes wide }
 /// ```
 fn bytes(wide: bool) -> usize {
     if wide { 8 } else { 4 }
 }
 
 /// ```text
-/// requires { ⌜ (row < 65) × (column < 10) ⌝ }
-/// ensures { λ r. ⌜ r ≡ cellPlace wide row column ⌝ }
+/// requires { (row < 65) × (column < 10) }
+/// ensures { result ≡ cell_place wide row column }
 /// ```
 pub fn place(wide: bool, row: usize, column: usize) -> usize {
     if wide {
@@ -57,8 +57,8 @@ pub fn place(wide: bool, row: usize, column: usize) -> usize {
 /// The number in a row and a column.
 ///
 /// ```text
-/// requires { ⌜ Roomy wide (now sheet) × (row < 65) × (column < 10) ⌝ }
-/// ensures { λ r. ⌜ Reads wide (now (sheet .entry)) r row column ⌝ }
+/// requires { Roomy wide sheet.now × (row < 65) × (column < 10) }
+/// ensures { Reads wide sheet.now result row column }
 /// ```
 pub fn cell(sheet: &[u8], wide: bool, row: usize, column: usize) -> u64 {
     let at = place(wide, row, column);
@@ -67,8 +67,8 @@ pub fn cell(sheet: &[u8], wide: bool, row: usize, column: usize) -> u64 {
 }
 
 /// ```text
-/// requires { ⌜ Roomy wide (now sheet) × (row < 65) × (column < 10) ⌝ }
-/// ensures { λ _. ⌜ Puts wide (now (sheet .entry)) (now (sheet .exit)) row column x ⌝ }
+/// requires { Roomy wide sheet.old × (row < 65) × (column < 10) }
+/// ensures { Puts wide sheet.old sheet.new row column x }
 /// ```
 pub fn put_cell(sheet: &mut [u8], wide: bool, row: usize, column: usize, x: u64) {
     let at = place(wide, row, column);
@@ -78,8 +78,8 @@ pub fn put_cell(sheet: &mut [u8], wide: bool, row: usize, column: usize, x: u64)
 /// One more, in a column that is counted.
 ///
 /// ```text
-/// requires { ⌜ Roomy wide (now sheet) × (row < 65) × (column < 10) × (isWait column ≡ false) ⌝ }
-/// ensures { λ _. ⌜ Becomes wide (now (sheet .entry)) (now (sheet .exit)) (λ f. bump f row column) ⌝ }
+/// requires { Roomy wide sheet.old × (row < 65) × (column < 10) × (is_wait column ≡ false) }
+/// ensures { Becomes wide sheet.old sheet.new (λ f. bump f row column) }
 /// ```
 pub fn count(sheet: &mut [u8], wide: bool, row: usize, column: usize) {
     let x = cell(sheet, wide, row, column);
@@ -91,15 +91,15 @@ pub fn count(sheet: &mut [u8], wide: bool, row: usize, column: usize) {
 /// How many records came after the one before `since`, up to k.
 ///
 /// ```text
-/// requires { ⌜ k < 2 ^ 64 - 1 ⌝ }
-/// ensures { λ r. ⌜ r ≡ k + 1 - since ⌝ }
+/// requires { k < 2 ^ 64 - 1 }
+/// ensures { result ≡ k + 1 - since }
 /// ```
 fn elapsed(k: u64, since: u64) -> u64 {
     if since <= k { k + 1 - since } else { 0 }
 }
 
 /// ```text
-/// ensures { λ r. ⌜ r ≡ max a b ⌝ }
+/// ensures { result ≡ max a b }
 /// ```
 pub fn greater(a: u64, b: u64) -> u64 {
     if a < b { b } else { a }
@@ -108,8 +108,8 @@ pub fn greater(a: u64, b: u64) -> u64 {
 /// A wait begins at the record k.
 ///
 /// ```text
-/// requires { ⌜ Ready wide (now sheet) n k ⌝ }
-/// ensures { λ _. ⌜ Takes wide (now (sheet .entry)) (now (sheet .exit)) (began n k ∷ []) ⌝ }
+/// requires { Ready wide sheet.old n k }
+/// ensures { Takes wide sheet.old sheet.new (began n k ∷ []) }
 /// ```
 pub fn begin(sheet: &mut [u8], wide: bool, n: usize, k: u64) {
     put_cell(sheet, wide, n, OPEN, k + 1);
@@ -118,8 +118,8 @@ pub fn begin(sheet: &mut [u8], wide: bool, n: usize, k: u64) {
 /// It ends with the assert at the record k, if it is not over.
 ///
 /// ```text
-/// requires { ⌜ Ready wide (now sheet) n k ⌝ }
-/// ensures { λ _. ⌜ Becomes wide (now (sheet .entry)) (now (sheet .exit)) (λ f. settled f n k) ⌝ }
+/// requires { Ready wide sheet.old n k }
+/// ensures { Becomes wide sheet.old sheet.new (λ f. settled f n k) }
 /// ```
 fn settle(sheet: &mut [u8], wide: bool, n: usize, k: u64) {
     let since = cell(sheet, wide, n, OPEN);
@@ -134,8 +134,8 @@ fn settle(sheet: &mut [u8], wide: bool, n: usize, k: u64) {
 /// It is taken back, if it is not over.
 ///
 /// ```text
-/// requires { ⌜ Roomy wide (now sheet) × (n < 64) ⌝ }
-/// ensures { λ _. ⌜ Takes wide (now (sheet .entry)) (now (sheet .exit)) (takenBack n ∷ []) ⌝ }
+/// requires { Roomy wide sheet.old × (n < 64) }
+/// ensures { Takes wide sheet.old sheet.new (taken_back n ∷ []) }
 /// ```
 pub fn withdraw(sheet: &mut [u8], wide: bool, n: usize) {
     let since = cell(sheet, wide, n, OPEN);
@@ -149,7 +149,7 @@ pub fn withdraw(sheet: &mut [u8], wide: bool, n: usize) {
 // ---- events
 
 /// ```text
-/// ensures { λ r. ⌜ r ≡ kindColumn asserted ⌝ }
+/// ensures { result ≡ kind_column asserted }
 /// ```
 fn kind_column(asserted: bool) -> usize {
     if asserted { ASSERTS } else { DEASSERTS }
@@ -158,8 +158,8 @@ fn kind_column(asserted: bool) -> usize {
 /// A dropped event is among the offered ones.
 ///
 /// ```text
-/// requires { ⌜ Roomy wide (now sheet) × (n < 64) ⌝ }
-/// ensures { λ _. ⌜ Becomes wide (now (sheet .entry)) (now (sheet .exit)) (λ f. bumped f n (fateColumns (fateView fate))) ⌝ }
+/// requires { Roomy wide sheet.old × (n < 64) }
+/// ensures { Becomes wide sheet.old sheet.new (λ f. bumped f n (fate_columns (fate_view fate))) }
 /// ```
 fn count_fate(sheet: &mut [u8], wide: bool, n: usize, fate: Fate) {
     match fate {
@@ -175,8 +175,8 @@ fn count_fate(sheet: &mut [u8], wide: bool, n: usize, fate: Fate) {
 /// An event of the input n at the record k.
 ///
 /// ```text
-/// requires { ⌜ Ready wide (now sheet) n k ⌝ }
-/// ensures { λ _. ⌜ Takes wide (now (sheet .entry)) (now (sheet .exit)) (happened (noteWith n k asserted (fateView fate)) ∷ []) ⌝ }
+/// requires { Ready wide sheet.old n k }
+/// ensures { Takes wide sheet.old sheet.new (happened (note_with n k asserted (fate_view fate)) ∷ []) }
 /// ```
 pub fn event(sheet: &mut [u8], wide: bool, n: usize, k: u64, asserted: bool, fate: Fate) {
     count(sheet, wide, n, kind_column(asserted));

@@ -16,8 +16,8 @@ const ALL: u64 = 0xffff_ffff_ffff_ffff;
 // ---- zeros
 
 /// ```text
-/// requires { ⌜ Roomy wide (now sheet) × (n < 65) ⌝ }
-/// ensures { λ _. ⌜ Becomes wide (now (sheet .entry)) (now (sheet .exit)) (λ f. rowCleared f n 10) ⌝ }
+/// requires { Roomy wide sheet.old × (n < 65) }
+/// ensures { Becomes wide sheet.old sheet.new (λ f. row_cleared f n 10) }
 /// ```
 pub fn zero_row(sheet: &mut [u8], wide: bool, n: usize) {
     let mut c = 0;
@@ -30,8 +30,8 @@ pub fn zero_row(sheet: &mut [u8], wide: bool, n: usize) {
 /// The rows of all inputs.
 ///
 /// ```text
-/// requires { ⌜ Roomy wide (now sheet) ⌝ }
-/// ensures { λ _. ⌜ Becomes wide (now (sheet .entry)) (now (sheet .exit)) (λ f. cleared f allInputs) ⌝ }
+/// requires { Roomy wide sheet.old }
+/// ensures { Becomes wide sheet.old sheet.new (λ f. cleared f all_inputs) }
 /// ```
 pub fn zero(sheet: &mut [u8], wide: bool) {
     let mut left = ALL;
@@ -47,8 +47,8 @@ pub fn zero(sheet: &mut [u8], wide: bool) {
 /// The row of an input, wide in both.
 ///
 /// ```text
-/// requires { ⌜ Roomy true (now from) × Roomy true (now sheet) × (n < 64) ⌝ }
-/// ensures { λ _. ⌜ CopiesOf (now (from .entry)) (now (sheet .entry)) (now (sheet .exit)) (λ g f. rowFrom g f n 10) ⌝ }
+/// requires { Roomy true from.now × Roomy true sheet.old × (n < 64) }
+/// ensures { CopiesOf from.now sheet.old sheet.new (λ g f. row_from g f n 10) }
 /// ```
 fn copy_row(from: &[u8], sheet: &mut [u8], n: usize) {
     let mut c = 0;
@@ -62,8 +62,8 @@ fn copy_row(from: &[u8], sheet: &mut [u8], n: usize) {
 /// The rows of all inputs. Of a copy row by row the compiler would make a call of memcpy, so these go by a set too.
 ///
 /// ```text
-/// requires { ⌜ Roomy true (now from) × Roomy true (now sheet) ⌝ }
-/// ensures { λ _. ⌜ CopiesOf (now (from .entry)) (now (sheet .entry)) (now (sheet .exit)) (λ g f. rowsFrom g f allInputs) ⌝ }
+/// requires { Roomy true from.now × Roomy true sheet.old }
+/// ensures { CopiesOf from.now sheet.old sheet.new (λ g f. rows_from g f all_inputs) }
 /// ```
 pub fn copy_rows(from: &[u8], sheet: &mut [u8]) {
     let mut left = ALL;
@@ -79,9 +79,9 @@ pub fn copy_rows(from: &[u8], sheet: &mut [u8]) {
 /// The records of a good trace, of which the first has the number `base`, from whatever is kept.
 ///
 /// ```text
-/// requires { ⌜ Reaches (now trace) first records × Roomy wide (now sheet) × Numbered wide base records ⌝ }
-/// ensures { λ _. ⌜ FollowsDay wide (linesOf kept) (kept .waiting) (now (sheet .entry)) (now (sheet .exit)) base
-///     (map itemOf (recordsFrom (now (trace .entry)) records 0)) ⌝ }
+/// requires { Reaches trace.now first records × Roomy wide sheet.old × Numbered wide base records }
+/// ensures { FollowsDay wide (lines_of kept) kept.waiting sheet.old sheet.new base
+///     (map item_of (records_from trace.now records 0)) }
 /// ```
 pub fn follow(
     trace: &[u8],

@@ -17,7 +17,7 @@ pub const COLUMNS: usize = 10;
 pub const TOTAL: usize = 64;
 
 /// ```text
-/// ensures { λ r. ⌜ r ≡ isOn x ⌝ }
+/// ensures { result ≡ is_on x }
 /// ```
 fn is_on(x: u64) -> u64 {
     if x == 0 { 0 } else { 1 }
@@ -26,8 +26,8 @@ fn is_on(x: u64) -> u64 {
 /// A wait that is not over is open.
 ///
 /// ```text
-/// requires { ⌜ Roomy wide (now sheet) × (n < 64) ⌝ }
-/// ensures { λ _. ⌜ Becomes wide (now (sheet .entry)) (now (sheet .exit)) (λ f. shut f n) ⌝ }
+/// requires { Roomy wide sheet.old × (n < 64) }
+/// ensures { Becomes wide sheet.old sheet.new (λ f. shut f n) }
 /// ```
 fn close(sheet: &mut [u8], wide: bool, n: usize) {
     let since = cell(sheet, wide, n, OPEN);
@@ -37,7 +37,7 @@ fn close(sheet: &mut [u8], wide: bool, n: usize) {
 /// The greater wait, and of all else the sum.
 ///
 /// ```text
-/// ensures { λ r. ⌜ r ≡ joined column total x % 2 ^ 64 ⌝ }
+/// ensures { result ≡ joined column total x % 2 ^ 64 }
 /// ```
 fn join_with(column: usize, total: u64, x: u64) -> u64 {
     if column == GREATEST {
@@ -47,8 +47,8 @@ fn join_with(column: usize, total: u64, x: u64) -> u64 {
 }
 
 /// ```text
-/// requires { ⌜ Roomy wide (now sheet) × (n < 64) × (column < 10) ⌝ }
-/// ensures { λ _. ⌜ Becomes wide (now (sheet .entry)) (now (sheet .exit)) (λ f. put f 64 column (joined column (f 64 column) (f n column))) ⌝ }
+/// requires { Roomy wide sheet.old × (n < 64) × (column < 10) }
+/// ensures { Becomes wide sheet.old sheet.new (λ f. put f 64 column (joined column (f 64 column) (f n column))) }
 /// ```
 fn join(sheet: &mut [u8], wide: bool, n: usize, column: usize) {
     let x = cell(sheet, wide, n, column);
@@ -57,8 +57,8 @@ fn join(sheet: &mut [u8], wide: bool, n: usize, column: usize) {
 }
 
 /// ```text
-/// requires { ⌜ Roomy wide (now sheet) × (n < 64) ⌝ }
-/// ensures { λ _. ⌜ Becomes wide (now (sheet .entry)) (now (sheet .exit)) (λ f. rowJoined f n 10) ⌝ }
+/// requires { Roomy wide sheet.old × (n < 64) }
+/// ensures { Becomes wide sheet.old sheet.new (λ f. row_joined f n 10) }
 /// ```
 fn join_row(sheet: &mut [u8], wide: bool, n: usize) {
     let mut c = 0;
@@ -71,8 +71,8 @@ fn join_row(sheet: &mut [u8], wide: bool, n: usize) {
 /// Forty bytes, a row or half a wide one.
 ///
 /// ```text
-/// requires { ⌜ at + 40 ≤ length (now sheet) ⌝ }
-/// ensures { λ r. ⌜ FoundZero r at 40 (now (sheet .entry)) ⌝ }
+/// requires { at + 40 ≤ length sheet.now }
+/// ensures { FoundZero result at 40 sheet.now }
 /// ```
 fn forty_zeros(sheet: &[u8], at: usize) -> bool {
     (word_at(sheet, at) == 0)
@@ -83,8 +83,8 @@ fn forty_zeros(sheet: &[u8], at: usize) -> bool {
 }
 
 /// ```text
-/// requires { ⌜ Roomy wide (now sheet) × (n < 64) ⌝ }
-/// ensures { λ r. ⌜ FoundZero r (cellPlace wide n 0) (10 * cellBytes wide) (now (sheet .entry)) ⌝ }
+/// requires { Roomy wide sheet.now × (n < 64) }
+/// ensures { FoundZero result (cell_place wide n 0) (10 * cell_bytes wide) sheet.now }
 /// ```
 fn is_zero_row(sheet: &[u8], wide: bool, n: usize) -> bool {
     let at = place(wide, n, 0);
@@ -98,8 +98,8 @@ fn is_zero_row(sheet: &[u8], wide: bool, n: usize) -> bool {
 /// A row of zeros has no open wait, and adds nothing to the total.
 ///
 /// ```text
-/// requires { ⌜ Roomy wide (now sheet) × (n < 64) ⌝ }
-/// ensures { λ _. ⌜ Becomes wide (now (sheet .entry)) (now (sheet .exit)) (λ f. rowJoined (shut f n) n 10) ⌝ }
+/// requires { Roomy wide sheet.old × (n < 64) }
+/// ensures { Becomes wide sheet.old sheet.new (λ f. row_joined (shut f n) n 10) }
 /// ```
 fn finish_row(sheet: &mut [u8], wide: bool, n: usize) {
     if is_zero_row(sheet, wide, n) {
@@ -110,8 +110,8 @@ fn finish_row(sheet: &mut [u8], wide: bool, n: usize) {
 }
 
 /// ```text
-/// requires { ⌜ Roomy wide (now sheet) ⌝ }
-/// ensures { λ _. ⌜ Becomes wide (now (sheet .entry)) (now (sheet .exit)) (λ f. finished f 64) ⌝ }
+/// requires { Roomy wide sheet.old }
+/// ensures { Becomes wide sheet.old sheet.new (λ f. finished f 64) }
 /// ```
 pub fn join_all(sheet: &mut [u8], wide: bool) {
     let mut n = 0;

@@ -13,9 +13,9 @@ use super::watch::Watched;
 // ---- a half of a register
 
 /// ```text
-/// requires { ⌜ Roomy wide (now sheet) × (k < recordLimit wide) ⌝ }
-/// ensures { λ r. ⌜ Follows wide (linesOf w) (w .waiting) (linesOf r) (r .waiting) (now (sheet .entry)) (now (sheet .exit)) k
-///     (λ c. registerActs (registerView register) high val) ⌝ }
+/// requires { Roomy wide sheet.old × (k < record_limit wide) }
+/// ensures { Follows wide (lines_of w) w.waiting (lines_of result) result.waiting sheet.old sheet.new k
+///     (λ c. register_acts (register_view register) high val) }
 /// ```
 fn write_half(
     sheet: &mut [u8],
@@ -44,7 +44,7 @@ fn write_half(
 /// A register that is heeded, as it reads: CLEAR as 0, ISR without the masked inputs.
 ///
 /// ```text
-/// ensures { λ r. ⌜ ReadsAs (linesOf w) r (registerView register) ⌝ }
+/// ensures { ReadsAs (lines_of w) result (register_view register) }
 /// ```
 fn value_of(w: Watched, register: Register) -> u64 {
     match register {
@@ -62,7 +62,7 @@ fn value_of(w: Watched, register: Register) -> u64 {
 /// The Dword that it is, or that it lies in.
 ///
 /// ```text
-/// ensures { λ r. ⌜ r ≡ cond narrow (placeOf offset) offset ⌝ }
+/// ensures { result ≡ (if narrow then place_of offset else offset) }
 /// ```
 fn place_of(offset: usize, narrow: bool) -> usize {
     if narrow { offset & !0x3 } else { offset }
@@ -71,7 +71,7 @@ fn place_of(offset: usize, narrow: bool) -> usize {
 /// What a half of a register is written with: of a Byte the half as read, with that byte replaced.
 ///
 /// ```text
-/// ensures { λ r. ⌜ PutIn (linesOf w) (registerView register) high offset narrow x r ⌝ }
+/// ensures { PutIn (lines_of w) (register_view register) high offset narrow x result }
 /// ```
 fn value_in(
     w: Watched,
@@ -91,9 +91,9 @@ fn value_in(
 }
 
 /// ```text
-/// requires { ⌜ Roomy wide (now sheet) × (k < recordLimit wide) ⌝ }
-/// ensures { λ r. ⌜ Follows wide (linesOf w) (w .waiting) (linesOf r) (r .waiting) (now (sheet .entry)) (now (sheet .exit)) k
-///     (λ c. writeActs c (pieceWidth narrow) offset x) ⌝ }
+/// requires { Roomy wide sheet.old × (k < record_limit wide) }
+/// ensures { Follows wide (lines_of w) w.waiting (lines_of result) result.waiting sheet.old sheet.new k
+///     (λ c. write_acts c (piece_width narrow) offset x) }
 /// ```
 fn write_piece(
     sheet: &mut [u8],
@@ -122,9 +122,9 @@ fn write_piece(
 /// A Word is two Bytes and a Qword two Dwords; the second meets what the first left.
 ///
 /// ```text
-/// requires { ⌜ Roomy wide (now sheet) × (k < recordLimit wide) × Sized width × (offset + width ≤ 2 ^ 64 - 1) ⌝ }
-/// ensures { λ r. ⌜ Follows wide (linesOf w) (w .waiting) (linesOf r) (r .waiting) (now (sheet .entry)) (now (sheet .exit)) k
-///     (λ c. writeActs c (widthOf width) offset value) ⌝ }
+/// requires { Roomy wide sheet.old × (k < record_limit wide) × Sized width × (offset + width ≤ 2 ^ 64 - 1) }
+/// ensures { Follows wide (lines_of w) w.waiting (lines_of result) result.waiting sheet.old sheet.new k
+///     (λ c. write_acts c (width_of width) offset value) }
 /// ```
 pub fn write(
     sheet: &mut [u8],

@@ -10,8 +10,8 @@ use super::super::image::form::Form;
 /// The lowest of a set that waits goes into service; the answer is its vector.
 ///
 /// ```text
-/// requires { ⌜ length (now image) ≡ formLength (formView form) ⌝ }
-/// ensures { λ r. ⌜ MovesIn (now (image .entry)) (now (image .exit)) (answerValue r) untaken given (λ vs. lines.enter vs false (on set)) ⌝ }
+/// requires { length image.old ≡ form_length (form_view form) }
+/// ensures { MovesIn image.old image.new (answer_value result) untaken given (λ vs. lines.enter vs false (on set)) }
 /// ```
 pub fn enter(image: &mut [u8], form: Form, set: u64) -> Answer {
     let isr = words::isr(image, form);
@@ -27,8 +27,8 @@ pub fn enter(image: &mut [u8], form: Form, set: u64) -> Answer {
 /// An input that is in service leaves it; the answer is its vector.
 ///
 /// ```text
-/// requires { ⌜ (length (now image) ≡ formLength (formView form)) × (irq < 64) ⌝ }
-/// ensures { λ r. ⌜ MovesIn (now (image .entry)) (now (image .exit)) (answerValue r) untaken given (λ vs. lines.leave vs false (only irq)) ⌝ }
+/// requires { (length image.old ≡ form_length (form_view form)) × (irq < 64) }
+/// ensures { MovesIn image.old image.new (answer_value result) untaken given (λ vs. lines.leave vs false (only irq)) }
 /// ```
 pub fn leave_one(image: &mut [u8], form: Form, irq: usize) -> Answer {
     let isr = words::isr(image, form);

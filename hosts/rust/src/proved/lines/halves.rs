@@ -13,8 +13,8 @@ use super::masking::write_mask;
 /// A register as it reads: CLEAR as 0, ISR without the masked bits.
 ///
 /// ```text
-/// requires { ⌜ length (now image) ≡ formLength (formView form) ⌝ }
-/// ensures { λ r. ⌜ Reads (now (image .entry)) r (λ d. valueOf (d .core) (registerView register)) ⌝ }
+/// requires { length image.now ≡ form_length (form_view form) }
+/// ensures { Reads image.now result (λ d. value_of d.core (register_view register)) }
 /// ```
 pub fn value_of(image: &[u8], form: Form, register: Register) -> u64 {
     match register {
@@ -30,8 +30,8 @@ pub fn value_of(image: &[u8], form: Form, register: Register) -> u64 {
 /// It replaces the stored half and makes no event.
 ///
 /// ```text
-/// requires { ⌜ length (now image) ≡ formLength (formView form) ⌝ }
-/// ensures { λ _. ⌜ Writes (now (image .entry)) (now (image .exit)) 0 (λ c. setIsr high val ∷ []) ⌝ }
+/// requires { length image.old ≡ form_length (form_view form) }
+/// ensures { Writes image.old image.new 0 (λ c. set_isr high val ∷ []) }
 /// ```
 fn write_isr(image: &mut [u8], form: Form, val: u32, high: bool) {
     let old = words::isr(image, form);
@@ -39,8 +39,8 @@ fn write_isr(image: &mut [u8], form: Form, val: u32, high: bool) {
 }
 
 /// ```text
-/// requires { ⌜ length (now image) ≡ formLength (formView form) ⌝ }
-/// ensures { λ _. ⌜ Writes (now (image .entry)) (now (image .exit)) 0 (λ c. store (setPlain (plainView plain) high val) ∷ []) ⌝ }
+/// requires { length image.old ≡ form_length (form_view form) }
+/// ensures { Writes image.old image.new 0 (λ c. store (set_plain (plain_view plain) high val) ∷ []) }
 /// ```
 fn write_plain(image: &mut [u8], form: Form, plain: Plain, val: u32, high: bool) {
     let old = words::plain(image, form, plain);
@@ -50,8 +50,8 @@ fn write_plain(image: &mut [u8], form: Form, plain: Plain, val: u32, high: bool)
 /// ID and IRR ignore it.
 ///
 /// ```text
-/// requires { ⌜ length (now image) ≡ formLength (formView form) ⌝ }
-/// ensures { λ r. ⌜ (r ≤ 65) × Writes (now (image .entry)) (now (image .exit)) r (λ c. registerActs (registerView register) high val) ⌝ }
+/// requires { length image.old ≡ form_length (form_view form) }
+/// ensures { (result ≤ 65) × Writes image.old image.new result (λ c. register_acts (register_view register) high val) }
 /// ```
 pub fn write_half(image: &mut [u8], form: Form, register: Register, val: u32, high: bool) -> u32 {
     match register {

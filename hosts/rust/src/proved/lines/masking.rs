@@ -13,8 +13,8 @@ use super::events::offer_entered;
 /// service, so that a write by which none leaves makes no call.
 ///
 /// ```text
-/// requires { ⌜ (length (now image) ≡ formLength (formView form)) × Reads (now image) isr (λ d. d .core .lines .isr) ⌝ }
-/// ensures { λ r. ⌜ (r ≤ 64) × MovesIn (now (image .entry)) (now (image .exit)) r takesAll lost (λ vs. lines.leave vs true (on set)) ⌝ }
+/// requires { (length image.old ≡ form_length (form_view form)) × Reads image.old isr (λ d. d.core.lines.isr) }
+/// ensures { (result ≤ 64) × MovesIn image.old image.new result takes_all lost (λ vs. lines.leave vs true (on set)) }
 /// ```
 fn leave(image: &mut [u8], form: Form, set: u64, isr: u64) -> u32 {
     words::put_isr(image, form, isr & !set);
@@ -25,8 +25,8 @@ fn leave(image: &mut [u8], form: Form, set: u64, isr: u64) -> u32 {
 /// other half stays.
 ///
 /// ```text
-/// requires { ⌜ length (now image) ≡ formLength (formView form) ⌝ }
-/// ensures { λ r. ⌜ (r ≤ 65) × Writes (now (image .entry)) (now (image .exit)) r (λ c. core.move (core.setMask high val) ∷ []) ⌝ }
+/// requires { length image.old ≡ form_length (form_view form) }
+/// ensures { (result ≤ 65) × Writes image.old image.new result (λ c. core.move (core.set_mask high val) ∷ []) }
 /// ```
 pub fn write_mask(image: &mut [u8], form: Form, val: u32, high: bool) -> u32 {
     let old = words::mask(image, form);
@@ -45,8 +45,8 @@ pub fn write_mask(image: &mut [u8], form: Form, val: u32, high: bool) -> u32 {
 /// CLEAR: latches and service lose the bits.
 ///
 /// ```text
-/// requires { ⌜ length (now image) ≡ formLength (formView form) ⌝ }
-/// ensures { λ r. ⌜ (r ≤ 65) × Writes (now (image .entry)) (now (image .exit)) r (λ c. core.move (core.clear bits) ∷ []) ⌝ }
+/// requires { length image.old ≡ form_length (form_view form) }
+/// ensures { (result ≤ 65) × Writes image.old image.new result (λ c. core.move (core.clear bits) ∷ []) }
 /// ```
 pub fn write_clear(image: &mut [u8], form: Form, bits: u64) -> u32 {
     let irr = words::irr(image, form);

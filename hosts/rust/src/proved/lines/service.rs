@@ -8,8 +8,8 @@ use super::enter_leave::enter;
 use super::enter_leave::leave_one;
 
 /// ```text
-/// requires { ⌜ (length (now image) ≡ formLength (formView form)) × (irq < 64) ⌝ }
-/// ensures { λ r. ⌜ Returns (now (image .entry)) (now (image .exit)) (answerValue r) (core.poll irq) ⌝ }
+/// requires { (length image.old ≡ form_length (form_view form)) × (irq < 64) }
+/// ensures { Returns image.old image.new (answer_value result) (core.poll irq) }
 /// ```
 pub fn poll(image: &mut [u8], form: Form, irq: usize) -> Answer {
     enter(image, form, 1u64 << irq)
@@ -18,8 +18,8 @@ pub fn poll(image: &mut [u8], form: Form, irq: usize) -> Answer {
 /// It is latched, and then polled.
 ///
 /// ```text
-/// requires { ⌜ (length (now image) ≡ formLength (formView form)) × (irq < 64) ⌝ }
-/// ensures { λ r. ⌜ Returns (now (image .entry)) (now (image .exit)) (answerValue r) (core.raise irq) ⌝ }
+/// requires { (length image.old ≡ form_length (form_view form)) × (irq < 64) }
+/// ensures { Returns image.old image.new (answer_value result) (core.raise irq) }
 /// ```
 fn raise(image: &mut [u8], form: Form, irq: usize) -> Answer {
     let irr = words::irr(image, form);
@@ -31,8 +31,8 @@ fn raise(image: &mut [u8], form: Form, irq: usize) -> Answer {
 /// Its latch goes off, and it leaves service, masked or not.
 ///
 /// ```text
-/// requires { ⌜ (length (now image) ≡ formLength (formView form)) × (irq < 64) ⌝ }
-/// ensures { λ r. ⌜ Returns (now (image .entry)) (now (image .exit)) (answerValue r) (core.lower irq) ⌝ }
+/// requires { (length image.old ≡ form_length (form_view form)) × (irq < 64) }
+/// ensures { Returns image.old image.new (answer_value result) (core.lower irq) }
 /// ```
 fn lower(image: &mut [u8], form: Form, irq: usize) -> Answer {
     let irr = words::irr(image, form);
@@ -41,8 +41,8 @@ fn lower(image: &mut [u8], form: Form, irq: usize) -> Answer {
 }
 
 /// ```text
-/// requires { ⌜ (length (now image) ≡ formLength (formView form)) × (irq < 64) ⌝ }
-/// ensures { λ r. ⌜ Returns (now (image .entry)) (now (image .exit)) (answerValue r) (levelMove irq level) ⌝ }
+/// requires { (length image.old ≡ form_length (form_view form)) × (irq < 64) }
+/// ensures { Returns image.old image.new (answer_value result) (level_move irq level) }
 /// ```
 pub fn set_level(image: &mut [u8], form: Form, irq: usize, level: bool) -> Answer {
     if level {

@@ -26,9 +26,9 @@ use super::super::six_calls::tested_access;
 /// A read of any width: the image is tested the whole way.
 ///
 /// ```text
-/// requires { ⌜ answerLength ≤ length (now answer) ⌝ }
-/// ensures { λ r. ⌜ leaves r (now (image .entry)) (now (answer .exit)) []
-///     ≡ outcome (asked.read base size address width) (now (image .entry)) (now (answer .entry)) ⌝ }
+/// requires { answer_length ≤ length answer.old }
+/// ensures { leaves result image.now answer.new []
+///     ≡ outcome (asked.read base size address width) image.now answer.old }
 /// ```
 pub fn read_any(
     image: &[u8],
@@ -45,9 +45,9 @@ pub fn read_any(
 /// A Dword of an image that is accepted.
 ///
 /// ```text
-/// requires { ⌜ Passed (formView form) (now image) × (answerLength ≤ length (now answer)) ⌝ }
-/// ensures { λ r. ⌜ leaves r (now (image .entry)) (now (answer .exit)) []
-///     ≡ outcome (asked.read base size address 4) (now (image .entry)) (now (answer .entry)) ⌝ }
+/// requires { Passed (form_view form) image.now × (answer_length ≤ length answer.old) }
+/// ensures { leaves result image.now answer.new []
+///     ≡ outcome (asked.read base size address 4) image.now answer.old }
 /// ```
 fn read_on(image: &[u8], form: Form, base: u64, size: u64, address: u64, answer: &mut [u8]) -> u8 {
     let Located::At(offset) = window::locate(base, size, address, 4) else {
@@ -60,9 +60,9 @@ fn read_on(image: &[u8], form: Form, base: u64, size: u64, address: u64, answer:
 /// The contents are those of the form, and the bodies are tested in full.
 ///
 /// ```text
-/// requires { ⌜ Headed (Of form) (now image) × (answerLength ≤ length (now answer)) ⌝ }
-/// ensures { λ r. ⌜ leaves r (now (image .entry)) (now (answer .exit)) []
-///     ≡ outcome (asked.read base size address 4) (now (image .entry)) (now (answer .entry)) ⌝ }
+/// requires { Headed (Of form) image.now × (answer_length ≤ length answer.old) }
+/// ensures { leaves result image.now answer.new []
+///     ≡ outcome (asked.read base size address 4) image.now answer.old }
 /// ```
 fn read_tested(
     image: &[u8],
@@ -81,9 +81,9 @@ fn read_tested(
 /// The contents are those of the form. Where few wait, the form is a constant here too.
 ///
 /// ```text
-/// requires { ⌜ Headed (Of form) (now image) × (answerLength ≤ length (now answer)) ⌝ }
-/// ensures { λ r. ⌜ leaves r (now (image .entry)) (now (answer .exit)) []
-///     ≡ outcome (asked.read base size address 4) (now (image .entry)) (now (answer .entry)) ⌝ }
+/// requires { Headed (Of form) image.now × (answer_length ≤ length answer.old) }
+/// ensures { leaves result image.now answer.new []
+///     ≡ outcome (asked.read base size address 4) image.now answer.old }
 /// ```
 fn read_waiting(
     image: &[u8],
@@ -119,9 +119,9 @@ fn read_waiting(
 /// what is done, and every Dword would take 4 instructions more.
 ///
 /// ```text
-/// requires { ⌜ Passed (formView form) (now image) × (answerLength ≤ length (now answer)) ⌝ }
-/// ensures { λ r. ⌜ leaves r (now (image .entry)) (now (answer .exit)) []
-///     ≡ outcome (asked.read base size address 4) (now (image .entry)) (now (answer .entry)) ⌝ }
+/// requires { Passed (form_view form) image.now × (answer_length ≤ length answer.old) }
+/// ensures { leaves result image.now answer.new []
+///     ≡ outcome (asked.read base size address 4) image.now answer.old }
 /// ```
 fn read_at_once(
     image: &[u8],
@@ -141,9 +141,9 @@ fn read_at_once(
 /// A Dword. The quick test comes first, in an arm for each form.
 ///
 /// ```text
-/// requires { ⌜ answerLength ≤ length (now answer) ⌝ }
-/// ensures { λ r. ⌜ leaves r (now (image .entry)) (now (answer .exit)) []
-///     ≡ outcome (asked.read base size address 4) (now (image .entry)) (now (answer .entry)) ⌝ }
+/// requires { answer_length ≤ length answer.old }
+/// ensures { leaves result image.now answer.new []
+///     ≡ outcome (asked.read base size address 4) image.now answer.old }
 /// ```
 pub fn read_dword(image: &[u8], base: u64, size: u64, address: u64, answer: &mut [u8]) -> u8 {
     let KnownForm::As(form) = form_of(image.len()) else {
@@ -183,9 +183,9 @@ pub fn read_dword(image: &[u8], base: u64, size: u64, address: u64, answer: &mut
 /// A write of any width: the image is tested the whole way.
 ///
 /// ```text
-/// requires { ⌜ answerLength ≤ length (now answer) ⌝ }
-/// ensures { λ r. ⌜ leaves r (now (image .exit)) (now (answer .exit)) []
-///     ≡ outcome (asked.write base size address width value) (now (image .entry)) (now (answer .entry)) ⌝ }
+/// requires { answer_length ≤ length answer.old }
+/// ensures { leaves result image.new answer.new []
+///     ≡ outcome (asked.write base size address width value) image.old answer.old }
 /// ```
 pub fn write_any(
     image: &mut [u8],
@@ -203,9 +203,9 @@ pub fn write_any(
 /// A Dword to an image that is accepted.
 ///
 /// ```text
-/// requires { ⌜ Passed (formView form) (now image) × (answerLength ≤ length (now answer)) ⌝ }
-/// ensures { λ r. ⌜ leaves r (now (image .exit)) (now (answer .exit)) []
-///     ≡ outcome (asked.write base size address 4 value) (now (image .entry)) (now (answer .entry)) ⌝ }
+/// requires { Passed (form_view form) image.old × (answer_length ≤ length answer.old) }
+/// ensures { leaves result image.new answer.new []
+///     ≡ outcome (asked.write base size address 4 value) image.old answer.old }
 /// ```
 fn write_on(
     image: &mut [u8],
@@ -226,9 +226,9 @@ fn write_on(
 /// The contents are those of the form, and the bodies are tested in full.
 ///
 /// ```text
-/// requires { ⌜ Headed (Of form) (now image) × (answerLength ≤ length (now answer)) ⌝ }
-/// ensures { λ r. ⌜ leaves r (now (image .exit)) (now (answer .exit)) []
-///     ≡ outcome (asked.write base size address 4 value) (now (image .entry)) (now (answer .entry)) ⌝ }
+/// requires { Headed (Of form) image.old × (answer_length ≤ length answer.old) }
+/// ensures { leaves result image.new answer.new []
+///     ≡ outcome (asked.write base size address 4 value) image.old answer.old }
 /// ```
 fn write_tested(
     image: &mut [u8],
@@ -248,9 +248,9 @@ fn write_tested(
 /// The contents are those of the form. Where few wait, the form is a constant here too.
 ///
 /// ```text
-/// requires { ⌜ Headed (Of form) (now image) × (answerLength ≤ length (now answer)) ⌝ }
-/// ensures { λ r. ⌜ leaves r (now (image .exit)) (now (answer .exit)) []
-///     ≡ outcome (asked.write base size address 4 value) (now (image .entry)) (now (answer .entry)) ⌝ }
+/// requires { Headed (Of form) image.old × (answer_length ≤ length answer.old) }
+/// ensures { leaves result image.new answer.new []
+///     ≡ outcome (asked.write base size address 4 value) image.old answer.old }
 /// ```
 fn write_waiting(
     image: &mut [u8],
@@ -287,9 +287,9 @@ fn write_waiting(
 /// what is done, and every Dword would take 4 instructions more.
 ///
 /// ```text
-/// requires { ⌜ Passed (formView form) (now image) × (answerLength ≤ length (now answer)) ⌝ }
-/// ensures { λ r. ⌜ leaves r (now (image .exit)) (now (answer .exit)) []
-///     ≡ outcome (asked.write base size address 4 value) (now (image .entry)) (now (answer .entry)) ⌝ }
+/// requires { Passed (form_view form) image.old × (answer_length ≤ length answer.old) }
+/// ensures { leaves result image.new answer.new []
+///     ≡ outcome (asked.write base size address 4 value) image.old answer.old }
 /// ```
 fn write_at_once(
     image: &mut [u8],
@@ -310,9 +310,9 @@ fn write_at_once(
 /// A Dword. The quick test comes first, in an arm for each form.
 ///
 /// ```text
-/// requires { ⌜ answerLength ≤ length (now answer) ⌝ }
-/// ensures { λ r. ⌜ leaves r (now (image .exit)) (now (answer .exit)) []
-///     ≡ outcome (asked.write base size address 4 value) (now (image .entry)) (now (answer .entry)) ⌝ }
+/// requires { answer_length ≤ length answer.old }
+/// ensures { leaves result image.new answer.new []
+///     ≡ outcome (asked.write base size address 4 value) image.old answer.old }
 /// ```
 pub fn write_dword(
     image: &mut [u8],

@@ -15,8 +15,8 @@ use super::super::image::quick::odd;
 /// True only where the image is accepted and nothing waits in it; false tells nothing. The count comes first: as a rule something waits where a host drains, and then no more is looked at here.
 ///
 /// ```text
-/// requires { ⌜ length (now image) ≡ formLength (formView form) ⌝ }
-/// ensures { λ r. ⌜ Waits 0 (formView form) (now (image .entry)) r ⌝ }
+/// requires { length image.now ≡ form_length (form_view form) }
+/// ensures { Waits 0 (form_view form) image.now result }
 /// ```
 pub fn nothing_waits(image: &[u8], form: Form) -> bool {
     let p = places_of(form);
@@ -30,9 +30,9 @@ pub fn nothing_waits(image: &[u8], form: Form) -> bool {
 /// The only one that waits goes into the buffer, which has room for it.
 ///
 /// ```text
-/// requires { ⌜ Passed (formView form) (now image) × (countIn (formView form) (now image) ≡ 1) × (answerLength ≤ length (now answer)) × (place + drainedLength ≤ length (now events)) ⌝ }
-/// ensures { λ r. ⌜ leaves r (now (image .exit)) (now (answer .exit)) (now (events .exit))
-///     ≡ outcome (asked.drain (now (events .entry)) place) (now (image .entry)) (now (answer .entry)) ⌝ }
+/// requires { Passed (form_view form) image.old × (count_in (form_view form) image.old ≡ 1) × (answer_length ≤ length answer.old) × (place + drained_length ≤ length events.old) }
+/// ensures { leaves result image.new answer.new events.new
+///     ≡ outcome (asked.drain events.old place) image.old answer.old }
 /// ```
 pub fn drain_one(
     image: &mut [u8],
@@ -48,9 +48,9 @@ pub fn drain_one(
 /// The contents are those of the form, and the bodies are still to be tested. The events go into the buffer from a place on.
 ///
 /// ```text
-/// requires { ⌜ Headed (Of form) (now image) × (answerLength ≤ length (now answer)) × (place ≤ length (now events)) ⌝ }
-/// ensures { λ r. ⌜ leaves r (now (image .exit)) (now (answer .exit)) (now (events .exit))
-///     ≡ outcome (asked.drain (now (events .entry)) place) (now (image .entry)) (now (answer .entry)) ⌝ }
+/// requires { Headed (Of form) image.old × (answer_length ≤ length answer.old) × (place ≤ length events.old) }
+/// ensures { leaves result image.new answer.new events.new
+///     ≡ outcome (asked.drain events.old place) image.old answer.old }
 /// ```
 pub fn drain_waiting(
     image: &mut [u8],

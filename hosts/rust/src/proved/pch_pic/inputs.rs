@@ -15,8 +15,8 @@ use super::super::six_calls::who_waits;
 /// The image is accepted.
 ///
 /// ```text
-/// requires { ⌜ Passed (formView form) (now image) × (answerLength ≤ length (now answer)) ⌝ }
-/// ensures { λ r. ⌜ leaves r (now (image .exit)) (now (answer .exit)) [] ≡ outcome (asked.level input level) (now (image .entry)) (now (answer .entry)) ⌝ }
+/// requires { Passed (form_view form) image.old × (answer_length ≤ length answer.old) }
+/// ensures { leaves result image.new answer.new [] ≡ outcome (asked.level input level) image.old answer.old }
 /// ```
 pub fn level_on(image: &mut [u8], form: Form, input: u64, level: u64, answer: &mut [u8]) -> u8 {
     let told = accepted_input::level(image, form, input, level);
@@ -26,8 +26,8 @@ pub fn level_on(image: &mut [u8], form: Form, input: u64, level: u64, answer: &m
 /// The contents are those of the form, and the bodies are still to be tested.
 ///
 /// ```text
-/// requires { ⌜ Headed (Of form) (now image) × (answerLength ≤ length (now answer)) ⌝ }
-/// ensures { λ r. ⌜ leaves r (now (image .exit)) (now (answer .exit)) [] ≡ outcome (asked.level input level) (now (image .entry)) (now (answer .entry)) ⌝ }
+/// requires { Headed (Of form) image.old × (answer_length ≤ length answer.old) }
+/// ensures { leaves result image.new answer.new [] ≡ outcome (asked.level input level) image.old answer.old }
 /// ```
 fn level_tested(image: &mut [u8], form: Form, input: u64, level: u64, answer: &mut [u8]) -> u8 {
     let Bodies::Good = test_waiting(image, form) else {
@@ -37,8 +37,8 @@ fn level_tested(image: &mut [u8], form: Form, input: u64, level: u64, answer: &m
 }
 
 /// ```text
-/// requires { ⌜ Passed (formView form) (now image) × (answerLength ≤ length (now answer)) ⌝ }
-/// ensures { λ r. ⌜ leaves r (now (image .exit)) (now (answer .exit)) [] ≡ outcome (asked.poll input) (now (image .entry)) (now (answer .entry)) ⌝ }
+/// requires { Passed (form_view form) image.old × (answer_length ≤ length answer.old) }
+/// ensures { leaves result image.new answer.new [] ≡ outcome (asked.poll input) image.old answer.old }
 /// ```
 pub fn poll_on(image: &mut [u8], form: Form, input: u64, answer: &mut [u8]) -> u8 {
     let told = accepted_input::poll(image, form, input);
@@ -46,8 +46,8 @@ pub fn poll_on(image: &mut [u8], form: Form, input: u64, answer: &mut [u8]) -> u
 }
 
 /// ```text
-/// requires { ⌜ Headed (Of form) (now image) × (answerLength ≤ length (now answer)) ⌝ }
-/// ensures { λ r. ⌜ leaves r (now (image .exit)) (now (answer .exit)) [] ≡ outcome (asked.poll input) (now (image .entry)) (now (answer .entry)) ⌝ }
+/// requires { Headed (Of form) image.old × (answer_length ≤ length answer.old) }
+/// ensures { leaves result image.new answer.new [] ≡ outcome (asked.poll input) image.old answer.old }
 /// ```
 fn poll_tested(image: &mut [u8], form: Form, input: u64, answer: &mut [u8]) -> u8 {
     let Bodies::Good = test_waiting(image, form) else {
@@ -57,8 +57,8 @@ fn poll_tested(image: &mut [u8], form: Form, input: u64, answer: &mut [u8]) -> u
 }
 
 /// ```text
-/// requires { ⌜ Headed (Of form) (now image) × (answerLength ≤ length (now answer)) ⌝ }
-/// ensures { λ r. ⌜ leaves r (now (image .exit)) (now (answer .exit)) [] ≡ outcome (asked.level input level) (now (image .entry)) (now (answer .entry)) ⌝ }
+/// requires { Headed (Of form) image.old × (answer_length ≤ length answer.old) }
+/// ensures { leaves result image.new answer.new [] ≡ outcome (asked.level input level) image.old answer.old }
 /// ```
 pub fn level_waiting(
     image: &mut [u8],
@@ -90,8 +90,8 @@ pub fn level_waiting(
 }
 
 /// ```text
-/// requires { ⌜ Headed (Of form) (now image) × (answerLength ≤ length (now answer)) ⌝ }
-/// ensures { λ r. ⌜ leaves r (now (image .exit)) (now (answer .exit)) [] ≡ outcome (asked.poll input) (now (image .entry)) (now (answer .entry)) ⌝ }
+/// requires { Headed (Of form) image.old × (answer_length ≤ length answer.old) }
+/// ensures { leaves result image.new answer.new [] ≡ outcome (asked.poll input) image.old answer.old }
 /// ```
 pub fn poll_waiting(image: &mut [u8], form: Form, input: u64, answer: &mut [u8]) -> u8 {
     match form {
@@ -119,8 +119,8 @@ pub fn poll_waiting(image: &mut [u8], form: Form, input: u64, answer: &mut [u8])
 /// Who waits, of an image that is accepted.
 ///
 /// ```text
-/// requires { ⌜ Passed (formView form) (now image) × (answerLength ≤ length (now answer)) ⌝ }
-/// ensures { λ r. ⌜ leaves r (now (image .entry)) (now (answer .exit)) [] ≡ waiting (now (image .entry)) (now (answer .entry)) ⌝ }
+/// requires { Passed (form_view form) image.now × (answer_length ≤ length answer.old) }
+/// ensures { leaves result image.now answer.new [] ≡ waiting image.now answer.old }
 /// ```
 pub fn waiting_on(image: &[u8], form: Form, answer: &mut [u8]) -> u8 {
     let set = who_waits::set_of(&*image, form);
@@ -130,8 +130,8 @@ pub fn waiting_on(image: &[u8], form: Form, answer: &mut [u8]) -> u8 {
 /// Of any other one: it is tested the whole way.
 ///
 /// ```text
-/// requires { ⌜ answerLength ≤ length (now answer) ⌝ }
-/// ensures { λ r. ⌜ leaves r (now (image .entry)) (now (answer .exit)) [] ≡ waiting (now (image .entry)) (now (answer .entry)) ⌝ }
+/// requires { answer_length ≤ length answer.old }
+/// ensures { leaves result image.now answer.new [] ≡ waiting image.now answer.old }
 /// ```
 pub fn waiting_tested(image: &[u8], answer: &mut [u8]) -> u8 {
     let told = who_waits::waiting(&*image);

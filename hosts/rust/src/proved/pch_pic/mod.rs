@@ -34,7 +34,7 @@ use super::image::quick::odd;
 use super::six_calls::reset_drain;
 
 /// ```text
-/// ensures { λ r. ⌜ leaves r (now (image .exit)) (now (answer .exit)) [] ≡ outcome asked.reset (now (image .entry)) (now (answer .entry)) ⌝ }
+/// ensures { leaves result image.new answer.new [] ≡ outcome asked.reset image.old answer.old }
 /// ```
 pub fn pch_pic_reset(image: &mut [u8], answer: &mut [u8]) -> u8 {
     if answer.len() < 16 {
@@ -45,8 +45,8 @@ pub fn pch_pic_reset(image: &mut [u8], answer: &mut [u8]) -> u8 {
 }
 
 /// ```text
-/// ensures { λ r. ⌜ leaves r (now (image .entry)) (now (answer .exit)) []
-///     ≡ outcome (asked.read base size address width) (now (image .entry)) (now (answer .entry)) ⌝ }
+/// ensures { leaves result image.now answer.new []
+///     ≡ outcome (asked.read base size address width) image.now answer.old }
 /// ```
 pub fn pch_pic_read(
     image: &[u8],
@@ -66,8 +66,8 @@ pub fn pch_pic_read(
 }
 
 /// ```text
-/// ensures { λ r. ⌜ leaves r (now (image .exit)) (now (answer .exit)) []
-///     ≡ outcome (asked.write base size address width value) (now (image .entry)) (now (answer .entry)) ⌝ }
+/// ensures { leaves result image.new answer.new []
+///     ≡ outcome (asked.write base size address width value) image.old answer.old }
 /// ```
 pub fn pch_pic_write(
     image: &mut [u8],
@@ -88,7 +88,7 @@ pub fn pch_pic_write(
 }
 
 /// ```text
-/// ensures { λ r. ⌜ leaves r (now (image .exit)) (now (answer .exit)) [] ≡ outcome (asked.level input level) (now (image .entry)) (now (answer .entry)) ⌝ }
+/// ensures { leaves result image.new answer.new [] ≡ outcome (asked.level input level) image.old answer.old }
 /// ```
 pub fn pch_pic_level(image: &mut [u8], input: u64, level: u64, answer: &mut [u8]) -> u8 {
     if answer.len() < 16 {
@@ -129,7 +129,7 @@ pub fn pch_pic_level(image: &mut [u8], input: u64, level: u64, answer: &mut [u8]
 }
 
 /// ```text
-/// ensures { λ r. ⌜ leaves r (now (image .exit)) (now (answer .exit)) [] ≡ outcome (asked.poll input) (now (image .entry)) (now (answer .entry)) ⌝ }
+/// ensures { leaves result image.new answer.new [] ≡ outcome (asked.poll input) image.old answer.old }
 /// ```
 pub fn pch_pic_poll(image: &mut [u8], input: u64, answer: &mut [u8]) -> u8 {
     if answer.len() < 16 {
@@ -170,8 +170,8 @@ pub fn pch_pic_poll(image: &mut [u8], input: u64, answer: &mut [u8]) -> u8 {
 }
 
 /// ```text
-/// ensures { λ r. ⌜ leaves r (now (image .exit)) (now (answer .exit)) (now (events .exit))
-///     ≡ outcome (asked.drain (now (events .entry)) place) (now (image .entry)) (now (answer .entry)) ⌝ }
+/// ensures { leaves result image.new answer.new events.new
+///     ≡ outcome (asked.drain events.old place) image.old answer.old }
 /// ```
 pub fn pch_pic_drain(image: &mut [u8], events: &mut [u8], place: usize, answer: &mut [u8]) -> u8 {
     if answer.len() < 16 {
@@ -224,7 +224,7 @@ pub fn pch_pic_drain(image: &mut [u8], events: &mut [u8], place: usize, answer: 
 }
 
 /// ```text
-/// ensures { λ r. ⌜ leaves r (now (image .entry)) (now (answer .exit)) [] ≡ waiting (now (image .entry)) (now (answer .entry)) ⌝ }
+/// ensures { leaves result image.now answer.new [] ≡ waiting image.now answer.old }
 /// ```
 pub fn pch_pic_waiting(image: &[u8], answer: &mut [u8]) -> u8 {
     let room = answer.len();

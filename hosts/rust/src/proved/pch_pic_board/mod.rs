@@ -16,8 +16,8 @@ use super::six_calls::tested_input;
 /// What a call told goes into the answer area; before that, if it was done, the board is brought up to date with the image that it left.
 ///
 /// ```text
-/// requires { ⌜ Finishing told (now image) (now board) (now answer) ⌝ }
-/// ensures { λ r. ⌜ Finished told (now (image .entry)) (now (board .entry)) (now (answer .entry)) r (now (board .exit)) (now (answer .exit)) ⌝ }
+/// requires { Finishing told image.now board.old answer.old }
+/// ensures { Finished told image.now board.old answer.old result board.new answer.new }
 /// ```
 fn finish(image: &[u8], board: &mut [u8], answer: &mut [u8], told: Told) -> u8 {
     let number = told.number;
@@ -28,8 +28,8 @@ fn finish(image: &[u8], board: &mut [u8], answer: &mut [u8], told: Told) -> u8 {
 /// After a reset that handed back the number: done, no input is in service, so that nothing has to be counted; refused, the board stays.
 ///
 /// ```text
-/// requires { ⌜ boardLength ≤ length (now board) ⌝ }
-/// ensures { λ _. ⌜ now (board .exit) ≡ clearedAfter number (now (board .entry)) ⌝ }
+/// requires { board_length ≤ length board.old }
+/// ensures { board.new ≡ cleared_after number board.old }
 /// ```
 fn clear(board: &mut [u8], number: u8) {
     if number != 0 {
@@ -39,8 +39,8 @@ fn clear(board: &mut [u8], number: u8) {
 }
 
 /// ```text
-/// ensures { λ r. ⌜ boardLeaves r (now (image .exit)) (now (board .exit)) (now (answer .exit)) []
-///     ≡ boarding asked.reset (now (image .entry)) (now (board .entry)) (now (answer .entry)) ⌝ }
+/// ensures { board_leaves result image.new board.new answer.new []
+///     ≡ boarding asked.reset image.old board.old answer.old }
 /// ```
 pub fn pch_pic_board_reset(image: &mut [u8], board: &mut [u8], answer: &mut [u8]) -> u8 {
     if answer.len() < 16 {
@@ -56,8 +56,8 @@ pub fn pch_pic_board_reset(image: &mut [u8], board: &mut [u8], answer: &mut [u8]
 }
 
 /// ```text
-/// ensures { λ r. ⌜ boardLeaves r (now (image .entry)) (now (board .exit)) (now (answer .exit)) []
-///     ≡ boarding (asked.read base size address width) (now (image .entry)) (now (board .entry)) (now (answer .entry)) ⌝ }
+/// ensures { board_leaves result image.now board.new answer.new []
+///     ≡ boarding (asked.read base size address width) image.now board.old answer.old }
 /// ```
 pub fn pch_pic_board_read(
     image: &[u8],
@@ -79,8 +79,8 @@ pub fn pch_pic_board_read(
 }
 
 /// ```text
-/// ensures { λ r. ⌜ boardLeaves r (now (image .exit)) (now (board .exit)) (now (answer .exit)) []
-///     ≡ boarding (asked.write base size address width value) (now (image .entry)) (now (board .entry)) (now (answer .entry)) ⌝ }
+/// ensures { board_leaves result image.new board.new answer.new []
+///     ≡ boarding (asked.write base size address width value) image.old board.old answer.old }
 /// ```
 pub fn pch_pic_board_write(
     image: &mut [u8],
@@ -103,8 +103,8 @@ pub fn pch_pic_board_write(
 }
 
 /// ```text
-/// ensures { λ r. ⌜ boardLeaves r (now (image .exit)) (now (board .exit)) (now (answer .exit)) []
-///     ≡ boarding (asked.level input level) (now (image .entry)) (now (board .entry)) (now (answer .entry)) ⌝ }
+/// ensures { board_leaves result image.new board.new answer.new []
+///     ≡ boarding (asked.level input level) image.old board.old answer.old }
 /// ```
 pub fn pch_pic_board_level(
     image: &mut [u8],
@@ -124,8 +124,8 @@ pub fn pch_pic_board_level(
 }
 
 /// ```text
-/// ensures { λ r. ⌜ boardLeaves r (now (image .exit)) (now (board .exit)) (now (answer .exit)) []
-///     ≡ boarding (asked.poll input) (now (image .entry)) (now (board .entry)) (now (answer .entry)) ⌝ }
+/// ensures { board_leaves result image.new board.new answer.new []
+///     ≡ boarding (asked.poll input) image.old board.old answer.old }
 /// ```
 pub fn pch_pic_board_poll(image: &mut [u8], board: &mut [u8], input: u64, answer: &mut [u8]) -> u8 {
     if answer.len() < 16 {
@@ -139,8 +139,8 @@ pub fn pch_pic_board_poll(image: &mut [u8], board: &mut [u8], input: u64, answer
 }
 
 /// ```text
-/// ensures { λ r. ⌜ boardLeaves r (now (image .exit)) (now (board .exit)) (now (answer .exit)) (now (events .exit))
-///     ≡ boarding (asked.drain (now (events .entry)) place) (now (image .entry)) (now (board .entry)) (now (answer .entry)) ⌝ }
+/// ensures { board_leaves result image.new board.new answer.new events.new
+///     ≡ boarding (asked.drain events.old place) image.old board.old answer.old }
 /// ```
 pub fn pch_pic_board_drain(
     image: &mut [u8],
@@ -165,7 +165,7 @@ pub fn pch_pic_board_drain(
 /// A second board hears one event.
 ///
 /// ```text
-/// ensures { λ r. ⌜ hears r (now (board .exit)) (now (answer .exit)) ≡ hearing (now (board .entry)) vector flag (now (answer .entry)) ⌝ }
+/// ensures { hears result board.new answer.new ≡ hearing board.old vector flag answer.old }
 /// ```
 pub fn pch_pic_board_event(board: &mut [u8], vector: u8, flag: u8, answer: &mut [u8]) -> u8 {
     if answer.len() < 16 {

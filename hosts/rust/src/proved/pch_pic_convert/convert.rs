@@ -1,5 +1,6 @@
 // Made from crates/pch_pic_convert/src/convert.rt by tools/portable: do not change it here.
-//! An image moved to the form of a target's length, part by part: what is told is handed back. 4 of the image and 4 of the target are told alike, so that the target's length may be looked at first; then come 5 and 8 to 11.
+//! An image moved to the form of a target's length, by way of the whole state: what is told is handed back. The order of the tests is 4 of the image, 4 of the
+//! target, then 5 and 8 to 11.
 
 use super::super::answer::done;
 use super::super::answer::refusals::of_bodies;
@@ -10,32 +11,22 @@ use super::super::answer::Value;
 use super::super::image::bodies::test_bodies;
 use super::super::image::bodies::Bodies;
 use super::super::image::form::form_of;
-use super::super::image::form::Form;
 use super::super::image::form::KnownForm;
 use super::super::image::head::test_head;
 use super::super::image::head::Head;
-use super::carry;
-
-/// An arm for each form, so that each tests at constant places.
-///
-/// ```text
-/// requires { ⌜ length (now image) ≡ formLength (formView form) ⌝ }
-/// ensures { λ r. ⌜ holds r ≡ bodiesGood (formView form) (now (image .entry)) ⌝ }
-/// ```
-fn test_by_form(image: &[u8], form: Form) -> Bodies {
-    match form {
-        Form::One => test_bodies(image, Form::One),
-        Form::Two => test_bodies(image, Form::Two),
-        Form::Numbered => test_bodies(image, Form::Numbered),
-    }
-}
+use super::super::stored::save_state;
+use super::load_numbers;
+use super::load_state;
 
 /// The target is written only where all tests have passed; any bytes of its length will do.
 ///
 /// ```text
-/// ensures { λ r. ⌜ ends r (now (target .exit)) [] ≡ convertEnding (now (image .entry)) (now (target .entry)) ⌝ }
+/// ensures { ends result target.new [] ≡ convert_ending image.now target.old }
 /// ```
 pub fn convert(image: &[u8], target: &mut [u8]) -> Told {
+    let KnownForm::As(_) = form_of(image.len()) else {
+        return wrong_length();
+    };
     let KnownForm::As(form) = form_of(target.len()) else {
         return wrong_length();
     };
@@ -43,9 +34,10 @@ pub fn convert(image: &[u8], target: &mut [u8]) -> Told {
     let Head::Of(own) = told else {
         return of_head(told);
     };
-    let Bodies::Good = test_by_form(image, own) else {
+    let Bodies::Good = test_bodies(image, own) else {
         return of_bodies(image, own);
     };
-    carry::carry(image, own, target, form);
+    let numbers = load_numbers::load_numbers(image, own);
+    save_state::save(target, form, load_state::load(image, own), &numbers);
     done(Value::Absent)
 }

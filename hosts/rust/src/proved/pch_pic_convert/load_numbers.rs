@@ -10,8 +10,8 @@ use super::super::image::form::Form;
 /// a call of memcpy.
 ///
 /// ```text
-/// requires { ⌜ count ≤ capacity ⌝ }
-/// ensures { λ r. ⌜ r ≡ numberBody (fromZero count) ⌝ }
+/// requires { count ≤ capacity }
+/// ensures { result ≡ number_body (from_zero count) }
 /// ```
 fn counted(count: usize) -> [u8; 34] {
     let mut body = [0u8; 34];
@@ -27,8 +27,8 @@ fn counted(count: usize) -> [u8; 34] {
 /// The body of the numbers with which an image loads.
 ///
 /// ```text
-/// requires { ⌜ (length (now image) ≡ formLength (formView form)) × (countIn (formView form) (now image) ≤ capacity) ⌝ }
-/// ensures { λ r. ⌜ LoadsNumbers (formView form) (now (image .entry)) r ⌝ }
+/// requires { (length image.now ≡ form_length (form_view form)) × (count_in (form_view form) image.now ≤ capacity) }
+/// ensures { LoadsNumbers (form_view form) image.now result }
 /// ```
 pub fn load_numbers(image: &[u8], form: Form) -> [u8; 34] {
     let p = places_of(form);

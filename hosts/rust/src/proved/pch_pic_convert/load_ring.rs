@@ -1,22 +1,34 @@
 // Made from crates/pch_pic_convert/src/load_ring.rt by tools/portable: do not change it here.
-//! The ring's body from the bytes of an image, as it stands. What is asked of an image is its length.
+//! The ring of a state from the bytes of an image. What is asked of an image is its length, and of its ring the count.
 
-use super::super::bits::bytes::copy;
+use super::super::bits::bytes::number;
+use super::super::device::state::Ring;
 use super::super::image::form;
 use super::super::image::form::places_of;
 use super::super::image::form::Form;
+use super::super::stored::pairs::ring_of;
 
-/// The count, the drops and the pairs.
+/// The number that four bytes from a place on spell.
 ///
 /// ```text
-/// requires { ⌜ length (now image) ≡ formLength (formView form) ⌝ }
-/// ensures { λ r. ⌜ LoadsRing (formView form) (now (image .entry)) r ⌝ }
+/// requires { at + 4 ≤ length image.now }
+/// ensures { result ≡ number_of (part at 4 image.now) }
 /// ```
-pub fn load_ring(image: &[u8], form: Form) -> [u8; 37] {
+fn drops_at(image: &[u8], at: usize) -> u32 {
+    let end = at + form::DROPS_LENGTH;
+    number(&image[at..end]) as u32
+}
+
+/// ```text
+/// requires { (length image.now ≡ form_length (form_view form)) × (count_in (form_view form) image.now ≤ capacity) }
+/// ensures { IsRing result (decode_as (form_view form) image.now).ring }
+/// ```
+pub fn load_ring(image: &[u8], form: Form) -> Ring {
     let p = places_of(form);
-    let at = p.count;
-    let end = at + form::RING_LENGTH;
-    let mut body = [0u8; 37];
-    copy(&mut body, &image[at..end]);
-    body
+    let place = p.count;
+    let len = image[place] as usize;
+    let drops = drops_at(image, p.drops);
+    let at = p.pairs;
+    let end = at + form::PAIRS_LENGTH;
+    ring_of(&image[at..end], len, drops)
 }

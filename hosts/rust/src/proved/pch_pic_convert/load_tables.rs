@@ -8,8 +8,8 @@ use super::super::image::form::Form;
 /// The 64 entries that a part of the image holds, a byte for each input.
 ///
 /// ```text
-/// requires { ⌜ length (now part) ≡ 64 ⌝ }
-/// ensures { λ r. ⌜ r ≡ now (part .entry) ⌝ }
+/// requires { length part.now ≡ 64 }
+/// ensures { result ≡ part.now }
 /// ```
 fn fill_entries(part: &[u8]) -> [u8; 64] {
     let mut out = [0u8; 64];
@@ -18,8 +18,8 @@ fn fill_entries(part: &[u8]) -> [u8; 64] {
 }
 
 /// ```text
-/// requires { ⌜ length (now image) ≡ formLength (formView form) ⌝ }
-/// ensures { λ r. ⌜ r ≡ decodeAs (formView form) (now (image .entry)) .core .stored .routes ⌝ }
+/// requires { length image.now ≡ form_length (form_view form) }
+/// ensures { result ≡ (decode_as (form_view form) image.now).core.stored.routes }
 /// ```
 pub fn load_routes(image: &[u8], form: Form) -> [u8; 64] {
     let p = places_of(form);
@@ -31,8 +31,8 @@ pub fn load_routes(image: &[u8], form: Form) -> [u8; 64] {
 /// The vector body, a part that starts at byte 158 or, in form 2, 150 or, with numbers, 155, is handed on to the leaf that fills 64 entries.
 ///
 /// ```text
-/// requires { ⌜ length (now image) ≡ formLength (formView form) ⌝ }
-/// ensures { λ r. ⌜ r ≡ decodeAs (formView form) (now (image .entry)) .core .vectors ⌝ }
+/// requires { length image.now ≡ form_length (form_view form) }
+/// ensures { result ≡ (decode_as (form_view form) image.now).core.vectors }
 /// ```
 pub fn load_vectors(image: &[u8], form: Form) -> [u8; 64] {
     match form {

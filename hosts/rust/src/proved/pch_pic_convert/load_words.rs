@@ -8,8 +8,8 @@ use super::super::image::form::places_of;
 use super::super::image::form::Form;
 
 /// ```text
-/// requires { ⌜ length (now image) ≡ formLength (formView form) ⌝ }
-/// ensures { λ r. ⌜ IsLines r (decodeAs (formView form) (now (image .entry)) .core .lines) ⌝ }
+/// requires { length image.now ≡ form_length (form_view form) }
+/// ensures { IsLines result (decode_as (form_view form) image.now).core.lines }
 /// ```
 pub fn load_lines(image: &[u8], form: Form) -> Lines {
     let p = places_of(form);
@@ -24,8 +24,8 @@ pub fn load_lines(image: &[u8], form: Form) -> Lines {
 }
 
 /// ```text
-/// requires { ⌜ length (now image) ≡ formLength (formView form) ⌝ }
-/// ensures { λ r. ⌜ IsStored r (decodeAs (formView form) (now (image .entry)) .core .stored) ⌝ }
+/// requires { length image.now ≡ form_length (form_view form) }
+/// ensures { IsStored result (decode_as (form_view form) image.now).core.stored }
 /// ```
 pub fn load_stored(image: &[u8], form: Form) -> Stored {
     let p = places_of(form);

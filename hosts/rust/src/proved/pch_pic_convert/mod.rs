@@ -1,11 +1,11 @@
 // Made from crates/pch_pic_convert/src/lib.rt by tools/portable: do not change it here.
-//! The call that moves a lent image to another form (02, C-17). It requires nothing: every input has its outcome. It stands apart from the six, so that the code which stores
-//! the parts of a device has few callers in each object and becomes part of them.
+//! The call that moves a lent image to another form (02, C-17). It requires nothing: every input has its outcome. It stands apart from the six, so that the code which saves a state has one caller in
+//! each object and becomes part of it: a reset is then a block of constants.
 
-pub mod carry;
 pub mod convert;
 pub mod load_numbers;
 pub mod load_ring;
+pub mod load_state;
 pub mod load_tables;
 pub mod load_words;
 
@@ -14,7 +14,7 @@ use super::answer;
 /// The image goes into the target, in the form of the target's length.
 ///
 /// ```text
-/// ensures { λ r. ⌜ leaves r (now (target .exit)) (now (answer .exit)) [] ≡ conversion (now (image .entry)) (now (target .entry)) (now (answer .entry)) ⌝ }
+/// ensures { leaves result target.new answer.new [] ≡ conversion image.now target.old answer.old }
 /// ```
 pub fn pch_pic_convert(image: &[u8], target: &mut [u8], answer: &mut [u8]) -> u8 {
     if answer.len() < 16 {

@@ -21,8 +21,8 @@ use super::profile::unfit;
 use super::profile::Aligned;
 
 /// ```text
-/// requires { ⌜ Passed (formView form) (now image) ⌝ }
-/// ensures { λ r. ⌜ ends r (now (image .entry)) [] ≡ hoistEnding false (asked.read base size address width) (now (image .entry)) ⌝ }
+/// requires { Passed (form_view form) image.now }
+/// ensures { ends result image.now [] ≡ hoist_ending false (asked.read base size address width) image.now }
 /// ```
 pub fn read(image: &[u8], form: Form, base: u64, size: u64, address: u64, width: u64) -> Told {
     let Known::As(known) = window::width_of(width) else {
@@ -40,8 +40,8 @@ pub fn read(image: &[u8], form: Form, base: u64, size: u64, address: u64, width:
 /// The value that is told is how many events were dropped.
 ///
 /// ```text
-/// requires { ⌜ Passed (formView form) (now image) ⌝ }
-/// ensures { λ r. ⌜ ends r (now (image .exit)) [] ≡ hoistEnding running (asked.write base size address width value) (now (image .entry)) ⌝ }
+/// requires { Passed (form_view form) image.old }
+/// ensures { ends result image.new [] ≡ hoist_ending running (asked.write base size address width value) image.old }
 /// ```
 pub fn write(
     image: &mut [u8],

@@ -19,8 +19,8 @@ pub enum Fit {
 /// A vector write in start-up, by the four bytes that it would replace.
 ///
 /// ```text
-/// requires { ⌜ (length (now image) ≡ formLength (formView form)) × (0x200 ≤ offset) × (offset + 4 ≤ 0x240) ⌝ }
-/// ensures { λ r. ⌜ Reads (now (image .entry)) (refuses r) (λ d. changesServed d (write dword offset value)) ⌝ }
+/// requires { (length image.now ≡ form_length (form_view form)) × (0x200 ≤ offset) × (offset + 4 ≤ 0x240) }
+/// ensures { Reads image.now (refuses result) (λ d. changes_served d (write dword offset value)) }
 /// ```
 fn judge_vectors(image: &[u8], form: Form, offset: usize, value: u64) -> Fit {
     let isr = words::isr(image, form);
@@ -35,8 +35,8 @@ fn judge_vectors(image: &[u8], form: Form, offset: usize, value: u64) -> Fit {
 /// 15: to ISR, after start-up to the vectors, or where it would change a byte in service.
 ///
 /// ```text
-/// requires { ⌜ (length (now image) ≡ formLength (formView form)) × (offset % 4 ≡ 0) ⌝ }
-/// ensures { λ r. ⌜ Reads (now (image .entry)) (refuses r) (λ d. forbidden running d offset value) ⌝ }
+/// requires { (length image.now ≡ form_length (form_view form)) × (offset % 4 ≡ 0) }
+/// ensures { Reads image.now (refuses result) (λ d. forbidden running d offset value) }
 /// ```
 pub fn judge(image: &[u8], form: Form, running: bool, offset: usize, value: u64) -> Fit {
     if is_isr(offset) {
@@ -54,8 +54,8 @@ pub fn judge(image: &[u8], form: Form, running: bool, offset: usize, value: u64)
 /// Start-up can end once, and while no input is in service, masked or not.
 ///
 /// ```text
-/// requires { ⌜ length (now image) ≡ formLength (formView form) ⌝ }
-/// ensures { λ r. ⌜ Reads (now (image .entry)) (refuses r) (λ d. cannotEnd running d) ⌝ }
+/// requires { length image.now ≡ form_length (form_view form) }
+/// ensures { Reads image.now (refuses result) (λ d. cannot_end running d) }
 /// ```
 pub fn judge_end(image: &[u8], form: Form, running: bool) -> Fit {
     if running {

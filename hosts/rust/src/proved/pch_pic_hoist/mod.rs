@@ -15,8 +15,8 @@ use super::six_calls::reset_drain;
 /// Starts the first phase.
 ///
 /// ```text
-/// ensures { λ r. ⌜ phaseLeaves r (now (image .exit)) (now (phase .exit)) (now (answer .exit))
-///     ≡ hoistReset (now (image .entry)) (now (phase .entry)) (now (answer .entry)) ⌝ }
+/// ensures { phase_leaves result image.new phase.new answer.new
+///     ≡ hoist_reset image.old phase.old answer.old }
 /// ```
 pub fn pch_pic_hoist_reset(image: &mut [u8], phase: &mut [u8], answer: &mut [u8]) -> u8 {
     if answer.len() < 16 {
@@ -32,8 +32,8 @@ pub fn pch_pic_hoist_reset(image: &mut [u8], phase: &mut [u8], answer: &mut [u8]
 }
 
 /// ```text
-/// ensures { λ r. ⌜ leaves r (now (image .entry)) (now (answer .exit)) []
-///     ≡ hoistRead base size address width (now (image .entry)) (now (answer .entry)) ⌝ }
+/// ensures { leaves result image.now answer.new []
+///     ≡ hoist_read base size address width image.now answer.old }
 /// ```
 pub fn pch_pic_hoist_read(
     image: &[u8],
@@ -51,8 +51,8 @@ pub fn pch_pic_hoist_read(
 }
 
 /// ```text
-/// ensures { λ r. ⌜ leaves r (now (image .exit)) (now (answer .exit)) []
-///     ≡ hoistWrite base size address width value (now (image .entry)) (now (phase .entry)) (now (answer .entry)) ⌝ }
+/// ensures { leaves result image.new answer.new []
+///     ≡ hoist_write base size address width value image.old phase.now answer.old }
 /// ```
 pub fn pch_pic_hoist_write(
     image: &mut [u8],
@@ -78,8 +78,8 @@ pub fn pch_pic_hoist_write(
 /// Starts the second phase.
 ///
 /// ```text
-/// ensures { λ r. ⌜ phaseLeaves r (now (image .entry)) (now (phase .exit)) (now (answer .exit))
-///     ≡ endStartup (now (image .entry)) (now (phase .entry)) (now (answer .entry)) ⌝ }
+/// ensures { phase_leaves result image.now phase.new answer.new
+///     ≡ end_startup image.now phase.old answer.old }
 /// ```
 pub fn pch_pic_hoist_end_startup(image: &[u8], phase: &mut [u8], answer: &mut [u8]) -> u8 {
     if answer.len() < 16 {

@@ -11,7 +11,7 @@ use super::super::device::state::PchPicState;
 // ---- refusals
 
 /// ```text
-/// ensures { λ r. ⌜ Tells r unalignedNumber none ⌝ }
+/// ensures { Tells result unaligned_number none }
 /// ```
 pub fn unaligned() -> Told {
     Told {
@@ -21,7 +21,7 @@ pub fn unaligned() -> Told {
 }
 
 /// ```text
-/// ensures { λ r. ⌜ Tells r unfitNumber none ⌝ }
+/// ensures { Tells result unfit_number none }
 /// ```
 pub fn unfit() -> Told {
     Told {
@@ -40,7 +40,7 @@ pub enum Aligned {
 }
 
 /// ```text
-/// ensures { λ r. ⌜ alignedView r ≡ alignedDword (widthView width) offset ⌝ }
+/// ensures { aligned_view result ≡ aligned_dword (width_view width) offset }
 /// ```
 pub fn test_aligned(width: Width, offset: usize) -> Aligned {
     let Width::Dword = width else {
@@ -56,14 +56,14 @@ pub fn test_aligned(width: Width, offset: usize) -> Aligned {
 // ---- a write
 
 /// ```text
-/// ensures { λ r. ⌜ r ≡ isIsr offset ⌝ }
+/// ensures { result ≡ is_isr offset }
 /// ```
 pub fn is_isr(offset: usize) -> bool {
     (offset == PchPicState::INT_ISR_LO) | (offset == PchPicState::INT_ISR_HI)
 }
 
 /// ```text
-/// ensures { λ r. ⌜ r ≡ inVectors offset ⌝ }
+/// ensures { result ≡ in_vectors offset }
 /// ```
 pub fn in_vectors(offset: usize) -> bool {
     (PchPicState::HTMSI_VEC_BASE <= offset) & (offset < PchPicState::HTMSI_VEC_BASE + 64)
@@ -72,8 +72,8 @@ pub fn in_vectors(offset: usize) -> bool {
 /// Byte k of a Dword of vector bytes, the first of which is the input's: its own input is in service, and it would change.
 ///
 /// ```text
-/// requires { ⌜ (k < 4) × (input + k < 64) ⌝ }
-/// ensures { λ r. ⌜ r ≡ changesByte isr input old new k ⌝ }
+/// requires { (k < 4) × (input + k < 64) }
+/// ensures { result ≡ changes_byte isr input old new k }
 /// ```
 fn changes_byte(isr: u64, input: usize, old: u32, new: u32, k: usize) -> bool {
     let n = input + k;
@@ -83,8 +83,8 @@ fn changes_byte(isr: u64, input: usize, old: u32, new: u32, k: usize) -> bool {
 /// One of the four does.
 ///
 /// ```text
-/// requires { ⌜ input + 4 ≤ 64 ⌝ }
-/// ensures { λ r. ⌜ r ≡ changesFour isr input old new ⌝ }
+/// requires { input + 4 ≤ 64 }
+/// ensures { result ≡ changes_four isr input old new }
 /// ```
 pub fn changes_served(isr: u64, input: usize, old: u32, new: u32) -> bool {
     let a = changes_byte(isr, input, old, new, 0);

@@ -17,7 +17,7 @@ use super::judge::Fit;
 use super::profile::unfit;
 
 /// ```text
-/// ensures { λ r. ⌜ ends r (now (image .entry)) [] ≡ hoistEnding false (asked.read base size address width) (now (image .entry)) ⌝ }
+/// ensures { ends result image.now [] ≡ hoist_ending false (asked.read base size address width) image.now }
 /// ```
 pub fn read(image: &[u8], base: u64, size: u64, address: u64, width: u64) -> Told {
     let told = test_head(image);
@@ -33,7 +33,7 @@ pub fn read(image: &[u8], base: u64, size: u64, address: u64, width: u64) -> Tol
 /// The value that is told is how many events were dropped.
 ///
 /// ```text
-/// ensures { λ r. ⌜ ends r (now (image .exit)) [] ≡ hoistEnding running (asked.write base size address width value) (now (image .entry)) ⌝ }
+/// ensures { ends result image.new [] ≡ hoist_ending running (asked.write base size address width value) image.old }
 /// ```
 pub fn write(
     image: &mut [u8],
@@ -57,7 +57,7 @@ pub fn write(
 /// The image is read alone; the phase is stored where the answer area is known.
 ///
 /// ```text
-/// ensures { λ r. ⌜ ends r (now (image .entry)) [] ≡ endEnding running (now (image .entry)) ⌝ }
+/// ensures { ends result image.now [] ≡ end_ending running image.now }
 /// ```
 pub fn end_startup(image: &[u8], running: bool) -> Told {
     let told = test_head(image);

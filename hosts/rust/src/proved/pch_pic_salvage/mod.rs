@@ -12,8 +12,8 @@ use super::trace::trace_refusals::NO_ROOM;
 /// The blocks whose records are all good, as a new trace; and of each dropped block the number and the first bad record in it.
 ///
 /// ```text
-/// ensures { λ r. ⌜ salvageLeaves r (now (kept .exit)) (now (list .exit)) (now (answer .exit))
-///     ≡ salvaging (now (trace .entry)) (now (kept .entry)) (now (list .entry)) (now (answer .entry)) ⌝ }
+/// ensures { salvage_leaves result kept.new list.new answer.new
+///     ≡ salvaging trace.now kept.old list.old answer.old }
 /// ```
 pub fn pch_pic_salvage(trace: &[u8], kept: &mut [u8], list: &mut [u8], answer: &mut [u8]) -> u8 {
     if answer.len() < 16 {

@@ -21,7 +21,7 @@ use super::torn::survey;
 /// 16: every block has a bad record.
 ///
 /// ```text
-/// ensures { λ t. ⌜ Tells t nothingLeft none ⌝ }
+/// ensures { Tells result nothing_left none }
 /// ```
 fn nothing_left() -> Told {
     Told {
@@ -31,8 +31,8 @@ fn nothing_left() -> Told {
 }
 
 /// ```text
-/// ensures { λ t. ⌜ ends t (now (second .exit)) (now (list .exit))
-///     ≡ salvageEnding (now (trace .entry)) (now (second .entry)) (now (list .entry)) ⌝ }
+/// ensures { ends result second.new list.new
+///     ≡ salvage_ending trace.now second.old list.old }
 /// ```
 pub fn salvage(trace: &[u8], second: &mut [u8], list: &mut [u8]) -> Told {
     let Contents::Good(_, _) = contents_of(trace) else {

@@ -17,8 +17,8 @@ use super::super::trace::Tested;
 /// A trace that is refused leaves the sheet as it was.
 ///
 /// ```text
-/// requires { ⌜ sheetLength ≤ length (now sheet) ⌝ }
-/// ensures { λ t. ⌜ told t (now (sheet .exit)) ≡ madeOf (now (trace .entry)) (now (sheet .entry)) ⌝ }
+/// requires { sheet_length ≤ length sheet.old }
+/// ensures { told result sheet.new ≡ made_of trace.now sheet.old }
 /// ```
 pub fn make(trace: &[u8], sheet: &mut [u8]) -> Told {
     let tested = trace::test(trace);

@@ -9,8 +9,8 @@ pub mod tested_access;
 use super::answer;
 
 /// ```text
-/// ensures { λ r. ⌜ leaves r (now (image .entry)) (now (answer .exit)) []
-///     ≡ outcome (asked.read base size address width) (now (image .entry)) (now (answer .entry)) ⌝ }
+/// ensures { leaves result image.now answer.new []
+///     ≡ outcome (asked.read base size address width) image.now answer.old }
 /// ```
 pub fn pch_pic_table_read(
     image: &[u8],
@@ -28,8 +28,8 @@ pub fn pch_pic_table_read(
 }
 
 /// ```text
-/// ensures { λ r. ⌜ leaves r (now (image .exit)) (now (answer .exit)) []
-///     ≡ outcome (asked.write base size address width value) (now (image .entry)) (now (answer .entry)) ⌝ }
+/// ensures { leaves result image.new answer.new []
+///     ≡ outcome (asked.write base size address width value) image.old answer.old }
 /// ```
 pub fn pch_pic_table_write(
     image: &mut [u8],

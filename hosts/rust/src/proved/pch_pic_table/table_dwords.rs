@@ -11,8 +11,8 @@ use super::table_bytes::read_byte;
 use super::table_bytes::write_byte;
 
 /// ```text
-/// requires { ⌜ (length (now image) ≡ formLength (formView form)) × Agrees (now table) × (cellAt offset ≡ bytes) ⌝ }
-/// ensures { λ r. ⌜ Reads (now (image .entry)) r (λ d. readDword (d .core) offset) ⌝ }
+/// requires { (length image.now ≡ form_length (form_view form)) × Agrees table.now × (cell_at offset ≡ bytes) }
+/// ensures { Reads image.now result (λ d. read_dword d.core offset) }
 /// ```
 fn read_four(image: &[u8], form: Form, table: &[[u8; 32]; 32], offset: usize) -> u32 {
     let a = read_byte(image, form, table, offset) as u32;
@@ -23,8 +23,8 @@ fn read_four(image: &[u8], form: Form, table: &[[u8; 32]; 32], offset: usize) ->
 }
 
 /// ```text
-/// requires { ⌜ (length (now image) ≡ formLength (formView form)) × Agrees (now table) ⌝ }
-/// ensures { λ r. ⌜ Reads (now (image .entry)) r (λ d. readDword (d .core) offset) ⌝ }
+/// requires { (length image.now ≡ form_length (form_view form)) × Agrees table.now }
+/// ensures { Reads image.now result (λ d. read_dword d.core offset) }
 /// ```
 pub fn read_dword(image: &[u8], form: Form, table: &[[u8; 32]; 32], offset: usize) -> u32 {
     match look(table, offset) {
@@ -43,8 +43,8 @@ pub fn read_dword(image: &[u8], form: Form, table: &[[u8; 32]; 32], offset: usiz
 /// No Byte among them drops an event.
 ///
 /// ```text
-/// requires { ⌜ (length (now image) ≡ formLength (formView form)) × Agrees (now table) × (cellAt offset ≡ bytes) ⌝ }
-/// ensures { λ _. ⌜ Writes (now (image .entry)) (now (image .exit)) 0 (λ c. dwordActs offset val) ⌝ }
+/// requires { (length image.old ≡ form_length (form_view form)) × Agrees table.now × (cell_at offset ≡ bytes) }
+/// ensures { Writes image.old image.new 0 (λ c. dword_acts offset val) }
 /// ```
 fn write_four(image: &mut [u8], form: Form, table: &[[u8; 32]; 32], offset: usize, val: u32) {
     write_byte(image, form, table, offset, bits::byte_of(val, 0));
@@ -54,8 +54,8 @@ fn write_four(image: &mut [u8], form: Form, table: &[[u8; 32]; 32], offset: usiz
 }
 
 /// ```text
-/// requires { ⌜ (length (now image) ≡ formLength (formView form)) × Agrees (now table) ⌝ }
-/// ensures { λ r. ⌜ (r ≤ 65) × Writes (now (image .entry)) (now (image .exit)) r (λ c. dwordActs offset val) ⌝ }
+/// requires { (length image.old ≡ form_length (form_view form)) × Agrees table.now }
+/// ensures { (result ≤ 65) × Writes image.old image.new result (λ c. dword_acts offset val) }
 /// ```
 pub fn write_dword(
     image: &mut [u8],

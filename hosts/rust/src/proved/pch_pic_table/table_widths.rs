@@ -10,8 +10,8 @@ use super::table_dwords::read_dword;
 use super::table_dwords::write_dword;
 
 /// ```text
-/// requires { ⌜ (length (now image) ≡ formLength (formView form)) × Agrees (now table) × (offset + 2 ≤ 2 ^ 64 - 1) ⌝ }
-/// ensures { λ r. ⌜ Reads (now (image .entry)) r (λ d. readAt (d .core) word offset) ⌝ }
+/// requires { (length image.now ≡ form_length (form_view form)) × Agrees table.now × (offset + 2 ≤ 2 ^ 64 - 1) }
+/// ensures { Reads image.now result (λ d. read_at d.core word offset) }
 /// ```
 fn read_word(image: &[u8], form: Form, table: &[[u8; 32]; 32], offset: usize) -> u64 {
     let low = read_byte(image, form, table, offset) as u64;
@@ -20,8 +20,8 @@ fn read_word(image: &[u8], form: Form, table: &[[u8; 32]; 32], offset: usize) ->
 }
 
 /// ```text
-/// requires { ⌜ (length (now image) ≡ formLength (formView form)) × Agrees (now table) × (offset + 8 ≤ 2 ^ 64 - 1) ⌝ }
-/// ensures { λ r. ⌜ Reads (now (image .entry)) r (λ d. readAt (d .core) qword offset) ⌝ }
+/// requires { (length image.now ≡ form_length (form_view form)) × Agrees table.now × (offset + 8 ≤ 2 ^ 64 - 1) }
+/// ensures { Reads image.now result (λ d. read_at d.core qword offset) }
 /// ```
 fn read_qword(image: &[u8], form: Form, table: &[[u8; 32]; 32], offset: usize) -> u64 {
     let low = read_dword(image, form, table, offset) as u64;
@@ -31,8 +31,8 @@ fn read_qword(image: &[u8], form: Form, table: &[[u8; 32]; 32], offset: usize) -
 /// What an access reads. It lies wholly inside the window, which ends at 2^64 - 1 at most.
 ///
 /// ```text
-/// requires { ⌜ (length (now image) ≡ formLength (formView form)) × Agrees (now table) × (offset + bytesIn (widthView width) ≤ 2 ^ 64 - 1) ⌝ }
-/// ensures { λ r. ⌜ Reads (now (image .entry)) r (λ d. readAt (d .core) (widthView width) offset) ⌝ }
+/// requires { (length image.now ≡ form_length (form_view form)) × Agrees table.now × (offset + bytes_in (width_view width) ≤ 2 ^ 64 - 1) }
+/// ensures { Reads image.now result (λ d. read_at d.core (width_view width) offset) }
 /// ```
 pub fn read_access(
     image: &[u8],
@@ -52,8 +52,8 @@ pub fn read_access(
 /// The second Byte meets what the first left.
 ///
 /// ```text
-/// requires { ⌜ (length (now image) ≡ formLength (formView form)) × Agrees (now table) × (offset + 2 ≤ 2 ^ 64 - 1) ⌝ }
-/// ensures { λ r. ⌜ (r ≤ 130) × Writes (now (image .entry)) (now (image .exit)) r (λ c. writeActs c word offset low) ⌝ }
+/// requires { (length image.old ≡ form_length (form_view form)) × Agrees table.now × (offset + 2 ≤ 2 ^ 64 - 1) }
+/// ensures { (result ≤ 130) × Writes image.old image.new result (λ c. write_acts c word offset low) }
 /// ```
 fn write_word(
     image: &mut [u8],
@@ -67,8 +67,8 @@ fn write_word(
 }
 
 /// ```text
-/// requires { ⌜ (length (now image) ≡ formLength (formView form)) × Agrees (now table) × (offset + 8 ≤ 2 ^ 64 - 1) ⌝ }
-/// ensures { λ r. ⌜ (r ≤ 130) × Writes (now (image .entry)) (now (image .exit)) r (λ c. writeActs c qword offset value) ⌝ }
+/// requires { (length image.old ≡ form_length (form_view form)) × Agrees table.now × (offset + 8 ≤ 2 ^ 64 - 1) }
+/// ensures { (result ≤ 130) × Writes image.old image.new result (λ c. write_acts c qword offset value) }
 /// ```
 fn write_qword(
     image: &mut [u8],
@@ -84,8 +84,8 @@ fn write_qword(
 /// An access writes; the answer is how many events were dropped.
 ///
 /// ```text
-/// requires { ⌜ (length (now image) ≡ formLength (formView form)) × Agrees (now table) × (offset + bytesIn (widthView width) ≤ 2 ^ 64 - 1) ⌝ }
-/// ensures { λ r. ⌜ (r ≤ 130) × Writes (now (image .entry)) (now (image .exit)) r (λ c. writeActs c (widthView width) offset value) ⌝ }
+/// requires { (length image.old ≡ form_length (form_view form)) × Agrees table.now × (offset + bytes_in (width_view width) ≤ 2 ^ 64 - 1) }
+/// ensures { (result ≤ 130) × Writes image.old image.new result (λ c. write_acts c (width_view width) offset value) }
 /// ```
 pub fn write_access(
     image: &mut [u8],

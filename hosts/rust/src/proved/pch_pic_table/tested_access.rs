@@ -19,7 +19,7 @@ use super::super::table::table_rows;
 use super::table_widths;
 
 /// ```text
-/// ensures { λ r. ⌜ ends r (now (image .entry)) [] ≡ ending (asked.read base size address width) (now (image .entry)) ⌝ }
+/// ensures { ends result image.now [] ≡ ending (asked.read base size address width) image.now }
 /// ```
 pub fn read(image: &[u8], base: u64, size: u64, address: u64, width: u64) -> Told {
     let told = test_head(image);
@@ -41,7 +41,7 @@ pub fn read(image: &[u8], base: u64, size: u64, address: u64, width: u64) -> Tol
 }
 
 /// ```text
-/// ensures { λ r. ⌜ ends r (now (image .exit)) [] ≡ ending (asked.write base size address width value) (now (image .entry)) ⌝ }
+/// ensures { ends result image.new [] ≡ ending (asked.write base size address width value) image.old }
 /// ```
 pub fn write(image: &mut [u8], base: u64, size: u64, address: u64, width: u64, value: u64) -> Told {
     let told = test_head(image);

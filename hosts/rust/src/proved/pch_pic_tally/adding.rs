@@ -27,8 +27,8 @@ use super::soundness::Sound;
 /// What a pass keeps of the device that an image holds.
 ///
 /// ```text
-/// requires { ⌜ length (now image) ≡ formLength (formView form) ⌝ }
-/// ensures { λ r. ⌜ Keeps (now (image .entry)) r ⌝ }
+/// requires { length image.now ≡ form_length (form_view form) }
+/// ensures { Keeps image.now result }
 /// ```
 fn kept_of(image: &[u8], form: Form) -> Watched {
     let mask = words::mask(image, form);
@@ -46,8 +46,8 @@ fn kept_of(image: &[u8], form: Form) -> Watched {
 /// The records from the first place on have the numbers behind those that were counted.
 ///
 /// ```text
-/// requires { ⌜ Reaches (now trace) first records × (tallyLength ≤ length (now tally)) × (tallyTest (now tally) ≡ sound) ⌝ }
-/// ensures { λ _. ⌜ CountsFrom (now (trace .entry)) records kept (now (tally .entry)) (now (tally .exit)) ⌝ }
+/// requires { Reaches trace.now first records × (tally_length ≤ length tally.old) × (tally_test tally.old ≡ sound) }
+/// ensures { CountsFrom trace.now records kept tally.old tally.new }
 /// ```
 fn count(trace: &[u8], first: usize, records: usize, kept: Watched, tally: &mut [u8]) {
     let base = cell(tally, true, TOTAL, 0);
@@ -58,8 +58,8 @@ fn count(trace: &[u8], first: usize, records: usize, kept: Watched, tally: &mut 
 /// Of an accepted image.
 ///
 /// ```text
-/// requires { ⌜ Passed (formView form) (now image) × (tallyLength ≤ length (now tally)) ⌝ }
-/// ensures { λ t. ⌜ endsAs t (now (tally .exit)) ≡ addedTo (now (trace .entry)) (now (image .entry)) (now (tally .entry)) ⌝ }
+/// requires { Passed (form_view form) image.now × (tally_length ≤ length tally.old) }
+/// ensures { ends_as result tally.new ≡ added_to trace.now image.now tally.old }
 /// ```
 fn add_on(trace: &[u8], image: &[u8], form: Form, tally: &mut [u8]) -> Told {
     let tested = trace::test(trace);
@@ -76,8 +76,8 @@ fn add_on(trace: &[u8], image: &[u8], form: Form, tally: &mut [u8]) -> Told {
 }
 
 /// ```text
-/// requires { ⌜ tallyLength ≤ length (now tally) ⌝ }
-/// ensures { λ t. ⌜ endsAs t (now (tally .exit)) ≡ added (now (trace .entry)) (now (image .entry)) (now (tally .entry)) ⌝ }
+/// requires { tally_length ≤ length tally.old }
+/// ensures { ends_as result tally.new ≡ added trace.now image.now tally.old }
 /// ```
 pub fn add(trace: &[u8], image: &[u8], tally: &mut [u8]) -> Told {
     let told = test_head(image);

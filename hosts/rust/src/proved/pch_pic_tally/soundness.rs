@@ -25,14 +25,14 @@ pub enum Sound {
 }
 
 /// ```text
-/// ensures { λ r. ⌜ r ≡ ofOpenWait k ⌝ }
+/// ensures { result ≡ of_open_wait k }
 /// ```
 fn of_open_wait(k: usize) -> bool {
     (k % 10 == 9) & (k < OF_INPUTS)
 }
 
 /// ```text
-/// ensures { λ r. ⌜ r ≡ wrongNumber x k counted ⌝ }
+/// ensures { result ≡ wrong_number x k counted }
 /// ```
 fn is_wrong(x: u64, k: usize, counted: u64) -> bool {
     if 0x8000_0000_0000_0000 <= x {
@@ -44,8 +44,8 @@ fn is_wrong(x: u64, k: usize, counted: u64) -> bool {
 /// The bits that any number has: no number is greater.
 ///
 /// ```text
-/// requires { ⌜ tallyLength ≤ length (now tally) ⌝ }
-/// ensures { λ r. ⌜ NoneAbove (now (tally .entry)) r ⌝ }
+/// requires { tally_length ≤ length tally.now }
+/// ensures { NoneAbove tally.now result }
 /// ```
 fn all_bits(tally: &[u8]) -> u64 {
     let mut found = 0u64;
@@ -60,8 +60,8 @@ fn all_bits(tally: &[u8]) -> u64 {
 /// The latest record at which a wait began.
 ///
 /// ```text
-/// requires { ⌜ tallyLength ≤ length (now tally) ⌝ }
-/// ensures { λ r. ⌜ NoneLater (now (tally .entry)) r ⌝ }
+/// requires { tally_length ≤ length tally.now }
+/// ensures { NoneLater tally.now result }
 /// ```
 fn latest(tally: &[u8]) -> u64 {
     let mut most = 0u64;
@@ -76,8 +76,8 @@ fn latest(tally: &[u8]) -> u64 {
 /// The first wrong number.
 ///
 /// ```text
-/// requires { ⌜ tallyLength ≤ length (now tally) ⌝ }
-/// ensures { λ r. ⌜ soundView r ≡ tallyTest (now (tally .entry)) ⌝ }
+/// requires { tally_length ≤ length tally.now }
+/// ensures { sound_view result ≡ tally_test tally.now }
 /// ```
 fn search(tally: &[u8]) -> Sound {
     let counted = word_at(tally, COUNTED);
@@ -93,8 +93,8 @@ fn search(tally: &[u8]) -> Sound {
 }
 
 /// ```text
-/// requires { ⌜ tallyLength ≤ length (now tally) ⌝ }
-/// ensures { λ r. ⌜ soundView r ≡ tallyTest (now (tally .entry)) ⌝ }
+/// requires { tally_length ≤ length tally.now }
+/// ensures { sound_view result ≡ tally_test tally.now }
 /// ```
 pub fn test(tally: &[u8]) -> Sound {
     let bits = all_bits(&*tally);
@@ -109,7 +109,7 @@ pub fn test(tally: &[u8]) -> Sound {
 /// The refusal, with the place of the first wrong number.
 ///
 /// ```text
-/// ensures { λ r. ⌜ Tells r (tallyNumber (soundView found)) (tallyValue (soundView found)) ⌝ }
+/// ensures { Tells result (tally_number (sound_view found)) (tally_value (sound_view found)) }
 /// ```
 pub fn of_tally(found: Sound) -> Told {
     match found {

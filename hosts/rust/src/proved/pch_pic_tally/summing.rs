@@ -14,8 +14,8 @@ use super::soundness::Sound;
 /// A tally that is refused leaves the sheet as it was.
 ///
 /// ```text
-/// requires { ⌜ (tallyLength ≤ length (now tally)) × (tallyLength ≤ length (now sheet)) ⌝ }
-/// ensures { λ t. ⌜ endsAs t (now (sheet .exit)) ≡ summed (now (tally .entry)) (now (sheet .entry)) ⌝ }
+/// requires { (tally_length ≤ length tally.now) × (tally_length ≤ length sheet.old) }
+/// ensures { ends_as result sheet.new ≡ summed tally.now sheet.old }
 /// ```
 pub fn sum(tally: &[u8], sheet: &mut [u8]) -> Told {
     let found = soundness::test(tally);

@@ -15,8 +15,8 @@ use super::trace::trace_refusals::NO_ROOM;
 /// What a play tells goes into the answer area; 7, which it may find at its end, is handed back alone.
 ///
 /// ```text
-/// requires { ⌜ answerLength ≤ length (now answer) ⌝ }
-/// ensures { λ r. ⌜ (r ≡ told .number) × (now (answer .exit) ≡ toldIn (told .number) (valueView (told .value)) (now (answer .entry))) ⌝ }
+/// requires { answer_length ≤ length answer.old }
+/// ensures { (result ≡ told.number) × (answer.new ≡ told_in told.number (value_view told.value) answer.old) }
 /// ```
 fn tell_late(answer: &mut [u8], told: Told) -> u8 {
     let number = told.number;
@@ -29,8 +29,8 @@ fn tell_late(answer: &mut [u8], told: Told) -> u8 {
 /// A trace played from reset on the image: each record's sixteen answer bytes, and the drained events back to back.
 ///
 /// ```text
-/// ensures { λ r. ⌜ playLeaves r (now (image .exit)) (now (answers .exit)) (now (events .exit)) (now (answer .exit))
-///     ≡ playing (now (trace .entry)) (now (image .entry)) (now (answers .entry)) (now (events .entry)) (now (answer .entry)) ⌝ }
+/// ensures { play_leaves result image.new answers.new events.new answer.new
+///     ≡ playing trace.now image.old answers.old events.old answer.old }
 /// ```
 pub fn pch_pic_play(
     trace: &[u8],
@@ -49,8 +49,8 @@ pub fn pch_pic_play(
 /// A trace played on from the image as it is: in all else as from reset.
 ///
 /// ```text
-/// ensures { λ r. ⌜ playLeaves r (now (image .exit)) (now (answers .exit)) (now (events .exit)) (now (answer .exit))
-///     ≡ playingOn (now (trace .entry)) (now (image .entry)) (now (answers .entry)) (now (events .entry)) (now (answer .entry)) ⌝ }
+/// ensures { play_leaves result image.new answers.new events.new answer.new
+///     ≡ playing_on trace.now image.old answers.old events.old answer.old }
 /// ```
 pub fn pch_pic_play_on(
     trace: &[u8],

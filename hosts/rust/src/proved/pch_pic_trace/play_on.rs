@@ -22,8 +22,8 @@ use super::record_step::ROOM;
 /// What is refused changes nothing: the image first, then the trace, and last the room.
 ///
 /// ```text
-/// ensures { λ t. ⌜ ends t (now (image .exit)) (now (answers .exit)) (now (events .exit))
-///     ≡ playOnEnding (now (trace .entry)) (now (image .entry)) (now (answers .entry)) (now (events .entry)) ⌝ }
+/// ensures { ends result image.new answers.new events.new
+///     ≡ play_on_ending trace.now image.old answers.old events.old }
 /// ```
 pub fn play(trace: &[u8], image: &mut [u8], answers: &mut [u8], events: &mut [u8]) -> Told {
     let told = test_head(image);

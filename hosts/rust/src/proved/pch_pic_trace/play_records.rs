@@ -13,8 +13,8 @@ pub const ANSWER: usize = 16;
 /// How many of the records drain.
 ///
 /// ```text
-/// requires { ⌜ Reaches (now trace) first records ⌝ }
-/// ensures { λ r. ⌜ r ≡ drainsIn (recordsFrom (now (trace .entry)) records 0) ⌝ }
+/// requires { Reaches trace.now first records }
+/// ensures { result ≡ drains_in (records_from trace.now records 0) }
 /// ```
 pub fn count_drains(trace: &[u8], first: usize, records: usize) -> usize {
     let mut drains = 0;
@@ -35,9 +35,9 @@ pub fn count_drains(trace: &[u8], first: usize, records: usize) -> usize {
 /// bytes: counted in records, a round has a shift and a copy more.
 ///
 /// ```text
-/// requires { ⌜ Ready (now trace) first records (formView form) (now image) (now answers) (now events) ⌝ }
-/// ensures { λ _. ⌜ PlayedTo (now (trace .entry)) records (now (image .entry)) (now (answers .entry)) (now (events .entry))
-///     (now (image .exit)) (now (answers .exit)) (now (events .exit)) ⌝ }
+/// requires { Ready trace.now first records (form_view form) image.old answers.old events.old }
+/// ensures { PlayedTo trace.now records image.old answers.old events.old
+///     image.new answers.new events.new }
 /// ```
 pub fn play_all(
     trace: &[u8],

@@ -12,8 +12,8 @@ const SIZE: u64 = 0x1_0000;
 /// Any record but a drain. The offset is widened where it is used: before the match it is kept on the stack for every kind, and a record takes three instructions more.
 ///
 /// ```text
-/// requires { ⌜ Callable (formView form) (recordView r) (now image) ⌝ }
-/// ensures { λ t. ⌜ ends t (now (image .exit)) [] ≡ ending (requestOf (recordView r)) (now (image .entry)) ⌝ }
+/// requires { Callable (form_view form) (record_view r) image.old }
+/// ensures { ends result image.new [] ≡ ending (request_of (record_view r)) image.old }
 /// ```
 pub fn call(image: &mut [u8], form: Form, r: Record) -> Told {
     let kind = r.kind;

@@ -19,8 +19,8 @@ pub const ROOM: usize = 64;
 /// A drain of all; how many bytes of events came out.
 ///
 /// ```text
-/// requires { ⌜ Drainable (formView form) (recordView r) (now image) (now answer) (now out) ⌝ }
-/// ensures { λ n. ⌜ Steps (recordView r) (now (image .entry)) (now (image .exit)) (now (answer .exit)) (now (out .entry)) (now (out .exit)) n ⌝ }
+/// requires { Drainable (form_view form) (record_view r) image.old answer.old out.old }
+/// ensures { Steps (record_view r) image.old image.new answer.new out.old out.new result }
 /// ```
 fn drain_all(image: &mut [u8], form: Form, r: Record, answer: &mut [u8], out: &mut [u8]) -> usize {
     let count = drains::drain(image, form, out);
@@ -31,8 +31,8 @@ fn drain_all(image: &mut [u8], form: Form, r: Record, answer: &mut [u8], out: &m
 /// Sixteen bytes are its answer, and what it drains goes to the front of the events; how many bytes these are.
 ///
 /// ```text
-/// requires { ⌜ Playable (formView form) (recordView r) (now image) (now answer) (now events) ⌝ }
-/// ensures { λ n. ⌜ Steps (recordView r) (now (image .entry)) (now (image .exit)) (now (answer .exit)) (now (events .entry)) (now (events .exit)) n ⌝ }
+/// requires { Playable (form_view form) (record_view r) image.old answer.old events.old }
+/// ensures { Steps (record_view r) image.old image.new answer.new events.old events.new result }
 /// ```
 pub fn step(
     image: &mut [u8],

@@ -25,15 +25,15 @@ use super::super::image::form::Form;
 /// It is done, and this number is its value.
 ///
 /// ```text
-/// ensures { λ r. ⌜ Tells r 0 (some number) ⌝ }
+/// ensures { Tells result 0 (some number) }
 /// ```
 fn gives(number: u64) -> Told {
     done(Value::Present(number))
 }
 
 /// ```text
-/// requires { ⌜ Passed (formView form) (now image) ⌝ }
-/// ensures { λ r. ⌜ ends r (now (image .entry)) [] ≡ ending (asked.read base size address width) (now (image .entry)) ⌝ }
+/// requires { Passed (form_view form) image.now }
+/// ensures { ends result image.now [] ≡ ending (asked.read base size address width) image.now }
 /// ```
 pub fn read(image: &[u8], form: Form, base: u64, size: u64, address: u64, width: u64) -> Told {
     let Known::As(known) = window::width_of(width) else {
@@ -53,8 +53,8 @@ pub fn read(image: &[u8], form: Form, base: u64, size: u64, address: u64, width:
 /// The value that is told is how many events were dropped.
 ///
 /// ```text
-/// requires { ⌜ Passed (formView form) (now image) ⌝ }
-/// ensures { λ r. ⌜ ends r (now (image .exit)) [] ≡ ending (asked.write base size address width value) (now (image .entry)) ⌝ }
+/// requires { Passed (form_view form) image.old }
+/// ensures { ends result image.new [] ≡ ending (asked.write base size address width value) image.old }
 /// ```
 pub fn write(
     image: &mut [u8],

@@ -13,8 +13,8 @@ use super::super::lines::service;
 /// The vector that a call on an input returns, with its number, as a value.
 ///
 /// ```text
-/// requires { ⌜ length (now image) ≡ formLength (formView form) ⌝ }
-/// ensures { λ r. ⌜ TakesNumber (now (image .entry)) (now (image .exit)) (answerValue answer) (valueView r) ⌝ }
+/// requires { length image.old ≡ form_length (form_view form) }
+/// ensures { TakesNumber image.old image.new (answer_value answer) (value_view result) }
 /// ```
 fn numbered(image: &mut [u8], form: Form, answer: state::Answer) -> Value {
     match answer {
@@ -27,8 +27,8 @@ fn numbered(image: &mut [u8], form: Form, answer: state::Answer) -> Value {
 }
 
 /// ```text
-/// requires { ⌜ Passed (formView form) (now image) ⌝ }
-/// ensures { λ r. ⌜ ends r (now (image .exit)) [] ≡ ending (asked.level input level) (now (image .entry)) ⌝ }
+/// requires { Passed (form_view form) image.old }
+/// ensures { ends result image.new [] ≡ ending (asked.level input level) image.old }
 /// ```
 pub fn level(image: &mut [u8], form: Form, input: u64, level: u64) -> Told {
     if 64 <= input {
@@ -39,8 +39,8 @@ pub fn level(image: &mut [u8], form: Form, input: u64, level: u64) -> Told {
 }
 
 /// ```text
-/// requires { ⌜ Passed (formView form) (now image) ⌝ }
-/// ensures { λ r. ⌜ ends r (now (image .exit)) [] ≡ ending (asked.poll input) (now (image .entry)) ⌝ }
+/// requires { Passed (form_view form) image.old }
+/// ensures { ends result image.new [] ≡ ending (asked.poll input) image.old }
 /// ```
 pub fn poll(image: &mut [u8], form: Form, input: u64) -> Told {
     if 64 <= input {

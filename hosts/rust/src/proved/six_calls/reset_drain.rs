@@ -24,7 +24,7 @@ use super::super::stored::save_reset;
 /// Any bytes will do that have the length of a form; the reset device is saved in that form.
 ///
 /// ```text
-/// ensures { λ r. ⌜ ends r (now (image .exit)) [] ≡ ending asked.reset (now (image .entry)) ⌝ }
+/// ensures { ends result image.new [] ≡ ending asked.reset image.old }
 /// ```
 pub fn reset(image: &mut [u8]) -> Told {
     let length = image.len();
@@ -38,7 +38,7 @@ pub fn reset(image: &mut [u8]) -> Told {
 /// The events go to the front of the buffer. The image is tested in full.
 ///
 /// ```text
-/// ensures { λ r. ⌜ ends r (now (image .exit)) (now (events .exit)) ≡ ending (asked.drain (now (events .entry)) 0) (now (image .entry)) ⌝ }
+/// ensures { ends result image.new events.new ≡ ending (asked.drain events.old 0) image.old }
 /// ```
 fn drain_tested(image: &mut [u8], events: &mut [u8]) -> Told {
     let told = test_head(image);
@@ -55,8 +55,8 @@ fn drain_tested(image: &mut [u8], events: &mut [u8]) -> Told {
 /// True only where the image is accepted, one waits in it, and there is room for it: the commonest drain. False tells nothing.
 ///
 /// ```text
-/// requires { ⌜ length (now image) ≡ formLength (formView form) ⌝ }
-/// ensures { λ r. ⌜ Waits 1 (formView form) (now (image .entry)) r × (r ≡ true → drainedLength ≤ room) ⌝ }
+/// requires { length image.now ≡ form_length (form_view form) }
+/// ensures { Waits 1 (form_view form) image.now result × (result ≡ true → drained_length ≤ room) }
 /// ```
 pub fn one_fits(image: &[u8], form: Form, room: usize) -> bool {
     let p = places_of(form);
@@ -71,7 +71,7 @@ pub fn one_fits(image: &[u8], form: Form, room: usize) -> bool {
 /// A drain. The only one that waits goes out at once, in an arm for each form.
 ///
 /// ```text
-/// ensures { λ r. ⌜ ends r (now (image .exit)) (now (events .exit)) ≡ ending (asked.drain (now (events .entry)) 0) (now (image .entry)) ⌝ }
+/// ensures { ends result image.new events.new ≡ ending (asked.drain events.old 0) image.old }
 /// ```
 pub fn drain(image: &mut [u8], events: &mut [u8]) -> Told {
     let KnownForm::As(form) = form_of(image.len()) else {

@@ -11,7 +11,7 @@ use super::super::image::head::Head;
 use super::accepted_access;
 
 /// ```text
-/// ensures { λ r. ⌜ ends r (now (image .entry)) [] ≡ ending (asked.read base size address width) (now (image .entry)) ⌝ }
+/// ensures { ends result image.now [] ≡ ending (asked.read base size address width) image.now }
 /// ```
 pub fn read(image: &[u8], base: u64, size: u64, address: u64, width: u64) -> Told {
     let told = test_head(image);
@@ -27,7 +27,7 @@ pub fn read(image: &[u8], base: u64, size: u64, address: u64, width: u64) -> Tol
 /// The value that is told is how many events were dropped.
 ///
 /// ```text
-/// ensures { λ r. ⌜ ends r (now (image .exit)) [] ≡ ending (asked.write base size address width value) (now (image .entry)) ⌝ }
+/// ensures { ends result image.new [] ≡ ending (asked.write base size address width value) image.old }
 /// ```
 pub fn write(image: &mut [u8], base: u64, size: u64, address: u64, width: u64, value: u64) -> Told {
     let told = test_head(image);

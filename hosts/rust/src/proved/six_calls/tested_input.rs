@@ -16,7 +16,7 @@ use super::super::image::quick::odd;
 use super::accepted_input;
 
 /// ```text
-/// ensures { λ r. ⌜ ends r (now (image .exit)) [] ≡ ending (asked.level input level) (now (image .entry)) ⌝ }
+/// ensures { ends result image.new [] ≡ ending (asked.level input level) image.old }
 /// ```
 fn level_tested(image: &mut [u8], input: u64, level: u64) -> Told {
     let told = test_head(image);
@@ -30,7 +30,7 @@ fn level_tested(image: &mut [u8], input: u64, level: u64) -> Told {
 }
 
 /// ```text
-/// ensures { λ r. ⌜ ends r (now (image .exit)) [] ≡ ending (asked.poll input) (now (image .entry)) ⌝ }
+/// ensures { ends result image.new [] ≡ ending (asked.poll input) image.old }
 /// ```
 fn poll_tested(image: &mut [u8], input: u64) -> Told {
     let told = test_head(image);
@@ -44,7 +44,7 @@ fn poll_tested(image: &mut [u8], input: u64) -> Told {
 }
 
 /// ```text
-/// ensures { λ r. ⌜ ends r (now (image .exit)) [] ≡ ending (asked.level input level) (now (image .entry)) ⌝ }
+/// ensures { ends result image.new [] ≡ ending (asked.level input level) image.old }
 /// ```
 pub fn level(image: &mut [u8], input: u64, level: u64) -> Told {
     let KnownForm::As(form) = form_of(image.len()) else {
@@ -73,7 +73,7 @@ pub fn level(image: &mut [u8], input: u64, level: u64) -> Told {
 }
 
 /// ```text
-/// ensures { λ r. ⌜ ends r (now (image .exit)) [] ≡ ending (asked.poll input) (now (image .entry)) ⌝ }
+/// ensures { ends result image.new [] ≡ ending (asked.poll input) image.old }
 /// ```
 pub fn poll(image: &mut [u8], input: u64) -> Told {
     let KnownForm::As(form) = form_of(image.len()) else {

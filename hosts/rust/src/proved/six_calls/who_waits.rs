@@ -17,8 +17,8 @@ use super::super::image::head::Head;
 /// Of all 64 inputs those that a poll would bring into service.
 ///
 /// ```text
-/// requires { ⌜ length (now image) ≡ formLength (formView form) ⌝ }
-/// ensures { λ r. ⌜ Reads (now (image .entry)) r (λ d. waitingIn (d .core .lines)) ⌝ }
+/// requires { length image.now ≡ form_length (form_view form) }
+/// ensures { Reads image.now result (λ d. waiting_in d.core.lines) }
 /// ```
 pub fn set_of(image: &[u8], form: Form) -> u64 {
     let irr = words::irr(image, form);
@@ -28,7 +28,7 @@ pub fn set_of(image: &[u8], form: Form) -> u64 {
 }
 
 /// ```text
-/// ensures { λ r. ⌜ ends r (now (image .entry)) [] ≡ waitingEnding (now (image .entry)) ⌝ }
+/// ensures { ends result image.now [] ≡ waiting_ending image.now }
 /// ```
 pub fn waiting(image: &[u8]) -> Told {
     let told = test_head(image);

@@ -9,8 +9,8 @@ use super::super::image::form::places_of;
 use super::super::image::form::Form;
 
 /// ```text
-/// requires { ⌜ length (now image) ≡ formLength (formView form) ⌝ }
-/// ensures { λ _. ⌜ now (image .exit) ≡ contentsOf (formView form) ++ drop (contentsLength (formView form)) (now (image .entry)) ⌝ }
+/// requires { length image.old ≡ form_length (form_view form) }
+/// ensures { image.new ≡ contents_of (form_view form) ++ drop (contents_length (form_view form)) image.old }
 /// ```
 pub fn put_contents(image: &mut [u8], form: Form) {
     let c = contents_of(form);
@@ -25,8 +25,8 @@ pub fn put_contents(image: &mut [u8], form: Form) {
 }
 
 /// ```text
-/// requires { ⌜ length (now image) ≡ formLength (formView form) ⌝ }
-/// ensures { λ _. ⌜ SavesLines (formView form) lines (now (image .entry)) (now (image .exit)) ⌝ }
+/// requires { length image.old ≡ form_length (form_view form) }
+/// ensures { SavesLines (form_view form) lines image.old image.new }
 /// ```
 pub fn save_lines(image: &mut [u8], form: Form, lines: Lines) {
     let p = places_of(form);
@@ -37,8 +37,8 @@ pub fn save_lines(image: &mut [u8], form: Form, lines: Lines) {
 }
 
 /// ```text
-/// requires { ⌜ length (now image) ≡ formLength (formView form) ⌝ }
-/// ensures { λ _. ⌜ SavesStored (formView form) stored (now (image .entry)) (now (image .exit)) ⌝ }
+/// requires { length image.old ≡ form_length (form_view form) }
+/// ensures { SavesStored (form_view form) stored image.old image.new }
 /// ```
 pub fn save_stored(image: &mut [u8], form: Form, stored: Stored) {
     let p = places_of(form);

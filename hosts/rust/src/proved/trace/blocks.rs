@@ -8,8 +8,8 @@ const MOST_RECORDS: usize = 4000;
 /// The number of two bytes at a place.
 ///
 /// ```text
-/// requires { ⌜ at + 2 ≤ length (now trace) ⌝ }
-/// ensures { λ r. ⌜ (r ≡ twoAt at (now (trace .entry))) × (r < 2 ^ 16) ⌝ }
+/// requires { at + 2 ≤ length trace.now }
+/// ensures { (result ≡ two_at at trace.now) × (result < 2 ^ 16) }
 /// ```
 pub fn two_at(trace: &[u8], at: usize) -> usize {
     let low = trace[at] as usize;
@@ -27,8 +27,8 @@ pub enum Listed {
 /// Each block begins where the one before ends and has a record; the first begins right behind the contents.
 ///
 /// ```text
-/// requires { ⌜ (blocks ≤ mostBlocks) × (listedAt blocks ≤ length (now trace)) ⌝ }
-/// ensures { λ r. ⌜ r ≡ listedAs blocks (now (trace .entry)) ⌝ }
+/// requires { (blocks ≤ most_blocks) × (listed_at blocks ≤ length trace.now) }
+/// ensures { result ≡ listed_as blocks trace.now }
 /// ```
 pub fn count_records(trace: &[u8], blocks: usize) -> Listed {
     let first = 2 + 4 * blocks;

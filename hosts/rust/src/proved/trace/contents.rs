@@ -16,7 +16,7 @@ pub enum Contents {
 }
 
 /// ```text
-/// ensures { λ r. ⌜ r ≡ contentsAs (now (trace .entry)) ⌝ }
+/// ensures { result ≡ contents_as trace.now }
 /// ```
 pub fn contents_of(trace: &[u8]) -> Contents {
     if trace.len() < 2 {

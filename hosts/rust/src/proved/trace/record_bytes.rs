@@ -19,8 +19,8 @@ pub struct Record {
 /// The bytes of the record at a place, as a part of the trace.
 ///
 /// ```text
-/// requires { ⌜ place + recordLength ≤ length (now trace) ⌝ }
-/// ensures { λ r. ⌜ now r ≡ part place recordLength (now (trace .entry)) ⌝ }
+/// requires { place + record_length ≤ length trace.now }
+/// ensures { result.now ≡ part place record_length trace.now }
 /// ```
 pub fn part_at<'a>(trace: &'a [u8], place: usize) -> &'a [u8] {
     let end = place + LENGTH;
@@ -30,8 +30,8 @@ pub fn part_at<'a>(trace: &'a [u8], place: usize) -> &'a [u8] {
 /// The fields of a record that is shown.
 ///
 /// ```text
-/// requires { ⌜ length (now shown) ≡ recordLength ⌝ }
-/// ensures { λ r. ⌜ recordView r ≡ recordOf (now (shown .entry)) ⌝ }
+/// requires { length shown.now ≡ record_length }
+/// ensures { record_view result ≡ record_of shown.now }
 /// ```
 pub fn fields(shown: &[u8]) -> Record {
     Record {

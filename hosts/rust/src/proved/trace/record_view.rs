@@ -16,8 +16,8 @@ pub struct View<'a> {
 /// The view of a place.
 ///
 /// ```text
-/// requires { ⌜ place + recordLength ≤ length (now trace) ⌝ }
-/// ensures { λ v. ⌜ Shows v (now (trace .entry)) place ⌝ }
+/// requires { place + record_length ≤ length trace.now }
+/// ensures { Shows result trace.now place }
 /// ```
 pub fn view_at<'a>(trace: &'a [u8], place: usize) -> View<'a> {
     View { trace, place }
@@ -26,8 +26,8 @@ pub fn view_at<'a>(trace: &'a [u8], place: usize) -> View<'a> {
 /// The record that a view shows, as a part of the trace.
 ///
 /// ```text
-/// requires { ⌜ Inside v ⌝ }
-/// ensures { λ s. ⌜ now s ≡ partShown (v .entry) ⌝ }
+/// requires { Inside v }
+/// ensures { result.now ≡ part_shown v.entry }
 /// ```
 pub fn shown<'a>(v: View<'a>) -> &'a [u8] {
     part_at(v.trace, v.place)
@@ -36,8 +36,8 @@ pub fn shown<'a>(v: View<'a>) -> &'a [u8] {
 /// That record by value.
 ///
 /// ```text
-/// requires { ⌜ Inside v ⌝ }
-/// ensures { λ r. ⌜ recordView r ≡ recordOf (partShown (v .entry)) ⌝ }
+/// requires { Inside v }
+/// ensures { record_view result ≡ record_of (part_shown v.entry) }
 /// ```
 pub fn record_of<'a>(v: View<'a>) -> Record {
     fields(shown(v))
@@ -46,8 +46,8 @@ pub fn record_of<'a>(v: View<'a>) -> Record {
 /// The view of the place behind that record.
 ///
 /// ```text
-/// requires { ⌜ Inside v ⌝ }
-/// ensures { λ w. ⌜ Shows w (now (v .entry .trace)) (v .entry .place + recordLength) ⌝ }
+/// requires { Inside v }
+/// ensures { Shows result v.entry.trace.now (v.entry.place + record_length) }
 /// ```
 pub fn next<'a>(v: View<'a>) -> View<'a> {
     View {
@@ -59,8 +59,8 @@ pub fn next<'a>(v: View<'a>) -> View<'a> {
 /// The record at a place, by way of a view of it.
 ///
 /// ```text
-/// requires { ⌜ place + recordLength ≤ length (now trace) ⌝ }
-/// ensures { λ r. ⌜ recordView r ≡ recordAt place (now (trace .entry)) ⌝ }
+/// requires { place + record_length ≤ length trace.now }
+/// ensures { record_view result ≡ record_at place trace.now }
 /// ```
 pub fn record_at(trace: &[u8], place: usize) -> Record {
     record_of(view_at(trace, place))

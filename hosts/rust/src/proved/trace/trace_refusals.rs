@@ -8,7 +8,7 @@ use super::Tested;
 pub const NO_ROOM: u8 = 7;
 
 /// ```text
-/// ensures { λ t. ⌜ Tells t 7 none ⌝ }
+/// ensures { Tells result 7 none }
 /// ```
 pub fn no_room() -> Told {
     Told {
@@ -18,7 +18,7 @@ pub fn no_room() -> Told {
 }
 
 /// ```text
-/// ensures { λ t. ⌜ Tells t (traceNumber (testedView tested)) (traceValue (testedView tested)) ⌝ }
+/// ensures { Tells result (trace_number (tested_view tested)) (trace_value (tested_view tested)) }
 /// ```
 pub fn of_trace(tested: Tested) -> Told {
     match tested {

@@ -14,8 +14,8 @@ use super::cells::write_entry;
 /// In 0x100..0x39f a route or vector byte; elsewhere a byte of the Dword that it lies in.
 ///
 /// ```text
-/// requires { ⌜ length (now image) ≡ formLength (formView form) ⌝ }
-/// ensures { λ r. ⌜ Reads (now (image .entry)) r (λ d. readByte (d .core) offset) ⌝ }
+/// requires { length image.now ≡ form_length (form_view form) }
+/// ensures { Reads image.now result (λ d. read_byte d.core offset) }
 /// ```
 #[inline]
 pub fn read_byte<const N: usize>(image: &[u8; N], offset: usize) -> u8 {
@@ -29,8 +29,8 @@ pub fn read_byte<const N: usize>(image: &[u8; N], offset: usize) -> u8 {
 /// The byte's part of the Dword is known before the Dword is read, so that little is kept meanwhile: a route or vector byte then pays for none of it.
 ///
 /// ```text
-/// requires { ⌜ length (now image) ≡ formLength (formView form) ⌝ }
-/// ensures { λ r. ⌜ (r ≤ 65) × Writes (now (image .entry)) (now (image .exit)) r (λ c. byteActs c offset val) ⌝ }
+/// requires { length image.old ≡ form_length (form_view form) }
+/// ensures { (result ≤ 65) × Writes image.old image.new result (λ c. byte_acts c offset val) }
 /// ```
 #[inline]
 pub fn write_byte<const N: usize>(image: &mut [u8; N], offset: usize, val: u8) -> u32 {
@@ -50,8 +50,8 @@ pub fn write_byte<const N: usize>(image: &mut [u8; N], offset: usize, val: u8) -
 /// Both Bytes outside 0x100..0x39f and in one Dword are read with it, once.
 ///
 /// ```text
-/// requires { ⌜ (length (now image) ≡ formLength (formView form)) × (offset + 2 ≤ 2 ^ 64 - 1) ⌝ }
-/// ensures { λ r. ⌜ Reads (now (image .entry)) r (λ d. readAt (d .core) word offset) ⌝ }
+/// requires { (length image.now ≡ form_length (form_view form)) × (offset + 2 ≤ 2 ^ 64 - 1) }
+/// ensures { Reads image.now result (λ d. read_at d.core word offset) }
 /// ```
 #[inline]
 pub fn read_word<const N: usize>(image: &[u8; N], offset: usize) -> u64 {
@@ -68,8 +68,8 @@ pub fn read_word<const N: usize>(image: &[u8; N], offset: usize) -> u64 {
 /// The second Byte meets what the first left.
 ///
 /// ```text
-/// requires { ⌜ (length (now image) ≡ formLength (formView form)) × (offset + 2 ≤ 2 ^ 64 - 1) ⌝ }
-/// ensures { λ r. ⌜ (r ≤ 130) × Writes (now (image .entry)) (now (image .exit)) r (λ c. writeActs c word offset low) ⌝ }
+/// requires { (length image.old ≡ form_length (form_view form)) × (offset + 2 ≤ 2 ^ 64 - 1) }
+/// ensures { (result ≤ 130) × Writes image.old image.new result (λ c. write_acts c word offset low) }
 /// ```
 #[inline]
 pub fn write_word<const N: usize>(image: &mut [u8; N], offset: usize, low: u32) -> u32 {

@@ -11,7 +11,7 @@ use super::cells::write_run;
 /// Eight bytes from an offset on lie wholly among the route or the vector bytes, where one read or store serves them all.
 ///
 /// ```text
-/// ensures { λ r. ⌜ (r ≡ true → Run offset 8) ⌝ }
+/// ensures { result ≡ true → Run offset 8 }
 /// ```
 #[inline]
 fn eight_together(offset: usize) -> bool {
@@ -23,8 +23,8 @@ fn eight_together(offset: usize) -> bool {
 }
 
 /// ```text
-/// requires { ⌜ (length (now image) ≡ formLength (formView form)) × (offset + 8 ≤ 2 ^ 64 - 1) ⌝ }
-/// ensures { λ r. ⌜ Reads (now (image .entry)) r (λ d. readAt (d .core) qword offset) ⌝ }
+/// requires { (length image.now ≡ form_length (form_view form)) × (offset + 8 ≤ 2 ^ 64 - 1) }
+/// ensures { Reads image.now result (λ d. read_at d.core qword offset) }
 /// ```
 #[inline]
 pub fn read_qword<const N: usize>(image: &[u8; N], offset: usize) -> u64 {
@@ -36,8 +36,8 @@ pub fn read_qword<const N: usize>(image: &[u8; N], offset: usize) -> u64 {
 }
 
 /// ```text
-/// requires { ⌜ (length (now image) ≡ formLength (formView form)) × (offset + 8 ≤ 2 ^ 64 - 1) ⌝ }
-/// ensures { λ r. ⌜ (r ≤ 130) × Writes (now (image .entry)) (now (image .exit)) r (λ c. writeActs c qword offset value) ⌝ }
+/// requires { (length image.old ≡ form_length (form_view form)) × (offset + 8 ≤ 2 ^ 64 - 1) }
+/// ensures { (result ≤ 130) × Writes image.old image.new result (λ c. write_acts c qword offset value) }
 /// ```
 #[inline]
 pub fn write_qword<const N: usize>(image: &mut [u8; N], offset: usize, value: u64) -> u32 {

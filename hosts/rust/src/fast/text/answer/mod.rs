@@ -21,7 +21,7 @@ pub struct Told {
 }
 
 /// ```text
-/// ensures { λ r. ⌜ Tells r 0 (valueView value) ⌝ }
+/// ensures { Tells result 0 (value_view value) }
 /// ```
 #[inline]
 pub fn done(value: Value) -> Told {
@@ -29,7 +29,7 @@ pub fn done(value: Value) -> Told {
 }
 
 /// ```text
-/// ensures { λ r. ⌜ r ≡ present (valueView value) ⌝ }
+/// ensures { result ≡ present (value_view value) }
 /// ```
 #[inline]
 fn present_byte(value: Value) -> u8 {
@@ -40,7 +40,7 @@ fn present_byte(value: Value) -> u8 {
 }
 
 /// ```text
-/// ensures { λ r. ⌜ r ≡ amount (valueView value) ⌝ }
+/// ensures { result ≡ amount (value_view value) }
 /// ```
 #[inline]
 fn amount_of(value: Value) -> u64 {
@@ -54,8 +54,8 @@ fn amount_of(value: Value) -> u64 {
 /// puts the last six together by themselves, and a call takes two instructions more.
 ///
 /// ```text
-/// requires { ⌜ answerLength ≤ length (now answer) ⌝ }
-/// ensures { λ _. ⌜ now (answer .exit) ≡ answered number (valueView value) (now (answer .entry)) ⌝ }
+/// requires { answer_length ≤ length answer.old }
+/// ensures { answer.new ≡ answered number (value_view value) answer.old }
 /// ```
 #[inline]
 pub fn put_answer(answer: &mut [u8], number: u8, value: Value) {
@@ -70,8 +70,8 @@ pub fn put_answer(answer: &mut [u8], number: u8, value: Value) {
 /// with one store for all of them a call takes up to seven instructions more.
 ///
 /// ```text
-/// requires { ⌜ answerLength ≤ length (now answer) ⌝ }
-/// ensures { λ r. ⌜ (r ≡ told .number) × (now (answer .exit) ≡ answered (told .number) (valueView (told .value)) (now (answer .entry))) ⌝ }
+/// requires { answer_length ≤ length answer.old }
+/// ensures { (result ≡ told.number) × (answer.new ≡ answered told.number (value_view told.value) answer.old) }
 /// ```
 #[inline]
 pub fn tell(answer: &mut [u8], told: Told) -> u8 {

@@ -12,7 +12,7 @@ use super::Value;
 /// The access is not wholly inside the window.
 ///
 /// ```text
-/// ensures { λ r. ⌜ Tells r (refusalNumber (asked.outside address)) (refusalValue (asked.outside address)) ⌝ }
+/// ensures { Tells result (refusal_number (asked.outside address)) (refusal_value (asked.outside address)) }
 /// ```
 #[inline]
 pub fn outside(address: u64) -> Told {
@@ -23,7 +23,7 @@ pub fn outside(address: u64) -> Told {
 }
 
 /// ```text
-/// ensures { λ r. ⌜ Tells r (refusalNumber noWidth) (refusalValue noWidth) ⌝ }
+/// ensures { Tells result (refusal_number no_width) (refusal_value no_width) }
 /// ```
 #[inline]
 pub fn no_width() -> Told {
@@ -34,7 +34,7 @@ pub fn no_width() -> Told {
 }
 
 /// ```text
-/// ensures { λ r. ⌜ Tells r (refusalNumber noInput) (refusalValue noInput) ⌝ }
+/// ensures { Tells result (refusal_number no_input) (refusal_value no_input) }
 /// ```
 #[inline]
 pub fn no_input() -> Told {
@@ -45,7 +45,7 @@ pub fn no_input() -> Told {
 }
 
 /// ```text
-/// ensures { λ r. ⌜ Tells r (refusalNumber wrongLength) (refusalValue wrongLength) ⌝ }
+/// ensures { Tells result (refusal_number wrong_length) (refusal_value wrong_length) }
 /// ```
 #[inline]
 pub fn wrong_length() -> Told {
@@ -56,7 +56,7 @@ pub fn wrong_length() -> Told {
 }
 
 /// ```text
-/// ensures { λ r. ⌜ r ≡ faultNumber (faultView fault) ⌝ }
+/// ensures { result ≡ fault_number (fault_view fault) }
 /// ```
 #[inline]
 fn fault_number(fault: Fault) -> u8 {
@@ -71,7 +71,7 @@ fn fault_number(fault: Fault) -> u8 {
 /// The number for what the test of an image found, and its value: the place of what is wrong in a body.
 ///
 /// ```text
-/// ensures { λ r. ⌜ r ≡ imageNumber (checkedView checked) ⌝ }
+/// ensures { result ≡ image_number (checked_view checked) }
 /// ```
 #[inline]
 fn image_number(checked: Checked) -> u8 {
@@ -84,7 +84,7 @@ fn image_number(checked: Checked) -> u8 {
 }
 
 /// ```text
-/// ensures { λ r. ⌜ valueView r ≡ imageValue (checkedView checked) ⌝ }
+/// ensures { value_view result ≡ image_value (checked_view checked) }
 /// ```
 #[inline]
 fn image_value(checked: Checked) -> Value {
@@ -97,7 +97,7 @@ fn image_value(checked: Checked) -> Value {
 }
 
 /// ```text
-/// ensures { λ r. ⌜ r ≡ imageNumber (headTest head) ⌝ }
+/// ensures { result ≡ image_number (head_test head) }
 /// ```
 #[inline]
 fn head_number(head: Head) -> u8 {
@@ -111,7 +111,7 @@ fn head_number(head: Head) -> u8 {
 /// By the length or the contents.
 ///
 /// ```text
-/// ensures { λ r. ⌜ Tells r (imageNumber (headTest head)) none ⌝ }
+/// ensures { Tells result (image_number (head_test head)) none }
 /// ```
 #[inline]
 pub fn of_head(head: Head) -> Told {
@@ -124,8 +124,8 @@ pub fn of_head(head: Head) -> Told {
 /// By the first rule that a body breaks.
 ///
 /// ```text
-/// requires { ⌜ length (now image) ≡ formLength (formView form) ⌝ }
-/// ensures { λ r. ⌜ Tells r (imageNumber (bodiesTest (formView form) (now (image .entry)))) (imageValue (bodiesTest (formView form) (now (image .entry)))) ⌝ }
+/// requires { length image.now ≡ form_length (form_view form) }
+/// ensures { Tells result (image_number (bodies_test (form_view form) image.now)) (image_value (bodies_test (form_view form) image.now)) }
 /// ```
 #[inline]
 pub fn of_bodies<const N: usize>(image: &[u8; N]) -> Told {

@@ -2,7 +2,7 @@
 //! A number and its bytes, little end first, read and written where they stand; runs of bytes copied and zeroed.
 
 /// ```text
-/// ensures { λ r. ⌜ r ≡ x ⌝ }
+/// ensures { result ≡ x }
 /// ```
 #[inline]
 pub fn wide(x: u8) -> u64 {
@@ -12,8 +12,8 @@ pub fn wide(x: u8) -> u64 {
 /// The number that at most eight bytes spell, the low one first. Read from the front, so that eight bytes become one load.
 ///
 /// ```text
-/// requires { ⌜ length (now b) ≤ 8 ⌝ }
-/// ensures { λ r. ⌜ r ≡ numberOf (now (b .entry)) ⌝ }
+/// requires { length b.now ≤ 8 }
+/// ensures { result ≡ number_of b.now }
 /// ```
 #[inline]
 pub fn number(b: &[u8]) -> u64 {
@@ -30,7 +30,7 @@ pub fn number(b: &[u8]) -> u64 {
 /// The low bytes of x, as many as there are places.
 ///
 /// ```text
-/// ensures { λ _. ⌜ now (dst .exit) ≡ bytesOf (length (now (dst .entry))) x ⌝ }
+/// ensures { dst.new ≡ bytes_of (length dst.old) x }
 /// ```
 #[inline]
 pub fn put_number(dst: &mut [u8], x: u64) {
@@ -46,8 +46,8 @@ pub fn put_number(dst: &mut [u8], x: u64) {
 /// The number that the eight bytes from a place on spell.
 ///
 /// ```text
-/// requires { ⌜ at + 8 ≤ length (now image) ⌝ }
-/// ensures { λ r. ⌜ r ≡ registerAt at (now (image .entry)) ⌝ }
+/// requires { at + 8 ≤ length image.now }
+/// ensures { result ≡ register_at at image.now }
 /// ```
 #[inline]
 pub fn word_at(image: &[u8], at: usize) -> u64 {
@@ -61,8 +61,8 @@ pub fn word_at(image: &[u8], at: usize) -> u64 {
 /// The n low bytes of x from a place on; every other byte stays.
 ///
 /// ```text
-/// requires { ⌜ at + n ≤ length (now dst) ⌝ }
-/// ensures { λ _. ⌜ now (dst .exit) ≡ withBytes at n x (now (dst .entry)) ⌝ }
+/// requires { at + n ≤ length dst.old }
+/// ensures { dst.new ≡ with_bytes at n x dst.old }
 /// ```
 #[inline]
 pub fn put_bytes(dst: &mut [u8], at: usize, n: usize, x: u64) {
@@ -74,8 +74,8 @@ pub fn put_bytes(dst: &mut [u8], at: usize, n: usize, x: u64) {
 /// All eight bytes of x.
 ///
 /// ```text
-/// requires { ⌜ at + 8 ≤ length (now dst) ⌝ }
-/// ensures { λ _. ⌜ now (dst .exit) ≡ withWord at x (now (dst .entry)) ⌝ }
+/// requires { at + 8 ≤ length dst.old }
+/// ensures { dst.new ≡ with_word at x dst.old }
 /// ```
 #[inline]
 pub fn put_word(dst: &mut [u8], at: usize, x: u64) {
@@ -88,8 +88,8 @@ pub fn put_word(dst: &mut [u8], at: usize, x: u64) {
 /// All of src over all of dst.
 ///
 /// ```text
-/// requires { ⌜ length (now dst) ≡ length (now src) ⌝ }
-/// ensures { λ _. ⌜ now (dst .exit) ≡ now (src .entry) ⌝ }
+/// requires { length dst.old ≡ length src.now }
+/// ensures { dst.new ≡ src.now }
 /// ```
 #[inline]
 pub fn copy(dst: &mut [u8], src: &[u8]) {
@@ -100,7 +100,7 @@ pub fn copy(dst: &mut [u8], src: &[u8]) {
 /// Every byte becomes zero.
 ///
 /// ```text
-/// ensures { λ _. ⌜ now (dst .exit) ≡ replicate (length (now (dst .entry))) 0 ⌝ }
+/// ensures { dst.new ≡ replicate (length dst.old) 0 }
 /// ```
 #[inline]
 pub fn put_zeros(dst: &mut [u8]) {

@@ -7,7 +7,7 @@ use super::super::bits;
 /// The inputs of a set that are latched, unmasked and not in service.
 ///
 /// ```text
-/// ensures { λ r. ⌜ r ≡ register (waitingOf set irr mask isr) ⌝ }
+/// ensures { result ≡ register (waiting_of set irr mask isr) }
 /// ```
 #[inline]
 pub fn pending(set: u64, irr: u64, mask: u64, isr: u64) -> u64 {
@@ -17,7 +17,7 @@ pub fn pending(set: u64, irr: u64, mask: u64, isr: u64) -> u64 {
 /// The inputs of a set that are in service.
 ///
 /// ```text
-/// ensures { λ r. ⌜ r ≡ register (servedOf set isr) ⌝ }
+/// ensures { result ≡ register (served_of set isr) }
 /// ```
 #[inline]
 pub fn served(set: u64, isr: u64) -> u64 {
@@ -27,7 +27,7 @@ pub fn served(set: u64, isr: u64) -> u64 {
 /// The inputs that are in old and, once the half is val, no longer.
 ///
 /// ```text
-/// ensures { λ r. ⌜ ((i : ℕ) → i < 64 → on r i ≡ newlyUnmasked old (withHalf high old val) i) ⌝ }
+/// ensures { (i : ℕ) → i < 64 → on result i ≡ newly_unmasked old (with_half high old val) i }
 /// ```
 #[inline]
 pub fn newly_unmasked(old: u64, val: u32, high: bool) -> u64 {
@@ -38,7 +38,7 @@ pub fn newly_unmasked(old: u64, val: u32, high: bool) -> u64 {
 /// The inputs that are not in old and, once the half is val, are.
 ///
 /// ```text
-/// ensures { λ r. ⌜ ((i : ℕ) → i < 64 → on r i ≡ newlyMasked old (withHalf high old val) i) ⌝ }
+/// ensures { (i : ℕ) → i < 64 → on result i ≡ newly_masked old (with_half high old val) i }
 /// ```
 #[inline]
 pub fn newly_masked(old: u64, val: u32, high: bool) -> u64 {

@@ -49,7 +49,7 @@ pub enum Width {
 /// What stands at an offset: the one place that tells the offsets of registers apart, by the arms of the Rust's read_dword and write_dword.
 ///
 /// ```text
-/// ensures { λ r. ⌜ cellView r ≡ cellAt offset ⌝ }
+/// ensures { cell_view result ≡ cell_at offset }
 /// ```
 #[inline]
 pub fn decode(offset: usize) -> Cell {
@@ -83,7 +83,7 @@ pub fn decode(offset: usize) -> Cell {
 /// In 0x100..0x39f a Byte meets only route and vector bytes.
 ///
 /// ```text
-/// ensures { λ r. ⌜ r ≡ inByteArea offset ⌝ }
+/// ensures { result ≡ in_byte_area offset }
 /// ```
 #[inline]
 pub fn in_byte_area(offset: usize) -> bool {
@@ -93,7 +93,7 @@ pub fn in_byte_area(offset: usize) -> bool {
 /// The offset, where a Byte access meets only route and vector bytes.
 ///
 /// ```text
-/// ensures { λ r. ⌜ r ≡ byteIndex offset ⌝ }
+/// ensures { result ≡ byte_index offset }
 /// ```
 #[inline]
 pub fn reg8_offset(offset: usize) -> Index {

@@ -9,7 +9,7 @@ use super::state::PchPicState;
 /// The offset of the low half, of a register whose half stands at an offset.
 ///
 /// ```text
-/// ensures { λ r. ⌜ r ≡ offset - 4 * (offset / 4 % 2) ⌝ }
+/// ensures { result ≡ offset - 4 * (offset / 4 % 2) }
 /// ```
 #[inline]
 fn low_offset(offset: usize) -> usize {
@@ -17,7 +17,7 @@ fn low_offset(offset: usize) -> usize {
 }
 
 /// ```text
-/// ensures { λ r. ⌜ r ≡ eqb (offset / 4 % 2) 1 ⌝ }
+/// ensures { result ≡ (offset / 4 % 2 == 1) }
 /// ```
 #[inline]
 fn is_high(offset: usize) -> bool {
@@ -27,7 +27,7 @@ fn is_high(offset: usize) -> bool {
 /// What stands at an offset, as decode says it.
 ///
 /// ```text
-/// ensures { λ r. ⌜ cellView r ≡ cellAt offset ⌝ }
+/// ensures { cell_view result ≡ cell_at offset }
 /// ```
 #[inline]
 pub fn decode_low(offset: usize) -> Cell {

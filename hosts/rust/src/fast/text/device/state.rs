@@ -105,7 +105,7 @@ impl PchPicState {
     /// The state after reset.
     ///
     /// ```text
-    /// ensures { λ r. ⌜ Is r reset ⌝ }
+    /// ensures { Is result reset }
     /// ```
     #[inline]
     pub fn reset() -> Self {

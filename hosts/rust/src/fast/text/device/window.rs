@@ -11,7 +11,7 @@ pub enum Known {
 }
 
 /// ```text
-/// ensures { λ r. ⌜ knownView r ≡ widthTest width ⌝ }
+/// ensures { known_view result ≡ width_test width }
 /// ```
 #[inline]
 pub fn width_of(width: u64) -> Known {
@@ -27,7 +27,7 @@ pub fn width_of(width: u64) -> Known {
 /// How many bytes the window has: its size, or what there is from its base up to 2^64 - 1.
 ///
 /// ```text
-/// ensures { λ r. ⌜ base + r ≡ min (base + size) (2 ^ 64 - 1) ⌝ }
+/// ensures { base + result ≡ min (base + size) (2 ^ 64 - 1) }
 /// ```
 #[inline]
 fn bytes_in(base: u64, size: u64) -> u64 {
@@ -45,7 +45,7 @@ pub enum Located {
 /// All bytes of an access must be inside; so no offset within it passes 2^64 - 1. An address below the base wraps to an offset past every window's end.
 ///
 /// ```text
-/// ensures { λ r. ⌜ (locatedView address r ≡ addressTest base size address width) × Ends r width ⌝ }
+/// ensures { (located_view address result ≡ address_test base size address width) × Ends result width }
 /// ```
 #[inline]
 pub fn locate(base: u64, size: u64, address: u64, width: u64) -> Located {

@@ -10,7 +10,7 @@ use super::shifts::shift;
 /// As many events as wait or as fit, whichever is fewer.
 ///
 /// ```text
-/// ensures { λ r. ⌜ r ≡ min waiting (bytes / 4) ⌝ }
+/// ensures { result ≡ min waiting (bytes / 4) }
 /// ```
 #[inline]
 fn fitting(waiting: usize, bytes: usize) -> usize {
@@ -19,8 +19,8 @@ fn fitting(waiting: usize, bytes: usize) -> usize {
 }
 
 /// ```text
-/// requires { ⌜ (length (now image) ≡ formLength (formView form)) × (countIn (formView form) (now image) ≤ capacity) ⌝ }
-/// ensures { λ r. ⌜ Drains (now (image .entry)) (now (image .exit)) (now (out .entry)) (now (out .exit)) r ⌝ }
+/// requires { (length image.old ≡ form_length (form_view form)) × (count_in (form_view form) image.old ≤ capacity) }
+/// ensures { Drains image.old image.new out.old out.new result }
 /// ```
 #[inline]
 pub fn drain<const N: usize>(image: &mut [u8; N], out: &mut [u8]) -> usize {
@@ -38,8 +38,8 @@ pub fn drain<const N: usize>(image: &mut [u8; N], out: &mut [u8]) -> usize {
 /// The only one that waits, where it fits. Constants for both numbers: no loop is left of what is copied, and nothing moves up.
 ///
 /// ```text
-/// requires { ⌜ (length (now image) ≡ formLength (formView form)) × (countIn (formView form) (now image) ≡ 1) × (drainedLength ≤ length (now out)) ⌝ }
-/// ensures { λ _. ⌜ Drains (now (image .entry)) (now (image .exit)) (now (out .entry)) (now (out .exit)) 1 ⌝ }
+/// requires { (length image.old ≡ form_length (form_view form)) × (count_in (form_view form) image.old ≡ 1) × (drained_length ≤ length out.old) }
+/// ensures { Drains image.old image.new out.old out.new 1 }
 /// ```
 #[inline]
 pub fn one<const N: usize>(image: &mut [u8; N], out: &mut [u8]) {

@@ -10,8 +10,8 @@ use super::weave::put_events;
 /// The first n events, with the numbers that the image has or those from 0 on.
 ///
 /// ```text
-/// requires { ⌜ (length (now image) ≡ formLength (formView form)) × (n ≤ capacity) × (length (now out) ≡ 4 * n) ⌝ }
-/// ensures { λ _. ⌜ CopiesOut (now (image .entry)) (now (out .exit)) n ⌝ }
+/// requires { (length image.now ≡ form_length (form_view form)) × (n ≤ capacity) × (length out.old ≡ 4 * n) }
+/// ensures { CopiesOut image.now out.new n }
 /// ```
 #[inline]
 pub fn copy_out<const N: usize>(image: &[u8; N], out: &mut [u8], n: usize) {

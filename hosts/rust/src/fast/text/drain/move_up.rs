@@ -9,8 +9,8 @@ use super::super::image::form;
 /// stores of a fixed length, however many they are. Where none is left nothing moves: the whole room becomes zeros.
 ///
 /// ```text
-/// requires { ⌜ (n ≤ len) × (len ≤ capacity) × (length (now dst) ≡ pairsLength) ⌝ }
-/// ensures { λ _. ⌜ Leaves (now (dst .entry)) (now (dst .exit)) len n ⌝ }
+/// requires { (n ≤ len) × (len ≤ capacity) × (length dst.old ≡ pairs_length) }
+/// ensures { Leaves dst.old dst.new len n }
 /// ```
 #[inline]
 pub fn leave(dst: &mut [u8], n: usize, len: usize) {

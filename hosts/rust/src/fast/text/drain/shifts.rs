@@ -9,8 +9,8 @@ use super::move_up::leave;
 /// The numbers of the first n go as their events do.
 ///
 /// ```text
-/// requires { ⌜ (length (now image) ≡ formLength (formView form)) × (n ≤ len) × (len ≤ capacity) ⌝ }
-/// ensures { λ _. ⌜ NumbersLeave (formView form) (now (image .entry)) (now (image .exit)) len n ⌝ }
+/// requires { (length image.old ≡ form_length (form_view form)) × (n ≤ len) × (len ≤ capacity) }
+/// ensures { NumbersLeave (form_view form) image.old image.new len n }
 /// ```
 #[inline]
 fn leave_numbers<const N: usize>(image: &mut [u8; N], n: usize, len: usize) {
@@ -28,8 +28,8 @@ fn leave_numbers<const N: usize>(image: &mut [u8; N], n: usize, len: usize) {
 /// Of `len` waiting events the first n no longer wait.
 ///
 /// ```text
-/// requires { ⌜ (length (now image) ≡ formLength (formView form)) × (n ≤ len) × (len ≤ capacity) ⌝ }
-/// ensures { λ _. ⌜ Shifts (now (image .entry)) (now (image .exit)) len n ⌝ }
+/// requires { (length image.old ≡ form_length (form_view form)) × (n ≤ len) × (len ≤ capacity) }
+/// ensures { Shifts image.old image.new len n }
 /// ```
 #[inline]
 pub fn shift<const N: usize>(image: &mut [u8; N], n: usize, len: usize) {

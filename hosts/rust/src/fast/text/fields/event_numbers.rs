@@ -10,8 +10,8 @@ use super::number_bytes::take_next;
 /// The number of an event that is returned.
 ///
 /// ```text
-/// requires { ⌜ length (now image) ≡ formLength (formView form) ⌝ }
-/// ensures { λ r. ⌜ Taken (now (image .entry)) (now (image .exit)) r ⌝ }
+/// requires { length image.old ≡ form_length (form_view form) }
+/// ensures { Taken image.old image.new result }
 /// ```
 #[inline]
 pub fn take<const N: usize>(image: &mut [u8; N]) -> u16 {
@@ -27,8 +27,8 @@ pub fn take<const N: usize>(image: &mut [u8; N]) -> u16 {
 /// The number of an event that is about to be offered to the ring: it waits there, if the event will be kept.
 ///
 /// ```text
-/// requires { ⌜ length (now image) ≡ formLength (formView form) ⌝ }
-/// ensures { λ _. ⌜ NumberOffered (now (image .entry)) (now (image .exit)) ⌝ }
+/// requires { length image.old ≡ form_length (form_view form) }
+/// ensures { NumberOffered image.old image.new }
 /// ```
 #[inline]
 pub fn take_offered<const N: usize>(image: &mut [u8; N]) {

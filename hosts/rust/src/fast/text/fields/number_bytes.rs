@@ -8,51 +8,21 @@ use super::super::image::form;
 /// The numbers from 0 on, as an image would have them.
 ///
 /// ```text
-/// ensures { λ r. ⌜ r ≡ written numberTwos (upFrom 0 16) ⌝ }
+/// ensures { result ≡ written number_twos (up_from 0 16) }
 /// ```
 #[inline(always)]
 pub fn from_zero() -> [u8; 32] {
     [
-        0,
-        0,
-        1,
-        0,
-        2,
-        0,
-        3,
-        0,
-        4,
-        0,
-        5,
-        0,
-        6,
-        0,
-        7,
-        0,
-        8,
-        0,
-        9,
-        0,
-        10,
-        0,
-        11,
-        0,
-        12,
-        0,
-        13,
-        0,
-        14,
-        0,
-        15,
-        0,
+        0, 0, 1, 0, 2, 0, 3, 0, 4, 0, 5, 0, 6, 0, 7, 0, 8, 0, 9, 0, 10, 0, 11, 0, 12, 0, 13, 0, 14,
+        0, 15, 0,
     ]
 }
 
 /// The number that two bytes from a place on spell.
 ///
 /// ```text
-/// requires { ⌜ at + 2 ≤ length (now image) ⌝ }
-/// ensures { λ r. ⌜ r ≡ numberOf (part at 2 (now (image .entry))) ⌝ }
+/// requires { at + 2 ≤ length image.now }
+/// ensures { result ≡ number_of (part at 2 image.now) }
 /// ```
 #[inline]
 fn number_at(image: &[u8], at: usize) -> u16 {
@@ -64,8 +34,8 @@ fn number_at(image: &[u8], at: usize) -> u16 {
 /// Here an event gets its number, whether it is returned, kept or dropped: the next one, which stands at a place. After 65,535 comes 0.
 ///
 /// ```text
-/// requires { ⌜ at + 2 ≤ length (now image) ⌝ }
-/// ensures { λ r. ⌜ NextTaken at (now (image .entry)) (now (image .exit)) r ⌝ }
+/// requires { at + 2 ≤ length image.old }
+/// ensures { NextTaken at image.old image.new result }
 /// ```
 #[inline]
 pub fn take_next(image: &mut [u8], at: usize) -> u16 {

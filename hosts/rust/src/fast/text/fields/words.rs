@@ -8,8 +8,8 @@ use super::super::image::form::places_of;
 use super::super::image::form::Form;
 
 /// ```text
-/// requires { ⌜ length (now image) ≡ formLength (formView form) ⌝ }
-/// ensures { λ r. ⌜ Reads (now (image .entry)) r (λ d. d .core .lines .mask) ⌝ }
+/// requires { length image.now ≡ form_length (form_view form) }
+/// ensures { Reads image.now result (λ d. d.core.lines.mask) }
 /// ```
 #[inline]
 pub fn mask<const N: usize>(image: &[u8; N]) -> u64 {
@@ -19,8 +19,8 @@ pub fn mask<const N: usize>(image: &[u8; N]) -> u64 {
 }
 
 /// ```text
-/// requires { ⌜ length (now image) ≡ formLength (formView form) ⌝ }
-/// ensures { λ r. ⌜ Reads (now (image .entry)) r (λ d. d .core .lines .irr) ⌝ }
+/// requires { length image.now ≡ form_length (form_view form) }
+/// ensures { Reads image.now result (λ d. d.core.lines.irr) }
 /// ```
 #[inline]
 pub fn irr<const N: usize>(image: &[u8; N]) -> u64 {
@@ -30,8 +30,8 @@ pub fn irr<const N: usize>(image: &[u8; N]) -> u64 {
 }
 
 /// ```text
-/// requires { ⌜ length (now image) ≡ formLength (formView form) ⌝ }
-/// ensures { λ r. ⌜ Reads (now (image .entry)) r (λ d. d .core .lines .isr) ⌝ }
+/// requires { length image.now ≡ form_length (form_view form) }
+/// ensures { Reads image.now result (λ d. d.core.lines.isr) }
 /// ```
 #[inline]
 pub fn isr<const N: usize>(image: &[u8; N]) -> u64 {
@@ -41,8 +41,8 @@ pub fn isr<const N: usize>(image: &[u8; N]) -> u64 {
 }
 
 /// ```text
-/// requires { ⌜ length (now image) ≡ formLength (formView form) ⌝ }
-/// ensures { λ _. ⌜ Becomes (now (image .entry)) (now (image .exit)) (λ d. withLines d (withMask (d .core .lines) x)) ⌝ }
+/// requires { length image.old ≡ form_length (form_view form) }
+/// ensures { Becomes image.old image.new (λ d. with_lines d (with_mask d.core.lines x)) }
 /// ```
 #[inline]
 pub fn put_mask<const N: usize>(image: &mut [u8; N], x: u64) {
@@ -54,8 +54,8 @@ pub fn put_mask<const N: usize>(image: &mut [u8; N], x: u64) {
 /// IRR and its copy; in a form that has none, IRR twice.
 ///
 /// ```text
-/// requires { ⌜ length (now image) ≡ formLength (formView form) ⌝ }
-/// ensures { λ _. ⌜ Becomes (now (image .entry)) (now (image .exit)) (λ d. withLines d (withIrr (d .core .lines) x)) ⌝ }
+/// requires { length image.old ≡ form_length (form_view form) }
+/// ensures { Becomes image.old image.new (λ d. with_lines d (with_irr d.core.lines x)) }
 /// ```
 #[inline]
 pub fn put_irr<const N: usize>(image: &mut [u8; N], x: u64) {
@@ -66,8 +66,8 @@ pub fn put_irr<const N: usize>(image: &mut [u8; N], x: u64) {
 }
 
 /// ```text
-/// requires { ⌜ length (now image) ≡ formLength (formView form) ⌝ }
-/// ensures { λ _. ⌜ Becomes (now (image .entry)) (now (image .exit)) (λ d. withLines d (withIsr (d .core .lines) x)) ⌝ }
+/// requires { length image.old ≡ form_length (form_view form) }
+/// ensures { Becomes image.old image.new (λ d. with_lines d (with_isr d.core.lines x)) }
 /// ```
 #[inline]
 pub fn put_isr<const N: usize>(image: &mut [u8; N], x: u64) {
@@ -79,7 +79,7 @@ pub fn put_isr<const N: usize>(image: &mut [u8; N], x: u64) {
 // ---- the registers that are only stored
 
 /// ```text
-/// ensures { λ r. ⌜ r ≡ place (formView form) (word (stored (plainView register))) ⌝ }
+/// ensures { result ≡ place (form_view form) (word (stored (plain_view register))) }
 /// ```
 #[inline]
 fn place_of(form: Form, register: Plain) -> usize {
@@ -94,8 +94,8 @@ fn place_of(form: Form, register: Plain) -> usize {
 }
 
 /// ```text
-/// requires { ⌜ length (now image) ≡ formLength (formView form) ⌝ }
-/// ensures { λ r. ⌜ Reads (now (image .entry)) r (λ d. plain (d .core .stored) (plainView register)) ⌝ }
+/// requires { length image.now ≡ form_length (form_view form) }
+/// ensures { Reads image.now result (λ d. plain d.core.stored (plain_view register)) }
 /// ```
 #[inline]
 pub fn plain<const N: usize>(image: &[u8; N], register: Plain) -> u64 {
@@ -104,8 +104,8 @@ pub fn plain<const N: usize>(image: &[u8; N], register: Plain) -> u64 {
 }
 
 /// ```text
-/// requires { ⌜ length (now image) ≡ formLength (formView form) ⌝ }
-/// ensures { λ _. ⌜ Becomes (now (image .entry)) (now (image .exit)) (λ d. withStored d (withPlain (d .core .stored) (plainView register) x)) ⌝ }
+/// requires { length image.old ≡ form_length (form_view form) }
+/// ensures { Becomes image.old image.new (λ d. with_stored d (with_plain d.core.stored (plain_view register) x)) }
 /// ```
 #[inline]
 pub fn put_plain<const N: usize>(image: &mut [u8; N], register: Plain, x: u64) {

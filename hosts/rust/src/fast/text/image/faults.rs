@@ -32,8 +32,8 @@ pub enum Checked {
 /// The rules of the pairs, which stand from `at` on.
 ///
 /// ```text
-/// requires { ⌜ (at + 2 * capacity ≤ length (now image)) × (count ≤ capacity) ⌝ }
-/// ensures { λ r. ⌜ checkedView r ≡ bodyTest (pairFault at count (part at (2 * capacity) (now (image .entry)))) ⌝ }
+/// requires { (at + 2 * capacity ≤ length image.now) × (count ≤ capacity) }
+/// ensures { checked_view result ≡ body_test (pair_fault at count (part at (2 * capacity) image.now)) }
 /// ```
 #[inline]
 fn pair_fault(image: &[u8], at: usize, count: usize) -> Checked {
@@ -53,8 +53,8 @@ fn pair_fault(image: &[u8], at: usize, count: usize) -> Checked {
 /// The rule of the numbers, in the form that has them.
 ///
 /// ```text
-/// requires { ⌜ (length (now image) ≡ formLength (formView form)) × (count ≤ capacity) ⌝ }
-/// ensures { λ r. ⌜ checkedView r ≡ bodyTest (finding (formView form) (now (image .entry)) (unusedRule rules-form.numbers count)) ⌝ }
+/// requires { (length image.now ≡ form_length (form_view form)) × (count ≤ capacity) }
+/// ensures { checked_view result ≡ body_test (finding (form_view form) image.now (unused_rule rules-form.numbers count)) }
 /// ```
 #[inline]
 fn number_fault<const N: usize>(image: &[u8; N], count: usize) -> Checked {
@@ -76,8 +76,8 @@ fn number_fault<const N: usize>(image: &[u8; N], count: usize) -> Checked {
 /// A form without a copy of IRR has IRR's own place there.
 ///
 /// ```text
-/// requires { ⌜ length (now image) ≡ formLength (formView form) ⌝ }
-/// ensures { λ r. ⌜ checkedView r ≡ bodyTest (firstFault (formView form) (now (image .entry)) (rules (formView form) (now (image .entry)))) ⌝ }
+/// requires { length image.now ≡ form_length (form_view form) }
+/// ensures { checked_view result ≡ body_test (first_fault (form_view form) image.now (rules (form_view form) image.now)) }
 /// ```
 #[inline]
 pub fn first_fault<const N: usize>(image: &[u8; N]) -> Checked {

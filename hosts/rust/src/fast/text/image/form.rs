@@ -16,7 +16,7 @@ pub enum KnownForm {
 }
 
 /// ```text
-/// ensures { λ r. ⌜ formKnown r ≡ formOf length ⌝ }
+/// ensures { form_known result ≡ form_of length }
 /// ```
 #[inline]
 pub fn form_of(length: usize) -> KnownForm {
@@ -61,7 +61,7 @@ pub struct Places {
 /// How many bytes the contents take.
 ///
 /// ```text
-/// ensures { λ r. ⌜ (r ≡ contentsLength (formView form)) × (r ≤ 27) ⌝ }
+/// ensures { (result ≡ contents_length (form_view form)) × (result ≤ 27) }
 /// ```
 #[inline]
 fn contents_length(form: Form) -> usize {
@@ -75,7 +75,7 @@ fn contents_length(form: Form) -> usize {
 /// How many bytes the copy of IRR takes, behind which all stands so much higher.
 ///
 /// ```text
-/// ensures { λ r. ⌜ (r ≡ copyLength (formView form)) × (r ≤ 8) ⌝ }
+/// ensures { (result ≡ copy_length (form_view form)) × (result ≤ 8) }
 /// ```
 #[inline]
 fn copy_length(form: Form) -> usize {
@@ -89,7 +89,7 @@ fn copy_length(form: Form) -> usize {
 /// One sum for each place, and no table of each form: so the compiler adds what a form has in front to the image's address, once.
 ///
 /// ```text
-/// ensures { λ r. ⌜ PlacesOf (formView form) r ⌝ }
+/// ensures { PlacesOf (form_view form) result }
 /// ```
 #[inline]
 pub fn places_of(form: Form) -> Places {
@@ -157,7 +157,7 @@ pub struct Contents {
 }
 
 /// ```text
-/// ensures { λ r. ⌜ ContentsOf (formView form) r ⌝ }
+/// ensures { ContentsOf (form_view form) result }
 /// ```
 #[inline]
 pub fn contents_of(form: Form) -> Contents {

@@ -17,8 +17,8 @@ pub enum Head {
 }
 
 /// ```text
-/// requires { ⌜ length (now image) ≡ formLength (formView form) ⌝ }
-/// ensures { λ r. ⌜ r ≡ headGood (formView form) (now (image .entry)) ⌝ }
+/// requires { length image.now ≡ form_length (form_view form) }
+/// ensures { result ≡ head_good (form_view form) image.now }
 /// ```
 #[inline]
 fn contents_good<const N: usize>(image: &[u8; N]) -> bool {
@@ -37,8 +37,8 @@ fn contents_good<const N: usize>(image: &[u8; N]) -> bool {
 }
 
 /// ```text
-/// requires { ⌜ formOf (length (now image)) ≡ known (formView form) ⌝ }
-/// ensures { λ r. ⌜ Headed r (now (image .entry)) ⌝ }
+/// requires { form_of (length image.now) ≡ known (form_view form) }
+/// ensures { Headed result image.now }
 /// ```
 #[inline]
 fn headed<const N: usize>(image: &[u8; N]) -> Head {
@@ -52,7 +52,7 @@ fn headed<const N: usize>(image: &[u8; N]) -> Head {
 /// An arm for each form, so that each compares with constants.
 ///
 /// ```text
-/// ensures { λ r. ⌜ Headed r (now (image .entry)) ⌝ }
+/// ensures { Headed result image.now }
 /// ```
 #[inline]
 pub fn test_head<const N: usize>(image: &[u8; N]) -> Head {

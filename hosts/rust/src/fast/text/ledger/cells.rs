@@ -36,7 +36,7 @@ pub enum Fate {
 // ---- where a number stands
 
 /// ```text
-/// ensures { λ r. ⌜ r ≡ cellBytes wide ⌝ }
+/// ensures { result ≡ cell_bytes wide }
 /// ```
 #[inline]
 fn bytes(wide: bool) -> usize {
@@ -44,8 +44,8 @@ fn bytes(wide: bool) -> usize {
 }
 
 /// ```text
-/// requires { ⌜ (row < 65) × (column < 10) ⌝ }
-/// ensures { λ r. ⌜ r ≡ cellPlace wide row column ⌝ }
+/// requires { (row < 65) × (column < 10) }
+/// ensures { result ≡ cell_place wide row column }
 /// ```
 #[inline]
 pub fn place(wide: bool, row: usize, column: usize) -> usize {
@@ -60,8 +60,8 @@ pub fn place(wide: bool, row: usize, column: usize) -> usize {
 /// The number in a row and a column.
 ///
 /// ```text
-/// requires { ⌜ Roomy wide (now sheet) × (row < 65) × (column < 10) ⌝ }
-/// ensures { λ r. ⌜ Reads wide (now (sheet .entry)) r row column ⌝ }
+/// requires { Roomy wide sheet.now × (row < 65) × (column < 10) }
+/// ensures { Reads wide sheet.now result row column }
 /// ```
 #[inline]
 pub fn cell(sheet: &[u8], wide: bool, row: usize, column: usize) -> u64 {
@@ -72,8 +72,8 @@ pub fn cell(sheet: &[u8], wide: bool, row: usize, column: usize) -> u64 {
 }
 
 /// ```text
-/// requires { ⌜ Roomy wide (now sheet) × (row < 65) × (column < 10) ⌝ }
-/// ensures { λ _. ⌜ Puts wide (now (sheet .entry)) (now (sheet .exit)) row column x ⌝ }
+/// requires { Roomy wide sheet.old × (row < 65) × (column < 10) }
+/// ensures { Puts wide sheet.old sheet.new row column x }
 /// ```
 #[inline]
 pub fn put_cell(sheet: &mut [u8], wide: bool, row: usize, column: usize, x: u64) {
@@ -85,8 +85,8 @@ pub fn put_cell(sheet: &mut [u8], wide: bool, row: usize, column: usize, x: u64)
 /// One more, in a column that is counted.
 ///
 /// ```text
-/// requires { ⌜ Roomy wide (now sheet) × (row < 65) × (column < 10) × (isWait column ≡ false) ⌝ }
-/// ensures { λ _. ⌜ Becomes wide (now (sheet .entry)) (now (sheet .exit)) (λ f. bump f row column) ⌝ }
+/// requires { Roomy wide sheet.old × (row < 65) × (column < 10) × (is_wait column ≡ false) }
+/// ensures { Becomes wide sheet.old sheet.new (λ f. bump f row column) }
 /// ```
 #[inline]
 pub fn count(sheet: &mut [u8], wide: bool, row: usize, column: usize) {
@@ -100,8 +100,8 @@ pub fn count(sheet: &mut [u8], wide: bool, row: usize, column: usize) {
 /// How many records came after the one before `since`, up to k.
 ///
 /// ```text
-/// requires { ⌜ k < 2 ^ 64 - 1 ⌝ }
-/// ensures { λ r. ⌜ r ≡ k + 1 - since ⌝ }
+/// requires { k < 2 ^ 64 - 1 }
+/// ensures { result ≡ k + 1 - since }
 /// ```
 #[inline]
 fn elapsed(k: u64, since: u64) -> u64 {
@@ -109,7 +109,7 @@ fn elapsed(k: u64, since: u64) -> u64 {
 }
 
 /// ```text
-/// ensures { λ r. ⌜ r ≡ max a b ⌝ }
+/// ensures { result ≡ max a b }
 /// ```
 #[inline]
 pub fn greater(a: u64, b: u64) -> u64 {
@@ -119,8 +119,8 @@ pub fn greater(a: u64, b: u64) -> u64 {
 /// A wait begins at the record k.
 ///
 /// ```text
-/// requires { ⌜ Ready wide (now sheet) n k ⌝ }
-/// ensures { λ _. ⌜ Takes wide (now (sheet .entry)) (now (sheet .exit)) (began n k ∷ []) ⌝ }
+/// requires { Ready wide sheet.old n k }
+/// ensures { Takes wide sheet.old sheet.new (began n k ∷ []) }
 /// ```
 #[inline]
 pub fn begin(sheet: &mut [u8], wide: bool, n: usize, k: u64) {
@@ -131,8 +131,8 @@ pub fn begin(sheet: &mut [u8], wide: bool, n: usize, k: u64) {
 /// It ends with the assert at the record k, if it is not over.
 ///
 /// ```text
-/// requires { ⌜ Ready wide (now sheet) n k ⌝ }
-/// ensures { λ _. ⌜ Becomes wide (now (sheet .entry)) (now (sheet .exit)) (λ f. settled f n k) ⌝ }
+/// requires { Ready wide sheet.old n k }
+/// ensures { Becomes wide sheet.old sheet.new (λ f. settled f n k) }
 /// ```
 #[inline]
 fn settle(sheet: &mut [u8], wide: bool, n: usize, k: u64) {
@@ -149,8 +149,8 @@ fn settle(sheet: &mut [u8], wide: bool, n: usize, k: u64) {
 /// It is taken back, if it is not over.
 ///
 /// ```text
-/// requires { ⌜ Roomy wide (now sheet) × (n < 64) ⌝ }
-/// ensures { λ _. ⌜ Takes wide (now (sheet .entry)) (now (sheet .exit)) (takenBack n ∷ []) ⌝ }
+/// requires { Roomy wide sheet.old × (n < 64) }
+/// ensures { Takes wide sheet.old sheet.new (taken_back n ∷ []) }
 /// ```
 #[inline]
 pub fn withdraw(sheet: &mut [u8], wide: bool, n: usize) {
@@ -166,7 +166,7 @@ pub fn withdraw(sheet: &mut [u8], wide: bool, n: usize) {
 // ---- events
 
 /// ```text
-/// ensures { λ r. ⌜ r ≡ kindColumn asserted ⌝ }
+/// ensures { result ≡ kind_column asserted }
 /// ```
 #[inline]
 fn kind_column(asserted: bool) -> usize {
@@ -176,8 +176,8 @@ fn kind_column(asserted: bool) -> usize {
 /// A dropped event is among the offered ones.
 ///
 /// ```text
-/// requires { ⌜ Roomy wide (now sheet) × (n < 64) ⌝ }
-/// ensures { λ _. ⌜ Becomes wide (now (sheet .entry)) (now (sheet .exit)) (λ f. bumped f n (fateColumns (fateView fate))) ⌝ }
+/// requires { Roomy wide sheet.old × (n < 64) }
+/// ensures { Becomes wide sheet.old sheet.new (λ f. bumped f n (fate_columns (fate_view fate))) }
 /// ```
 #[inline]
 fn count_fate(sheet: &mut [u8], wide: bool, n: usize, fate: Fate) {
@@ -195,8 +195,8 @@ fn count_fate(sheet: &mut [u8], wide: bool, n: usize, fate: Fate) {
 /// An event of the input n at the record k.
 ///
 /// ```text
-/// requires { ⌜ Ready wide (now sheet) n k ⌝ }
-/// ensures { λ _. ⌜ Takes wide (now (sheet .entry)) (now (sheet .exit)) (happened (noteWith n k asserted (fateView fate)) ∷ []) ⌝ }
+/// requires { Ready wide sheet.old n k }
+/// ensures { Takes wide sheet.old sheet.new (happened (note_with n k asserted (fate_view fate)) ∷ []) }
 /// ```
 #[inline]
 pub fn event(sheet: &mut [u8], wide: bool, n: usize, k: u64, asserted: bool, fate: Fate) {

@@ -17,7 +17,7 @@ pub const COLUMNS: usize = 10;
 pub const TOTAL: usize = 64;
 
 /// ```text
-/// ensures { λ r. ⌜ r ≡ isOn x ⌝ }
+/// ensures { result ≡ is_on x }
 /// ```
 #[inline]
 fn is_on(x: u64) -> u64 {
@@ -27,8 +27,8 @@ fn is_on(x: u64) -> u64 {
 /// A wait that is not over is open.
 ///
 /// ```text
-/// requires { ⌜ Roomy wide (now sheet) × (n < 64) ⌝ }
-/// ensures { λ _. ⌜ Becomes wide (now (sheet .entry)) (now (sheet .exit)) (λ f. shut f n) ⌝ }
+/// requires { Roomy wide sheet.old × (n < 64) }
+/// ensures { Becomes wide sheet.old sheet.new (λ f. shut f n) }
 /// ```
 #[inline]
 fn close(sheet: &mut [u8], wide: bool, n: usize) {
@@ -40,7 +40,7 @@ fn close(sheet: &mut [u8], wide: bool, n: usize) {
 /// The greater wait, and of all else the sum.
 ///
 /// ```text
-/// ensures { λ r. ⌜ r ≡ joined column total x % 2 ^ 64 ⌝ }
+/// ensures { result ≡ joined column total x % 2 ^ 64 }
 /// ```
 #[inline]
 fn join_with(column: usize, total: u64, x: u64) -> u64 {
@@ -51,8 +51,8 @@ fn join_with(column: usize, total: u64, x: u64) -> u64 {
 }
 
 /// ```text
-/// requires { ⌜ Roomy wide (now sheet) × (n < 64) × (column < 10) ⌝ }
-/// ensures { λ _. ⌜ Becomes wide (now (sheet .entry)) (now (sheet .exit)) (λ f. put f 64 column (joined column (f 64 column) (f n column))) ⌝ }
+/// requires { Roomy wide sheet.old × (n < 64) × (column < 10) }
+/// ensures { Becomes wide sheet.old sheet.new (λ f. put f 64 column (joined column (f 64 column) (f n column))) }
 /// ```
 #[inline]
 fn join(sheet: &mut [u8], wide: bool, n: usize, column: usize) {
@@ -63,8 +63,8 @@ fn join(sheet: &mut [u8], wide: bool, n: usize, column: usize) {
 }
 
 /// ```text
-/// requires { ⌜ Roomy wide (now sheet) × (n < 64) ⌝ }
-/// ensures { λ _. ⌜ Becomes wide (now (sheet .entry)) (now (sheet .exit)) (λ f. rowJoined f n 10) ⌝ }
+/// requires { Roomy wide sheet.old × (n < 64) }
+/// ensures { Becomes wide sheet.old sheet.new (λ f. row_joined f n 10) }
 /// ```
 #[inline]
 fn join_row(sheet: &mut [u8], wide: bool, n: usize) {
@@ -79,8 +79,8 @@ fn join_row(sheet: &mut [u8], wide: bool, n: usize) {
 /// Forty bytes, a row or half a wide one.
 ///
 /// ```text
-/// requires { ⌜ at + 40 ≤ length (now sheet) ⌝ }
-/// ensures { λ r. ⌜ FoundZero r at 40 (now (sheet .entry)) ⌝ }
+/// requires { at + 40 ≤ length sheet.now }
+/// ensures { FoundZero result at 40 sheet.now }
 /// ```
 #[inline]
 fn forty_zeros(sheet: &[u8], at: usize) -> bool {
@@ -93,8 +93,8 @@ fn forty_zeros(sheet: &[u8], at: usize) -> bool {
 }
 
 /// ```text
-/// requires { ⌜ Roomy wide (now sheet) × (n < 64) ⌝ }
-/// ensures { λ r. ⌜ FoundZero r (cellPlace wide n 0) (10 * cellBytes wide) (now (sheet .entry)) ⌝ }
+/// requires { Roomy wide sheet.now × (n < 64) }
+/// ensures { FoundZero result (cell_place wide n 0) (10 * cell_bytes wide) sheet.now }
 /// ```
 #[inline]
 fn is_zero_row(sheet: &[u8], wide: bool, n: usize) -> bool {
@@ -110,8 +110,8 @@ fn is_zero_row(sheet: &[u8], wide: bool, n: usize) -> bool {
 /// A row of zeros has no open wait, and adds nothing to the total.
 ///
 /// ```text
-/// requires { ⌜ Roomy wide (now sheet) × (n < 64) ⌝ }
-/// ensures { λ _. ⌜ Becomes wide (now (sheet .entry)) (now (sheet .exit)) (λ f. rowJoined (shut f n) n 10) ⌝ }
+/// requires { Roomy wide sheet.old × (n < 64) }
+/// ensures { Becomes wide sheet.old sheet.new (λ f. row_joined (shut f n) n 10) }
 /// ```
 #[inline]
 fn finish_row(sheet: &mut [u8], wide: bool, n: usize) {
@@ -124,8 +124,8 @@ fn finish_row(sheet: &mut [u8], wide: bool, n: usize) {
 }
 
 /// ```text
-/// requires { ⌜ Roomy wide (now sheet) ⌝ }
-/// ensures { λ _. ⌜ Becomes wide (now (sheet .entry)) (now (sheet .exit)) (λ f. finished f 64) ⌝ }
+/// requires { Roomy wide sheet.old }
+/// ensures { Becomes wide sheet.old sheet.new (λ f. finished f 64) }
 /// ```
 #[inline]
 pub fn join_all(sheet: &mut [u8], wide: bool) {

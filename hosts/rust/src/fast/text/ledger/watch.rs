@@ -27,8 +27,8 @@ const ROOM: u64 = 16;
 /// An event is offered: it is kept where fewer than sixteen wait. The answer is how many wait then.
 ///
 /// ```text
-/// requires { ⌜ Ready wide (now sheet) n k ⌝ }
-/// ensures { λ r. ⌜ Offers wide (now (sheet .entry)) (now (sheet .exit)) k waiting r (λ vs. lines.event vs true asserted n ∷ []) ⌝ }
+/// requires { Ready wide sheet.old n k }
+/// ensures { Offers wide sheet.old sheet.new k waiting result (λ vs. lines.event vs true asserted n ∷ []) }
 /// ```
 #[inline]
 fn offer(sheet: &mut [u8], wide: bool, n: usize, k: u64, asserted: bool, waiting: u64) -> u64 {
@@ -44,8 +44,8 @@ fn offer(sheet: &mut [u8], wide: bool, n: usize, k: u64, asserted: bool, waiting
 /// A deassert for each input of a set, lowest first.
 ///
 /// ```text
-/// requires { ⌜ Roomy wide (now sheet) × (k < recordLimit wide) ⌝ }
-/// ensures { λ r. ⌜ Offers wide (now (sheet .entry)) (now (sheet .exit)) k waiting r (λ vs. map (lines.event vs true false) (inputs (on set))) ⌝ }
+/// requires { Roomy wide sheet.old × (k < record_limit wide) }
+/// ensures { Offers wide sheet.old sheet.new k waiting result (λ vs. map (lines.event vs true false) (inputs (on set))) }
 /// ```
 #[inline]
 fn offer_each(sheet: &mut [u8], wide: bool, set: u64, k: u64, waiting: u64) -> u64 {
@@ -62,8 +62,8 @@ fn offer_each(sheet: &mut [u8], wide: bool, set: u64, k: u64, waiting: u64) -> u
 /// The waits of a set are taken back.
 ///
 /// ```text
-/// requires { ⌜ Roomy wide (now sheet) ⌝ }
-/// ensures { λ _. ⌜ Takes wide (now (sheet .entry)) (now (sheet .exit)) (map takenBack (inputs (on set))) ⌝ }
+/// requires { Roomy wide sheet.old }
+/// ensures { Takes wide sheet.old sheet.new (map taken_back (inputs (on set))) }
 /// ```
 #[inline]
 fn withdraw_each(sheet: &mut [u8], wide: bool, set: u64) {
@@ -80,8 +80,8 @@ fn withdraw_each(sheet: &mut [u8], wide: bool, set: u64) {
 /// The lowest of a set that waits goes into service, and its assert is offered.
 ///
 /// ```text
-/// requires { ⌜ Roomy wide (now sheet) × (k < recordLimit wide) ⌝ }
-/// ensures { λ r. ⌜ Turns wide (linesOf r) (now (sheet .entry)) (now (sheet .exit)) k (w .waiting) (r .waiting) (λ vs. lines.enter vs true (on set) (linesOf w)) ⌝ }
+/// requires { Roomy wide sheet.old × (k < record_limit wide) }
+/// ensures { Turns wide (lines_of result) sheet.old sheet.new k w.waiting result.waiting (λ vs. lines.enter vs true (on set) (lines_of w)) }
 /// ```
 #[inline]
 fn enter(sheet: &mut [u8], wide: bool, w: Watched, set: u64, k: u64) -> Watched {
@@ -102,8 +102,8 @@ fn enter(sheet: &mut [u8], wide: bool, w: Watched, set: u64, k: u64) -> Watched 
 /// All of a set that are in service leave it, and their deasserts are offered.
 ///
 /// ```text
-/// requires { ⌜ Roomy wide (now sheet) × (k < recordLimit wide) ⌝ }
-/// ensures { λ r. ⌜ Turns wide (linesOf r) (now (sheet .entry)) (now (sheet .exit)) k (w .waiting) (r .waiting) (λ vs. lines.leave vs true (on set) (linesOf w)) ⌝ }
+/// requires { Roomy wide sheet.old × (k < record_limit wide) }
+/// ensures { Turns wide (lines_of result) sheet.old sheet.new k w.waiting result.waiting (λ vs. lines.leave vs true (on set) (lines_of w)) }
 /// ```
 #[inline]
 fn leave(sheet: &mut [u8], wide: bool, w: Watched, set: u64, k: u64) -> Watched {
@@ -120,9 +120,9 @@ fn leave(sheet: &mut [u8], wide: bool, w: Watched, set: u64, k: u64) -> Watched 
 /// One input that waits goes into service, and its assert is returned.
 ///
 /// ```text
-/// requires { ⌜ Ready wide (now sheet) n k ⌝ }
-/// ensures { λ r. ⌜ Turns wide (linesOf r) (now (sheet .entry)) (now (sheet .exit)) k (w .waiting) (r .waiting)
-///     (λ vs. lines.enter vs false (only n) (linesOf w)) ⌝ }
+/// requires { Ready wide sheet.old n k }
+/// ensures { Turns wide (lines_of result) sheet.old sheet.new k w.waiting result.waiting
+///     (λ vs. lines.enter vs false (only n) (lines_of w)) }
 /// ```
 #[inline]
 fn enter_one(sheet: &mut [u8], wide: bool, w: Watched, n: usize, k: u64) -> Watched {
@@ -143,9 +143,9 @@ fn enter_one(sheet: &mut [u8], wide: bool, w: Watched, n: usize, k: u64) -> Watc
 /// One input that is in service leaves it, and its deassert is returned.
 ///
 /// ```text
-/// requires { ⌜ Ready wide (now sheet) n k ⌝ }
-/// ensures { λ r. ⌜ Turns wide (linesOf r) (now (sheet .entry)) (now (sheet .exit)) k (w .waiting) (r .waiting)
-///     (λ vs. lines.leave vs false (only n) (linesOf w)) ⌝ }
+/// requires { Ready wide sheet.old n k }
+/// ensures { Turns wide (lines_of result) sheet.old sheet.new k w.waiting result.waiting
+///     (λ vs. lines.leave vs false (only n) (lines_of w)) }
 /// ```
 #[inline]
 fn leave_one(sheet: &mut [u8], wide: bool, w: Watched, n: usize, k: u64) -> Watched {
@@ -166,9 +166,9 @@ fn leave_one(sheet: &mut [u8], wide: bool, w: Watched, n: usize, k: u64) -> Watc
 // ---- the calls on an input
 
 /// ```text
-/// requires { ⌜ Ready wide (now sheet) n k ⌝ }
-/// ensures { λ r. ⌜ Follows wide (linesOf w) (w .waiting) (linesOf r) (r .waiting) (now (sheet .entry)) (now (sheet .exit)) k
-///     (λ c. core.move (core.poll n) ∷ []) ⌝ }
+/// requires { Ready wide sheet.old n k }
+/// ensures { Follows wide (lines_of w) w.waiting (lines_of result) result.waiting sheet.old sheet.new k
+///     (λ c. core.move (core.poll n) ∷ []) }
 /// ```
 #[inline]
 pub fn poll(sheet: &mut [u8], wide: bool, w: Watched, n: usize, k: u64) -> Watched {
@@ -179,8 +179,8 @@ pub fn poll(sheet: &mut [u8], wide: bool, w: Watched, n: usize, k: u64) -> Watch
 /// A raise is counted; a wait begins if it found the input neither latched nor in service.
 ///
 /// ```text
-/// requires { ⌜ Ready wide (now sheet) n k ⌝ }
-/// ensures { λ _. ⌜ Takes wide (now (sheet .entry)) (now (sheet .exit)) (raised n ∷ cond (idleIn (linesOf w) n) (began n k ∷ []) []) ⌝ }
+/// requires { Ready wide sheet.old n k }
+/// ensures { Takes wide sheet.old sheet.new (raised n ∷ (if idle_in (lines_of w) n then began n k ∷ [] else [])) }
 /// ```
 #[inline]
 fn count_raise(sheet: &mut [u8], wide: bool, w: Watched, n: usize, k: u64) {
@@ -195,9 +195,9 @@ fn count_raise(sheet: &mut [u8], wide: bool, w: Watched, n: usize, k: u64) {
 /// It is latched, and then polled.
 ///
 /// ```text
-/// requires { ⌜ Ready wide (now sheet) n k ⌝ }
-/// ensures { λ r. ⌜ Follows wide (linesOf w) (w .waiting) (linesOf r) (r .waiting) (now (sheet .entry)) (now (sheet .exit)) k
-///     (λ c. core.move (core.raise n) ∷ []) ⌝ }
+/// requires { Ready wide sheet.old n k }
+/// ensures { Follows wide (lines_of w) w.waiting (lines_of result) result.waiting sheet.old sheet.new k
+///     (λ c. core.move (core.raise n) ∷ []) }
 /// ```
 #[inline]
 pub fn raise(sheet: &mut [u8], wide: bool, w: Watched, n: usize, k: u64) -> Watched {
@@ -215,9 +215,9 @@ pub fn raise(sheet: &mut [u8], wide: bool, w: Watched, n: usize, k: u64) -> Watc
 /// Its latch goes off, its wait is taken back, and it leaves service.
 ///
 /// ```text
-/// requires { ⌜ Ready wide (now sheet) n k ⌝ }
-/// ensures { λ r. ⌜ Follows wide (linesOf w) (w .waiting) (linesOf r) (r .waiting) (now (sheet .entry)) (now (sheet .exit)) k
-///     (λ c. core.move (core.lower n) ∷ []) ⌝ }
+/// requires { Ready wide sheet.old n k }
+/// ensures { Follows wide (lines_of w) w.waiting (lines_of result) result.waiting sheet.old sheet.new k
+///     (λ c. core.move (core.lower n) ∷ []) }
 /// ```
 #[inline]
 pub fn lower(sheet: &mut [u8], wide: bool, w: Watched, n: usize, k: u64) -> Watched {
@@ -236,9 +236,9 @@ pub fn lower(sheet: &mut [u8], wide: bool, w: Watched, n: usize, k: u64) -> Watc
 // ---- MASK and CLEAR
 
 /// ```text
-/// requires { ⌜ Roomy wide (now sheet) × (k < recordLimit wide) ⌝ }
-/// ensures { λ r. ⌜ Follows wide (linesOf w) (w .waiting) (linesOf r) (r .waiting) (now (sheet .entry)) (now (sheet .exit)) k
-///     (λ c. core.move (core.setMask high val) ∷ []) ⌝ }
+/// requires { Roomy wide sheet.old × (k < record_limit wide) }
+/// ensures { Follows wide (lines_of w) w.waiting (lines_of result) result.waiting sheet.old sheet.new k
+///     (λ c. core.move (core.set_mask high val) ∷ []) }
 /// ```
 #[inline]
 pub fn write_mask(
@@ -273,9 +273,9 @@ pub fn write_mask(
 }
 
 /// ```text
-/// requires { ⌜ Roomy wide (now sheet) × (k < recordLimit wide) ⌝ }
-/// ensures { λ r. ⌜ Follows wide (linesOf w) (w .waiting) (linesOf r) (r .waiting) (now (sheet .entry)) (now (sheet .exit)) k
-///     (λ c. core.move (core.clear bits) ∷ []) ⌝ }
+/// requires { Roomy wide sheet.old × (k < record_limit wide) }
+/// ensures { Follows wide (lines_of w) w.waiting (lines_of result) result.waiting sheet.old sheet.new k
+///     (λ c. core.move (core.clear bits) ∷ []) }
 /// ```
 #[inline]
 pub fn write_clear(sheet: &mut [u8], wide: bool, w: Watched, k: u64, bits: u64) -> Watched {

@@ -16,9 +16,9 @@ const SIZE: u64 = 0x1_0000;
 // ---- the calls on an input
 
 /// ```text
-/// requires { ⌜ Roomy wide (now sheet) × (k < recordLimit wide) ⌝ }
-/// ensures { λ r. ⌜ FollowsItem wide (linesOf w) (w .waiting) (linesOf r) (r .waiting) (now (sheet .entry)) (now (sheet .exit)) k
-///     (asItem (calls (inputCall n (device.level n true)))) ⌝ }
+/// requires { Roomy wide sheet.old × (k < record_limit wide) }
+/// ensures { FollowsItem wide (lines_of w) w.waiting (lines_of result) result.waiting sheet.old sheet.new k
+///     (as_item (calls (input_call n (device.level n true)))) }
 /// ```
 #[inline]
 fn raise(sheet: &mut [u8], wide: bool, w: Watched, k: u64, n: u64) -> Watched {
@@ -29,9 +29,9 @@ fn raise(sheet: &mut [u8], wide: bool, w: Watched, k: u64, n: u64) -> Watched {
 }
 
 /// ```text
-/// requires { ⌜ Roomy wide (now sheet) × (k < recordLimit wide) ⌝ }
-/// ensures { λ r. ⌜ FollowsItem wide (linesOf w) (w .waiting) (linesOf r) (r .waiting) (now (sheet .entry)) (now (sheet .exit)) k
-///     (asItem (calls (inputCall n (device.level n false)))) ⌝ }
+/// requires { Roomy wide sheet.old × (k < record_limit wide) }
+/// ensures { FollowsItem wide (lines_of w) w.waiting (lines_of result) result.waiting sheet.old sheet.new k
+///     (as_item (calls (input_call n (device.level n false)))) }
 /// ```
 #[inline]
 fn lower(sheet: &mut [u8], wide: bool, w: Watched, k: u64, n: u64) -> Watched {
@@ -42,9 +42,9 @@ fn lower(sheet: &mut [u8], wide: bool, w: Watched, k: u64, n: u64) -> Watched {
 }
 
 /// ```text
-/// requires { ⌜ Roomy wide (now sheet) × (k < recordLimit wide) ⌝ }
-/// ensures { λ r. ⌜ FollowsItem wide (linesOf w) (w .waiting) (linesOf r) (r .waiting) (now (sheet .entry)) (now (sheet .exit)) k
-///     (asItem (calls (inputCall n (device.poll n)))) ⌝ }
+/// requires { Roomy wide sheet.old × (k < record_limit wide) }
+/// ensures { FollowsItem wide (lines_of w) w.waiting (lines_of result) result.waiting sheet.old sheet.new k
+///     (as_item (calls (input_call n (device.poll n)))) }
 /// ```
 #[inline]
 fn poll(sheet: &mut [u8], wide: bool, w: Watched, k: u64, n: u64) -> Watched {
@@ -57,9 +57,9 @@ fn poll(sheet: &mut [u8], wide: bool, w: Watched, k: u64, n: u64) -> Watched {
 // ---- a write
 
 /// ```text
-/// requires { ⌜ Roomy wide (now sheet) × (k < recordLimit wide) ⌝ }
-/// ensures { λ r. ⌜ FollowsItem wide (linesOf w) (w .waiting) (linesOf r) (r .waiting) (now (sheet .entry)) (now (sheet .exit)) k
-///     (asItem (askedBy (asked.write 0 65536 address width value))) ⌝ }
+/// requires { Roomy wide sheet.old × (k < record_limit wide) }
+/// ensures { FollowsItem wide (lines_of w) w.waiting (lines_of result) result.waiting sheet.old sheet.new k
+///     (as_item (asked_by (asked.write 0 65536 address width value))) }
 /// ```
 #[inline]
 fn write(
@@ -85,8 +85,8 @@ fn write(
 /// A read changes nothing that is kept; after a drain of all nothing waits.
 ///
 /// ```text
-/// requires { ⌜ Roomy wide (now sheet) × (k < recordLimit wide) ⌝ }
-/// ensures { λ v. ⌜ FollowsItem wide (linesOf w) (w .waiting) (linesOf v) (v .waiting) (now (sheet .entry)) (now (sheet .exit)) k (itemOf (recordView r)) ⌝ }
+/// requires { Roomy wide sheet.old × (k < record_limit wide) }
+/// ensures { FollowsItem wide (lines_of w) w.waiting (lines_of result) result.waiting sheet.old sheet.new k (item_of (record_view r)) }
 /// ```
 #[inline]
 pub fn step(sheet: &mut [u8], wide: bool, w: Watched, k: u64, r: Record) -> Watched {

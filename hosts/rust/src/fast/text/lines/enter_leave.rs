@@ -10,8 +10,8 @@ use super::super::image::form::Form;
 /// The lowest of a set that waits goes into service; the answer is its vector.
 ///
 /// ```text
-/// requires { ⌜ length (now image) ≡ formLength (formView form) ⌝ }
-/// ensures { λ r. ⌜ MovesIn (now (image .entry)) (now (image .exit)) (answerValue r) untaken given (λ vs. lines.enter vs false (on set)) ⌝ }
+/// requires { length image.old ≡ form_length (form_view form) }
+/// ensures { MovesIn image.old image.new (answer_value result) untaken given (λ vs. lines.enter vs false (on set)) }
 /// ```
 #[inline]
 pub fn enter<const N: usize>(image: &mut [u8; N], set: u64) -> Answer {
@@ -28,8 +28,8 @@ pub fn enter<const N: usize>(image: &mut [u8; N], set: u64) -> Answer {
 /// An input that is in service leaves it; the answer is its vector.
 ///
 /// ```text
-/// requires { ⌜ (length (now image) ≡ formLength (formView form)) × (irq < 64) ⌝ }
-/// ensures { λ r. ⌜ MovesIn (now (image .entry)) (now (image .exit)) (answerValue r) untaken given (λ vs. lines.leave vs false (only irq)) ⌝ }
+/// requires { (length image.old ≡ form_length (form_view form)) × (irq < 64) }
+/// ensures { MovesIn image.old image.new (answer_value result) untaken given (λ vs. lines.leave vs false (only irq)) }
 /// ```
 #[inline]
 pub fn leave_one<const N: usize>(image: &mut [u8; N], irq: usize) -> Answer {

@@ -9,8 +9,8 @@ use super::super::image::form::Form;
 /// The assert of the input that entered, if one did.
 ///
 /// ```text
-/// requires { ⌜ length (now image) ≡ formLength (formView form) ⌝ }
-/// ensures { λ r. ⌜ (r ≤ 1) × Offers (now (image .entry)) (now (image .exit)) r (λ d. assertOf (answerValue entered)) ⌝ }
+/// requires { length image.old ≡ form_length (form_view form) }
+/// ensures { (result ≤ 1) × Offers image.old image.new result (λ d. assert_of (answer_value entered)) }
 /// ```
 #[inline]
 pub fn offer_entered<const N: usize>(image: &mut [u8; N], entered: Answer) -> u32 {
@@ -23,8 +23,8 @@ pub fn offer_entered<const N: usize>(image: &mut [u8; N], entered: Answer) -> u3
 /// A deassert for each input of a set, lowest first, all added up: for a ring that has just dropped one.
 ///
 /// ```text
-/// requires { ⌜ length (now image) ≡ formLength (formView form) ⌝ }
-/// ensures { λ r. ⌜ (r ≤ length (inputs (on set))) × Offers (now (image .entry)) (now (image .exit)) r (λ d. deasserts (d .core) set) ⌝ }
+/// requires { length image.old ≡ form_length (form_view form) }
+/// ensures { (result ≤ length (inputs (on set))) × Offers image.old image.new result (λ d. deasserts d.core set) }
 /// ```
 #[inline]
 fn offer_rest<const N: usize>(image: &mut [u8; N], set: u64) -> u32 {
@@ -42,8 +42,8 @@ fn offer_rest<const N: usize>(image: &mut [u8; N], set: u64) -> u32 {
 /// A deassert for each input of a set, lowest first. Nothing is added up until one is dropped, since those before it were kept.
 ///
 /// ```text
-/// requires { ⌜ length (now image) ≡ formLength (formView form) ⌝ }
-/// ensures { λ r. ⌜ (r ≤ 64) × Offers (now (image .entry)) (now (image .exit)) r (λ d. deasserts (d .core) set) ⌝ }
+/// requires { length image.old ≡ form_length (form_view form) }
+/// ensures { (result ≤ 64) × Offers image.old image.new result (λ d. deasserts d.core set) }
 /// ```
 #[inline]
 pub fn offer_each<const N: usize>(image: &mut [u8; N], set: u64) -> u32 {

@@ -8,8 +8,8 @@ use super::enter_leave::enter;
 use super::enter_leave::leave_one;
 
 /// ```text
-/// requires { ⌜ (length (now image) ≡ formLength (formView form)) × (irq < 64) ⌝ }
-/// ensures { λ r. ⌜ Returns (now (image .entry)) (now (image .exit)) (answerValue r) (core.poll irq) ⌝ }
+/// requires { (length image.old ≡ form_length (form_view form)) × (irq < 64) }
+/// ensures { Returns image.old image.new (answer_value result) (core.poll irq) }
 /// ```
 #[inline]
 pub fn poll<const N: usize>(image: &mut [u8; N], irq: usize) -> Answer {
@@ -20,8 +20,8 @@ pub fn poll<const N: usize>(image: &mut [u8; N], irq: usize) -> Answer {
 /// It is latched, and then polled.
 ///
 /// ```text
-/// requires { ⌜ (length (now image) ≡ formLength (formView form)) × (irq < 64) ⌝ }
-/// ensures { λ r. ⌜ Returns (now (image .entry)) (now (image .exit)) (answerValue r) (core.raise irq) ⌝ }
+/// requires { (length image.old ≡ form_length (form_view form)) × (irq < 64) }
+/// ensures { Returns image.old image.new (answer_value result) (core.raise irq) }
 /// ```
 #[inline]
 fn raise<const N: usize>(image: &mut [u8; N], irq: usize) -> Answer {
@@ -35,8 +35,8 @@ fn raise<const N: usize>(image: &mut [u8; N], irq: usize) -> Answer {
 /// Its latch goes off, and it leaves service, masked or not.
 ///
 /// ```text
-/// requires { ⌜ (length (now image) ≡ formLength (formView form)) × (irq < 64) ⌝ }
-/// ensures { λ r. ⌜ Returns (now (image .entry)) (now (image .exit)) (answerValue r) (core.lower irq) ⌝ }
+/// requires { (length image.old ≡ form_length (form_view form)) × (irq < 64) }
+/// ensures { Returns image.old image.new (answer_value result) (core.lower irq) }
 /// ```
 #[inline]
 fn lower<const N: usize>(image: &mut [u8; N], irq: usize) -> Answer {
@@ -47,8 +47,8 @@ fn lower<const N: usize>(image: &mut [u8; N], irq: usize) -> Answer {
 }
 
 /// ```text
-/// requires { ⌜ (length (now image) ≡ formLength (formView form)) × (irq < 64) ⌝ }
-/// ensures { λ r. ⌜ Returns (now (image .entry)) (now (image .exit)) (answerValue r) (levelMove irq level) ⌝ }
+/// requires { (length image.old ≡ form_length (form_view form)) × (irq < 64) }
+/// ensures { Returns image.old image.new (answer_value result) (level_move irq level) }
 /// ```
 #[inline]
 pub fn set_level<const N: usize>(image: &mut [u8; N], irq: usize, level: bool) -> Answer {

@@ -26,9 +26,9 @@ use super::super::six_calls::tested_access;
 /// A read of any width: the image is tested the whole way.
 ///
 /// ```text
-/// requires { ⌜ answerLength ≤ length (now answer) ⌝ }
-/// ensures { λ r. ⌜ leaves r (now (image .entry)) (now (answer .exit)) []
-///     ≡ outcome (asked.read base size address width) (now (image .entry)) (now (answer .entry)) ⌝ }
+/// requires { answer_length ≤ length answer.old }
+/// ensures { leaves result image.now answer.new []
+///     ≡ outcome (asked.read base size address width) image.now answer.old }
 /// ```
 #[inline(never)]
 pub fn read_any<const N: usize>(
@@ -47,9 +47,9 @@ pub fn read_any<const N: usize>(
 /// A Dword of an image that is accepted.
 ///
 /// ```text
-/// requires { ⌜ Passed (formView form) (now image) × (answerLength ≤ length (now answer)) ⌝ }
-/// ensures { λ r. ⌜ leaves r (now (image .entry)) (now (answer .exit)) []
-///     ≡ outcome (asked.read base size address 4) (now (image .entry)) (now (answer .entry)) ⌝ }
+/// requires { Passed (form_view form) image.now × (answer_length ≤ length answer.old) }
+/// ensures { leaves result image.now answer.new []
+///     ≡ outcome (asked.read base size address 4) image.now answer.old }
 /// ```
 #[inline]
 fn read_on<const N: usize>(
@@ -70,9 +70,9 @@ fn read_on<const N: usize>(
 /// The contents are those of the form, and the bodies are tested in full.
 ///
 /// ```text
-/// requires { ⌜ Headed (Of form) (now image) × (answerLength ≤ length (now answer)) ⌝ }
-/// ensures { λ r. ⌜ leaves r (now (image .entry)) (now (answer .exit)) []
-///     ≡ outcome (asked.read base size address 4) (now (image .entry)) (now (answer .entry)) ⌝ }
+/// requires { Headed (Of form) image.now × (answer_length ≤ length answer.old) }
+/// ensures { leaves result image.now answer.new []
+///     ≡ outcome (asked.read base size address 4) image.now answer.old }
 /// ```
 #[inline(never)]
 fn read_tested<const N: usize>(
@@ -92,9 +92,9 @@ fn read_tested<const N: usize>(
 /// The contents are those of the form. Where few wait, the form is a constant here too.
 ///
 /// ```text
-/// requires { ⌜ Headed (Of form) (now image) × (answerLength ≤ length (now answer)) ⌝ }
-/// ensures { λ r. ⌜ leaves r (now (image .entry)) (now (answer .exit)) []
-///     ≡ outcome (asked.read base size address 4) (now (image .entry)) (now (answer .entry)) ⌝ }
+/// requires { Headed (Of form) image.now × (answer_length ≤ length answer.old) }
+/// ensures { leaves result image.now answer.new []
+///     ≡ outcome (asked.read base size address 4) image.now answer.old }
 /// ```
 #[inline(never)]
 fn read_waiting<const N: usize>(
@@ -132,9 +132,9 @@ fn read_waiting<const N: usize>(
 /// what is done, and every Dword would take 4 instructions more.
 ///
 /// ```text
-/// requires { ⌜ Passed (formView form) (now image) × (answerLength ≤ length (now answer)) ⌝ }
-/// ensures { λ r. ⌜ leaves r (now (image .entry)) (now (answer .exit)) []
-///     ≡ outcome (asked.read base size address 4) (now (image .entry)) (now (answer .entry)) ⌝ }
+/// requires { Passed (form_view form) image.now × (answer_length ≤ length answer.old) }
+/// ensures { leaves result image.now answer.new []
+///     ≡ outcome (asked.read base size address 4) image.now answer.old }
 /// ```
 #[inline]
 fn read_at_once<const N: usize>(
@@ -155,9 +155,9 @@ fn read_at_once<const N: usize>(
 /// A Dword. The quick test comes first, in an arm for each form.
 ///
 /// ```text
-/// requires { ⌜ answerLength ≤ length (now answer) ⌝ }
-/// ensures { λ r. ⌜ leaves r (now (image .entry)) (now (answer .exit)) []
-///     ≡ outcome (asked.read base size address 4) (now (image .entry)) (now (answer .entry)) ⌝ }
+/// requires { answer_length ≤ length answer.old }
+/// ensures { leaves result image.now answer.new []
+///     ≡ outcome (asked.read base size address 4) image.now answer.old }
 /// ```
 #[inline]
 pub fn read_dword<const N: usize>(
@@ -205,9 +205,9 @@ pub fn read_dword<const N: usize>(
 /// A write of any width: the image is tested the whole way.
 ///
 /// ```text
-/// requires { ⌜ answerLength ≤ length (now answer) ⌝ }
-/// ensures { λ r. ⌜ leaves r (now (image .exit)) (now (answer .exit)) []
-///     ≡ outcome (asked.write base size address width value) (now (image .entry)) (now (answer .entry)) ⌝ }
+/// requires { answer_length ≤ length answer.old }
+/// ensures { leaves result image.new answer.new []
+///     ≡ outcome (asked.write base size address width value) image.old answer.old }
 /// ```
 #[inline(never)]
 pub fn write_any<const N: usize>(
@@ -227,9 +227,9 @@ pub fn write_any<const N: usize>(
 /// A Dword to an image that is accepted.
 ///
 /// ```text
-/// requires { ⌜ Passed (formView form) (now image) × (answerLength ≤ length (now answer)) ⌝ }
-/// ensures { λ r. ⌜ leaves r (now (image .exit)) (now (answer .exit)) []
-///     ≡ outcome (asked.write base size address 4 value) (now (image .entry)) (now (answer .entry)) ⌝ }
+/// requires { Passed (form_view form) image.old × (answer_length ≤ length answer.old) }
+/// ensures { leaves result image.new answer.new []
+///     ≡ outcome (asked.write base size address 4 value) image.old answer.old }
 /// ```
 #[inline]
 fn write_on<const N: usize>(
@@ -251,9 +251,9 @@ fn write_on<const N: usize>(
 /// The contents are those of the form, and the bodies are tested in full.
 ///
 /// ```text
-/// requires { ⌜ Headed (Of form) (now image) × (answerLength ≤ length (now answer)) ⌝ }
-/// ensures { λ r. ⌜ leaves r (now (image .exit)) (now (answer .exit)) []
-///     ≡ outcome (asked.write base size address 4 value) (now (image .entry)) (now (answer .entry)) ⌝ }
+/// requires { Headed (Of form) image.old × (answer_length ≤ length answer.old) }
+/// ensures { leaves result image.new answer.new []
+///     ≡ outcome (asked.write base size address 4 value) image.old answer.old }
 /// ```
 #[inline(never)]
 fn write_tested<const N: usize>(
@@ -274,9 +274,9 @@ fn write_tested<const N: usize>(
 /// The contents are those of the form. Where few wait, the form is a constant here too.
 ///
 /// ```text
-/// requires { ⌜ Headed (Of form) (now image) × (answerLength ≤ length (now answer)) ⌝ }
-/// ensures { λ r. ⌜ leaves r (now (image .exit)) (now (answer .exit)) []
-///     ≡ outcome (asked.write base size address 4 value) (now (image .entry)) (now (answer .entry)) ⌝ }
+/// requires { Headed (Of form) image.old × (answer_length ≤ length answer.old) }
+/// ensures { leaves result image.new answer.new []
+///     ≡ outcome (asked.write base size address 4 value) image.old answer.old }
 /// ```
 #[inline(never)]
 fn write_waiting<const N: usize>(
@@ -315,9 +315,9 @@ fn write_waiting<const N: usize>(
 /// what is done, and every Dword would take 4 instructions more.
 ///
 /// ```text
-/// requires { ⌜ Passed (formView form) (now image) × (answerLength ≤ length (now answer)) ⌝ }
-/// ensures { λ r. ⌜ leaves r (now (image .exit)) (now (answer .exit)) []
-///     ≡ outcome (asked.write base size address 4 value) (now (image .entry)) (now (answer .entry)) ⌝ }
+/// requires { Passed (form_view form) image.old × (answer_length ≤ length answer.old) }
+/// ensures { leaves result image.new answer.new []
+///     ≡ outcome (asked.write base size address 4 value) image.old answer.old }
 /// ```
 #[inline]
 fn write_at_once<const N: usize>(
@@ -339,9 +339,9 @@ fn write_at_once<const N: usize>(
 /// A Dword. The quick test comes first, in an arm for each form.
 ///
 /// ```text
-/// requires { ⌜ answerLength ≤ length (now answer) ⌝ }
-/// ensures { λ r. ⌜ leaves r (now (image .exit)) (now (answer .exit)) []
-///     ≡ outcome (asked.write base size address 4 value) (now (image .entry)) (now (answer .entry)) ⌝ }
+/// requires { answer_length ≤ length answer.old }
+/// ensures { leaves result image.new answer.new []
+///     ≡ outcome (asked.write base size address 4 value) image.old answer.old }
 /// ```
 #[inline]
 pub fn write_dword<const N: usize>(

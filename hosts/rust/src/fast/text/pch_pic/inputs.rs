@@ -15,8 +15,8 @@ use super::super::six_calls::who_waits;
 /// The image is accepted.
 ///
 /// ```text
-/// requires { ⌜ Passed (formView form) (now image) × (answerLength ≤ length (now answer)) ⌝ }
-/// ensures { λ r. ⌜ leaves r (now (image .exit)) (now (answer .exit)) [] ≡ outcome (asked.level input level) (now (image .entry)) (now (answer .entry)) ⌝ }
+/// requires { Passed (form_view form) image.old × (answer_length ≤ length answer.old) }
+/// ensures { leaves result image.new answer.new [] ≡ outcome (asked.level input level) image.old answer.old }
 /// ```
 #[inline]
 pub fn level_on<const N: usize>(
@@ -33,8 +33,8 @@ pub fn level_on<const N: usize>(
 /// The contents are those of the form, and the bodies are still to be tested.
 ///
 /// ```text
-/// requires { ⌜ Headed (Of form) (now image) × (answerLength ≤ length (now answer)) ⌝ }
-/// ensures { λ r. ⌜ leaves r (now (image .exit)) (now (answer .exit)) [] ≡ outcome (asked.level input level) (now (image .entry)) (now (answer .entry)) ⌝ }
+/// requires { Headed (Of form) image.old × (answer_length ≤ length answer.old) }
+/// ensures { leaves result image.new answer.new [] ≡ outcome (asked.level input level) image.old answer.old }
 /// ```
 #[inline(never)]
 fn level_tested<const N: usize>(
@@ -51,8 +51,8 @@ fn level_tested<const N: usize>(
 }
 
 /// ```text
-/// requires { ⌜ Passed (formView form) (now image) × (answerLength ≤ length (now answer)) ⌝ }
-/// ensures { λ r. ⌜ leaves r (now (image .exit)) (now (answer .exit)) [] ≡ outcome (asked.poll input) (now (image .entry)) (now (answer .entry)) ⌝ }
+/// requires { Passed (form_view form) image.old × (answer_length ≤ length answer.old) }
+/// ensures { leaves result image.new answer.new [] ≡ outcome (asked.poll input) image.old answer.old }
 /// ```
 #[inline]
 pub fn poll_on<const N: usize>(image: &mut [u8; N], input: u64, answer: &mut [u8]) -> u8 {
@@ -62,8 +62,8 @@ pub fn poll_on<const N: usize>(image: &mut [u8; N], input: u64, answer: &mut [u8
 }
 
 /// ```text
-/// requires { ⌜ Headed (Of form) (now image) × (answerLength ≤ length (now answer)) ⌝ }
-/// ensures { λ r. ⌜ leaves r (now (image .exit)) (now (answer .exit)) [] ≡ outcome (asked.poll input) (now (image .entry)) (now (answer .entry)) ⌝ }
+/// requires { Headed (Of form) image.old × (answer_length ≤ length answer.old) }
+/// ensures { leaves result image.new answer.new [] ≡ outcome (asked.poll input) image.old answer.old }
 /// ```
 #[inline(never)]
 fn poll_tested<const N: usize>(image: &mut [u8; N], input: u64, answer: &mut [u8]) -> u8 {
@@ -75,8 +75,8 @@ fn poll_tested<const N: usize>(image: &mut [u8; N], input: u64, answer: &mut [u8
 }
 
 /// ```text
-/// requires { ⌜ Headed (Of form) (now image) × (answerLength ≤ length (now answer)) ⌝ }
-/// ensures { λ r. ⌜ leaves r (now (image .exit)) (now (answer .exit)) [] ≡ outcome (asked.level input level) (now (image .entry)) (now (answer .entry)) ⌝ }
+/// requires { Headed (Of form) image.old × (answer_length ≤ length answer.old) }
+/// ensures { leaves result image.new answer.new [] ≡ outcome (asked.level input level) image.old answer.old }
 /// ```
 #[inline(never)]
 pub fn level_waiting<const N: usize>(
@@ -110,8 +110,8 @@ pub fn level_waiting<const N: usize>(
 }
 
 /// ```text
-/// requires { ⌜ Headed (Of form) (now image) × (answerLength ≤ length (now answer)) ⌝ }
-/// ensures { λ r. ⌜ leaves r (now (image .exit)) (now (answer .exit)) [] ≡ outcome (asked.poll input) (now (image .entry)) (now (answer .entry)) ⌝ }
+/// requires { Headed (Of form) image.old × (answer_length ≤ length answer.old) }
+/// ensures { leaves result image.new answer.new [] ≡ outcome (asked.poll input) image.old answer.old }
 /// ```
 #[inline(never)]
 pub fn poll_waiting<const N: usize>(image: &mut [u8; N], input: u64, answer: &mut [u8]) -> u8 {
@@ -142,8 +142,8 @@ pub fn poll_waiting<const N: usize>(image: &mut [u8; N], input: u64, answer: &mu
 /// Who waits, of an image that is accepted.
 ///
 /// ```text
-/// requires { ⌜ Passed (formView form) (now image) × (answerLength ≤ length (now answer)) ⌝ }
-/// ensures { λ r. ⌜ leaves r (now (image .entry)) (now (answer .exit)) [] ≡ waiting (now (image .entry)) (now (answer .entry)) ⌝ }
+/// requires { Passed (form_view form) image.now × (answer_length ≤ length answer.old) }
+/// ensures { leaves result image.now answer.new [] ≡ waiting image.now answer.old }
 /// ```
 #[inline]
 pub fn waiting_on<const N: usize>(image: &[u8; N], answer: &mut [u8]) -> u8 {
@@ -155,8 +155,8 @@ pub fn waiting_on<const N: usize>(image: &[u8; N], answer: &mut [u8]) -> u8 {
 /// Of any other one: it is tested the whole way.
 ///
 /// ```text
-/// requires { ⌜ answerLength ≤ length (now answer) ⌝ }
-/// ensures { λ r. ⌜ leaves r (now (image .entry)) (now (answer .exit)) [] ≡ waiting (now (image .entry)) (now (answer .entry)) ⌝ }
+/// requires { answer_length ≤ length answer.old }
+/// ensures { leaves result image.now answer.new [] ≡ waiting image.now answer.old }
 /// ```
 #[inline(never)]
 pub fn waiting_tested<const N: usize>(image: &[u8; N], answer: &mut [u8]) -> u8 {

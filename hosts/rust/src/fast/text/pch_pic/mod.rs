@@ -34,7 +34,7 @@ use super::image::quick::odd;
 use super::six_calls::reset_drain;
 
 /// ```text
-/// ensures { λ r. ⌜ leaves r (now (image .exit)) (now (answer .exit)) [] ≡ outcome asked.reset (now (image .entry)) (now (answer .entry)) ⌝ }
+/// ensures { leaves result image.new answer.new [] ≡ outcome asked.reset image.old answer.old }
 /// ```
 pub fn pch_pic_reset(image: &mut [u8], answer: &mut [u8]) -> u8 {
     if answer.len() < 16 {
@@ -59,8 +59,8 @@ fn pch_pic_reset_of<const N: usize>(image: &mut [u8; N], answer: &mut [u8]) -> u
 }
 
 /// ```text
-/// ensures { λ r. ⌜ leaves r (now (image .entry)) (now (answer .exit)) []
-///     ≡ outcome (asked.read base size address width) (now (image .entry)) (now (answer .entry)) ⌝ }
+/// ensures { leaves result image.now answer.new []
+///     ≡ outcome (asked.read base size address width) image.now answer.old }
 /// ```
 pub fn pch_pic_read(
     image: &[u8],
@@ -101,8 +101,8 @@ fn pch_pic_read_of<const N: usize>(
 }
 
 /// ```text
-/// ensures { λ r. ⌜ leaves r (now (image .exit)) (now (answer .exit)) []
-///     ≡ outcome (asked.write base size address width value) (now (image .entry)) (now (answer .entry)) ⌝ }
+/// ensures { leaves result image.new answer.new []
+///     ≡ outcome (asked.write base size address width value) image.old answer.old }
 /// ```
 pub fn pch_pic_write(
     image: &mut [u8],
@@ -145,7 +145,7 @@ fn pch_pic_write_of<const N: usize>(
 }
 
 /// ```text
-/// ensures { λ r. ⌜ leaves r (now (image .exit)) (now (answer .exit)) [] ≡ outcome (asked.level input level) (now (image .entry)) (now (answer .entry)) ⌝ }
+/// ensures { leaves result image.new answer.new [] ≡ outcome (asked.level input level) image.old answer.old }
 /// ```
 pub fn pch_pic_level(image: &mut [u8], input: u64, level: u64, answer: &mut [u8]) -> u8 {
     if answer.len() < 16 {
@@ -205,7 +205,7 @@ fn pch_pic_level_of<const N: usize>(
 }
 
 /// ```text
-/// ensures { λ r. ⌜ leaves r (now (image .exit)) (now (answer .exit)) [] ≡ outcome (asked.poll input) (now (image .entry)) (now (answer .entry)) ⌝ }
+/// ensures { leaves result image.new answer.new [] ≡ outcome (asked.poll input) image.old answer.old }
 /// ```
 pub fn pch_pic_poll(image: &mut [u8], input: u64, answer: &mut [u8]) -> u8 {
     if answer.len() < 16 {
@@ -260,8 +260,8 @@ fn pch_pic_poll_of<const N: usize>(image: &mut [u8; N], input: u64, answer: &mut
 }
 
 /// ```text
-/// ensures { λ r. ⌜ leaves r (now (image .exit)) (now (answer .exit)) (now (events .exit))
-///     ≡ outcome (asked.drain (now (events .entry)) place) (now (image .entry)) (now (answer .entry)) ⌝ }
+/// ensures { leaves result image.new answer.new events.new
+///     ≡ outcome (asked.drain events.old place) image.old answer.old }
 /// ```
 pub fn pch_pic_drain(image: &mut [u8], events: &mut [u8], place: usize, answer: &mut [u8]) -> u8 {
     if answer.len() < 16 {
@@ -333,7 +333,7 @@ fn pch_pic_drain_of<const N: usize>(
 }
 
 /// ```text
-/// ensures { λ r. ⌜ leaves r (now (image .entry)) (now (answer .exit)) [] ≡ waiting (now (image .entry)) (now (answer .entry)) ⌝ }
+/// ensures { leaves result image.now answer.new [] ≡ waiting image.now answer.old }
 /// ```
 pub fn pch_pic_waiting(image: &[u8], answer: &mut [u8]) -> u8 {
     if let Ok(image) = <&[u8; 259]>::try_from(image) {

@@ -11,8 +11,8 @@ use super::super::image::form::KnownForm;
 /// 256 zeros, and then one step for each input in service, masked or not.
 ///
 /// ```text
-/// requires { ⌜ (length (now image) ≡ formLength (formView form)) × (boardLength ≤ length (now board)) ⌝ }
-/// ensures { λ _. ⌜ Reads (now (image .entry)) (now (board .exit)) (λ d. recounted (d .core) (now (board .entry))) ⌝ }
+/// requires { (length image.now ≡ form_length (form_view form)) × (board_length ≤ length board.old) }
+/// ensures { Reads image.now board.new (λ d. recounted d.core board.old) }
 /// ```
 #[inline]
 pub fn recount<const N: usize>(image: &[u8; N], board: &mut [u8]) {
@@ -30,8 +30,8 @@ pub fn recount<const N: usize>(image: &[u8; N], board: &mut [u8]) {
 /// After a call that handed back the number: done, the counts are those of the image that it left; refused, the board stays.
 ///
 /// ```text
-/// requires { ⌜ (number ≡ 0 → imageTest (now image) ≡ accepted) × (boardLength ≤ length (now board)) ⌝ }
-/// ensures { λ _. ⌜ now (board .exit) ≡ boardAfter number (now (image .entry)) (now (board .entry)) ⌝ }
+/// requires { (number ≡ 0 → image_test image.now ≡ accepted) × (board_length ≤ length board.old) }
+/// ensures { board.new ≡ board_after number image.now board.old }
 /// ```
 #[inline]
 pub fn bring<const N: usize>(image: &[u8; N], board: &mut [u8], number: u8) {
@@ -49,7 +49,7 @@ pub fn bring<const N: usize>(image: &[u8; N], board: &mut [u8], number: u8) {
 /// The count after an event: one less for flag 0, one more for any other, within a byte.
 ///
 /// ```text
-/// ensures { λ r. ⌜ r ≡ heardCount flag count ⌝ }
+/// ensures { result ≡ heard_count flag count }
 /// ```
 #[inline]
 fn heard(flag: u8, count: u8) -> u8 {
@@ -68,8 +68,8 @@ fn heard(flag: u8, count: u8) -> u8 {
 /// An event moves the count of its vector, which is handed back.
 ///
 /// ```text
-/// requires { ⌜ boardLength ≤ length (now board) ⌝ }
-/// ensures { λ r. ⌜ (r ≡ heardCount flag (getD (now (board .entry)) vector 0)) × (now (board .exit) ≡ set (now (board .entry)) vector r) ⌝ }
+/// requires { board_length ≤ length board.old }
+/// ensures { (result ≡ heard_count flag (get_or board.old vector 0)) × (board.new ≡ set board.old vector result) }
 /// ```
 #[inline]
 pub fn hear(board: &mut [u8], vector: u8, flag: u8) -> u8 {

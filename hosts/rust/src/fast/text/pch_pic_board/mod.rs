@@ -16,8 +16,8 @@ use super::six_calls::tested_input;
 /// What a call told goes into the answer area; before that, if it was done, the board is brought up to date with the image that it left.
 ///
 /// ```text
-/// requires { ⌜ Finishing told (now image) (now board) (now answer) ⌝ }
-/// ensures { λ r. ⌜ Finished told (now (image .entry)) (now (board .entry)) (now (answer .entry)) r (now (board .exit)) (now (answer .exit)) ⌝ }
+/// requires { Finishing told image.now board.old answer.old }
+/// ensures { Finished told image.now board.old answer.old result board.new answer.new }
 /// ```
 #[inline]
 fn finish<const N: usize>(image: &[u8; N], board: &mut [u8], answer: &mut [u8], told: Told) -> u8 {
@@ -30,8 +30,8 @@ fn finish<const N: usize>(image: &[u8; N], board: &mut [u8], answer: &mut [u8], 
 /// After a reset that handed back the number: done, no input is in service, so that nothing has to be counted; refused, the board stays.
 ///
 /// ```text
-/// requires { ⌜ boardLength ≤ length (now board) ⌝ }
-/// ensures { λ _. ⌜ now (board .exit) ≡ clearedAfter number (now (board .entry)) ⌝ }
+/// requires { board_length ≤ length board.old }
+/// ensures { board.new ≡ cleared_after number board.old }
 /// ```
 #[inline]
 fn clear(board: &mut [u8], number: u8) {
@@ -43,8 +43,8 @@ fn clear(board: &mut [u8], number: u8) {
 }
 
 /// ```text
-/// ensures { λ r. ⌜ boardLeaves r (now (image .exit)) (now (board .exit)) (now (answer .exit)) []
-///     ≡ boarding asked.reset (now (image .entry)) (now (board .entry)) (now (answer .entry)) ⌝ }
+/// ensures { board_leaves result image.new board.new answer.new []
+///     ≡ boarding asked.reset image.old board.old answer.old }
 /// ```
 pub fn pch_pic_board_reset(image: &mut [u8], board: &mut [u8], answer: &mut [u8]) -> u8 {
     if answer.len() < 16 {
@@ -78,8 +78,8 @@ fn pch_pic_board_reset_of<const N: usize>(
 }
 
 /// ```text
-/// ensures { λ r. ⌜ boardLeaves r (now (image .entry)) (now (board .exit)) (now (answer .exit)) []
-///     ≡ boarding (asked.read base size address width) (now (image .entry)) (now (board .entry)) (now (answer .entry)) ⌝ }
+/// ensures { board_leaves result image.now board.new answer.new []
+///     ≡ boarding (asked.read base size address width) image.now board.old answer.old }
 /// ```
 pub fn pch_pic_board_read(
     image: &[u8],
@@ -123,8 +123,8 @@ fn pch_pic_board_read_of<const N: usize>(
 }
 
 /// ```text
-/// ensures { λ r. ⌜ boardLeaves r (now (image .exit)) (now (board .exit)) (now (answer .exit)) []
-///     ≡ boarding (asked.write base size address width value) (now (image .entry)) (now (board .entry)) (now (answer .entry)) ⌝ }
+/// ensures { board_leaves result image.new board.new answer.new []
+///     ≡ boarding (asked.write base size address width value) image.old board.old answer.old }
 /// ```
 pub fn pch_pic_board_write(
     image: &mut [u8],
@@ -170,8 +170,8 @@ fn pch_pic_board_write_of<const N: usize>(
 }
 
 /// ```text
-/// ensures { λ r. ⌜ boardLeaves r (now (image .exit)) (now (board .exit)) (now (answer .exit)) []
-///     ≡ boarding (asked.level input level) (now (image .entry)) (now (board .entry)) (now (answer .entry)) ⌝ }
+/// ensures { board_leaves result image.new board.new answer.new []
+///     ≡ boarding (asked.level input level) image.old board.old answer.old }
 /// ```
 pub fn pch_pic_board_level(
     image: &mut [u8],
@@ -211,8 +211,8 @@ fn pch_pic_board_level_of<const N: usize>(
 }
 
 /// ```text
-/// ensures { λ r. ⌜ boardLeaves r (now (image .exit)) (now (board .exit)) (now (answer .exit)) []
-///     ≡ boarding (asked.poll input) (now (image .entry)) (now (board .entry)) (now (answer .entry)) ⌝ }
+/// ensures { board_leaves result image.new board.new answer.new []
+///     ≡ boarding (asked.poll input) image.old board.old answer.old }
 /// ```
 pub fn pch_pic_board_poll(image: &mut [u8], board: &mut [u8], input: u64, answer: &mut [u8]) -> u8 {
     if answer.len() < 16 {
@@ -245,8 +245,8 @@ fn pch_pic_board_poll_of<const N: usize>(
 }
 
 /// ```text
-/// ensures { λ r. ⌜ boardLeaves r (now (image .exit)) (now (board .exit)) (now (answer .exit)) (now (events .exit))
-///     ≡ boarding (asked.drain (now (events .entry)) place) (now (image .entry)) (now (board .entry)) (now (answer .entry)) ⌝ }
+/// ensures { board_leaves result image.new board.new answer.new events.new
+///     ≡ boarding (asked.drain events.old place) image.old board.old answer.old }
 /// ```
 pub fn pch_pic_board_drain(
     image: &mut [u8],
@@ -291,7 +291,7 @@ fn pch_pic_board_drain_of<const N: usize>(
 /// A second board hears one event.
 ///
 /// ```text
-/// ensures { λ r. ⌜ hears r (now (board .exit)) (now (answer .exit)) ≡ hearing (now (board .entry)) vector flag (now (answer .entry)) ⌝ }
+/// ensures { hears result board.new answer.new ≡ hearing board.old vector flag answer.old }
 /// ```
 pub fn pch_pic_board_event(board: &mut [u8], vector: u8, flag: u8, answer: &mut [u8]) -> u8 {
     if answer.len() < 16 {

@@ -1,5 +1,6 @@
 // Made from crates/pch_pic_convert/src/convert.rt by tools/portable: do not change it here.
-//! An image moved to the form of a target's length, part by part: what is told is handed back. 4 of the image and 4 of the target are told alike, so that the target's length may be looked at first; then come 5 and 8 to 11.
+//! An image moved to the form of a target's length, by way of the whole state: what is told is handed back. The order of the tests is 4 of the image, 4 of the
+//! target, then 5 and 8 to 11.
 
 use super::super::answer::done;
 use super::super::answer::refusals::of_bodies;
@@ -10,35 +11,23 @@ use super::super::answer::Value;
 use super::super::image::bodies::test_bodies;
 use super::super::image::bodies::Bodies;
 use super::super::image::form::form_of;
-use super::super::image::form::Form;
 use super::super::image::form::KnownForm;
 use super::super::image::head::test_head;
 use super::super::image::head::Head;
-use super::carry;
-
-/// An arm for each form, so that each tests at constant places.
-///
-/// ```text
-/// requires { ⌜ length (now image) ≡ formLength (formView form) ⌝ }
-/// ensures { λ r. ⌜ holds r ≡ bodiesGood (formView form) (now (image .entry)) ⌝ }
-/// ```
-#[inline]
-fn test_by_form<const N: usize>(image: &[u8; N]) -> Bodies {
-    let form = const { super::super::image::form::form_at(N) };
-    match form {
-        Form::One => test_bodies(image),
-        Form::Two => test_bodies(image),
-        Form::Numbered => test_bodies(image),
-    }
-}
+use super::super::stored::save_state;
+use super::load_numbers;
+use super::load_state;
 
 /// The target is written only where all tests have passed; any bytes of its length will do.
 ///
 /// ```text
-/// ensures { λ r. ⌜ ends r (now (target .exit)) [] ≡ convertEnding (now (image .entry)) (now (target .entry)) ⌝ }
+/// ensures { ends result target.new [] ≡ convert_ending image.now target.old }
 /// ```
 #[inline]
 pub fn convert<const N: usize, const M: usize>(image: &[u8; N], target: &mut [u8; M]) -> Told {
+    let KnownForm::As(_) = form_of(image.len()) else {
+        return wrong_length();
+    };
     let KnownForm::As(form) = form_of(target.len()) else {
         return wrong_length();
     };
@@ -46,9 +35,10 @@ pub fn convert<const N: usize, const M: usize>(image: &[u8; N], target: &mut [u8
     let Head::Of(own) = told else {
         return of_head(told);
     };
-    let Bodies::Good = test_by_form(image) else {
+    let Bodies::Good = test_bodies(image) else {
         return of_bodies(image);
     };
-    carry::carry(image, target);
+    let numbers = load_numbers::load_numbers(image);
+    save_state::save(target, load_state::load(image), &numbers);
     done(Value::Absent)
 }

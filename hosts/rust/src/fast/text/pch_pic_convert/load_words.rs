@@ -8,8 +8,8 @@ use super::super::image::form::places_of;
 use super::super::image::form::Form;
 
 /// ```text
-/// requires { ⌜ length (now image) ≡ formLength (formView form) ⌝ }
-/// ensures { λ r. ⌜ IsLines r (decodeAs (formView form) (now (image .entry)) .core .lines) ⌝ }
+/// requires { length image.now ≡ form_length (form_view form) }
+/// ensures { IsLines result (decode_as (form_view form) image.now).core.lines }
 /// ```
 #[inline(always)]
 pub fn load_lines<const N: usize>(image: &[u8; N]) -> Lines {
@@ -26,8 +26,8 @@ pub fn load_lines<const N: usize>(image: &[u8; N]) -> Lines {
 }
 
 /// ```text
-/// requires { ⌜ length (now image) ≡ formLength (formView form) ⌝ }
-/// ensures { λ r. ⌜ IsStored r (decodeAs (formView form) (now (image .entry)) .core .stored) ⌝ }
+/// requires { length image.now ≡ form_length (form_view form) }
+/// ensures { IsStored result (decode_as (form_view form) image.now).core.stored }
 /// ```
 #[inline(always)]
 pub fn load_stored<const N: usize>(image: &[u8; N]) -> Stored {

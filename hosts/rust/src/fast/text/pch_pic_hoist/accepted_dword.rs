@@ -21,8 +21,8 @@ use super::profile::unfit;
 use super::profile::Aligned;
 
 /// ```text
-/// requires { ⌜ Passed (formView form) (now image) ⌝ }
-/// ensures { λ r. ⌜ ends r (now (image .entry)) [] ≡ hoistEnding false (asked.read base size address width) (now (image .entry)) ⌝ }
+/// requires { Passed (form_view form) image.now }
+/// ensures { ends result image.now [] ≡ hoist_ending false (asked.read base size address width) image.now }
 /// ```
 #[inline]
 pub fn read<const N: usize>(
@@ -47,8 +47,8 @@ pub fn read<const N: usize>(
 /// The value that is told is how many events were dropped.
 ///
 /// ```text
-/// requires { ⌜ Passed (formView form) (now image) ⌝ }
-/// ensures { λ r. ⌜ ends r (now (image .exit)) [] ≡ hoistEnding running (asked.write base size address width value) (now (image .entry)) ⌝ }
+/// requires { Passed (form_view form) image.old }
+/// ensures { ends result image.new [] ≡ hoist_ending running (asked.write base size address width value) image.old }
 /// ```
 #[inline]
 pub fn write<const N: usize>(

@@ -19,8 +19,8 @@ pub enum Fit {
 /// A vector write in start-up, by the four bytes that it would replace.
 ///
 /// ```text
-/// requires { ⌜ (length (now image) ≡ formLength (formView form)) × (0x200 ≤ offset) × (offset + 4 ≤ 0x240) ⌝ }
-/// ensures { λ r. ⌜ Reads (now (image .entry)) (refuses r) (λ d. changesServed d (write dword offset value)) ⌝ }
+/// requires { (length image.now ≡ form_length (form_view form)) × (0x200 ≤ offset) × (offset + 4 ≤ 0x240) }
+/// ensures { Reads image.now (refuses result) (λ d. changes_served d (write dword offset value)) }
 /// ```
 #[inline]
 fn judge_vectors<const N: usize>(image: &[u8; N], offset: usize, value: u64) -> Fit {
@@ -36,8 +36,8 @@ fn judge_vectors<const N: usize>(image: &[u8; N], offset: usize, value: u64) -> 
 /// 15: to ISR, after start-up to the vectors, or where it would change a byte in service.
 ///
 /// ```text
-/// requires { ⌜ (length (now image) ≡ formLength (formView form)) × (offset % 4 ≡ 0) ⌝ }
-/// ensures { λ r. ⌜ Reads (now (image .entry)) (refuses r) (λ d. forbidden running d offset value) ⌝ }
+/// requires { (length image.now ≡ form_length (form_view form)) × (offset % 4 ≡ 0) }
+/// ensures { Reads image.now (refuses result) (λ d. forbidden running d offset value) }
 /// ```
 #[inline]
 pub fn judge<const N: usize>(image: &[u8; N], running: bool, offset: usize, value: u64) -> Fit {
@@ -56,8 +56,8 @@ pub fn judge<const N: usize>(image: &[u8; N], running: bool, offset: usize, valu
 /// Start-up can end once, and while no input is in service, masked or not.
 ///
 /// ```text
-/// requires { ⌜ length (now image) ≡ formLength (formView form) ⌝ }
-/// ensures { λ r. ⌜ Reads (now (image .entry)) (refuses r) (λ d. cannotEnd running d) ⌝ }
+/// requires { length image.now ≡ form_length (form_view form) }
+/// ensures { Reads image.now (refuses result) (λ d. cannot_end running d) }
 /// ```
 #[inline]
 pub fn judge_end<const N: usize>(image: &[u8; N], running: bool) -> Fit {

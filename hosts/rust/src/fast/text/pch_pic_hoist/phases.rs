@@ -2,8 +2,8 @@
 //! The phase's byte, which a host keeps beside the image (02, C-22): 0 in start-up, any other value after it. It is stored where a call is done.
 
 /// ```text
-/// requires { ⌜ 1 ≤ length (now phase) ⌝ }
-/// ensures { λ r. ⌜ r ≡ running (now (phase .entry)) ⌝ }
+/// requires { 1 ≤ length phase.now }
+/// ensures { result ≡ running phase.now }
 /// ```
 #[inline]
 pub fn is_running(phase: &[u8]) -> bool {
@@ -12,8 +12,8 @@ pub fn is_running(phase: &[u8]) -> bool {
 }
 
 /// ```text
-/// requires { ⌜ 1 ≤ length (now phase) ⌝ }
-/// ensures { λ _. ⌜ now (phase .exit) ≡ cond (eqb number 0) (inStartUp (now (phase .entry))) (now (phase .entry)) ⌝ }
+/// requires { 1 ≤ length phase.old }
+/// ensures { phase.new ≡ cond (eqb number 0) (in_start_up phase.old) phase.old }
 /// ```
 #[inline]
 pub fn begin_startup(phase: &mut [u8], number: u8) {
@@ -24,8 +24,8 @@ pub fn begin_startup(phase: &mut [u8], number: u8) {
 }
 
 /// ```text
-/// requires { ⌜ 1 ≤ length (now phase) ⌝ }
-/// ensures { λ _. ⌜ now (phase .exit) ≡ cond (eqb number 0) (afterStartUp (now (phase .entry))) (now (phase .entry)) ⌝ }
+/// requires { 1 ≤ length phase.old }
+/// ensures { phase.new ≡ cond (eqb number 0) (after_start_up phase.old) phase.old }
 /// ```
 #[inline]
 pub fn end_startup(phase: &mut [u8], number: u8) {

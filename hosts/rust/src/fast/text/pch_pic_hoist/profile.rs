@@ -11,7 +11,7 @@ use super::super::device::state::PchPicState;
 // ---- refusals
 
 /// ```text
-/// ensures { λ r. ⌜ Tells r unalignedNumber none ⌝ }
+/// ensures { Tells result unaligned_number none }
 /// ```
 #[inline]
 pub fn unaligned() -> Told {
@@ -22,7 +22,7 @@ pub fn unaligned() -> Told {
 }
 
 /// ```text
-/// ensures { λ r. ⌜ Tells r unfitNumber none ⌝ }
+/// ensures { Tells result unfit_number none }
 /// ```
 #[inline]
 pub fn unfit() -> Told {
@@ -42,7 +42,7 @@ pub enum Aligned {
 }
 
 /// ```text
-/// ensures { λ r. ⌜ alignedView r ≡ alignedDword (widthView width) offset ⌝ }
+/// ensures { aligned_view result ≡ aligned_dword (width_view width) offset }
 /// ```
 #[inline]
 pub fn test_aligned(width: Width, offset: usize) -> Aligned {
@@ -59,7 +59,7 @@ pub fn test_aligned(width: Width, offset: usize) -> Aligned {
 // ---- a write
 
 /// ```text
-/// ensures { λ r. ⌜ r ≡ isIsr offset ⌝ }
+/// ensures { result ≡ is_isr offset }
 /// ```
 #[inline]
 pub fn is_isr(offset: usize) -> bool {
@@ -67,7 +67,7 @@ pub fn is_isr(offset: usize) -> bool {
 }
 
 /// ```text
-/// ensures { λ r. ⌜ r ≡ inVectors offset ⌝ }
+/// ensures { result ≡ in_vectors offset }
 /// ```
 #[inline]
 pub fn in_vectors(offset: usize) -> bool {
@@ -77,8 +77,8 @@ pub fn in_vectors(offset: usize) -> bool {
 /// Byte k of a Dword of vector bytes, the first of which is the input's: its own input is in service, and it would change.
 ///
 /// ```text
-/// requires { ⌜ (k < 4) × (input + k < 64) ⌝ }
-/// ensures { λ r. ⌜ r ≡ changesByte isr input old new k ⌝ }
+/// requires { (k < 4) × (input + k < 64) }
+/// ensures { result ≡ changes_byte isr input old new k }
 /// ```
 #[inline]
 fn changes_byte(isr: u64, input: usize, old: u32, new: u32, k: usize) -> bool {
@@ -90,8 +90,8 @@ fn changes_byte(isr: u64, input: usize, old: u32, new: u32, k: usize) -> bool {
 /// One of the four does.
 ///
 /// ```text
-/// requires { ⌜ input + 4 ≤ 64 ⌝ }
-/// ensures { λ r. ⌜ r ≡ changesFour isr input old new ⌝ }
+/// requires { input + 4 ≤ 64 }
+/// ensures { result ≡ changes_four isr input old new }
 /// ```
 #[inline]
 pub fn changes_served(isr: u64, input: usize, old: u32, new: u32) -> bool {

@@ -17,7 +17,7 @@ use super::judge::Fit;
 use super::profile::unfit;
 
 /// ```text
-/// ensures { λ r. ⌜ ends r (now (image .entry)) [] ≡ hoistEnding false (asked.read base size address width) (now (image .entry)) ⌝ }
+/// ensures { ends result image.now [] ≡ hoist_ending false (asked.read base size address width) image.now }
 /// ```
 #[inline]
 pub fn read<const N: usize>(
@@ -40,7 +40,7 @@ pub fn read<const N: usize>(
 /// The value that is told is how many events were dropped.
 ///
 /// ```text
-/// ensures { λ r. ⌜ ends r (now (image .exit)) [] ≡ hoistEnding running (asked.write base size address width value) (now (image .entry)) ⌝ }
+/// ensures { ends result image.new [] ≡ hoist_ending running (asked.write base size address width value) image.old }
 /// ```
 #[inline]
 pub fn write<const N: usize>(
@@ -65,7 +65,7 @@ pub fn write<const N: usize>(
 /// The image is read alone; the phase is stored where the answer area is known.
 ///
 /// ```text
-/// ensures { λ r. ⌜ ends r (now (image .entry)) [] ≡ endEnding running (now (image .entry)) ⌝ }
+/// ensures { ends result image.now [] ≡ end_ending running image.now }
 /// ```
 #[inline]
 pub fn end_startup<const N: usize>(image: &[u8; N], running: bool) -> Told {

@@ -10,8 +10,8 @@ use super::torn::look;
 /// Two numbers of two bytes each, as an entry of the contents and of the list is.
 ///
 /// ```text
-/// requires { ⌜ (at + 4 ≤ length (now out)) × (m < 2 ^ 16) × (n < 2 ^ 16) ⌝ }
-/// ensures { λ _. ⌜ now (out .exit) ≡ withTwo at m n (now (out .entry)) ⌝ }
+/// requires { (at + 4 ≤ length out.old) × (m < 2 ^ 16) × (n < 2 ^ 16) }
+/// ensures { out.new ≡ with_two at m n out.old }
 /// ```
 #[inline]
 fn put_two(out: &mut [u8], at: usize, m: usize, n: usize) {
@@ -22,8 +22,8 @@ fn put_two(out: &mut [u8], at: usize, m: usize, n: usize) {
 /// A block's records, two words each: copied byte by byte they would become a call of memcpy. Both are read before one is written, so that they are copied as one.
 ///
 /// ```text
-/// requires { ⌜ (length (now dst) ≡ recordLength * records) × (length (now src) ≡ recordLength * records) ⌝ }
-/// ensures { λ _. ⌜ now (dst .exit) ≡ now (src .entry) ⌝ }
+/// requires { (length dst.old ≡ record_length * records) × (length src.now ≡ record_length * records) }
+/// ensures { dst.new ≡ src.now }
 /// ```
 #[inline]
 fn copy_records(dst: &mut [u8], src: &[u8], records: usize) {
@@ -34,8 +34,8 @@ fn copy_records(dst: &mut [u8], src: &[u8], records: usize) {
 /// The contents of what is left: how many blocks, and for each where it will stand and how many records it has.
 ///
 /// ```text
-/// requires { ⌜ Ready (now bads) (now trace) blocks (newContents blocks (now trace)) (now out) × (left ≡ length (leftOf blocks (now trace))) ⌝ }
-/// ensures { λ _. ⌜ now (out .exit) ≡ inFront (newContents blocks (now (trace .entry))) (now (out .entry)) ⌝ }
+/// requires { Ready bads.now trace.now blocks (new_contents blocks trace.now) out.old × (left ≡ length (left_of blocks trace.now)) }
+/// ensures { out.new ≡ in_front (new_contents blocks trace.now) out.old }
 /// ```
 #[inline]
 pub fn put_contents(trace: &[u8], blocks: usize, bads: &[u16; 64], left: usize, out: &mut [u8]) {
@@ -58,8 +58,8 @@ pub fn put_contents(trace: &[u8], blocks: usize, bads: &[u16; 64], left: usize, 
 /// The blocks that are left, back to back.
 ///
 /// ```text
-/// requires { ⌜ Ready (now bads) (now trace) blocks (newBlocks blocks (now trace)) (now out) ⌝ }
-/// ensures { λ _. ⌜ now (out .exit) ≡ inFront (newBlocks blocks (now (trace .entry))) (now (out .entry)) ⌝ }
+/// requires { Ready bads.now trace.now blocks (new_blocks blocks trace.now) out.old }
+/// ensures { out.new ≡ in_front (new_blocks blocks trace.now) out.old }
 /// ```
 #[inline]
 pub fn put_blocks(trace: &[u8], blocks: usize, bads: &[u16; 64], out: &mut [u8]) {
@@ -82,8 +82,8 @@ pub fn put_blocks(trace: &[u8], blocks: usize, bads: &[u16; 64], out: &mut [u8])
 /// The blocks that are not, in rising order, each with the first bad record in it.
 ///
 /// ```text
-/// requires { ⌜ Ready (now bads) (now trace) blocks (newList blocks (now trace)) (now out) ⌝ }
-/// ensures { λ _. ⌜ now (out .exit) ≡ inFront (newList blocks (now (trace .entry))) (now (out .entry)) ⌝ }
+/// requires { Ready bads.now trace.now blocks (new_list blocks trace.now) out.old }
+/// ensures { out.new ≡ in_front (new_list blocks trace.now) out.old }
 /// ```
 #[inline]
 pub fn put_list(trace: &[u8], blocks: usize, bads: &[u16; 64], out: &mut [u8]) {

@@ -12,8 +12,8 @@ struct Block {
 }
 
 /// ```text
-/// requires { ⌜ listedAt b + 4 ≤ length (now trace) ⌝ }
-/// ensures { λ r. ⌜ blockView r ≡ blockAt b (now (trace .entry)) ⌝ }
+/// requires { listed_at b + 4 ≤ length trace.now }
+/// ensures { block_view result ≡ block_at b trace.now }
 /// ```
 #[inline]
 fn block_at(trace: &[u8], b: usize) -> Block {
@@ -28,8 +28,8 @@ fn block_at(trace: &[u8], b: usize) -> Block {
 /// The first bad record in each block, counted within it; the number of its records where all are good. A trace has at most 64 blocks.
 ///
 /// ```text
-/// requires { ⌜ Lists (now trace) blocks ⌝ }
-/// ensures { λ r. ⌜ BadIn r (now (trace .entry)) blocks ⌝ }
+/// requires { Lists trace.now blocks }
+/// ensures { BadIn result trace.now blocks }
 /// ```
 #[inline(always)]
 pub fn survey(trace: &[u8], blocks: usize) -> [u16; 64] {
@@ -53,8 +53,8 @@ pub struct Looked {
 }
 
 /// ```text
-/// requires { ⌜ Seen (now bads) (now trace) b ⌝ }
-/// ensures { λ r. ⌜ Looks r (now (trace .entry)) b ⌝ }
+/// requires { Seen bads.now trace.now b }
+/// ensures { Looks result trace.now b }
 /// ```
 #[inline]
 pub fn look(trace: &[u8], bads: &[u16; 64], b: usize) -> Looked {
@@ -78,8 +78,8 @@ pub struct Left {
 }
 
 /// ```text
-/// requires { ⌜ Surveyed (now bads) (now trace) blocks ⌝ }
-/// ensures { λ r. ⌜ Counts r (now (trace .entry)) blocks ⌝ }
+/// requires { Surveyed bads.now trace.now blocks }
+/// ensures { Counts result trace.now blocks }
 /// ```
 #[inline]
 pub fn count(trace: &[u8], blocks: usize, bads: &[u16; 64]) -> Left {

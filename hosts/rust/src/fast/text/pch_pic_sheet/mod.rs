@@ -14,7 +14,7 @@ const LENGTH: usize = 2600;
 /// The sheet of a trace: a row for each input, and the total.
 ///
 /// ```text
-/// ensures { λ r. ⌜ sheetLeaves r (now (sheet .exit)) (now (answer .exit)) ≡ sheeting (now (trace .entry)) (now (sheet .entry)) (now (answer .entry)) ⌝ }
+/// ensures { sheet_leaves result sheet.new answer.new ≡ sheeting trace.now sheet.old answer.old }
 /// ```
 pub fn pch_pic_sheet(trace: &[u8], sheet: &mut [u8], answer: &mut [u8]) -> u8 {
     if answer.len() < 16 {

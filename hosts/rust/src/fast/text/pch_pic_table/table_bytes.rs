@@ -13,8 +13,8 @@ use super::super::table::look;
 use super::super::table::Place;
 
 /// ```text
-/// requires { ⌜ (length (now image) ≡ formLength (formView form)) × Agrees (now table) ⌝ }
-/// ensures { λ r. ⌜ Reads (now (image .entry)) r (λ d. readByte (d .core) offset) ⌝ }
+/// requires { (length image.now ≡ form_length (form_view form)) × Agrees table.now }
+/// ensures { Reads image.now result (λ d. read_byte d.core offset) }
 /// ```
 #[inline]
 pub fn read_byte<const N: usize>(image: &[u8; N], table: &[[u8; 32]; 32], offset: usize) -> u8 {
@@ -32,8 +32,8 @@ pub fn read_byte<const N: usize>(image: &[u8; N], table: &[[u8; 32]; 32], offset
 }
 
 /// ```text
-/// requires { ⌜ (length (now image) ≡ formLength (formView form)) × Agrees (now table) ⌝ }
-/// ensures { λ r. ⌜ (r ≤ 65) × Writes (now (image .entry)) (now (image .exit)) r (λ c. byteActs c offset val) ⌝ }
+/// requires { (length image.old ≡ form_length (form_view form)) × Agrees table.now }
+/// ensures { (result ≤ 65) × Writes image.old image.new result (λ c. byte_acts c offset val) }
 /// ```
 #[inline]
 pub fn write_byte<const N: usize>(

@@ -11,8 +11,8 @@ use super::table_bytes::read_byte;
 use super::table_bytes::write_byte;
 
 /// ```text
-/// requires { ⌜ (length (now image) ≡ formLength (formView form)) × Agrees (now table) × (cellAt offset ≡ bytes) ⌝ }
-/// ensures { λ r. ⌜ Reads (now (image .entry)) r (λ d. readDword (d .core) offset) ⌝ }
+/// requires { (length image.now ≡ form_length (form_view form)) × Agrees table.now × (cell_at offset ≡ bytes) }
+/// ensures { Reads image.now result (λ d. read_dword d.core offset) }
 /// ```
 #[inline]
 fn read_four<const N: usize>(image: &[u8; N], table: &[[u8; 32]; 32], offset: usize) -> u32 {
@@ -24,8 +24,8 @@ fn read_four<const N: usize>(image: &[u8; N], table: &[[u8; 32]; 32], offset: us
 }
 
 /// ```text
-/// requires { ⌜ (length (now image) ≡ formLength (formView form)) × Agrees (now table) ⌝ }
-/// ensures { λ r. ⌜ Reads (now (image .entry)) r (λ d. readDword (d .core) offset) ⌝ }
+/// requires { (length image.now ≡ form_length (form_view form)) × Agrees table.now }
+/// ensures { Reads image.now result (λ d. read_dword d.core offset) }
 /// ```
 #[inline]
 pub fn read_dword<const N: usize>(image: &[u8; N], table: &[[u8; 32]; 32], offset: usize) -> u32 {
@@ -45,8 +45,8 @@ pub fn read_dword<const N: usize>(image: &[u8; N], table: &[[u8; 32]; 32], offse
 /// No Byte among them drops an event.
 ///
 /// ```text
-/// requires { ⌜ (length (now image) ≡ formLength (formView form)) × Agrees (now table) × (cellAt offset ≡ bytes) ⌝ }
-/// ensures { λ _. ⌜ Writes (now (image .entry)) (now (image .exit)) 0 (λ c. dwordActs offset val) ⌝ }
+/// requires { (length image.old ≡ form_length (form_view form)) × Agrees table.now × (cell_at offset ≡ bytes) }
+/// ensures { Writes image.old image.new 0 (λ c. dword_acts offset val) }
 /// ```
 #[inline]
 fn write_four<const N: usize>(
@@ -62,8 +62,8 @@ fn write_four<const N: usize>(
 }
 
 /// ```text
-/// requires { ⌜ (length (now image) ≡ formLength (formView form)) × Agrees (now table) ⌝ }
-/// ensures { λ r. ⌜ (r ≤ 65) × Writes (now (image .entry)) (now (image .exit)) r (λ c. dwordActs offset val) ⌝ }
+/// requires { (length image.old ≡ form_length (form_view form)) × Agrees table.now }
+/// ensures { (result ≤ 65) × Writes image.old image.new result (λ c. dword_acts offset val) }
 /// ```
 #[inline]
 pub fn write_dword<const N: usize>(

@@ -10,8 +10,8 @@ use super::table_dwords::read_dword;
 use super::table_dwords::write_dword;
 
 /// ```text
-/// requires { ⌜ (length (now image) ≡ formLength (formView form)) × Agrees (now table) × (offset + 2 ≤ 2 ^ 64 - 1) ⌝ }
-/// ensures { λ r. ⌜ Reads (now (image .entry)) r (λ d. readAt (d .core) word offset) ⌝ }
+/// requires { (length image.now ≡ form_length (form_view form)) × Agrees table.now × (offset + 2 ≤ 2 ^ 64 - 1) }
+/// ensures { Reads image.now result (λ d. read_at d.core word offset) }
 /// ```
 #[inline]
 fn read_word<const N: usize>(image: &[u8; N], table: &[[u8; 32]; 32], offset: usize) -> u64 {
@@ -21,8 +21,8 @@ fn read_word<const N: usize>(image: &[u8; N], table: &[[u8; 32]; 32], offset: us
 }
 
 /// ```text
-/// requires { ⌜ (length (now image) ≡ formLength (formView form)) × Agrees (now table) × (offset + 8 ≤ 2 ^ 64 - 1) ⌝ }
-/// ensures { λ r. ⌜ Reads (now (image .entry)) r (λ d. readAt (d .core) qword offset) ⌝ }
+/// requires { (length image.now ≡ form_length (form_view form)) × Agrees table.now × (offset + 8 ≤ 2 ^ 64 - 1) }
+/// ensures { Reads image.now result (λ d. read_at d.core qword offset) }
 /// ```
 #[inline]
 fn read_qword<const N: usize>(image: &[u8; N], table: &[[u8; 32]; 32], offset: usize) -> u64 {
@@ -33,8 +33,8 @@ fn read_qword<const N: usize>(image: &[u8; N], table: &[[u8; 32]; 32], offset: u
 /// What an access reads. It lies wholly inside the window, which ends at 2^64 - 1 at most.
 ///
 /// ```text
-/// requires { ⌜ (length (now image) ≡ formLength (formView form)) × Agrees (now table) × (offset + bytesIn (widthView width) ≤ 2 ^ 64 - 1) ⌝ }
-/// ensures { λ r. ⌜ Reads (now (image .entry)) r (λ d. readAt (d .core) (widthView width) offset) ⌝ }
+/// requires { (length image.now ≡ form_length (form_view form)) × Agrees table.now × (offset + bytes_in (width_view width) ≤ 2 ^ 64 - 1) }
+/// ensures { Reads image.now result (λ d. read_at d.core (width_view width) offset) }
 /// ```
 #[inline]
 pub fn read_access<const N: usize>(
@@ -54,8 +54,8 @@ pub fn read_access<const N: usize>(
 /// The second Byte meets what the first left.
 ///
 /// ```text
-/// requires { ⌜ (length (now image) ≡ formLength (formView form)) × Agrees (now table) × (offset + 2 ≤ 2 ^ 64 - 1) ⌝ }
-/// ensures { λ r. ⌜ (r ≤ 130) × Writes (now (image .entry)) (now (image .exit)) r (λ c. writeActs c word offset low) ⌝ }
+/// requires { (length image.old ≡ form_length (form_view form)) × Agrees table.now × (offset + 2 ≤ 2 ^ 64 - 1) }
+/// ensures { (result ≤ 130) × Writes image.old image.new result (λ c. write_acts c word offset low) }
 /// ```
 #[inline]
 fn write_word<const N: usize>(
@@ -69,8 +69,8 @@ fn write_word<const N: usize>(
 }
 
 /// ```text
-/// requires { ⌜ (length (now image) ≡ formLength (formView form)) × Agrees (now table) × (offset + 8 ≤ 2 ^ 64 - 1) ⌝ }
-/// ensures { λ r. ⌜ (r ≤ 130) × Writes (now (image .entry)) (now (image .exit)) r (λ c. writeActs c qword offset value) ⌝ }
+/// requires { (length image.old ≡ form_length (form_view form)) × Agrees table.now × (offset + 8 ≤ 2 ^ 64 - 1) }
+/// ensures { (result ≤ 130) × Writes image.old image.new result (λ c. write_acts c qword offset value) }
 /// ```
 #[inline]
 fn write_qword<const N: usize>(
@@ -86,8 +86,8 @@ fn write_qword<const N: usize>(
 /// An access writes; the answer is how many events were dropped.
 ///
 /// ```text
-/// requires { ⌜ (length (now image) ≡ formLength (formView form)) × Agrees (now table) × (offset + bytesIn (widthView width) ≤ 2 ^ 64 - 1) ⌝ }
-/// ensures { λ r. ⌜ (r ≤ 130) × Writes (now (image .entry)) (now (image .exit)) r (λ c. writeActs c (widthView width) offset value) ⌝ }
+/// requires { (length image.old ≡ form_length (form_view form)) × Agrees table.now × (offset + bytes_in (width_view width) ≤ 2 ^ 64 - 1) }
+/// ensures { (result ≤ 130) × Writes image.old image.new result (λ c. write_acts c (width_view width) offset value) }
 /// ```
 #[inline]
 pub fn write_access<const N: usize>(

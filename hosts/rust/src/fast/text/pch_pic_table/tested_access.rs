@@ -19,7 +19,7 @@ use super::super::table::table_rows;
 use super::table_widths;
 
 /// ```text
-/// ensures { λ r. ⌜ ends r (now (image .entry)) [] ≡ ending (asked.read base size address width) (now (image .entry)) ⌝ }
+/// ensures { ends result image.now [] ≡ ending (asked.read base size address width) image.now }
 /// ```
 #[inline]
 pub fn read<const N: usize>(
@@ -48,7 +48,7 @@ pub fn read<const N: usize>(
 }
 
 /// ```text
-/// ensures { λ r. ⌜ ends r (now (image .exit)) [] ≡ ending (asked.write base size address width value) (now (image .entry)) ⌝ }
+/// ensures { ends result image.new [] ≡ ending (asked.write base size address width value) image.old }
 /// ```
 #[inline]
 pub fn write<const N: usize>(

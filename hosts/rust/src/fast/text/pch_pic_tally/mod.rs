@@ -20,7 +20,7 @@ const LENGTH: usize = 5200;
 /// A tally that has counted nothing.
 ///
 /// ```text
-/// ensures { λ r. ⌜ tallyLeaves r (now (tally .exit)) (now (answer .exit)) ≡ beginning (now (tally .entry)) (now (answer .entry)) ⌝ }
+/// ensures { tally_leaves result tally.new answer.new ≡ beginning tally.old answer.old }
 /// ```
 pub fn pch_pic_tally_begin(tally: &mut [u8], answer: &mut [u8]) -> u8 {
     if answer.len() < 16 {
@@ -37,8 +37,8 @@ pub fn pch_pic_tally_begin(tally: &mut [u8], answer: &mut [u8]) -> u8 {
 /// The records of a trace are counted, as the day goes on from the image, which stays as it is.
 ///
 /// ```text
-/// ensures { λ r. ⌜ tallyLeaves r (now (tally .exit)) (now (answer .exit))
-///     ≡ adding (now (trace .entry)) (now (image .entry)) (now (tally .entry)) (now (answer .entry)) ⌝ }
+/// ensures { tally_leaves result tally.new answer.new
+///     ≡ adding trace.now image.now tally.old answer.old }
 /// ```
 pub fn pch_pic_tally_add(trace: &[u8], image: &[u8], tally: &mut [u8], answer: &mut [u8]) -> u8 {
     if answer.len() < 16 {
@@ -73,7 +73,7 @@ fn pch_pic_tally_add_of<const N: usize>(
 /// The sheet of all records that were counted: a row for each input, and the total. The tally stays as it is.
 ///
 /// ```text
-/// ensures { λ r. ⌜ tallyLeaves r (now (sheet .exit)) (now (answer .exit)) ≡ summing (now (tally .entry)) (now (sheet .entry)) (now (answer .entry)) ⌝ }
+/// ensures { tally_leaves result sheet.new answer.new ≡ summing tally.now sheet.old answer.old }
 /// ```
 pub fn pch_pic_tally_sheet(tally: &[u8], sheet: &mut [u8], answer: &mut [u8]) -> u8 {
     if answer.len() < 16 {

@@ -25,7 +25,7 @@ pub enum Sound {
 }
 
 /// ```text
-/// ensures { λ r. ⌜ r ≡ ofOpenWait k ⌝ }
+/// ensures { result ≡ of_open_wait k }
 /// ```
 #[inline]
 fn of_open_wait(k: usize) -> bool {
@@ -33,7 +33,7 @@ fn of_open_wait(k: usize) -> bool {
 }
 
 /// ```text
-/// ensures { λ r. ⌜ r ≡ wrongNumber x k counted ⌝ }
+/// ensures { result ≡ wrong_number x k counted }
 /// ```
 #[inline]
 fn is_wrong(x: u64, k: usize, counted: u64) -> bool {
@@ -46,8 +46,8 @@ fn is_wrong(x: u64, k: usize, counted: u64) -> bool {
 /// The bits that any number has: no number is greater.
 ///
 /// ```text
-/// requires { ⌜ tallyLength ≤ length (now tally) ⌝ }
-/// ensures { λ r. ⌜ NoneAbove (now (tally .entry)) r ⌝ }
+/// requires { tally_length ≤ length tally.now }
+/// ensures { NoneAbove tally.now result }
 /// ```
 #[inline]
 fn all_bits(tally: &[u8]) -> u64 {
@@ -64,8 +64,8 @@ fn all_bits(tally: &[u8]) -> u64 {
 /// The latest record at which a wait began.
 ///
 /// ```text
-/// requires { ⌜ tallyLength ≤ length (now tally) ⌝ }
-/// ensures { λ r. ⌜ NoneLater (now (tally .entry)) r ⌝ }
+/// requires { tally_length ≤ length tally.now }
+/// ensures { NoneLater tally.now result }
 /// ```
 #[inline]
 fn latest(tally: &[u8]) -> u64 {
@@ -82,8 +82,8 @@ fn latest(tally: &[u8]) -> u64 {
 /// The first wrong number.
 ///
 /// ```text
-/// requires { ⌜ tallyLength ≤ length (now tally) ⌝ }
-/// ensures { λ r. ⌜ soundView r ≡ tallyTest (now (tally .entry)) ⌝ }
+/// requires { tally_length ≤ length tally.now }
+/// ensures { sound_view result ≡ tally_test tally.now }
 /// ```
 #[inline]
 fn search(tally: &[u8]) -> Sound {
@@ -101,8 +101,8 @@ fn search(tally: &[u8]) -> Sound {
 }
 
 /// ```text
-/// requires { ⌜ tallyLength ≤ length (now tally) ⌝ }
-/// ensures { λ r. ⌜ soundView r ≡ tallyTest (now (tally .entry)) ⌝ }
+/// requires { tally_length ≤ length tally.now }
+/// ensures { sound_view result ≡ tally_test tally.now }
 /// ```
 #[inline]
 pub fn test(tally: &[u8]) -> Sound {
@@ -119,7 +119,7 @@ pub fn test(tally: &[u8]) -> Sound {
 /// The refusal, with the place of the first wrong number.
 ///
 /// ```text
-/// ensures { λ r. ⌜ Tells r (tallyNumber (soundView found)) (tallyValue (soundView found)) ⌝ }
+/// ensures { Tells result (tally_number (sound_view found)) (tally_value (sound_view found)) }
 /// ```
 #[inline]
 pub fn of_tally(found: Sound) -> Told {

@@ -20,8 +20,8 @@ use super::record_step::ROOM;
 /// Of the image the length alone is tested; what is refused changes nothing.
 ///
 /// ```text
-/// ensures { λ t. ⌜ ends t (now (image .exit)) (now (answers .exit)) (now (events .exit))
-///     ≡ playEnding (now (trace .entry)) (now (image .entry)) (now (answers .entry)) (now (events .entry)) ⌝ }
+/// ensures { ends result image.new answers.new events.new
+///     ≡ play_ending trace.now image.old answers.old events.old }
 /// ```
 #[inline]
 pub fn play<const N: usize>(

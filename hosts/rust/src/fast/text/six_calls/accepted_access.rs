@@ -25,7 +25,7 @@ use super::super::image::form::Form;
 /// It is done, and this number is its value.
 ///
 /// ```text
-/// ensures { λ r. ⌜ Tells r 0 (some number) ⌝ }
+/// ensures { Tells result 0 (some number) }
 /// ```
 #[inline]
 fn gives(number: u64) -> Told {
@@ -33,8 +33,8 @@ fn gives(number: u64) -> Told {
 }
 
 /// ```text
-/// requires { ⌜ Passed (formView form) (now image) ⌝ }
-/// ensures { λ r. ⌜ ends r (now (image .entry)) [] ≡ ending (asked.read base size address width) (now (image .entry)) ⌝ }
+/// requires { Passed (form_view form) image.now }
+/// ensures { ends result image.now [] ≡ ending (asked.read base size address width) image.now }
 /// ```
 #[inline]
 pub fn read<const N: usize>(
@@ -61,8 +61,8 @@ pub fn read<const N: usize>(
 /// The value that is told is how many events were dropped.
 ///
 /// ```text
-/// requires { ⌜ Passed (formView form) (now image) ⌝ }
-/// ensures { λ r. ⌜ ends r (now (image .exit)) [] ≡ ending (asked.write base size address width value) (now (image .entry)) ⌝ }
+/// requires { Passed (form_view form) image.old }
+/// ensures { ends result image.new [] ≡ ending (asked.write base size address width value) image.old }
 /// ```
 #[inline]
 pub fn write<const N: usize>(

@@ -13,8 +13,8 @@ use super::super::lines::service;
 /// The vector that a call on an input returns, with its number, as a value.
 ///
 /// ```text
-/// requires { ⌜ length (now image) ≡ formLength (formView form) ⌝ }
-/// ensures { λ r. ⌜ TakesNumber (now (image .entry)) (now (image .exit)) (answerValue answer) (valueView r) ⌝ }
+/// requires { length image.old ≡ form_length (form_view form) }
+/// ensures { TakesNumber image.old image.new (answer_value answer) (value_view result) }
 /// ```
 #[inline]
 fn numbered<const N: usize>(image: &mut [u8; N], answer: state::Answer) -> Value {
@@ -28,8 +28,8 @@ fn numbered<const N: usize>(image: &mut [u8; N], answer: state::Answer) -> Value
 }
 
 /// ```text
-/// requires { ⌜ Passed (formView form) (now image) ⌝ }
-/// ensures { λ r. ⌜ ends r (now (image .exit)) [] ≡ ending (asked.level input level) (now (image .entry)) ⌝ }
+/// requires { Passed (form_view form) image.old }
+/// ensures { ends result image.new [] ≡ ending (asked.level input level) image.old }
 /// ```
 #[inline]
 pub fn level<const N: usize>(image: &mut [u8; N], input: u64, level: u64) -> Told {
@@ -41,8 +41,8 @@ pub fn level<const N: usize>(image: &mut [u8; N], input: u64, level: u64) -> Tol
 }
 
 /// ```text
-/// requires { ⌜ Passed (formView form) (now image) ⌝ }
-/// ensures { λ r. ⌜ ends r (now (image .exit)) [] ≡ ending (asked.poll input) (now (image .entry)) ⌝ }
+/// requires { Passed (form_view form) image.old }
+/// ensures { ends result image.new [] ≡ ending (asked.poll input) image.old }
 /// ```
 #[inline]
 pub fn poll<const N: usize>(image: &mut [u8; N], input: u64) -> Told {

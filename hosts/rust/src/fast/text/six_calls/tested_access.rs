@@ -11,7 +11,7 @@ use super::super::image::head::Head;
 use super::accepted_access;
 
 /// ```text
-/// ensures { λ r. ⌜ ends r (now (image .entry)) [] ≡ ending (asked.read base size address width) (now (image .entry)) ⌝ }
+/// ensures { ends result image.now [] ≡ ending (asked.read base size address width) image.now }
 /// ```
 #[inline]
 pub fn read<const N: usize>(
@@ -34,7 +34,7 @@ pub fn read<const N: usize>(
 /// The value that is told is how many events were dropped.
 ///
 /// ```text
-/// ensures { λ r. ⌜ ends r (now (image .exit)) [] ≡ ending (asked.write base size address width value) (now (image .entry)) ⌝ }
+/// ensures { ends result image.new [] ≡ ending (asked.write base size address width value) image.old }
 /// ```
 #[inline]
 pub fn write<const N: usize>(

@@ -16,7 +16,7 @@ use super::super::image::quick::odd;
 use super::accepted_input;
 
 /// ```text
-/// ensures { λ r. ⌜ ends r (now (image .exit)) [] ≡ ending (asked.level input level) (now (image .entry)) ⌝ }
+/// ensures { ends result image.new [] ≡ ending (asked.level input level) image.old }
 /// ```
 #[inline(never)]
 fn level_tested<const N: usize>(image: &mut [u8; N], input: u64, level: u64) -> Told {
@@ -31,7 +31,7 @@ fn level_tested<const N: usize>(image: &mut [u8; N], input: u64, level: u64) -> 
 }
 
 /// ```text
-/// ensures { λ r. ⌜ ends r (now (image .exit)) [] ≡ ending (asked.poll input) (now (image .entry)) ⌝ }
+/// ensures { ends result image.new [] ≡ ending (asked.poll input) image.old }
 /// ```
 #[inline(never)]
 fn poll_tested<const N: usize>(image: &mut [u8; N], input: u64) -> Told {
@@ -46,7 +46,7 @@ fn poll_tested<const N: usize>(image: &mut [u8; N], input: u64) -> Told {
 }
 
 /// ```text
-/// ensures { λ r. ⌜ ends r (now (image .exit)) [] ≡ ending (asked.level input level) (now (image .entry)) ⌝ }
+/// ensures { ends result image.new [] ≡ ending (asked.level input level) image.old }
 /// ```
 #[inline]
 pub fn level<const N: usize>(image: &mut [u8; N], input: u64, level: u64) -> Told {
@@ -76,7 +76,7 @@ pub fn level<const N: usize>(image: &mut [u8; N], input: u64, level: u64) -> Tol
 }
 
 /// ```text
-/// ensures { λ r. ⌜ ends r (now (image .exit)) [] ≡ ending (asked.poll input) (now (image .entry)) ⌝ }
+/// ensures { ends result image.new [] ≡ ending (asked.poll input) image.old }
 /// ```
 #[inline]
 pub fn poll<const N: usize>(image: &mut [u8; N], input: u64) -> Told {

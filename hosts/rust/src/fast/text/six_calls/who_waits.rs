@@ -17,8 +17,8 @@ use super::super::image::head::Head;
 /// Of all 64 inputs those that a poll would bring into service.
 ///
 /// ```text
-/// requires { ⌜ length (now image) ≡ formLength (formView form) ⌝ }
-/// ensures { λ r. ⌜ Reads (now (image .entry)) r (λ d. waitingIn (d .core .lines)) ⌝ }
+/// requires { length image.now ≡ form_length (form_view form) }
+/// ensures { Reads image.now result (λ d. waiting_in d.core.lines) }
 /// ```
 #[inline]
 pub fn set_of<const N: usize>(image: &[u8; N]) -> u64 {
@@ -29,7 +29,7 @@ pub fn set_of<const N: usize>(image: &[u8; N]) -> u64 {
 }
 
 /// ```text
-/// ensures { λ r. ⌜ ends r (now (image .entry)) [] ≡ waitingEnding (now (image .entry)) ⌝ }
+/// ensures { ends result image.now [] ≡ waiting_ending image.now }
 /// ```
 #[inline]
 pub fn waiting<const N: usize>(image: &[u8; N]) -> Told {

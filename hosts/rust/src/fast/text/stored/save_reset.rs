@@ -4,9 +4,9 @@
 use super::super::device::state::Lines;
 use super::super::device::state::Stored;
 use super::super::image::form::Form;
-use super::save_parts::save_numbers;
-use super::save_parts::save_ring;
-use super::save_parts::save_routes;
+use super::reset_parts::save_numbers;
+use super::reset_parts::save_ring;
+use super::reset_parts::save_routes;
 use super::save_words::put_contents;
 use super::save_words::save_lines;
 use super::save_words::save_stored;
@@ -14,8 +14,8 @@ use super::save_words::save_stored;
 /// Byte n becomes n.
 ///
 /// ```text
-/// requires { ⌜ length (now dst) ≤ 256 ⌝ }
-/// ensures { λ _. ⌜ now (dst .exit) ≡ upFrom 0 (length (now (dst .entry))) ⌝ }
+/// requires { length dst.old ≤ 256 }
+/// ensures { dst.new ≡ up_from 0 (length dst.old) }
 /// ```
 #[inline]
 fn put_order(dst: &mut [u8]) {
@@ -30,8 +30,8 @@ fn put_order(dst: &mut [u8]) {
 /// All fields but the vectors.
 ///
 /// ```text
-/// requires { ⌜ length (now image) ≡ formLength (formView form) ⌝ }
-/// ensures { λ _. ⌜ SavesOthers (formView form) (now (image .entry)) (now (image .exit)) ⌝ }
+/// requires { length image.old ≡ form_length (form_view form) }
+/// ensures { SavesOthers (form_view form) image.old image.new }
 /// ```
 #[inline]
 fn save_others<const N: usize>(image: &mut [u8; N]) {
@@ -61,8 +61,8 @@ fn save_others<const N: usize>(image: &mut [u8; N]) {
 /// The vector body is the part that starts at byte 158 or, in form 2, 150 or, with numbers, 155.
 ///
 /// ```text
-/// requires { ⌜ length (now image) ≡ formLength (formView form) ⌝ }
-/// ensures { λ _. ⌜ now (image .exit) ≡ encodeAs (formView form) reset (fromZero 0) ⌝ }
+/// requires { length image.old ≡ form_length (form_view form) }
+/// ensures { image.new ≡ encode_as (form_view form) reset (from_zero 0) }
 /// ```
 #[inline]
 pub fn save_reset<const N: usize>(image: &mut [u8; N]) {

@@ -9,8 +9,8 @@ use super::super::image::form::places_of;
 use super::super::image::form::Form;
 
 /// ```text
-/// requires { ⌜ length (now image) ≡ formLength (formView form) ⌝ }
-/// ensures { λ _. ⌜ now (image .exit) ≡ contentsOf (formView form) ++ drop (contentsLength (formView form)) (now (image .entry)) ⌝ }
+/// requires { length image.old ≡ form_length (form_view form) }
+/// ensures { image.new ≡ contents_of (form_view form) ++ drop (contents_length (form_view form)) image.old }
 /// ```
 #[inline]
 pub fn put_contents<const N: usize>(image: &mut [u8; N]) {
@@ -27,8 +27,8 @@ pub fn put_contents<const N: usize>(image: &mut [u8; N]) {
 }
 
 /// ```text
-/// requires { ⌜ length (now image) ≡ formLength (formView form) ⌝ }
-/// ensures { λ _. ⌜ SavesLines (formView form) lines (now (image .entry)) (now (image .exit)) ⌝ }
+/// requires { length image.old ≡ form_length (form_view form) }
+/// ensures { SavesLines (form_view form) lines image.old image.new }
 /// ```
 #[inline(always)]
 pub fn save_lines<const N: usize>(image: &mut [u8; N], lines: Lines) {
@@ -41,8 +41,8 @@ pub fn save_lines<const N: usize>(image: &mut [u8; N], lines: Lines) {
 }
 
 /// ```text
-/// requires { ⌜ length (now image) ≡ formLength (formView form) ⌝ }
-/// ensures { λ _. ⌜ SavesStored (formView form) stored (now (image .entry)) (now (image .exit)) ⌝ }
+/// requires { length image.old ≡ form_length (form_view form) }
+/// ensures { SavesStored (form_view form) stored image.old image.new }
 /// ```
 #[inline(always)]
 pub fn save_stored<const N: usize>(image: &mut [u8; N], stored: Stored) {

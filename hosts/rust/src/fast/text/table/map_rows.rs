@@ -5,7 +5,7 @@ use super::look;
 use super::Place;
 
 /// ```text
-/// ensures { λ r. ⌜ r ≡ isNothing (placeView place) ⌝ }
+/// ensures { result ≡ is_nothing (place_view place) }
 /// ```
 #[inline]
 fn is_nothing(place: Place) -> bool {
@@ -20,7 +20,7 @@ fn is_nothing(place: Place) -> bool {
 /// Whether a row begins at a place, behind a row that began at another.
 ///
 /// ```text
-/// ensures { λ r. ⌜ r ≡ begins (placeView first) (placeView next) ⌝ }
+/// ensures { result ≡ begins (place_view first) (place_view next) }
 /// ```
 #[inline]
 fn begins(first: Place, next: Place) -> bool {
@@ -35,8 +35,8 @@ fn begins(first: Place, next: Place) -> bool {
 /// Where the row ends that begins at an offset.
 ///
 /// ```text
-/// requires { ⌜ Agrees (now table) × (start < 1024) ⌝ }
-/// ensures { λ r. ⌜ Row start r ⌝ }
+/// requires { Agrees table.now × (start < 1024) }
+/// ensures { Row start result }
 /// ```
 #[inline]
 pub fn row_end(table: &[[u8; 32]; 32], start: usize) -> usize {

@@ -23,7 +23,7 @@ const SILENT: u8 = 0x70;
 /// A byte of a register, by the table's number for it.
 ///
 /// ```text
-/// ensures { λ r. ⌜ placeView r ≡ partOf (registerView register) entry ⌝ }
+/// ensures { place_view result ≡ part_of (register_view register) entry }
 /// ```
 #[inline]
 fn part_of(register: Register, entry: u8) -> Place {
@@ -38,7 +38,7 @@ fn part_of(register: Register, entry: u8) -> Place {
 /// What a number of the table tells.
 ///
 /// ```text
-/// ensures { λ r. ⌜ placeView r ≡ reading entry ⌝ }
+/// ensures { place_view result ≡ reading entry }
 /// ```
 #[inline]
 pub fn place_of(entry: u8) -> Place {
@@ -62,8 +62,8 @@ pub fn place_of(entry: u8) -> Place {
 /// What stands at an offset; from 1,024 up nothing does.
 ///
 /// ```text
-/// requires { ⌜ Agrees (now table) ⌝ }
-/// ensures { λ r. ⌜ placeView r ≡ meant offset ⌝ }
+/// requires { Agrees table.now }
+/// ensures { place_view result ≡ meant offset }
 /// ```
 #[inline]
 pub fn look(table: &[[u8; 32]; 32], offset: usize) -> Place {

@@ -7,7 +7,7 @@ use super::record_bytes::Record;
 /// instructions of all tests in a row.
 ///
 /// ```text
-/// ensures { λ t. ⌜ t ≡ isGood (recordView r) ⌝ }
+/// ensures { result ≡ is_good (record_view r) }
 /// ```
 #[inline]
 pub fn is_good(r: Record) -> bool {

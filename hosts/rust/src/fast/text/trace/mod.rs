@@ -17,8 +17,8 @@ use self::record_view::record_at;
 /// The first bad one of so many records from a place on, counted from 0; their number where all are good.
 ///
 /// ```text
-/// requires { ⌜ (records ≤ mostRecords) × (first + recordLength * records ≤ length (now trace)) ⌝ }
-/// ensures { λ r. ⌜ r ≡ firstBad (badFrom first (now (trace .entry))) records 0 ⌝ }
+/// requires { (records ≤ most_records) × (first + record_length * records ≤ length trace.now) }
+/// ensures { result ≡ first_bad (bad_from first trace.now) records 0 }
 /// ```
 #[inline]
 pub fn first_bad(trace: &[u8], first: usize, records: usize) -> usize {
@@ -43,7 +43,7 @@ pub enum Tested {
 }
 
 /// ```text
-/// ensures { λ r. ⌜ testedView r ≡ traceTest (now (trace .entry)) ⌝ }
+/// ensures { tested_view result ≡ trace_test trace.now }
 /// ```
 #[inline]
 pub fn test(trace: &[u8]) -> Tested {

@@ -6,7 +6,7 @@ pub mod rows;
 /// The whole table. A caller lends it on: an array that is named again is copied again.
 ///
 /// ```text
-/// ensures { λ r. ⌜ Agrees r ⌝ }
+/// ensures { Agrees result }
 /// ```
 #[inline(always)]
 pub fn whole() -> [[u8; 32]; 32] {
