@@ -21,6 +21,11 @@ use Rattle.pch_pic_tally.specs.contracts.soundness.Sound as enum
 pub tells : (t : Told) {n : ℕ} {v : Value} → Tells t n v → {s : List ℕ} {x : Ended} → record { number = n; value = v; bytes = s } ≡ x → ends_as t s ≡ x
 tells t p {s} d = (λ i. record { number = p.0 i; value = p.1 i; bytes = s }) ∙ d
 
+-- what is not whole is wrong somewhere
+pub not_whole : (x : Sound) → (x ≡ Whole → ⊥) → OneOf (1 ∷ []) (tag_of enum.the_type x)
+not_whole Whole n = absurd (n refl)
+not_whole (WrongAt a) n = refl
+
 -- ---- the count
 
 module _ (t : List ℕ) (y : Bytes t) (h : tally_length ≤ length t) where
