@@ -2,3 +2,4 @@
 pub mod Kept
 pub mod Second
 pub mod Ended
+pub mod ByNumber

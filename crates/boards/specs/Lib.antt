@@ -3,3 +3,4 @@ pub mod Board
 pub mod Boarding
 pub mod Refusals
 pub mod Hearing
+pub mod Collected

@@ -10,9 +10,10 @@ use Rattle.histories.specs.exported.Exported.{Exported, left_by, is_done, is_loa
 use Rattle.histories.proofs.exported.{laws.Chains.faithful_after_reset, demands.FromCalls.handed_on_is_no_load, demands.FromCalls.image_holds_history}
 use Rattle.order.specs.Read.{returned_read, drained_read}
 use Rattle.boards.specs.{Board.counts_by, Board.recount, Board.Touching, Boarding.boarding, Boarding.board_by, Boarding.board_through, Boarding.hearing}
-use Rattle.boards.specs.Hearing.{blank, heard_through, Complete, by_number}
-use Rattle.order.specs.Sorted.{Rearranged, behind, exchanged, both, put_by, sorted_by}
-use Rattle.boards.proofs.{laws.Counts.counts_length, demands.Kept.only_touched_change, demands.Kept.next_changes_only_touched, demands.Second.by_number_equals_first}
+use Rattle.boards.specs.Hearing.{blank, heard_through, Complete, Interleaves, neither, first, second, inserted, by_number}
+use Rattle.order.specs.Sorted.{Rearranged, behind, exchanged}
+use Rattle.order.specs.Sorted as order
+use Rattle.boards.proofs.{laws.Counts.counts_length, demands.Kept.only_touched_change, demands.Kept.next_changes_only_touched, demands.Second.by_number_equals_first, demands.Second.any_order_equals_first}
 use Rattle.examples.proofs.{PremisesMet.all_admitted, ExportedMet.handed_on, ExportedMet.handed_on_lem}
 use Rattle.calls.specs.Calls as request
 
@@ -73,12 +74,10 @@ few = lit≤ tt
 admitted : Complete (after_reset numbered) calls
 unfolding computing done_calls
 admitted = record {
-  all_read = record {
-    no_loads = no_loads_lem;
-    all_drained = ap (λ (d : Device). d.ring.waiting) comes ∙ none_wait;
-    none_dropped = ap (λ (d : Device). d.ring.drops) comes ∙ none_dropped_lem;
-  };
+  no_loads = no_loads_lem;
   admitted = all_admitted reset (done_calls calls) refl;
+  all_drained = ap (λ (d : Device). d.ring.waiting) comes ∙ none_wait;
+  none_dropped = ap (λ (d : Device). d.ring.drops) comes ∙ none_dropped_lem;
 }
 
 complete : Complete (carried_on before resetting) calls
@@ -100,14 +99,22 @@ drained : drained_read calls ≡ up 0 ∷ []
 unfolding computing drained_read
 drained = refl
 
--- as a host has them that turned the returned ones round: the last made first, then the first, then the second
 abbrev collected : List Numbered
-collected = up 2 ∷ up 0 ∷ down 1 ∷ []
+collected = down 1 ∷ up 2 ∷ up 0 ∷ []
 
-in_another_order : Rearranged collected (returned_read calls ++ drained_read calls)
+both : Interleaves (returned_read calls) (drained_read calls) collected
+both =
+    subst (λ l. Interleaves l (drained_read calls) collected) (sym returned)
+    (subst (λ l. Interleaves (down 1 ∷ up 2 ∷ []) l collected) (sym drained) (first (first (second neither))))
+
+-- as a host has them that turned the returned ones round: the last made first, then the first, then the second
+abbrev turned : List Numbered
+turned = up 2 ∷ up 0 ∷ down 1 ∷ []
+
+in_another_order : Rearranged turned (returned_read calls ++ drained_read calls)
 in_another_order =
-    subst (λ l. Rearranged collected (l ++ drained_read calls)) (sym returned)
-    (subst (λ l. Rearranged collected ((down 1 ∷ up 2 ∷ []) ++ l)) (sym drained) (both (behind exchanged) exchanged))
+    subst (λ l. Rearranged turned (l ++ drained_read calls)) (sym returned)
+    (subst (λ l. Rearranged turned ((down 1 ∷ up 2 ∷ []) ++ l)) (sym drained) (order.both (behind exchanged) exchanged))
 
 -- ---- both boards
 
@@ -117,17 +124,23 @@ area = replicate 16 0
 -- the first board, which held anything before the reset, and the second, which hears what was collected by rising number
 equal_boards : heard_through area blank (events_in (by_number collected)) ≡ take 256 (board_through (replicate 300 0xee) (resetting ∷ calls))
 equal_boards =
-    by_number_equals_first before resetting refl is_done_lem calls complete refl (subst (λ cs. length (from_reset cs).made ≤ 65536) (sym calls_done) few) collected in_another_order
+    by_number_equals_first before resetting refl is_done_lem calls complete refl (subst (λ cs. length (from_reset cs).made ≤ 65536) (sym calls_done) few) collected both
     (replicate 300 0xee) (lit≤ tt) area (lit≤ tt)
 
--- one input is in service with the vector 5; heard as they were read, the returned ones and then the drained one, the events would leave two
+-- and so where they were turned round
+equal_turned : heard_through area blank (events_in (by_number turned)) ≡ take 256 (board_through (replicate 300 0xee) (resetting ∷ calls))
+equal_turned =
+    any_order_equals_first before resetting refl is_done_lem calls complete refl (subst (λ cs. length (from_reset cs).made ≤ 65536) (sym calls_done) few) turned in_another_order
+    (replicate 300 0xee) (lit≤ tt) area (lit≤ tt)
+
+-- one input is in service with the vector 5; heard as they were collected, the events would leave two
 counts_one : get_or (heard_through area blank (events_in (by_number collected))) 5 0 ≡ 1
-unfolding computing heard_through hearing sorted_by put_by
+unfolding computing heard_through hearing by_number inserted
 counts_one = refl
 
-as_read : get_or (heard_through area blank (events_in (down 1 ∷ up 2 ∷ up 0 ∷ []))) 5 0 ≡ 2
+as_collected : get_or (heard_through area blank (events_in collected)) 5 0 ≡ 2
 unfolding computing heard_through hearing
-as_read = refl
+as_collected = refl
 
 -- ---- what a call changes
 
@@ -175,4 +188,4 @@ none_after = refl
 five_touched : Touching 5 (decode lowering.given).core (decode (left_by lowering).image).core
 five_touched =
     let long = counts_length (λ v. carrying v (decode lowering.given).core) in
-    only_touched_change lowering kept (take_all 256 kept (omega (arith, long))) 5 (lit< tt) (λ same. omega (arith, sym none_after ∙ same ∙ one_before))
+    only_touched_change lowering kept (omega (arith, long)) (take_all 256 kept (omega (arith, long))) 5 (lit< tt) (λ same. omega (arith, sym none_after ∙ same ∙ one_before))

@@ -6,7 +6,7 @@ use Rattle.images.specs.{Form.Form, Form.one, Form.two, Form.numbered, Image.cop
 use Rattle.calls.specs.{Convert.converted, Convert.conversion, Waiting.waiting_told, Waiting.waiting}
 use Rattle.calls.specs.Reasons.{bad_length, bad_head, bad_body, bad_input, bad_width, bad_address, bad_contents, bad_at, not_aligned, not_fit, Reason, short_room, of_image, of_request, of_trace, of_profile, none_left}
 use Rattle.calls.proofs.laws.{Computing.computing, Tables.reason_of_lem}
-use Rattle.boards.{specs.Boarding.boarding, specs.Boarding.hearing, specs.Refusals.BoardGiven, specs.Refusals.EventGiven, proofs.demands.Ended.board_by_number, proofs.demands.Ended.event_by_number}
+use Rattle.boards.{specs.Boarding.boarding, specs.Boarding.hearing, specs.Refusals.BoardGiven, specs.Refusals.EventGiven, proofs.demands.ByNumber.board_by_number, proofs.demands.ByNumber.event_by_number}
 use Rattle.hoists.specs.Refusals.{WriteGiven, ReadGiven, ResetGiven, EndGiven}
 use Rattle.hoists.proofs.{laws.Computed.hoisting, under_profile.demands.ByNumber.write_by_number, under_profile.demands.ByNumber.read_by_number, under_profile.demands.ByNumber.reset_by_number, under_profile.demands.ByNumber.end_by_number}
 use Rattle.traces.specs.{Trace.blocks_from, Trace.records_in, Trace.back_to_back, Trace.contents_good, Trace.is_good, Trace.first_bad, Trace.trace_test, Played.records_from, plays.Playing.drains_in, plays.Playing.play_test, plays.Playing.play_on_test, plays.Playing.playing, plays.Playing.playing_on, salvages.Salvaging.salvaging}

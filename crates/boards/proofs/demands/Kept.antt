@@ -7,40 +7,41 @@ use Rattle.calls.specs.Calls.{refusal_number, no_room, afresh, asked_by, buffer_
 use Rattle.histories.specs.exported.Exported.{Exported, left_by, is_done, is_reset, is_load, Underway, carried_on, carried_through, GivenBytes, in_image, Faithful, after_reset}
 use Rattle.histories.proofs.exported.{laws.Chains.handed, laws.Chains.faithful_on, laws.Chains.faithful_after_reset, laws.Chains.left_holds, demands.FromCalls.a_reset_begins}
 use Rattle.boards.specs.{Board.recount, Board.WholeBoard, Board.RightFor, Board.kept_on, Board.kept_through, Board.Touching, Boarding.Boarded, Boarding.board_leaves, Boarding.board_after, Boarding.boarding, Boarding.board_by, Boarding.board_through, Hearing.blank}
-use Rattle.boards.proofs.laws.Counts.{right_is_whole, counts_get, touching_or_same}
+use Rattle.boards.proofs.laws.Counts.{counts_get, touching_or_same}
 use Rattle.boards.proofs.laws.Boards.{call_is, board_done, board_refused, board_past, board_length, front_recounted, done_left, board_right, kept_right}
 use Rattle.boards.proofs.laws.Heard.{blank_right}
 
 -- ---- one call
 
 -- A call with a board of at least 256 bytes is in every other byte the call without.
-pub with_a_board_as_without : (x : Exported) (b : List ℕ) → WholeBoard b → (boarding x.asked x.given b x.answer).call ≡ left_by x
-with_a_board_as_without x b room = call_is x b (omega (arith, room))
+pub with_a_board_as_without : (x : Exported) (b : List ℕ) → 256 ≤ length b → (boarding x.asked x.given b x.answer).call ≡ left_by x
+with_a_board_as_without = call_is
 
 -- Done, it leaves the fresh counts of the image that it leaves, whatever the board held.
-pub done_counts_afresh : (x : Exported) (b : List ℕ) → WholeBoard b → is_done x ≡ true → take 256 (board_by x b) ≡ recount (decode (left_by x).image).core
+pub done_counts_afresh : (x : Exported) (b : List ℕ) → 256 ≤ length b → is_done x ≡ true → take 256 (board_by x b) ≡ recount (decode (left_by x).image).core
 done_counts_afresh x b room t = ap (take 256) (board_done x b room t) ∙ front_recounted (decode (left_by x).image).core b
 
 -- ---- after any sequence
 
 -- Exported calls, loads, resets and refused ones among them, each lent the board that the one before it left: where the board was right for the image left at first, it is
 -- right for the image left last.
-pub board_is_recount : (h : Underway) (b : List ℕ) → RightFor (in_image h).core b → (xs : List Exported)
+pub board_is_recount : (h : Underway) (b : List ℕ) → 256 ≤ length b → take 256 b ≡ recount (in_image h).core → (xs : List Exported)
     → take 256 (board_through b xs) ≡ recount (in_image (carried_through h xs)).core
 unfolding board_through carried_through
-board_is_recount h b e [] = e
-board_is_recount h b e (x ∷ xs) = board_is_recount (carried_on h x) (board_by x b) (board_right h x b e) xs
+board_is_recount h b room e [] = e
+board_is_recount h b room e (x ∷ xs) =
+    board_is_recount (carried_on h x) (board_by x b) (subst (λ n. 256 ≤ n) (sym (board_length x b room)) room) (board_right h x b room e) xs
 
 -- And from the first done call on it is right, whatever it held before, since a done call counts afresh.
-pub board_from_a_done_call : (h : Underway) (b : List ℕ) → WholeBoard b → (x : Exported) → is_done x ≡ true → (xs : List Exported)
+pub board_from_a_done_call : (h : Underway) (b : List ℕ) → 256 ≤ length b → (x : Exported) → is_done x ≡ true → (xs : List Exported)
     → take 256 (board_through b (x ∷ xs)) ≡ recount (in_image (carried_through h (x ∷ xs))).core
 unfolding board_through carried_through
 board_from_a_done_call h b room x t xs =
-    board_is_recount (carried_on h x) (board_by x b)
+    board_is_recount (carried_on h x) (board_by x b) (subst (λ n. 256 ≤ n) (sym (board_length x b room)) room)
     (done_counts_afresh x b room t ∙ ap (λ i. recount (decode i).core) (sym (done_left h x t))) xs
 
 -- Bytes past the first 256 stay.
-pub bytes_past_stay : (b : List ℕ) → WholeBoard b → (xs : List Exported) → drop 256 (board_through b xs) ≡ drop 256 b
+pub bytes_past_stay : (b : List ℕ) → 256 ≤ length b → (xs : List Exported) → drop 256 (board_through b xs) ≡ drop 256 b
 unfolding board_through
 bytes_past_stay b room [] = refl
 bytes_past_stay b room (x ∷ xs) = bytes_past_stay (board_by x b) (subst (λ n. 256 ≤ n) (sym (board_length x b room)) room) xs ∙ board_past x b room
@@ -52,9 +53,9 @@ unfolding kept_through carried_through
 kept_is_recount h f b e [] g = e
 kept_is_recount h f b e (x ∷ xs) g = kept_is_recount (carried_on h x) (faithful_on h x f (λ l. g.0)) (kept_on h x b) (kept_right h x f b e) xs g.1
 
-pub both_are_one : (h : Underway) → Faithful h → (b : List ℕ) → RightFor (in_image h).core b → (xs : List Exported) → GivenBytes xs
+pub both_are_one : (h : Underway) → Faithful h → (b : List ℕ) → 256 ≤ length b → take 256 b ≡ recount (in_image h).core → (xs : List Exported) → GivenBytes xs
     → take 256 (board_through b xs) ≡ kept_through h (take 256 b) xs
-both_are_one h f b e xs g = board_is_recount h b e xs ∙ sym (kept_is_recount h f (take 256 b) e xs g)
+both_are_one h f b room e xs g = board_is_recount h b room e xs ∙ sym (kept_is_recount h f (take 256 b) e xs g)
 
 -- From a done reset on the kept board begins as 256 zeros.
 pub kept_from_reset : (h : Underway) (x : Exported) → asked_by x.asked ≡ afresh → is_done x ≡ true → (xs : List Exported) → GivenBytes xs
@@ -83,26 +84,25 @@ count_of b c e v h = sym (get_or-take 256 b v 0 h) ∙ ap (λ l. get_or l v 0) e
 
 -- Of a board that is right for the image given: where a call changes the count of v, some input with a changed ISR bit or vector byte carried v in the image given, or
 -- carries it in the image left.
-pub only_touched_change : (x : Exported) (b : List ℕ) → RightFor (decode x.given).core b → (v : ℕ) → v < 256
+pub only_touched_change : (x : Exported) (b : List ℕ) → 256 ≤ length b → take 256 b ≡ recount (decode x.given).core → (v : ℕ) → v < 256
     → (get_or (board_by x b) v 0 ≡ get_or b v 0 → ⊥) → Touching v (decode x.given).core (decode (left_by x).image).core
-only_touched_change x b e v h n =
+only_touched_change x b room e v h n =
     let before = (decode x.given).core in
     let after = (decode (left_by x).image).core in
-    let room = right_is_whole b before e in
     test (is_done x)
     (λ t. changed_count before after (get_or b v 0) (get_or (board_by x b) v 0) v (count_of b before e v h) (count_of (board_by x b) after (done_counts_afresh x b room t) v h) n)
     (λ t. absurd (n (ap (λ l. get_or l v 0) (board_refused x b room t))))
 
 -- So in any history: a call that is no load changes, of a board that is right for the image left last, only such counts; and so does the board kept beside the state.
 module _ (h : Underway) (f : Faithful h) (x : Exported) (no : is_load h.left x ≡ false) (v : ℕ) (below : v < 256) where
-  pub call_changes_only_touched : (b : List ℕ) → RightFor (in_image h).core b → (get_or (board_by x b) v 0 ≡ get_or b v 0 → ⊥)
+  pub call_changes_only_touched : (b : List ℕ) → 256 ≤ length b → take 256 b ≡ recount (in_image h).core → (get_or (board_by x b) v 0 ≡ get_or b v 0 → ⊥)
       → Touching v (in_image h).core (decode (left_by x).image).core
-  call_changes_only_touched b e n =
+  call_changes_only_touched b room e n =
       test (is_done x)
       (λ t. let g = (handed h x f t no).given in
       subst (λ i. Touching v (decode i).core (decode (left_by x).image).core) g
-      (only_touched_change x b (subst (λ i. RightFor (decode i).core b) (sym g) e) v below n))
-      (λ t. absurd (n (ap (λ l. get_or l v 0) (board_refused x b (right_is_whole b (in_image h).core e) t))))
+      (only_touched_change x b room (subst (λ i. take 256 b ≡ recount (decode i).core) (sym g) e) v below n))
+      (λ t. absurd (n (ap (λ l. get_or l v 0) (board_refused x b room t))))
 
   pub kept_changes_only_touched : (b : List ℕ) → b ≡ recount (in_image h).core → (get_or (kept_on h x b) v 0 ≡ get_or b v 0 → ⊥)
       → Touching v (in_image h).core (in_image (carried_on h x)).core
@@ -157,5 +157,5 @@ module _ (h : Underway) (b : List ℕ) (x : Exported) (t : is_done x ≡ true) (
           test (is_done y)
           (λ d. let g = given_last under y d unloaded in
           subst (λ i. Touching v (decode i).core (decode (left_by y).image).core) g
-          (only_touched_change y board (board_from_a_done_call h b room x t xs ∙ ap (λ i. recount (decode i).core) (sym g)) v below n))
+          (only_touched_change y board long (board_from_a_done_call h b room x t xs ∙ ap (λ i. recount (decode i).core) (sym g)) v below n))
           (λ d. absurd (n (ap (λ l. get_or l v 0) (board_refused y board long d))))

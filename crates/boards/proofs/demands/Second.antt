@@ -14,10 +14,10 @@ use Rattle.histories.specs.exported.Forms.{HoldsNumbers}
 use Rattle.histories.proofs.demands.Order.{first_in_first_out, drops_counted}
 use Rattle.histories.proofs.exported.laws.Chains.{left_length, left_holds, faithful_after_reset}
 use Rattle.histories.proofs.exported.demands.{FromCalls.a_reset_begins, FromCalls.image_holds_history, FromCalls.image_holds_numbers, HandedBack.returned_is_read, HandedBack.drained_is_read}
-use Rattle.boards.specs.{Board.recount, Board.WholeBoard, Boarding.board_through, Hearing.blank, Hearing.heard_through, Hearing.in_order_of_making, Hearing.AllRead, Hearing.Complete, Hearing.most_in_order, Hearing.Interleaves, Hearing.by_number}
+use Rattle.boards.specs.{Board.recount, Board.WholeBoard, Boarding.board_through, Hearing.blank, Hearing.heard_through, Hearing.in_order_of_making, Hearing.Complete, Hearing.most_in_order, Hearing.Interleaves, Hearing.by_number, Collected.AllRead}
 use Rattle.order.specs.Sorted.{Rearranged, both}
-use Rattle.boards.proofs.laws.Completed.{in_order_exactly, all_read_if_as_many}
-use Rattle.boards.proofs.{laws.Heard.heard_from_reset, laws.Arranged.interleaves_map, laws.Arranged.by_fate, laws.Arranged.interleaved_rearranged, laws.Arranged.order_restored, demands.Kept.board_from_a_done_call}
+use Rattle.boards.proofs.laws.Completed.{in_order_exactly, all_read_if_as_many, complete_if_all}
+use Rattle.boards.proofs.{laws.Heard.heard_from_reset, laws.Arranged.interleaves_map, laws.Arranged.by_fate, laws.Arranged.interleaved_rearranged, laws.Arranged.rearranged_back, laws.Arranged.sorted_restored, demands.Kept.board_from_a_done_call}
 
 none_of : {A B : Type 0} (f : A → B) (xs : List A) → length (map f xs) ≡ 0 → xs ≡ []
 none_of f [] e = refl
@@ -110,7 +110,7 @@ module _ (f : Form) (long : form_length f ≡ 290) (xs : List Exported) (w : All
   restored few es r =
       let made = events_made reset (done_calls xs) in
       let n = length (from_reset (done_calls xs)).made in
-      ap events_in (order_restored (both r (interleaved_rearranged numbered_back)) 0 n (numbers_of 0 n made (positions_in_order reset (done_calls xs)) (omega (arith, few))))
+      ap events_in (sorted_restored (both r (interleaved_rearranged numbered_back)) 0 n (numbers_of 0 n made (positions_in_order reset (done_calls xs)) (omega (arith, few))))
       ∙ sym (map_twice (numbered_from 0) (λ (x : Numbered). x.event) made) ∙ all_made f xs w
 
 -- ---- the premises
@@ -118,6 +118,11 @@ module _ (f : Form) (long : form_length f ≡ 290) (xs : List Exported) (w : All
 -- 'Everything drained and nothing dropped' asks no more than its words: it holds wherever the events that a host reads are as many as were made.
 pub read_if_as_many : (f : Form) (xs : List Exported) → NoLoads (after_reset f) xs → length (returned_by xs) + length (drained_by xs) ≡ length (in_order_of_making (done_calls xs)) → AllRead (after_reset f) xs
 read_if_as_many = all_read_if_as_many
+
+-- 'Everything drained and nothing dropped' is no more than it says: it holds wherever the events that a host reads are as many as were made.
+pub complete_exactly : (f : Form) (xs : List Exported) → NoLoads (after_reset f) xs → Along Admitted reset (done_calls xs)
+    → length (returned_by xs) + length (drained_by xs) ≡ length (in_order_of_making (done_calls xs)) → Complete (after_reset f) xs
+complete_exactly = complete_if_all
 
 -- 'At most 65,536 events' is no more than it says: from a reset the number of an event is its position exactly while so many were made.
 pub number_is_position : (p : ℕ) → (p < most_in_order → number_at 0 p ≡ p) × (number_at 0 p ≡ p → p < most_in_order)
@@ -127,35 +132,59 @@ number_is_position = in_order_exactly
 
 -- x is a done reset, whatever was under way, and xs are exported calls after it, refused ones among them, that are no loads and leave an image in which none waits and the drop count is 0.
 module _ (h : Underway) (x : Exported) (a : asked_by x.asked ≡ afresh) (t : is_done x ≡ true) (xs : List Exported) (w : AllRead (carried_on h x) xs) where
+  started : (f : Form) × (length x.given ≡ form_length f) × (carried_on h x ≡ after_reset f)
+  started = let r = a_reset_begins h x a t in (r.0, r.1, r.3)
+
+  read_all : AllRead (after_reset started.0) xs
+  read_all = subst (λ u. AllRead u xs) started.2 w
+
+  -- The events that a host reads, returned and drained, are all that were made, each once: put in the order of making, they are these events alone.
+  pub all_handed_back : Interleaves (returned_by xs) (drained_by xs) (in_order_of_making (done_calls xs))
+  all_handed_back = handed_back started.0 xs read_all
+
+  -- With the fifth body, while at most 65,536 events are made: in whatever order they were collected, by rising number the events handed back stand in the order of making.
+  pub numbers_restore_the_order : HoldsNumbers x.given → length (from_reset (done_calls xs)).made ≤ most_in_order → (es : List Numbered) → Rearranged es (returned_read xs ++ drained_read xs)
+      → events_in (by_number es) ≡ in_order_of_making (done_calls xs)
+  numbers_restore_the_order long few es r = restored started.0 (sym started.1 ∙ long) xs read_all few es r
+
+-- so many premises as demand 3 has
+read_of : {u : Underway} {xs : List Exported} → Complete u xs → AllRead u xs
+read_of w = record { no_loads = w.no_loads; all_drained = w.all_drained; none_dropped = w.none_dropped }
+
+-- x is a done reset, whatever was under way, and xs are exported calls after it, refused ones among them, that are no loads, meet demand 3's premises, and leave an
+-- image in which none waits and the drop count is 0.
+module _ (h : Underway) (x : Exported) (a : asked_by x.asked ≡ afresh) (t : is_done x ≡ true) (xs : List Exported) (w : Complete (carried_on h x) xs) where
   begun : (f : Form) × (length x.given ≡ form_length f) × (carried_on h x ≡ after_reset f)
   begun = let r = a_reset_begins h x a t in (r.0, r.1, r.3)
 
-  whole : AllRead (after_reset begun.0) xs
-  whole = subst (λ u. AllRead u xs) begun.2 w
+  whole : Complete (after_reset begun.0) xs
+  whole = subst (λ u. Complete u xs) begun.2 w
 
   -- The events that a host reads, returned and drained, are all that were made, each once: put in the order of making, they are these events alone.
   pub handed_back_are_all : Interleaves (returned_by xs) (drained_by xs) (in_order_of_making (done_calls xs))
-  handed_back_are_all = handed_back begun.0 xs whole
+  handed_back_are_all = all_handed_back h x a t xs (read_of w)
 
-  -- With the fifth body, while at most 65,536 events are made: in whatever order they were collected, by rising number the events handed back stand in the order of making.
-  pub numbers_give_the_order : HoldsNumbers x.given → length (from_reset (done_calls xs)).made ≤ most_in_order → (es : List Numbered) → Rearranged es (returned_read xs ++ drained_read xs)
-      → events_in (by_number es) ≡ in_order_of_making (done_calls xs)
-  numbers_give_the_order long few es r = restored begun.0 (sym begun.1 ∙ long) xs whole few es r
-
--- The same, with demand 3's premises met.
-module _ (h : Underway) (x : Exported) (a : asked_by x.asked ≡ afresh) (t : is_done x ≡ true) (xs : List Exported) (w : Complete (carried_on h x) xs) where
   -- The first board, kept by the exported calls from the reset on, whatever it held before; the second, blank at first, that hears these events in the order of making,
   -- by an exported call for each: at the end both are equal.
-  pub second_equals_first : (b : List ℕ) → WholeBoard b → (area : List ℕ) → AnswerRoom area
+  pub second_equals_first : (b : List ℕ) → 256 ≤ length b → (area : List ℕ) → 16 ≤ length area
       → heard_through area blank (in_order_of_making (done_calls xs)) ≡ take 256 (board_through b (x ∷ xs))
   unfolding carried_through
   second_equals_first b room area sixteen =
-      let g = begun h x a t xs w.all_read in
-      heard g.0 xs (whole h x a t xs w.all_read) area sixteen w.admitted
-      ∙ ap (λ u. recount (in_image (carried_through u xs)).core) (sym g.2) ∙ sym (board_from_a_done_call h b room x t xs)
+      heard begun.0 xs (read_of whole) area sixteen whole.admitted ∙ ap (λ u. recount (in_image (carried_through u xs)).core) (sym begun.2) ∙ sym (board_from_a_done_call h b room x t xs)
 
-  -- So a second board that hears them by rising number, in whatever order they were collected, ends equal to the first.
-  pub by_number_equals_first : HoldsNumbers x.given → length (from_reset (done_calls xs)).made ≤ most_in_order → (es : List Numbered) → Rearranged es (returned_read xs ++ drained_read xs)
+  -- With the fifth body, while at most 65,536 events are made: collected in whatever order, as long as each list keeps its own, by rising number the events handed back
+  -- stand in the order of making.
+  module _ (long : length x.given ≡ 290) (few : length (from_reset (done_calls xs)).made ≤ most_in_order) (es : List Numbered) (i : Interleaves (returned_read xs) (drained_read xs) es) where
+    pub numbers_give_the_order : events_in (by_number es) ≡ in_order_of_making (done_calls xs)
+    numbers_give_the_order = numbers_restore_the_order h x a t xs (read_of w) long few es (rearranged_back (interleaved_rearranged i))
+
+    -- So a second board that hears them by rising number ends equal to the first.
+    pub by_number_equals_first : (b : List ℕ) → 256 ≤ length b → (area : List ℕ) → 16 ≤ length area
+        → heard_through area blank (events_in (by_number es)) ≡ take 256 (board_through b (x ∷ xs))
+    by_number_equals_first b room area sixteen = ap (heard_through area blank) numbers_give_the_order ∙ second_equals_first b room area sixteen
+
+  -- And so does one that hears them so in whatever order they were collected.
+  pub any_order_equals_first : HoldsNumbers x.given → length (from_reset (done_calls xs)).made ≤ most_in_order → (es : List Numbered) → Rearranged es (returned_read xs ++ drained_read xs)
       → (b : List ℕ) → WholeBoard b → (area : List ℕ) → AnswerRoom area → heard_through area blank (events_in (by_number es)) ≡ take 256 (board_through b (x ∷ xs))
-  by_number_equals_first long few es r b room area sixteen =
-      ap (heard_through area blank) (numbers_give_the_order h x a t xs w.all_read long few es r) ∙ second_equals_first b room area sixteen
+  any_order_equals_first long few es r b room area sixteen =
+      ap (heard_through area blank) (numbers_restore_the_order h x a t xs (read_of w) long few es r) ∙ second_equals_first b room area sixteen

@@ -1,9 +1,10 @@
 -- Two lists in one, and numbered events put in order: whatever the order in which they were collected, by rising number they stand as they were made.
-use Rattle.basics.proofs.Prelude.{◌≡◌, refl, List, [], ◌∷◌, ◌++◌, map, ℕ, zero, suc, ◌<◌, arith}
+use Rattle.basics.proofs.Prelude.{◌≡◌, refl, ap, ◌∙◌, cond, List, [], ◌∷◌, ◌++◌, map, ℕ, zero, suc, ◌<◌, arith}
 use Rattle.rules.specs.{Numbering.Numbered, Device.up_from}
 use Rattle.order.specs.Fates.{Fate, is_returned, is_kept, is_dropped, Placed, with_fate}
-use Rattle.boards.specs.Hearing.{Interleaves, neither, first, second, not_after, by_number}
-use Rattle.order.specs.Sorted.{Rearranged, same, behind, both}
+use Rattle.boards.specs.Hearing.{Interleaves, neither, first, second, inserted, by_number}
+use Rattle.boards.specs.Collected.{not_after}
+use Rattle.order.specs.Sorted.{Rearranged, same, behind, exchanged, both, put_by, sorted_by}
 use Rattle.order.proofs.laws.Sorting.{in_front_lem, Above, Rising, sort_restores}
 
 -- ---- two lists in one
@@ -32,7 +33,25 @@ interleaved_rearranged neither = same
 interleaved_rearranged (first i) = behind (interleaved_rearranged i)
 interleaved_rearranged (second {x = y} {xs = xs} {ys = ys} i) = both (in_front_lem xs y ys) (behind (interleaved_rearranged i))
 
+-- what is in another order can be brought back
+pub rearranged_back : {A : Type 0} {xs ys : List A} → Rearranged xs ys → Rearranged ys xs
+rearranged_back same = same
+rearranged_back (behind r) = behind (rearranged_back r)
+rearranged_back exchanged = exchanged
+rearranged_back (both r s) = both (rearranged_back s) (rearranged_back r)
+
 -- ---- by rising number
+
+-- by number is sorted by number
+inserted_is : (x : Numbered) (ys : List Numbered) → inserted x ys ≡ put_by not_after x ys
+unfolding inserted put_by
+inserted_is x [] = refl
+inserted_is x (y ∷ ys) = ap (λ l. cond (not_after x y) (x ∷ y ∷ ys) (y ∷ l)) (inserted_is x ys)
+
+by_number_is : (es : List Numbered) → by_number es ≡ sorted_by not_after es
+unfolding by_number sorted_by
+by_number_is [] = refl
+by_number_is (x ∷ es) = inserted_is x (by_number es) ∙ ap (put_by not_after x) (by_number_is es)
 
 abbrev number_of : Numbered → ℕ
 number_of x = x.number
@@ -59,5 +78,9 @@ counted_rise p (suc k) (y ∷ c) e =
     (counted_above y.number (suc p) k c (cc) (omega (arith, same)), counted_rise (suc p) k c cc)
 
 -- events numbered from p on, in whatever order they were collected: by rising number they stand as they were numbered
-pub order_restored : {es c : List Numbered} → Rearranged es c → (p k : ℕ) → map (λ x. x.number) c ≡ up_from p k → by_number es ≡ c
-order_restored {c = c} r p k e = sort_restores not_after number_of (λ x y. refl) r (counted_rise p k c e)
+pub sorted_restored : {es c : List Numbered} → Rearranged es c → (p k : ℕ) → map (λ x. x.number) c ≡ up_from p k → by_number es ≡ c
+sorted_restored {es = es} {c = c} r p k e = by_number_is es ∙ sort_restores not_after number_of (λ x y. refl) r (counted_rise p k c e)
+
+-- events numbered from p on, collected in two lists and in whatever order then: by rising number they stand as they were numbered
+pub order_restored : {xs ys es c : List Numbered} → Interleaves xs ys es → Interleaves xs ys c → (p k : ℕ) → map (λ x. x.number) c ≡ up_from p k → by_number es ≡ c
+order_restored i j p k e = sorted_restored (both (rearranged_back (interleaved_rearranged i)) (interleaved_rearranged j)) p k e

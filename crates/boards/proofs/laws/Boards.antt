@@ -6,7 +6,7 @@ use Rattle.histories.specs.exported.Exported.{Exported, left_by, is_done, is_loa
 use Rattle.histories.proofs.exported.laws.Chains.{handed, carried_refused}
 use Rattle.boards.specs.{Board.recount, Board.brought_by, Board.kept_on, Boarding.board_leaves, Boarding.recounted, Boarding.boarding, Boarding.board_by}
 use Rattle.calls.specs.Calls.{refusal_number, no_room, buffer_of}
-use Rattle.boards.proofs.laws.Counts.{counts_length, right_is_whole, brought_right}
+use Rattle.boards.proofs.laws.Counts.{counts_length, brought_right}
 
 -- ---- fresh counts in front of a board
 
@@ -57,10 +57,9 @@ module _ (h : Underway) (x : Exported) where
   unfolding carried_on
   done_left t = rw t
 
-  -- the board that an exported call leaves is right for the image left last, where the board was right before
-  pub board_right : (b : List ℕ) → take 256 b ≡ recount (in_image h).core → take 256 (board_by x b) ≡ recount (in_image (carried_on h x)).core
-  board_right b e =
-      let room = right_is_whole b (in_image h).core e in
+  -- the board that an exported call leaves is right for the image left last, where the board was right before or the call is done
+  pub board_right : (b : List ℕ) → 256 ≤ length b → take 256 b ≡ recount (in_image h).core → take 256 (board_by x b) ≡ recount (in_image (carried_on h x)).core
+  board_right b room e =
       test (is_done x)
       (λ t. ap (take 256) (board_done x b room t) ∙ front_recounted (decode (left_by x).image).core b ∙ ap (λ i. recount (decode i).core) (sym (done_left t)))
       (λ t. ap (take 256) (board_refused x b room t) ∙ e ∙ ap (λ (u : Underway). recount (in_image u).core) (sym (carried_refused h x t)))

@@ -3,11 +3,12 @@ use Rattle.basics.proofs.Prelude.{◌≡◌, refl, ap, ◌∙◌, true, List, []
 use Rattle.order.specs.Numbered.{number_at}
 use Rattle.rules.specs.{Ring.Event, Ring.dropped, Device.Device, Device.Call, Device.reset, History.history, History.from_reset, Account.tally}
 use Rattle.images.specs.Form.{Form}
-use Rattle.histories.specs.{Demands.as_event, Demands.ring_acts, Demands.returned_in}
+use Rattle.histories.specs.{Premises.Along, Premises.Admitted, Demands.as_event, Demands.ring_acts, Demands.returned_in}
 use Rattle.histories.specs.exported.Exported.{Exported, NoLoads, carried_through, done_calls, in_image, after_reset, returned_by, drained_by}
 use Rattle.histories.proofs.{laws.Draining.all_accounted, demands.Order.drops_counted, exported.laws.Chains.faithful_after_reset}
 use Rattle.histories.proofs.exported.demands.{FromCalls.image_holds_history, HandedBack.returned_is_read, HandedBack.drained_is_read}
-use Rattle.boards.specs.Hearing.{in_order_of_making, AllRead, most_in_order}
+use Rattle.boards.specs.Hearing.{in_order_of_making, Complete, most_in_order}
+use Rattle.boards.specs.Collected.{AllRead}
 
 tally_all : {A : Type 0} (xs : List A) → tally (λ x. true) xs ≡ length xs
 unfolding tally
@@ -58,6 +59,9 @@ module _ (f : Form) (xs : List Exported) (n : NoLoads (after_reset f) xs) where
         all_drained = ap (λ (d : Device). d.ring.waiting) comes ∙ empty (from_reset cs).after.ring.waiting waits;
         none_dropped = ap (λ (d : Device). d.ring.drops) comes ∙ drops;
       }
+
+  pub complete_if_all : Along Admitted reset cs → length (returned_by xs) + length (drained_by xs) ≡ length (in_order_of_making cs) → Complete (after_reset f) xs
+  complete_if_all a e = let r = all_read_if_as_many e in record { no_loads = n; admitted = a; all_drained = r.all_drained; none_dropped = r.none_dropped }
 
 -- the number of an event is its position exactly while there are so many
 pub in_order_exactly : (p : ℕ) → (p < most_in_order → number_at 0 p ≡ p) × (number_at 0 p ≡ p → p < most_in_order)

@@ -3,8 +3,7 @@ use Rattle.basics.proofs.Prelude.{◌≡◌, refl, ap, arith, length, Bool, true
 use Rattle.rules.specs.{Core.Core, Ring.Event, Device.reset, Device.with_ring, Device.up_from, Numbering.Numbered, Numbering.events_in, Numbering.from_zero}
 use Rattle.images.specs.{Form.two, Image.encode_as}
 use Rattle.histories.specs.exported.Exported.{Underway, carried_through, NoLoads}
-use Rattle.boards.specs.{Board.brought_count, Board.counts_by, Board.recount, Boarding.boarding, Boarding.hears, Boarding.hearing, Hearing.blank, Hearing.heard_through, Hearing.AllRead, Hearing.by_number}
-use Rattle.order.specs.Sorted.{put_by, sorted_by}
+use Rattle.boards.specs.{Board.brought_count, Board.counts_by, Board.recount, Boarding.boarding, Boarding.hears, Boarding.hearing, Hearing.blank, Hearing.heard_through, Hearing.inserted, Hearing.by_number, Collected.AllRead}
 use Rattle.calls.proofs.laws.Computing.{computing}
 use Rattle.calls.specs.Calls as request
 
@@ -85,17 +84,17 @@ abbrev session : List Numbered
 session = event 5 false 1 ∷ event 5 true 0 ∷ []
 
 in_order : by_number session ≡ event 5 true 0 ∷ event 5 false 1 ∷ []
-unfolding computing sorted_by put_by
+unfolding computing by_number inserted
 in_order = refl
 
 -- so at its end the vector is off
 off_at_last : get_or (heard_through answer blank (events_in (by_number session))) 5 0 ≡ 0
-unfolding computing sorted_by put_by heard_through hearing
+unfolding computing by_number inserted heard_through hearing
 off_at_last = refl
 
 -- by the number itself, unsigned: 40,000 events later is later
 far_apart : by_number (event 5 false 40000 ∷ event 5 true 0 ∷ []) ≡ event 5 true 0 ∷ event 5 false 40000 ∷ []
-unfolding computing sorted_by put_by
+unfolding computing by_number inserted
 far_apart = refl
 
 -- ---- everything drained and nothing dropped

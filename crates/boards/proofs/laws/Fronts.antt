@@ -2,7 +2,7 @@
 use Rattle.basics.proofs.Prelude.{◌≡◌, refl, sym, ap, ◌∙◌, true, false, cond, and-false, List, ℕ, ◌<◌, ◌≤◌, arith, leb, length, set, get_or, replicate, length-replicate, le-leb, lt-leb, eq-eqb, Bytes, test}
 use Rattle.rules.specs.{Device.reset, Device.some, Numbering.from_zero}
 use Rattle.images.specs.{Form.Form, Image.image_test, Image.accepted, Image.decode, Image.encode_as}
-use Rattle.calls.specs.Calls.{Request, Asked, afresh, calls, asked_by, answered, buffer_of, place_of, Outcome, leaves, Ending, ending, outcome, AnswerRoom}
+use Rattle.calls.specs.Calls.{Request, Asked, afresh, calls, asked_by, answered, buffer_of, place_of, Outcome, leaves, Ending, ending, outcome}
 use Rattle.calls.proofs.laws.Outcomes.{room}
 use Rattle.histories.specs.exported.Exported.{Exported, left_by, is_done, is_reset, at_load}
 use Rattle.histories.proofs.exported.{laws.Chains.reset_leaves, laws.Chains.done_accepted, demands.LeavesAccepted.leaves_accepted}
@@ -68,7 +68,7 @@ module _ (q : Request) (i b a : List ℕ) where
 -- ---- an event
 
 module _ (b : List ℕ) (v f : ℕ) (a : List ℕ) where
-  pub heard_with_room : AnswerRoom a → 256 ≤ length b → {n k : ℕ} {d c : List ℕ} → n ≡ 0 → k ≡ heard_count f (get_or b v 0) → d ≡ set b v k → c ≡ answered 0 (some k) a
+  pub heard_with_room : 16 ≤ length a → 256 ≤ length b → {n k : ℕ} {d c : List ℕ} → n ≡ 0 → k ≡ heard_count f (get_or b v 0) → d ≡ set b v k → c ≡ answered 0 (some k) a
       → hears n d c ≡ hearing b v f a
   unfolding hearing
   heard_with_room roomy wide {n} {k} e h s t =

@@ -12,7 +12,6 @@ use Rattle.histories.proofs.demands.Account.{asserts_match_service_from, none_se
 use Rattle.boards.specs.{Board.recount, Boarding.heard_count, Boarding.hearing, Hearing.blank, Hearing.heard_through, Hearing.in_order_of_making}
 use Rattle.laws.proofs.laws.Losses.{from_few}
 use Rattle.boards.proofs.laws.Counts.{counts_are}
-use Rattle.calls.specs.Calls.{AnswerRoom}
 
 -- ---- the count of one vector
 
@@ -31,7 +30,7 @@ told_append v k (e ∷ xs) ys = told_append v (told v k e) xs ys
 
 -- ---- a board by its counts
 
-module _ (a : List ℕ) (area : AnswerRoom a) where
+module _ (a : List ℕ) (area : 16 ≤ length a) where
   one_heard : (b : List ℕ) → 256 ≤ length b → (v f : ℕ) → (hearing b v f a).board ≡ set b v (heard_count f (get_or b v 0))
   unfolding hearing
   one_heard b room v f = rw (le-leb 16 (length a) area, le-leb 256 (length b) room)
@@ -198,7 +197,7 @@ pub blank_right : blank ≡ recount reset.core
 blank_right = counts_are blank (λ v. carrying v reset.core) (length-replicate {A = ℕ} 256 0) (λ v h. get_or-replicate 256 v 0 0 h ∙ sym (none_served v))
 
 -- a blank board that hears the events made from reset, in the order of making, has the counts of the device to which the calls come
-pub heard_from_reset : (a : List ℕ) → AnswerRoom a → (cs : List Call) → Along Admitted reset cs → heard_through a blank (in_order_of_making cs) ≡ recount (from_reset cs).after.core
+pub heard_from_reset : (a : List ℕ) → 16 ≤ length a → (cs : List Call) → Along Admitted reset cs → heard_through a blank (in_order_of_making cs) ≡ recount (from_reset cs).after.core
 heard_from_reset a area cs p =
     let room : 256 ≤ length blank = omega (arith, length-replicate {A = ℕ} 256 0) in
     counts_are (heard_through a blank (in_order_of_making cs)) (λ v. carrying v (from_reset cs).after.core) (heard_length a area blank room (in_order_of_making cs) ∙ length-replicate {A = ℕ} 256 0)
