@@ -1,63 +1,62 @@
-# Reads what the prover said of an edited crate, and tells in a line whether the functions that the edit changes (CHANGED, their paths) are refused. Such a function
-# counts where it is not proved and an error stands in its own proof, or where what it promises is not found. A function that is not proved for what it calls has
-# no error but that something was not admitted. And an error that only says that the proof has another shape shows nothing of the promise; where a name is long, that
-# error goes on in the next line.
+# Reads what 'rt must-fail' said of an edit, and tells in a line whether a function that the edit changes (CHANGED, their paths) is refused. `folder` has the crate's sources with
+# the edit in them.
 
-# The functions in whose proof a place stands: proofs/MODULE/../FUNCTION/FILE. Those that call one another have one proof: proofs/MODULE/+ONE+OTHER/FILE.
-function owners(place, names,    path, last, n, i) {
-    path = place
-    if (path !~ /^proofs\//) return 0
+# The functions in whose proof a place stands: proofs/MODULE/../FUNCTION/FILE. Those that call one another have one proof: proofs/MODULE/+NAME/FILE or +ONE+OTHER.
+function of_proof(path,    last) {
     sub(/^proofs\//, crate "/", path)
     sub(/\/[^\/]*$/, "", path)
     last = path
     sub(/.*\//, "", last)
     sub(/[^\/]*$/, "", path)
     gsub(/\//, "::", path)
-    sub(/^\+/, "", last)
-    n = split(last, names, "+")
-    for (i = 1; i <= n; i++) names[i] = path names[i]
-    return n
+    return path last
 }
 
-/^[^ ]+:[0-9]+:[0-9]+: error/ && !/was not admitted/ {
-    place = $1
-    sub(/:$/, "", place)
-    if (first == "") first = place
-    path = place
-    sub(/:[0-9]+:[0-9]+$/, "", path)
-    for (i = owners(path, names); i > 0; i--) {
-        if (names[i] in error) continue
-        error[names[i]] = place
-        shape[names[i]] = /that can be named from here|: record `[^`]*`( has no field|$)|: this λ has [0-9]+ binders/
+# The function in which a line of a source stands; an attribute is of what stands below it.
+function of_source(path, at,    line, n, module, type, item, here) {
+    module = path
+    sub(/^src\//, "", module)
+    sub(/\.rt$/, "", module)
+    gsub(/\//, "::", module)
+    module = module == "lib" || module == "main" ? "" : module "::"
+    while ((getline line < (folder "/" path)) > 0) {
+        n++
+        here = 0
+        if (line ~ /^impl /) { type = line; gsub(/^impl | *\{.*/, "", type); type = type "::" }
+        else if (line ~ /^}/) type = ""
+        if (match(line, /^ *(pub )?(extern "C" )?fn [a-z_0-9]+/)) { item = substr(line, RSTART, RLENGTH); sub(/.*fn /, "", item); here = 1 }
+        if (n == at && line ~ /^ *#\[/) at++
+        else if (n == at) break
     }
+    close(folder "/" path)
+    return crate "::" module type item
 }
-/^fn .*: not proved/ {
-    name = $2
-    sub(/:$/, "", name)
-    unproved[name] = 1
-}
-/^fn .*: no proof: .* does not close/ {
-    name = $2
-    sub(/:$/, "", name)
-    unproved[name] = 1
-    what = $0
-    sub(/.* does not close /, "", what)
-    if (!(name in error)) error[name] = what
-}
-/^logic=proved/ { proved = 1 }
-/^logic=not-proved/ { refused = 1 }
 
-END {
-    if (proved) { print "FAILED: it survives: the crate is still proved with it"; exit }
-    if (!refused) { print "FAILED: it does not reach the prover"; exit }
-    n = split(ENVIRON["CHANGED"], changed, " ")
+# Whether the edit changes a function; of those that call one another the proof is of all: +ONE+OTHER, or +NAME of a cycle that has a name.
+function is_changed(of,    n, i, names, last, front) {
+    last = of
+    sub(/.*::/, "", last)
+    front = substr(of, 1, length(of) - length(last))
+    n = split(ENVIRON["CHANGED"], names, " ")
     for (i = 1; i <= n; i++) {
-        name = changed[i]
-        if ((name in unproved) && (name in error)) {
-            if (shape[name]) print "FAILED: it shows nothing: at " error[name] " the proof only has another shape"
-            else print "refused in " name ", at " error[name]
-            exit
-        }
+        if (names[i] == of) return 1
+        if (last ~ /^\+/ && index(names[i], front) == 1 && index(last "+", substr(names[i], length(front) + 1))) return 1
     }
-    print "FAILED: it is refused elsewhere, first at " (first == "" ? "no place of the crate" : first) ", and not in " changed[1]
+    return 0
+}
+
+{
+    text = $0
+    sub(/^[^:]*: [^:]*: /, "", text)
+    split(ENVIRON["CHANGED"], first, " ")
+    if (text !~ /^refused, /) { print "FAILED: " name ": " text; exit }
+    # Places in a proof are named by the code's text, as `if-i-lt-4`: an edit of a test takes such a name away, and then little is known of the promise.
+    limit = text ~ /\(only because a proof file names/ ? " (only by a name that it took away)" : text ~ /\(only by a limit/ ? " (only by a limit of the prover)" : ""
+    sub(/^refused, as it must be( \([^)]*\))?(: )?(note: )?(\.\/)?/, "", text)
+    if (!match(text, /^(src|proofs|specs)\/[^:]*:[0-9]+:[0-9]+/)) { print "edit " name ": refused" limit; exit }
+    place = substr(text, 1, RLENGTH)
+    split(place, at, ":")
+    of = at[1] ~ /^src\// ? of_source(at[1], at[2] + 0) : at[1] ~ /^proofs\/.*\// ? of_proof(at[1]) : ""
+    if (is_changed(of)) print "edit " name ": refused in " of ", at " place limit
+    else print "FAILED: " name ": it is refused elsewhere, first at " place ", and not in " first[1]
 }

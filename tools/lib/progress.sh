@@ -16,6 +16,9 @@ needed() {
     order+=("$1")
 }
 
+# listed: the crates of crates.txt, in its order.
+listed() { sed -n 's/^\([a-z0-9_]*\)\(  *staticlib\)\{0,1\} *:.*/\1/p' "$root/crates.txt"; }
+
 # fronts: the crates that export calls to C, which the library is made of, in the order of crates.txt.
 fronts() { sed -n 's/^\([a-z0-9_]*\)  *staticlib *:.*/\1/p' "$root/crates.txt"; }
 
@@ -75,7 +78,7 @@ prove() {
         (build "$name") >"$log" 2>&1 &
         pid=$!
         # One that has not changed is soon done.
-        while kill -0 "$pid" 2>/dev/null && [ $((${EPOCHREALTIME/[.,]/} - began)) -lt 3000000 ]; do sleep 0.1; done
+        while kill -0 "$pid" 2>/dev/null && [ $((${EPOCHREALTIME/[.,]/} - began)) -lt 2000000 ]; do sleep 0.1; done
         if kill -0 "$pid" 2>/dev/null; then told "$name"; else begun=$((begun + 1)) log=''; fi
         wait "$pid"
         status=$?
