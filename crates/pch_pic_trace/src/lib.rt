@@ -1,4 +1,6 @@
 // The calls on a lent trace. None requires anything: every input has its outcome. Here is what lacks room, refusal 7, which writes no byte; the crates below test and play.
+#![tactic(auto)]
+
 pub mod play_on;
 pub mod play_records;
 pub mod play_trace;
