@@ -12,7 +12,7 @@ use Rattle.hoists.proofs.{laws.Computed.hoisting, under_profile.demands.ByNumber
 use Rattle.traces.specs.{Trace.blocks_from, Trace.records_in, Trace.back_to_back, Trace.contents_good, Trace.is_good, Trace.first_bad, Trace.trace_test, Played.records_from, plays.Playing.drains_in, plays.Playing.play_test, plays.Playing.play_on_test, plays.Playing.playing, plays.Playing.playing_on, salvages.Salvaging.salvaging}
 use Rattle.traces.specs.Refusals.{IsTrace, PlayGiven, PlayOnGiven, SalvageGiven}
 use Rattle.traces.proofs.{demands.Told.good_is, plays.demands.ByNumber.play_by_number, plays.demands.ByNumber.play_on_by_number, salvages.demands.ByNumber.salvage_by_number}
-use Rattle.sheets.{specs.Sheeting.sheeting, specs.Refusals.SheetGiven, proofs.demands.Ended.sheet_by_number}
+use Rattle.sheets.{specs.Sheeting.sheeting, specs.Refusals.SheetGiven, proofs.demands.ByNumber.sheet_by_number}
 use Rattle.passes.{specs.tallies.Tallying.beginning, specs.tallies.Tallying.adding, specs.tallies.Tallying.summing, specs.tallies.Refusals.FirstUnsound, specs.tallies.Refusals.TallyRoom, proofs.tallies.demands.ByNumber.begin_by_number, proofs.tallies.demands.ByNumber.add_by_number, proofs.tallies.demands.ByNumber.sum_by_number}
 use Rattle.laws.specs.{Wrong.IsImage, Refusals.Given, Refusals.NoRoom, Refusals.WaitingGiven, Refusals.ConvertGiven}
 use Rattle.laws.proofs.demands.Found.{found_exactly, accepted_exactly}

@@ -155,7 +155,7 @@ done_is_a_sweep = is_sweep done refl refl
 
 exported_wakes_all : WakesAllRead (decode image) exported (decode (left_after image exported))
 exported_wakes_all =
-    sweep_of_an_image image start_bytes exported exported_handed_on (subst Sweep (sym exported_calls) done_is_a_sweep)
+    sweep_of_an_image image start_bytes start_accepted exported exported_handed_on (subst Sweep (sym exported_calls) done_is_a_sweep)
 
 -- what the host reads: the three asserts in answer areas, and in the event buffer the two that waited
 abbrev asserts : ℕ → Event

@@ -1,1 +1,2 @@
 // Examples have no code: see proofs/.
+#![tactic(auto)]

@@ -113,7 +113,7 @@ ported_follows p (call c) =
       call = p.call + 1;
       history = p.history ++ notes_of p.call p.device.ring (step p.device c).made;
     }
-ported_follows p (load d) = ported_load d
+ported_follows p (load d) = record { device = d; call = 0; history = [] }
 ported_follows p refused = record { device = p.device; call = p.call + 1; history = p.history }
 
 unfoldable pub ported_after : Ported → List Item → Ported

@@ -1,2 +1,3 @@
 -- What is asked of the exported call, as theorems.
 pub mod Ended
+pub mod ByNumber

@@ -1,54 +1,47 @@
--- What the exported call that writes a sheet hands back and leaves (02, C-21): each refusal exactly when, by the table in specs/Refusals.antt; refused, not a byte of the sheet changes, and 7 writes none at all (00, demand 1); and there is one outcome.
-use Rattle.basics.proofs.Prelude.{◌≡◌, sym, ap, ◌∙◌, and-false, List, [], ◌∷◌, ◌⊎◌, inl, inr, ℕ, ◌<◌, ◌≤◌, leb, length, le-leb, leb-true, leb-false, lt-leb, test}
-use Rattle.calls.specs.{Untouched.Left, Untouched.left, Untouched.Untouched, Calls.AnswerRoom, Untouched.IsDone}
-use Rattle.calls.specs.Reasons.{bad_contents, bad_at, Reason, short_room, of_image, of_request, of_trace, of_profile, none_left, of_tally, refused_for, Refuses, ByNumber}
-use Rattle.traces.{specs.Trace.TraceTest, specs.Trace.trace_test, proofs.demands.Told.trace_exactly, proofs.demands.Told.by_trace}
-use Rattle.sheets.specs.{Refusals.sheet_left, Refusals.SheetGiven, Sheet.sheet_length, Sheeting.SheetLeft, Sheeting.sheet_leaves, Sheeting.sheet_settled, Sheeting.sheeting}
-use Rattle.calls.proofs.laws.Tables as tables
-use Rattle.sheets.proofs.laws.Computed as computed
+-- What the exported call that writes a sheet leaves (02, C-21): refused, not a byte of the sheet changes, and 7 writes none at all; and there is one outcome.
+use Rattle.basics.proofs.Prelude.{◌≡◌, refl, sym, ap, ◌∙◌, Bool, true, false, ◌&&◌, List, ℕ, arith, leb, length, test}
+use Rattle.calls.specs.Calls.{answer_length}
+use Rattle.traces.specs.Trace.{TraceTest, good, wrong_contents, bad_record, trace_test}
+use Rattle.sheets.specs.{Sheet.sheet_length, Sheeting.SheetLeft, Sheeting.sheet_leaves, Sheeting.sheet_settled, Sheeting.sheeting}
+
+module _ (l s a : List ℕ) where
+  abbrev left : SheetLeft
+  left = sheeting l s a
+
+  abbrev room : Bool
+  room = leb answer_length (length a) && leb sheet_length (length s)
+
+  settles : room ≡ true → {t : TraceTest} → trace_test l ≡ t → left ≡ sheet_settled l s a t
+  unfolding sheeting
+  settles r e = rw r (ap (sheet_settled l s a) e)
+
+  short : room ≡ false → left ≡ sheet_leaves 7 s a
+  unfolding sheeting
+  short r = rw r
+
+  -- refused, the sheet is as it was
+  pub refused_untouched : (left.number ≡ 0 → ⊥) → left.sheet ≡ s
+  refused_untouched n = test room (λ r. go r (trace_test l) refl) (λ r. ap (λ (x : SheetLeft). x.sheet) (short r))
+    where
+      go : room ≡ true → (t : TraceTest) → trace_test l ≡ t → left.sheet ≡ s
+      go r (good first k) e = absurd (n (ap (λ (x : SheetLeft). x.number) (settles r e)))
+      go r wrong_contents e = ap (λ (x : SheetLeft). x.sheet) (settles r e)
+      go r (bad_record k) e = ap (λ (x : SheetLeft). x.sheet) (settles r e)
+
+  -- 7: nor is a byte of the answer area written
+  pub seven_untouched : left.number ≡ 7 → left.answer ≡ a
+  seven_untouched z = test room (λ r. go r (trace_test l) refl) (λ r. ap (λ (x : SheetLeft). x.answer) (short r))
+    where
+      not_seven : {m : ℕ} → left.number ≡ m → m ≡ 7
+      not_seven e = sym e ∙ z
+
+      go : room ≡ true → (t : TraceTest) → trace_test l ≡ t → left.answer ≡ a
+      go r (good first k) e = absurd (let y = not_seven (ap (λ (x : SheetLeft). x.number) (settles r e)) in omega (arith, y))
+      go r wrong_contents e = absurd (let y = not_seven (ap (λ (x : SheetLeft). x.number) (settles r e)) in omega (arith, y))
+      go r (bad_record k) e = absurd (let y = not_seven (ap (λ (x : SheetLeft). x.number) (settles r e)) in omega (arith, y))
 
 -- of two runs whose contract holds, the numbers handed back, the sheets and the answer areas are the same
 pub one_sheet : (l s a : List ℕ) {m n : ℕ} {s₁ s₂ a₁ a₂ : List ℕ} → sheet_leaves m s₁ a₁ ≡ sheeting l s a → sheet_leaves n s₂ a₂ ≡ sheeting l s a → (m ≡ n) × (s₁ ≡ s₂) × (a₁ ≡ a₂)
 one_sheet l s a x y =
     let same = x ∙ sym y in
     (ap (λ (z : SheetLeft). z.number) same, ap (λ (z : SheetLeft). z.sheet) same, ap (λ (z : SheetLeft). z.answer) same)
-
-module _ (l s a : List ℕ) where
-  abbrev counted : SheetLeft
-  counted = sheeting l s a
-
-  settles : AnswerRoom a → sheet_length ≤ length s → {t : TraceTest} → trace_test l ≡ t → counted ≡ sheet_settled l s a t
-  unfolding sheeting
-  settles h r e = rw (le-leb 16 (length a) h, le-leb sheet_length (length s) r) (ap (sheet_settled l s a) e)
-
-  sheet_refuses : (r : Reason) → SheetGiven l s a r → sheet_left counted ≡ refused_for r (s ∷ []) a
-  unfolding sheeting
-  sheet_refuses short_room (inl h) = rw (lt-leb 16 (length a) h)
-  sheet_refuses short_room (inr h) = rw (lt-leb sheet_length (length s) h, and-false (leb 16 (length a)))
-  sheet_refuses (of_image x) g = absurd g
-  sheet_refuses (of_request w) g = absurd g
-  sheet_refuses (of_trace bad_contents) g = ap sheet_left (settles g.0 g.1 ((trace_exactly l bad_contents).1 g.2))
-  sheet_refuses (of_trace (bad_at k)) g = ap sheet_left (settles g.0 g.1 ((trace_exactly l (bad_at k)).1 g.2))
-  sheet_refuses (of_profile v) g = absurd g
-  sheet_refuses none_left g = absurd g
-  sheet_refuses (of_tally p) g = absurd g
-
-  sheet_given : (IsDone counted.number → ⊥) → (r : Reason) × SheetGiven l s a r
-  sheet_given n =
-      test (leb 16 (length a))
-      (λ t. test (leb sheet_length (length s)) (λ u. tested (leb-true 16 (length a) t) (leb-true sheet_length (length s) u)) (λ u. (short_room, inr (leb-false sheet_length (length s) u))))
-      (λ t. (short_room, inl (leb-false 16 (length a) t)))
-    where
-      tested : AnswerRoom a → sheet_length ≤ length s → (r : Reason) × SheetGiven l s a r
-      tested h r = by_trace l (λ e g. absurd (n (ap (λ (x : SheetLeft). x.number) (settles h r e)))) (λ x e. (of_trace x, (h, r, (trace_exactly l x).0 e)))
-
-  -- The call keeps to its table.
-  pub refusals_of_a_sheet : Refuses (SheetGiven l s a) (s ∷ []) a (sheet_left counted)
-  refusals_of_a_sheet = record { refused = sheet_refuses; given = sheet_given }
-
-  pub sheet_by_number : ByNumber (SheetGiven l s a) counted.number
-  sheet_by_number = tables.each_number (SheetGiven l s a) (s ∷ []) a _ refusals_of_a_sheet
-
-  -- refused, the sheet is as it was, and of the answer area the bytes past its 16; with 7 every byte
-  pub refused_untouched : (IsDone counted.number → ⊥) → Untouched (s ∷ []) a (sheet_left counted)
-  refused_untouched = tables.refused_untouched (SheetGiven l s a) (s ∷ []) a _ refusals_of_a_sheet

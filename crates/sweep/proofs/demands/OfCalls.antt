@@ -1,8 +1,8 @@
 -- 02, C-24, of exported calls, each given the image that the one before it left. A refused call counts as none.
-use Rattle.basics.proofs.Prelude.{◌≡◌, refl, sym, ap, subst, ◌∙◌, true, false, Bool, true≢false, and-eq-true_iff, List, [], ◌∷◌, ℕ, ◌+◌, ◌*◌, ◌%◌, ◌^◌, ◌<◌, arith, lit<, lit≤, get_or, Bytes, test}
+use Rattle.basics.proofs.Prelude.{◌≡◌, refl, sym, ap, subst, ◌∙◌, true, false, Bool, true≢false, and-eq-true_iff, List, [], ◌∷◌, ℕ, ◌+◌, ◌*◌, ◌%◌, ◌^◌, ◌<◌, arith, lit<, lit≤, get_or, Bytes, test, ◌≤◌, length}
 use Rattle.rules.specs.{Device.Call, Numbering.value_with, History.history}
 use Rattle.images.specs.Image.{decode, numbers_in, image_test, accepted}
-use Rattle.calls.{specs.Calls.Request, specs.Calls.asked_by, specs.Calls.answered, specs.Calls.present_in, specs.Calls.value_in, specs.Calls.Outcome, proofs.laws.Answers.value_read, specs.Calls.AnswerRoom}
+use Rattle.calls.{specs.Calls.Request, specs.Calls.asked_by, specs.Calls.answered, specs.Calls.present_in, specs.Calls.value_in, specs.Calls.Outcome, proofs.laws.Answers.value_read}
 use Rattle.histories.specs.Demands.{polls_or_raises}
 use Rattle.histories.specs.exported.Exported.{Exported, left_by, is_done, is_reset, Underway, carried_through, NoLoads, HandedOn, done_calls, left_after, current, in_image, Faithful, at_load}
 use Rattle.histories.proofs.exported.laws.{Chains.faithful_at_load, Chains.done_call_lem, Chains.refused_leaves, Readings.read_as}
@@ -40,22 +40,25 @@ done_on_accepted t i (x ∷ xs) o e =
     test (is_done x) (λ d. subst (λ j. image_test j ≡ accepted) o.0 (done_call_lem (at_load x.given) x d o.1).accepted)
     (λ d. done_on_accepted t i xs (subst (λ j. HandedOn j xs) (refused_leaves x d ∙ o.0) o.2) (rw d at e))
 
--- From any image i, loaded or left by whatever calls: exported calls of which the first is given i and each other the image that the one before it
--- left, none a reset, and of which the done ones are a sweep. Then all of it holds from the device in i to the one in the image left last. That i is accepted
--- is not asked: else no call would be done.
-pub sweep_of_an_image : (i : List ℕ) → Bytes i → (xs : List Exported) → HandedOn i xs → Sweep (done_calls xs)
+-- From any accepted image i, loaded or left by whatever calls: exported calls of which the first is given i and each other the image that the one before it
+-- left, none a reset, and of which the done ones are a sweep. Then all of it holds from the device in i to the one in the image left last.
+pub sweep_of_an_image : (i : List ℕ) → Bytes i → image_test i ≡ accepted → (xs : List Exported) → HandedOn i xs → Sweep (done_calls xs)
     → WakesAllRead (decode i) xs (decode (left_after i xs))
-sweep_of_an_image i b xs o s =
-    let t = done_on_accepted (is_poll 0) i xs o (s.polled 0 (lit< tt)) in
+sweep_of_an_image i b t xs o s =
     rw (← left_through (at_load i) xs o) (sweep_of_calls (at_load i) (faithful_at_load i b t) xs (handed_on_is_no_load (at_load i) xs o) s)
+
+-- That i is accepted need not be asked: else no call would be done.
+pub sweep_of_any_image : (i : List ℕ) → Bytes i → (xs : List Exported) → HandedOn i xs → Sweep (done_calls xs)
+    → WakesAllRead (decode i) xs (decode (left_after i xs))
+sweep_of_any_image i b xs o s = sweep_of_an_image i b (done_on_accepted (is_poll 0) i xs o (s.polled 0 (lit< tt))) xs o s
 
 -- The sweep that hosts do, from any accepted image: polls of the inputs 0 to 63, each given the image that the one before it left, with an answer area of 16
 -- bytes or more. All are done and are a sweep, so that at their end every latched and unmasked input is in service.
-pub polls_are_a_sweep : (i a : List ℕ) → Bytes i → image_test i ≡ accepted → AnswerRoom a → Sweep (done_calls (polls_all i a))
+pub polls_are_a_sweep : (i a : List ℕ) → Bytes i → image_test i ≡ accepted → 16 ≤ length a → Sweep (done_calls (polls_all i a))
 polls_are_a_sweep i a b t r = subst Sweep (sym (polls_done 0 64 (lit≤ tt) i a b t r).1) all_polled
 
-pub polls_wake_all : (i a : List ℕ) → Bytes i → image_test i ≡ accepted → AnswerRoom a → WakesAllRead (decode i) (polls_all i a) (decode (left_after i (polls_all i a)))
-polls_wake_all i a b t r = sweep_of_an_image i b (polls_all i a) (polls_done 0 64 (lit≤ tt) i a b t r).0 (polls_are_a_sweep i a b t r)
+pub polls_wake_all : (i a : List ℕ) → Bytes i → image_test i ≡ accepted → 16 ≤ length a → WakesAllRead (decode i) (polls_all i a) (decode (left_after i (polls_all i a)))
+polls_wake_all i a b t r = sweep_of_an_image i b t (polls_all i a) (polls_done 0 64 (lit≤ tt) i a b t r).0 (polls_are_a_sweep i a b t r)
 
 -- ---- which vector a host reads
 

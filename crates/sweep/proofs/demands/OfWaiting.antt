@@ -1,13 +1,12 @@
 -- 02, C-24, with 'polls each input that waited at the start' in place of 'polls each input': of the device, and of exported calls, where the set is what the call
 -- `waiting` tells of the image at the start. And the polls of all others make nothing and change nothing, so that the events are those of a sweep of all 64.
-use Rattle.basics.proofs.Prelude.{◌≡◌, refl, sym, ap, subst, ◌∙◌, true, false, not, and-eq-true_iff, or-true, List, [], ◌∷◌, ℕ, ◌<◌, lit<, lit≤, length, le-leb, lt-ltb, eqb-true, Bytes, on, inputs, test, no_inputs, on_none}
+use Rattle.basics.proofs.Prelude.{◌≡◌, refl, sym, ap, subst, ◌∙◌, true, false, not, and-eq-true_iff, or-true, List, [], ◌∷◌, ℕ, ◌<◌, lit<, lit≤, length, le-leb, lt-ltb, eqb-true, Bytes, on, inputs, test, no_inputs, on_none, ◌≤◌}
 use Rattle.rules.specs.Lines.{is_pending}
 use Rattle.rules.specs.Device.{Device, Call, Step, none, poll, step}
 use Rattle.rules.specs.{Numbering.Numbers, Numbering.numbers_after, Numbering.takes_all, Numbering.value_with, History.history}
 use Rattle.images.specs.Image.{decode, numbers_in, image_test, accepted, encode_as, encode_like}
 use Rattle.calls.specs.Calls.{performed, answer_length, answered, leaves, outcome, AnswerRoom}
 use Rattle.calls.{specs.Waiting.waiting_in, specs.Waiting.waiting, proofs.laws.Outcomes.no_events, proofs.demands.WhoWaits.waiting_done, proofs.demands.WhoWaits.set_in_the_answer}
-use Rattle.calls.specs.Untouched.{IsDone}
 use Rattle.histories.specs.{Demands.Eligible, Demands.in_service, Demands.returned_in}
 use Rattle.histories.specs.exported.Exported.{Exported, HandedOn, done_calls, left_after, Underway, current, Faithful, numbers_through, at_load}
 use Rattle.histories.proofs.exported.laws.{Chains.faithful_at_load, Readings.read_as}
@@ -76,7 +75,7 @@ what_is_left_of_a_sweep w cs s = record { admitted = every_left cs s.admitted; p
 -- ---- of exported calls
 
 -- An exported poll of an input that does not wait is done, has no value, and leaves the image as it was given.
-pub an_exported_poll_of_none : (i a : List ℕ) → Bytes i → image_test i ≡ accepted → AnswerRoom a → (n : ℕ) → n < 64 → is_pending (decode i).core.lines n ≡ false
+pub an_exported_poll_of_none : (i a : List ℕ) → Bytes i → image_test i ≡ accepted → 16 ≤ length a → (n : ℕ) → n < 64 → is_pending (decode i).core.lines n ≡ false
     → outcome (request.poll n) i a ≡ leaves 0 i (answered 0 none a) []
 unfolding outcome performed numbers_after takes_all value_with
 an_exported_poll_of_none i a b t r n l e =
@@ -85,7 +84,7 @@ an_exported_poll_of_none i a b t r n l e =
     let is = idle_poll d n (λ h. e) in
     rw (le-leb answer_length (length a) r, t, lt-ltb n 64 l, is) (λ j. leaves 0 (encode_decode i b t j) (answered 0 none a) (sym (no_events d s (poll n) refl) j))
 
-module _ (i a : List ℕ) (b : Bytes i) (z : IsDone (waiting i a).number) where
+module _ (i a : List ℕ) (b : Bytes i) (z : (waiting i a).number ≡ 0) where
   is_accepted : image_test i ≡ accepted
   is_accepted = (waiting_done i a z).0
 

@@ -38,7 +38,7 @@ record Fit (i a : List ℕ) : Type 0 where
   is_accepted : image_test i ≡ accepted
   room : AnswerRoom a
 
-pub length_answered : (number : ℕ) (v : Value) (a : List ℕ) → AnswerRoom (answered number v a)
+pub length_answered : (number : ℕ) (v : Value) (a : List ℕ) → answer_length ≤ length (answered number v a)
 unfolding answered
 length_answered number v a = omega arith
 
@@ -85,7 +85,7 @@ polled_from n (suc k) l i a f =
     let rest = polled_from (suc n) k (omega arith) _ _ (poll_fit n b i a f) in
     record { handed_on = (refl, refl, rest.handed_on); calls = ap₂ ◌++◌ (poll_call n b i a f) rest.calls }
 
-pub polls_done : (n k : ℕ) → n + k ≤ 64 → (i a : List ℕ) → Bytes i → image_test i ≡ accepted → AnswerRoom a
+pub polls_done : (n k : ℕ) → n + k ≤ 64 → (i a : List ℕ) → Bytes i → image_test i ≡ accepted → answer_length ≤ length a
     → HandedOn i (polls_from n k i a) × (done_calls (polls_from n k i a) ≡ poll_calls n k)
 polls_done n k l i a b e h =
     let r = polled_from n k l i a (record { bytes = b; is_accepted = e; room = h }) in
@@ -114,7 +114,7 @@ listed_from f n (suc k) l i a g =
     rw t (record { handed_on = (refl, refl, rest.handed_on); calls = ap₂ ◌++◌ (poll_call n b i a g) rest.calls }))
     (λ t. rw t (listed_from f (suc n) k (omega arith) i a g))
 
-pub listed_done : (f : ℕ → Bool) (i a : List ℕ) → Bytes i → image_test i ≡ accepted → AnswerRoom a
+pub listed_done : (f : ℕ → Bool) (i a : List ℕ) → Bytes i → image_test i ≡ accepted → answer_length ≤ length a
     → HandedOn i (polls_of (inputs f) i a) × (done_calls (polls_of (inputs f) i a) ≡ map poll (inputs f))
 listed_done f i a b e h =
     let r = listed_from f 0 64 (lit≤ tt) i a (record { bytes = b; is_accepted = e; room = h }) in
