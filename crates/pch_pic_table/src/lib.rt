@@ -1,4 +1,6 @@
 // Reads and writes that are decoded by the table, for a host: in every byte as pch_pic_read and pch_pic_write. Neither requires anything.
+#![tactic(auto)]
+
 pub mod table_bytes;
 pub mod table_dwords;
 pub mod table_widths;
