@@ -1,4 +1,6 @@
 // The answer area: the refusal, whether a value is present, and the value.
+#![tactic(auto)]
+
 pub mod refusals;
 
 ghost use Rattle.std.specs.Prelude.{◌≡◌, ◌≤◌, length};

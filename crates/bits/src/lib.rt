@@ -1,5 +1,7 @@
 // The leaves on numbers: a half of a register and a byte of a Dword, taken and replaced. They do it by the masks and shifts of loongarch_pch_pic.rs, but for
 // replace_u32, which has remainder and product (02, C-12). Each is an equation with a definition of rules.
+#![tactic(auto)]
+
 pub mod bytes;
 
 ghost use Rattle.std.specs.Prelude.{◌≡◌, ◌<◌};

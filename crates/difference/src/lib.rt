@@ -1,4 +1,6 @@
 // The difference of the numbers of two events, for whoever puts returned and drained events in order (02, C-19). It requires nothing.
+#![tactic(auto)]
+
 ghost use Rattle.std.specs.Prelude.{◌≡◌};
 ghost use Rattle.difference.specs.Difference.{difference_of};
 

@@ -1,4 +1,6 @@
 // The boundary's bytes: the form of the saved image.
+#![tactic(auto)]
+
 pub mod bad_bytes;
 pub mod bodies;
 pub mod faults;

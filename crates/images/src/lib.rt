@@ -1,1 +1,2 @@
 // The bytes of a saved device stand apart from the code: see specs/, and proofs/ for what is proved of them.
+#![tactic(auto)]

@@ -1,5 +1,7 @@
 // The ledger: the numbers of a sheet or a tally, and the pass over a trace's records that keeps them. What is kept of the device goes by value; what moves it
 // brings its marks to the numbers.
+#![tactic(auto)]
+
 pub mod cells;
 pub mod follow;
 pub mod totals;

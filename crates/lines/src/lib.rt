@@ -1,4 +1,6 @@
 // What moves the lines of an image in place.
+#![tactic(auto)]
+
 pub mod enter_leave;
 pub mod events;
 pub mod halves;

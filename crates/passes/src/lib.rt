@@ -1,1 +1,2 @@
 // That the marks of a day come to its sheet has no code: see proofs/.
+#![tactic(auto)]

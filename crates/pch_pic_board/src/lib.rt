@@ -1,5 +1,7 @@
 // The calls with a board, for a host: each is in every other byte the call without, and then the board has the fresh counts of the image that it left. None requires
 // anything: every input has its outcome. Here is what lacks room, refusal 7, which comes first; the crates below make the call, and `counts` counts.
+#![tactic(auto)]
+
 pub mod counts;
 
 ghost use Rattle.std.specs.Prelude.{◌≡◌, [], ◌≤◌, length};

@@ -1,6 +1,8 @@
 // The calls of the hoist profile, for a host, over a lent image, the phase's byte beside it, numbers and a lent answer area. None requires anything: every input
 // has its outcome.
 // Here is what lacks room, refusal 7; the crates below make the call and store the phase, and what is told goes into the answer area.
+#![tactic(auto)]
+
 pub mod accepted_dword;
 pub mod judge;
 pub mod phases;

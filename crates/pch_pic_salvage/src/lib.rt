@@ -1,5 +1,7 @@
 // The call that salvages a lent trace. It requires nothing: every input has its outcome. Here is what lacks room, refusal 7, which writes no byte; the
 // crates below test and write.
+#![tactic(auto)]
+
 pub mod rebuilt;
 pub mod salvage;
 pub mod torn;

@@ -1,5 +1,7 @@
 // The call that writes the sheet of a lent trace. It requires nothing: every input has its outcome. Here is what lacks room, refusal 7, which writes no byte;
 // the crates below test the trace and make the sheet.
+#![tactic(auto)]
+
 pub mod sheet;
 
 ghost use Rattle.std.specs.Prelude.{◌≡◌};

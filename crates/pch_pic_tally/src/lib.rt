@@ -1,5 +1,7 @@
 // The calls of a tally, which carries a sheet over the traces of a day: it is begun, the records of each trace are added, and its sheet is written. They require
 // nothing: every input has its outcome. Here is what lacks room, refusal 7, which writes no byte.
+#![tactic(auto)]
+
 pub mod adding;
 pub mod soundness;
 pub mod summing;

@@ -1,6 +1,8 @@
 // The port of loongarch_pch_pic.rs of axdevice 0.8.5, function by function. The modules stand in the Rust's order; beside each, its functions with their lines in
 // that file. The state and the register map are in crate `device`, replace_u32 (688) in `bits`; what is checked before a call and told after it is the fronts' own.
 // set_irq_level 156, pending_vector 177, update_irq 560
+#![tactic(auto)]
+
 pub mod irq_level;
 // drain_output_events 187
 pub mod drain_output;

@@ -1,5 +1,7 @@
 // Replays the recorded answers of the published Rust, data/answers.bin, through the six exported calls. The form of that file is told in
 // tools/harness/records.rs. The last line written is 'N passed, M failed'.
+#![tactic(auto)]
+
 mod each;
 mod records;
 mod replay_call;

@@ -1,4 +1,6 @@
 // The input, in chunks of any size: its lines are put together and played, and each answer is written with its ending.
+#![tactic(auto)]
+
 pub mod hex;
 pub mod line_end;
 pub mod play_line;

@@ -1,4 +1,6 @@
 // The state stored as an image.
+#![tactic(auto)]
+
 pub mod pairs;
 pub mod reset_parts;
 pub mod save_parts;

@@ -1,4 +1,6 @@
 // The register map as a table: what a number of it tells, and so what stands at an offset of whatever table agrees with the map.
+#![tactic(auto)]
+
 pub mod map_rows;
 pub mod table_rows;
 

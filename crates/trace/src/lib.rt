@@ -1,4 +1,6 @@
 // A trace tested: its contents, and then its records, of which the first bad one is told.
+#![tactic(auto)]
+
 pub mod blocks;
 pub mod contents;
 pub mod good_record;
