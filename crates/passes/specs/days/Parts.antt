@@ -3,7 +3,6 @@ use Rattle.std.specs.Prelude.{List, [], ◌∷◌, ◌++◌, ◌≡◌, ℕ}
 use Rattle.basics.specs.Numbers.{Bytes}
 use Rattle.rules.specs.Device.{Device}
 use Rattle.images.specs.Image.{decode}
-use Rattle.calls.specs.Untouched.{IsDone}
 use Rattle.plain.specs.Sequence.{Item}
 use Rattle.traces.specs.plays.Playing.{PlayLeft, playing_on}
 use Rattle.sheets.specs.Day.{items}
@@ -38,7 +37,7 @@ played_part p = playing_on p.trace p.image p.answers p.events p.told
 -- the image j is what the exported play of the part before left, and so on: every play was done
 abbrev pub PlayedInTurn : List ℕ → List Part → Type 0
 PlayedInTurn j [] = Unit {0}
-PlayedInTurn j (p ∷ ps) = (p.image ≡ j) × Bytes p.image × IsDone (played_part p).number × PlayedInTurn (played_part p).image ps
+PlayedInTurn j (p ∷ ps) = (p.image ≡ j) × Bytes p.image × ((played_part p).number ≡ 0) × PlayedInTurn (played_part p).image ps
 
 -- ---- the tally
 
@@ -50,4 +49,4 @@ added_all t (p ∷ ps) = added_all (adding p.trace p.image t p.answer).bytes ps
 -- and each of these calls was done
 unfoldable pub AllAdded : (tally : List ℕ) → List Part → Type 0
 AllAdded t [] = Unit {0}
-AllAdded t (p ∷ ps) = IsDone (adding p.trace p.image t p.answer).number × AllAdded (adding p.trace p.image t p.answer).bytes ps
+AllAdded t (p ∷ ps) = ((adding p.trace p.image t p.answer).number ≡ 0) × AllAdded (adding p.trace p.image t p.answer).bytes ps

@@ -3,7 +3,7 @@
 use Rattle.basics.proofs.Prelude.{◌≡◌, refl, sym, ap, subst, ◌∙◌, Bool, true, false, true≢false, cond, ◌&&◌, List, [], ◌∷◌, ◌++◌, append_assoc, append-nil, ℕ, zero, suc, ◌+◌, ◌%◌, ◌^◌, ◌<◌, ◌≤◌, max, arith, eqb, ne_eqb, leb, le-leb, Bytes, length, length-append, drop, test, bytes_of, number_of, part, map}
 use Rattle.rules.specs.Device.{Device, reset}
 use Rattle.images.specs.Image.{ImageTest, accepted, wrong_length, wrong_contents, broken, copy_differs, many_wait, bad_flag, unused_set, decode, image_test}
-use Rattle.calls.specs.Calls.{answer_length, AnswerRoom}
+use Rattle.calls.specs.Calls.{answer_length}
 use Rattle.calls.specs.Untouched.{IsDone}
 use Rattle.traces.specs.Trace.{TraceTest, record_count, trace_test}
 use Rattle.traces.specs.Played.{records}
@@ -79,7 +79,7 @@ none_counted rest =
     record { counts = λ c q. ap (λ (y : ℕ). y % 2 ^ 64) (at c (omega (arith, q))); greatest = at 7 (omega arith); withdrawn = ap (λ (y : ℕ). y % 2 ^ 64) (at 8 (omega arith)); since = at 9 (omega arith) }))
 
 -- A tally that was begun carries no record.
-pub begun_carries : (t a : List ℕ) → IsDone (beginning t a).number → Carries (beginning t a).bytes []
+pub begun_carries : (t a : List ℕ) → (beginning t a).number ≡ 0 → Carries (beginning t a).bytes []
 unfolding beginning
 begun_carries t a e = subst (λ (x : TallyLeft). Carries x.bytes []) (sym (had_room a t _ e)) (none_counted (drop tally_length t))
 
@@ -109,7 +109,7 @@ module _ (l i t : List ℕ) (xs : List Item) (c : Carries t xs) (d : decode i �
       }
 
   -- One trace more, on an image that holds the device which the records so far leave.
-  pub added_carries : (a : List ℕ) → IsDone (adding l i t a).number → Carries (adding l i t a).bytes (xs ++ items l)
+  pub added_carries : (a : List ℕ) → (adding l i t a).number ≡ 0 → Carries (adding l i t a).bytes (xs ++ items l)
   unfolding adding
   added_carries a e =
       let room = had_room a t (add_ends (add_test l i t) l i t a) e in
@@ -130,7 +130,7 @@ all_carry (p ∷ ps) t xs c h e =
     (all_carry ps (adding p.trace p.image t p.answer).bytes (xs ++ items p.trace) one (subst (λ (x : Device). HoldsSoFar x ps) (sym (after_append xs (items p.trace) reset)) h.1) e.1)
 
 -- It is done where there is room, the image is accepted, the trace good and the tally sound.
-pub is_added : (l i t a : List ℕ) {first n : ℕ} → AnswerRoom a → tally_length ≤ length t → image_test i ≡ accepted → trace_test l ≡ trace.good first n → tally_test t ≡ sound → IsDone (adding l i t a).number
+pub is_added : (l i t a : List ℕ) {first n : ℕ} → answer_length ≤ length a → tally_length ≤ length t → image_test i ≡ accepted → trace_test l ≡ trace.good first n → tally_test t ≡ sound → (adding l i t a).number ≡ 0
 unfolding adding
 is_added l i t a h k e f g =
     ap (λ b. (cond b (add_ends (add_test l i t) l i t a) (tally_leaves 7 t a)).number) (λ j. le-leb answer_length (length a) h j && le-leb tally_length (length t) k j)
@@ -196,7 +196,7 @@ rows_of_day t xs l c n p =
     }
 
 -- The sheet of a tally that carries a day is the day's.
-pub sheet_of_day : (t : List ℕ) (xs : List Item) → NoLoad xs → Carries t xs → (s a : List ℕ) → IsDone (summing t s a).number → (summing t s a).bytes ≡ sheet_bytes 8 (row_of (day_from begun xs)) ++ drop tally_length s
+pub sheet_of_day : (t : List ℕ) (xs : List Item) → NoLoad xs → Carries t xs → (s a : List ℕ) → (summing t s a).number ≡ 0 → (summing t s a).bytes ≡ sheet_bytes 8 (row_of (day_from begun xs)) ++ drop tally_length s
 unfolding summing
 sheet_of_day t xs l c s a e = go (leb tally_length (length t)) refl
   where
@@ -223,7 +223,7 @@ all_loadless (p ∷ ps) = both (items p.trace) (day_items ps) (items_loadless (r
 
 -- Begun, every trace added, and summed, each call done: the sheet of all records, from reset, as the plain engine's history has them, and as eight bytes hold its numbers. The tally, the sheet and
 -- the answer areas are any bytes.
-pub day_of_traces : (ps : List Part) → HoldsSoFar reset ps → (t a s c : List ℕ) → IsDone (beginning t a).number → AllAdded (beginning t a).bytes ps → IsDone (summing (added_all (beginning t a).bytes ps) s c).number
+pub day_of_traces : (ps : List Part) → HoldsSoFar reset ps → (t a s c : List ℕ) → (beginning t a).number ≡ 0 → AllAdded (beginning t a).bytes ps → (summing (added_all (beginning t a).bytes ps) s c).number ≡ 0
     → (summing (added_all (beginning t a).bytes ps) s c).bytes ≡ sheet_bytes 8 (row_of (day_from begun (day_items ps))) ++ drop tally_length s
 unfolding after_items
 day_of_traces ps h t a s c e f g =
@@ -256,7 +256,7 @@ played_by l i bs es (broken bad_flag k) y room e z = absurd (omega (arith, z))
 played_by l i bs es (broken unused_set k) y room e z = absurd (omega (arith, z))
 
 -- A done play of a trace from an image on leaves one that holds the device after its records.
-pub play_hands_on : (p : Part) → Bytes p.image → IsDone (played_part p).number → decode (played_part p).image ≡ after_items (decode p.image) (items p.trace)
+pub play_hands_on : (p : Part) → Bytes p.image → (played_part p).number ≡ 0 → decode (played_part p).image ≡ after_items (decode p.image) (items p.trace)
 unfolding playing_on play_on_test
 play_hands_on p b e =
     let l = p.trace in
@@ -272,15 +272,15 @@ holds_so_far (p ∷ ps) j h =
     (at, subst (λ (x : Device). HoldsSoFar x ps) (play_hands_on p h.1 h.2 ∙ ap (λ (x : Device). after_items x (items p.trace)) at) (holds_so_far ps (played_part p).image h.3))
 
 -- The day by exported calls alone: from an image that holds a reset device, each trace is added on the image that the play before it left, and then played on.
-pub day_by_calls : (i : List ℕ) → decode i ≡ reset → (ps : List Part) → PlayedInTurn i ps → (t a s c : List ℕ) → IsDone (beginning t a).number → AllAdded (beginning t a).bytes ps
-    → IsDone (summing (added_all (beginning t a).bytes ps) s c).number → (summing (added_all (beginning t a).bytes ps) s c).bytes ≡ sheet_bytes 8 (row_of (day_from begun (day_items ps))) ++ drop tally_length s
+pub day_by_calls : (i : List ℕ) → decode i ≡ reset → (ps : List Part) → PlayedInTurn i ps → (t a s c : List ℕ) → (beginning t a).number ≡ 0 → AllAdded (beginning t a).bytes ps
+    → (summing (added_all (beginning t a).bytes ps) s c).number ≡ 0 → (summing (added_all (beginning t a).bytes ps) s c).bytes ≡ sheet_bytes 8 (row_of (day_from begun (day_items ps))) ++ drop tally_length s
 day_by_calls i d ps h t a s c e f g = day_of_traces ps (subst (λ (x : Device). HoldsSoFar x ps) d (holds_so_far ps i h)) t a s c e f g
 
 -- ---- one trace
 
 -- Of one trace, from reset, it is the sheet of that trace (02, C-21), each number in eight bytes.
-pub one_trace : (l i : List ℕ) → decode i ≡ reset → (t a b s c : List ℕ) → IsDone (beginning t a).number → IsDone (adding l i (beginning t a).bytes b).number
-    → IsDone (summing (adding l i (beginning t a).bytes b).bytes s c).number → (summing (adding l i (beginning t a).bytes b).bytes s c).bytes ≡ sheet_bytes 8 (row_of (day_of l)) ++ drop tally_length s
+pub one_trace : (l i : List ℕ) → decode i ≡ reset → (t a b s c : List ℕ) → (beginning t a).number ≡ 0 → (adding l i (beginning t a).bytes b).number ≡ 0
+    → (summing (adding l i (beginning t a).bytes b).bytes s c).number ≡ 0 → (summing (adding l i (beginning t a).bytes b).bytes s c).bytes ≡ sheet_bytes 8 (row_of (day_of l)) ++ drop tally_length s
 unfolding added_all AllAdded
 one_trace l i h t a b s c e f g =
     day_of_traces (record { trace = l; image = i; answers = []; events = []; told = []; answer = b } ∷ []) (h, tt) t a s c e (f, tt) g
