@@ -9,6 +9,8 @@ BEGIN { BOX = 108; HIGH = 30; GAP = 16; BEND = 12; STEP = 66; WIDEST = 5; LABEL 
 /^#/ { heading = substr($0, 3); next }
 NF == 0 { next }
 {
+    # `name staticlib:` is a crate for C.
+    sub(/ +staticlib:/, ":")
     name = $1
     sub(/:$/, "", name)
     if (heading != group_name[groups]) group_name[++groups] = heading

@@ -60,7 +60,7 @@ function a_declaration(    at, typed) {
 
 # imported: names of the prover's own library, which it has looked up.
 function imported(    words, n, at) {
-    if ($2 ~ /^Rattle·/ && $2 !~ /Prelude/) return
+    if ($2 ~ /^Rattle[.]/ && $2 !~ /^Rattle[.](std|core)[.]|Prelude/) return
     n = split($0, words, /[^A-Za-z0-9_-]+/)
     for (at = 1; at <= n; at++) known[words[at]] = 1
 }
@@ -316,7 +316,7 @@ function pairs(    at, back, end) {
             if (span[end] in declared) counted(there(within(span[at - 1], span[end])), span_line[end], "`" span[end] "` is not in `" span[at - 1] "`")
     }
     if (spans < 2 || gap[spans] !~ /(^|[^A-Za-z])In $/ || gap[spans + 1] !~ /^\. *$/ || span[spans] !~ /\.antt$/) return
-    for (at = 1; at < spans; at++) if (span[at] ~ /^[a-z0-9]+(-[a-z0-9]+)*$/ && gap[at + 1] !~ /^ (\(|of |in )$/) in_file(at, span[spans])
+    for (at = 1; at < spans; at++) if (span[at] ~ /^[a-z0-9]+(_[a-z0-9]+)*$/ && !(span[at] in known) && gap[at + 1] !~ /^ (\(|of |in )$/) in_file(at, span[spans])
 }
 
 # belongs TO: the names before this one are said to be 'of' or 'in' it, a crate or a module of one.
@@ -365,7 +365,7 @@ function in_file(at, file,    name, path, files, n, i, defined) {
         if (index(files[i], path) == 1) { held++; return }
         if (files[i] ~ /\/specs\//) defined = 1
     }
-    if (name ~ /-/ || file ~ /\/specs/ || !defined) tell(span_line[at], "`" name "` is not in " file)
+    if (file ~ /\/specs/ || !defined) tell(span_line[at], "`" name "` is not in " file)
 }
 
 # unused_others: names of others that no page has, or that are not others'.
