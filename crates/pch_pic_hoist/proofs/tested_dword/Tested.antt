@@ -5,7 +5,7 @@ use Rattle.images.specs.{Form.Form, Image.ImageTest, Image.image_test, Image.dec
 use Rattle.calls.specs.Calls.{image_number, image_value, Tested, Request, calls, asked_by, buffer_of}
 use Rattle.image.specs.{Shown.form_view, head.Good.head_test, head.Good.Headed, bodies.Good.holds, bodies.Good.bodies_good, bodies.Good.bodies_test}
 use Rattle.image.specs.declared.{head.Head.Head, head.Head.TheVariants.Of, bodies.Bodies.Bodies, bodies.Bodies.TheVariants.Broken}
-use Rattle.image.proofs.head.{Head.the_type, Orders.head_refuses}
+use Rattle.image.{specs.contracts.head.Head.the_type, proofs.head.Orders.head_refuses}
 use Rattle.fields.{specs.inplace.Held.Reads, specs.inplace.Passed.Passed, proofs.inplace.Passing.here}
 use Rattle.answer.specs.{Given.Tells, Given.ends, declared.Told.Told}
 use Rattle.answer.proofs.refusals.Ends.{tells, head_told, broken_refused, bodies_told}
