@@ -36,7 +36,7 @@ unfolding computed salvaging answered
 came_out = refl
 
 again : salvaging left (replicate 60 7) [] (replicate 16 9) ≡ salvage_leaves 0 (in_front left (replicate 60 7)) [] (answered 0 (some (length left)) (replicate 16 9))
-again = again_left torn (replicate 60 7) (replicate 5 8) (replicate 17 9) was_done left came_out (replicate 60 7) [] (replicate 16 9) (omega arith) (omega arith)
+again = again_left torn (replicate 60 7) (replicate 5 8) (replicate 17 9) (omega arith) was_done left came_out (replicate 60 7) [] (replicate 16 9) (omega arith) (omega arith)
 
 -- block 2, all good, is kept as number 1; block 1, whose record 1 is bad, is listed once, and so is the only one
 last_kept : body_of 1 (take (value_in outcome.answer) outcome.second) ≡ raise 3 ++ raise 4

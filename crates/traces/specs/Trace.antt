@@ -1,8 +1,7 @@
 -- The bytes of a trace (02, C-11): its contents, its records, and the test of both. Every number has its little end first.
 use Rattle.std.specs.Prelude.{Bool, true, cond, not, ◌&&◌, ◌||◌, List, [], ◌∷◌, ℕ, zero, suc, ◌+◌, ◌*◌, eqb, leb, ltb, length, get_or}
 use Rattle.basics.specs.Numbers.{number_of, part}
-use Rattle.rules.specs.Device.{Value, none}
-use Rattle.calls.specs.Reasons.{bad_contents, bad_at, of_trace, reason_number, reason_value}
+use Rattle.rules.specs.Device.{Value, none, some}
 
 -- ---- contents
 
@@ -150,10 +149,10 @@ trace_test l =
 -- 12, then 13 with the number of the first bad record, counted from 0 over the trace; 0 for a good trace
 abbrev pub trace_number : TraceTest → ℕ
 trace_number (good first records) = 0
-trace_number wrong_contents = reason_number (of_trace bad_contents)
-trace_number (bad_record k) = reason_number (of_trace (bad_at k))
+trace_number wrong_contents = 12
+trace_number (bad_record k) = 13
 
 abbrev pub trace_value : TraceTest → Value
 trace_value (good first records) = none
-trace_value wrong_contents = reason_value (of_trace bad_contents)
-trace_value (bad_record k) = reason_value (of_trace (bad_at k))
+trace_value wrong_contents = none
+trace_value (bad_record k) = some k

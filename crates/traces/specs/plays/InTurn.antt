@@ -1,7 +1,6 @@
 -- A day longer than a trace: the records' calls as exported calls, plays one behind another, and what a host has of each.
 use Rattle.std.specs.Prelude.{◌≡◌, List, [], ◌∷◌, ◌++◌, map, ℕ, ◌*◌, length, take, replicate}
 use Rattle.calls.specs.Calls.{answer_length}
-use Rattle.calls.specs.Untouched.{IsDone}
 use Rattle.histories.specs.exported.Exported.{Exported}
 use Rattle.histories.specs.exported.Alike.{Asking, made_on}
 use Rattle.traces.specs.Trace.{Record, record_count}
@@ -46,4 +45,4 @@ pub record SameIfDone (x y : PlayLeft) : Type 0 where
   pub answers : x.answers ≡ y.answers
   pub events : x.events ≡ y.events
   pub answer : x.answer ≡ y.answer
-  pub image : IsDone x.number → x.image ≡ y.image
+  pub image : x.number ≡ 0 → x.image ≡ y.image

@@ -3,7 +3,7 @@ use Rattle.std.specs.Prelude.{Bool, cond, ◌&&◌, List, ℕ, eqb, leb, length}
 use Rattle.rules.specs.Device.{Value, none, some}
 use Rattle.calls.specs.Calls.{refusal_number, refusal_value, no_room, answer_length}
 use Rattle.traces.specs.Trace.{contents_good, wrong_contents, trace_number, trace_value}
-use Rattle.calls.specs.Reasons.{none_left, reason_number, told_in}
+use Rattle.calls.specs.Reasons.{told_in}
 use Rattle.traces.specs.plays.Playing.{in_front}
 use Rattle.traces.specs.salvages.Kept.{bodies, kept, new_trace, drop_list}
 
@@ -16,7 +16,7 @@ pub data SalvageTest : Type 0 where
 
 -- 16: no block is left
 abbrev pub nothing_left : ℕ
-nothing_left = reason_number none_left
+nothing_left = 16
 
 abbrev pub is_empty : List ℕ → Bool
 is_empty l = eqb (length (kept (bodies l))) 0

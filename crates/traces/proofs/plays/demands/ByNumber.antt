@@ -1,7 +1,7 @@
 -- The numbers that a play hands back, from a reset and on from an image, each exactly when (02, C-11), by their table in specs/Refusals.antt; and what a refused play leaves (00, demand 1).
 use Rattle.basics.proofs.Prelude.{◌≡◌, refl, ap, ◌∙◌, Bool, false, and-false, List, [], ◌∷◌, ◌⊎◌, inl, inr, ⊎_elim, ℕ, ◌*◌, ◌<◌, leb, length, le-leb, leb-true, leb-false, lt-leb, test}
 use Rattle.images.specs.Form.{Form, form_length}
-use Rattle.calls.specs.{Calls.image_number, Calls.image_value, Calls.answer_length, Untouched.Left, Untouched.left, Calls.AnswerRoom, Untouched.IsDone}
+use Rattle.calls.specs.{Calls.image_number, Calls.image_value, Calls.answer_length, Untouched.Left, Untouched.left, Untouched.Untouched, Calls.AnswerRoom, Untouched.IsDone}
 use Rattle.calls.specs.Reasons.{OfImage, bad_length, bad_head, bad_body, OfTrace, bad_contents, bad_at, Reason, short_room, of_image, of_request, of_trace, of_profile, none_left, of_tally, test_of, reason_number, reason_value, told_for, NoneOf, refused_for, Refuses, ByNumber}
 use Rattle.laws.specs.{Wrong.Found, Refusals.OfReset}
 use Rattle.laws.proofs.demands.Found.{found_exactly, accepted_exactly, no_form, has_form, by_image, by_length, not_both, a_form}
@@ -144,3 +144,10 @@ play_tells l i bs es a r g = tables.answer_of (PlayGiven l i bs es a) (i ∷ bs 
 
 pub play_on_tells : (l i bs es a : List ℕ) (r : Reason) → PlayOnGiven l i bs es a r → (playing_on l i bs es a).answer ≡ told_for r a
 play_on_tells l i bs es a r g = tables.answer_of (PlayOnGiven l i bs es a) (i ∷ bs ∷ es ∷ []) a _ (refusals_of_a_play_on l i bs es a) r g
+
+-- Not done: image, answers and events are as they were, and of the answer area the bytes past its 16; with 7 every byte.
+pub refused_play_untouched : (l i bs es a : List ℕ) → (IsDone (playing l i bs es a).number → ⊥) → Untouched (i ∷ bs ∷ es ∷ []) a (play_left (playing l i bs es a))
+refused_play_untouched l i bs es a = tables.refused_untouched (PlayGiven l i bs es a) (i ∷ bs ∷ es ∷ []) a _ (refusals_of_a_play l i bs es a)
+
+pub refused_play_on_untouched : (l i bs es a : List ℕ) → (IsDone (playing_on l i bs es a).number → ⊥) → Untouched (i ∷ bs ∷ es ∷ []) a (play_left (playing_on l i bs es a))
+refused_play_on_untouched l i bs es a = tables.refused_untouched (PlayOnGiven l i bs es a) (i ∷ bs ∷ es ∷ []) a _ (refusals_of_a_play_on l i bs es a)

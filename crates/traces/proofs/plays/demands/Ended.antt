@@ -1,21 +1,23 @@
 -- What the exported call leaves (02, C-11): refused, not a byte of image, answers and events changes, and 7 writes none at all; done, all is as the calls one after another leave it.
-use Rattle.basics.proofs.Prelude.{◌≡◌, sym, ap, ◌∙◌, Bool, true, List, [], ◌∷◌, ℕ, ◌*◌, ◌<◌, ◌≤◌, arith, leb, length, take, part}
+use Rattle.basics.proofs.Prelude.{◌≡◌, sym, ap, ◌∙◌, Bool, true, List, ℕ, ◌*◌, ◌<◌, ◌≤◌, arith, leb, length, take, part}
 use Rattle.rules.specs.Device.{some}
 use Rattle.calls.specs.Calls.{answer_length, answered}
 use Rattle.images.specs.Form.{Known, unknown, known, form_of}
 use Rattle.traces.specs.{Trace.record_count, Trace.nth, Trace.TraceTest, Trace.trace_test, Played.played_on, Played.drained_in, Played.afresh, Played.played}
 use Rattle.traces.specs.plays.Playing.{played_to, play_room, plays, trace_left, length_left, play_test, PlayLeft, play_leaves, in_front, playing}
-use Rattle.traces.proofs.plays.laws.Ways.{one_played, named_by, trace_named, done_way, played_way, record_way, events_way, its_events_way}
-use Rattle.calls.specs.Untouched.{IsDone, Untouched}
-use Rattle.traces.specs.Refusals.{play_left, PlayGiven}
-use Rattle.traces.proofs.plays.demands.ByNumber.{refusals_of_a_play}
-use Rattle.calls.proofs.laws.Tables as tables
+use Rattle.traces.proofs.plays.laws.Ways.{Untouched, one_played, named_by, trace_named, untouched_way, seven_way, done_way, played_way, record_way, events_way, its_events_way}
 use Rattle.traces.proofs.plays.laws.Computed as computed
 
 module _ (l i bs es a : List ℕ) where
-  -- not done: image, answers and events are as they were, and of the answer area the bytes past its 16; with 7 every byte
-  pub refused_untouched : (IsDone (playing l i bs es a).number → ⊥) → Untouched (i ∷ bs ∷ es ∷ []) a (play_left (playing l i bs es a))
-  refused_untouched = tables.refused_untouched (PlayGiven l i bs es a) (i ∷ bs ∷ es ∷ []) a _ (refusals_of_a_play l i bs es a)
+  -- not done: image, answers and events are as they were
+  pub refused_untouched : ((playing l i bs es a).number ≡ 0 → ⊥) → Untouched i bs es (playing l i bs es a)
+  unfolding playing
+  refused_untouched n = untouched_way l (afresh i) i bs es a (play_test l i bs es) n
+
+  -- 7: nor is the answer area
+  pub seven_untouched : (playing l i bs es a).number ≡ 7 → (playing l i bs es a).answer ≡ a
+  unfolding playing
+  seven_untouched s = seven_way l (afresh i) i bs es a (play_test l i bs es) s
 
   -- done: the image after the last record, each record's answer and all drained events in front of what was lent, and how many records there are
   pub done_played : leb answer_length (length a) ≡ true → play_test l i bs es ≡ plays
@@ -30,7 +32,7 @@ never_zero : (k : Known) (t : TraceTest) (b : Bool) → named_by (length_left k 
 never_zero unknown t b e = omega (arith, e)
 never_zero (known f) t b e = trace_named t b e
 
-module _ (l i bs es a : List ℕ) (done : IsDone (playing l i bs es a).number) where
+module _ (l i bs es a : List ℕ) (done : (playing l i bs es a).number ≡ 0) where
   abbrev bytes : PlayLeft
   bytes = playing l i bs es a
 

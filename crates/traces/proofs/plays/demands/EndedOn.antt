@@ -1,31 +1,33 @@
 -- What the exported call leaves that plays a trace on from an image: refused, not a byte of image, answers and events changes, and 7 writes none at all; done, all is as the
 -- calls one after another leave it, made on that image.
-use Rattle.basics.proofs.Prelude.{◌≡◌, refl, sym, ap, subst, ◌∙◌, Bool, true, List, [], ◌∷◌, ℕ, ◌*◌, ◌<◌, ◌≤◌, arith, length, take, le-leb, part, Bytes}
+use Rattle.basics.proofs.Prelude.{◌≡◌, refl, sym, ap, subst, ◌∙◌, Bool, true, List, ℕ, ◌*◌, ◌<◌, ◌≤◌, arith, length, take, le-leb, part, Bytes}
 use Rattle.rules.specs.Device.{none, some}
-use Rattle.calls.specs.Calls.{fault_number, answer_length, answered, AnswerRoom}
+use Rattle.calls.specs.Calls.{fault_number, answer_length, answered}
 use Rattle.images.specs.Image.{Fault, copy_differs, many_wait, bad_flag, unused_set, ImageTest, accepted, image_test}
 use Rattle.traces.specs.{Trace.record_count, Trace.nth, Trace.TraceTest, Trace.good, Trace.trace_test, Played.played_on, Played.drained_in, Played.played_through}
-use Rattle.traces.specs.plays.Playing.{played_on_to, play_room, trace_left, image_left, play_on_test, PlayLeft, play_leaves, in_front, playing_on}
-use Rattle.traces.proofs.plays.{laws.Ways.one_played, laws.Ways.named_by, laws.Ways.trace_named, laws.Ways.left_if, laws.Ways.refused_way, laws.Ways.done_way, laws.Ways.played_way, laws.Ways.record_way, laws.Ways.events_way, laws.Ways.its_events_way, demands.Accepted.Fit, demands.Accepted.each_fits_on}
+use Rattle.traces.specs.plays.Playing.{played_on_to, play_room, plays, trace_left, image_left, play_on_test, PlayLeft, play_leaves, in_front, playing_on}
+use Rattle.traces.proofs.plays.{laws.Ways.Untouched, laws.Ways.one_played, laws.Ways.named_by, laws.Ways.trace_named, laws.Ways.left_if, laws.Ways.refused_way, laws.Ways.untouched_way, laws.Ways.seven_way, laws.Ways.done_way, laws.Ways.played_way, laws.Ways.record_way, laws.Ways.events_way, laws.Ways.its_events_way, demands.Accepted.Fit, demands.Accepted.each_fits_on}
 use Rattle.images.specs.Image as image
-use Rattle.calls.specs.Untouched.{IsDone, Untouched}
-use Rattle.traces.specs.Refusals.{play_left, PlayOnGiven}
-use Rattle.traces.proofs.plays.demands.ByNumber.{refusals_of_a_play_on}
-use Rattle.calls.proofs.laws.Tables as tables
 use Rattle.traces.proofs.plays.laws.Computed as computed
 
 module _ (l i bs es a : List ℕ) where
-  -- not done: image, answers and events are as they were, and of the answer area the bytes past its 16; with 7 every byte
-  pub refused_on_untouched : (IsDone (playing_on l i bs es a).number → ⊥) → Untouched (i ∷ bs ∷ es ∷ []) a (play_left (playing_on l i bs es a))
-  refused_on_untouched = tables.refused_untouched (PlayOnGiven l i bs es a) (i ∷ bs ∷ es ∷ []) a _ (refusals_of_a_play_on l i bs es a)
+  -- not done: image, answers and events are as they were
+  pub refused_on_untouched : ((playing_on l i bs es a).number ≡ 0 → ⊥) → Untouched i bs es (playing_on l i bs es a)
+  unfolding playing_on
+  refused_on_untouched n = untouched_way l i i bs es a (play_on_test l i bs es) n
+
+  -- 7: nor is the answer area
+  pub seven_on_untouched : (playing_on l i bs es a).number ≡ 7 → (playing_on l i bs es a).answer ≡ a
+  unfolding playing_on
+  seven_on_untouched s = seven_way l i i bs es a (play_on_test l i bs es) s
 
   abbrev pub whole_on : PlayLeft
   whole_on = play_leaves 0 (played_through l i).image (in_front (played_through l i).answers bs) (in_front (played_through l i).events es) (answered 0 (some (record_count l)) a)
 
   -- any good trace is played on any accepted image, where there is room
-  pub plays_on : AnswerRoom a → image_test i ≡ accepted → {first n : ℕ} → trace_test l ≡ good first n → play_room l bs es ≡ true → playing_on l i bs es a ≡ whole_on
+  pub plays_on : answer_length ≤ length a → image_test i ≡ accepted → {first n : ℕ} → trace_test l ≡ good first n → play_room l bs es ≡ true → playing_on l i bs es a ≡ whole_on
   unfolding playing_on play_on_test
-  plays_on h e f r = rw (e, f, r) (done_way l i i bs es a (le-leb answer_length (length a) (omega (arith, h))))
+  plays_on h e f r = rw (e, f, r) (done_way l i i bs es a (le-leb answer_length (length a) h))
 
 -- ---- after each record, in the bytes that a done call leaves
 
@@ -42,7 +44,7 @@ never_zero image.wrong_length t b e = omega (arith, e)
 never_zero image.wrong_contents t b e = omega (arith, e)
 never_zero (image.broken k n) t b e = fault_named k n t b e
 
-module _ (l i bs es a : List ℕ) (done : IsDone (playing_on l i bs es a).number) where
+module _ (l i bs es a : List ℕ) (done : (playing_on l i bs es a).number ≡ 0) where
   abbrev bytes : PlayLeft
   bytes = playing_on l i bs es a
 
@@ -50,7 +52,7 @@ module _ (l i bs es a : List ℕ) (done : IsDone (playing_on l i bs es a).number
   unfolding play_on_test
   not_zero e = never_zero (image_test i) (trace_test l) (play_room l bs es) e
 
-  by_found : {x : ImageTest} → image_test i ≡ x → IsDone (left_if l i i bs es a (image_left x (trace_left (trace_test l) (play_room l bs es)))).number
+  by_found : {x : ImageTest} → image_test i ≡ x → (left_if l i i bs es a (image_left x (trace_left (trace_test l) (play_room l bs es)))).number ≡ 0
   unfolding playing_on play_on_test
   by_found e = ap (λ (x : ImageTest). (left_if l i i bs es a (image_left x (trace_left (trace_test l) (play_room l bs es)))).number) (sym e) ∙ done
 

@@ -1,6 +1,6 @@
 -- A day longer than a trace: traces played one after another, each on the image that the one before it left, are their records played in order. To play on is to make the records'
 -- calls on that image; and a play from a reset is the reset, and then the trace played on what it left.
-use Rattle.basics.proofs.Prelude.{◌≡◌, refl, sym, ap, subst, ◌∙◌, List, [], ◌∷◌, ◌++◌, map, append_assoc, ℕ, ◌*◌, zero-le, arith, length, take, drop, take_at, le-leb}
+use Rattle.basics.proofs.Prelude.{◌≡◌, refl, sym, ap, subst, ◌∙◌, List, [], ◌∷◌, ◌++◌, map, append_assoc, ℕ, ◌*◌, zero-le, arith, length, take, drop, take_at, le-leb, ◌≤◌}
 use Rattle.images.specs.{Form.Known, Form.unknown, Form.known, Form.form_of, Image.ImageTest, Image.wrong_length, Image.image_test}
 use Rattle.calls.{specs.Calls.Outcome, specs.Calls.Ending, specs.Calls.answer_length, specs.Calls.outcome, proofs.laws.Outcomes.reset_refused, specs.Calls.AnswerRoom}
 use Rattle.calls.specs.Untouched.{IsDone}
@@ -72,14 +72,14 @@ wrote l b bs es w =
     })
 
 -- from a reset, and on
-pub wrote_all : (l i bs es a : List ℕ) → IsDone (playing l i bs es a).number → wrote_of l (afresh i) (playing l i bs es a) ≡ played l i
+pub wrote_all : (l i bs es a : List ℕ) → (playing l i bs es a).number ≡ 0 → wrote_of l (afresh i) (playing l i bs es a) ≡ played l i
 wrote_all l i bs es a done = wrote l (afresh i) bs es (has_played l i bs es a done)
 
-pub wrote_all_on : (l i bs es a : List ℕ) → IsDone (playing_on l i bs es a).number → wrote_of l i (playing_on l i bs es a) ≡ played_through l i
+pub wrote_all_on : (l i bs es a : List ℕ) → (playing_on l i bs es a).number ≡ 0 → wrote_of l i (playing_on l i bs es a) ≡ played_through l i
 wrote_all_on l i bs es a done = wrote l i bs es (has_played_on l i bs es a done)
 
 -- all that it left is what the exported calls leave, made one after another on that image
-pub as_the_calls : (l i bs es a : List ℕ) → IsDone (playing_on l i bs es a).number → wrote_of l i (playing_on l i bs es a) ≡ gathered i (map left_by (calls_of i (records l)))
+pub as_the_calls : (l i bs es a : List ℕ) → (playing_on l i bs es a).number ≡ 0 → wrote_of l i (playing_on l i bs es a) ≡ gathered i (map left_by (calls_of i (records l)))
 as_the_calls l i bs es a done = wrote_all_on l i bs es a done ∙ ap (gathered i) (outcomes_of_calls i (records l))
 
 -- a second trace is played on the image that a first call left, which played from b on: image, answers and events are those of the records of both in order
@@ -89,18 +89,18 @@ module _ (l b : List ℕ) (x : PlayLeft) (whole : wrote_of l b x ≡ played_thro
       (λ t. followed_by (whole t) ((wrote_all_on m x.image cs fs c again ∙ ap (λ (p : Played). played_through m p.image) whole) t)) ∙ sym (played_behind b (records l) (records m))
 
 module _ (l i bs es a m cs fs c : List ℕ) where
-  pub in_turn : IsDone (playing_on l i bs es a).number → IsDone (playing_on m (playing_on l i bs es a).image cs fs c).number
+  pub in_turn : (playing_on l i bs es a).number ≡ 0 → (playing_on m (playing_on l i bs es a).image cs fs c).number ≡ 0
       → followed_by (wrote_of l i (playing_on l i bs es a)) (wrote_of m (playing_on l i bs es a).image (playing_on m (playing_on l i bs es a).image cs fs c)) ≡ played_all i (records l ++ records m)
   in_turn done again = behind_it l i (playing_on l i bs es a) (wrote_all_on l i bs es a done) m cs fs c again
 
   -- the first from a reset
-  pub in_turn_from_reset : IsDone (playing l i bs es a).number → IsDone (playing_on m (playing l i bs es a).image cs fs c).number
+  pub in_turn_from_reset : (playing l i bs es a).number ≡ 0 → (playing_on m (playing l i bs es a).image cs fs c).number ≡ 0
       → followed_by (wrote_of l (afresh i) (playing l i bs es a)) (wrote_of m (playing l i bs es a).image (playing_on m (playing l i bs es a).image cs fs c)) ≡ played_all (afresh i) (records l ++ records m)
   in_turn_from_reset done again = behind_it l (afresh i) (playing l i bs es a) (wrote_all l i bs es a done) m cs fs c again
 
   -- so where a trace has the records of both, they are that trace played on
-  pub as_one_trace : (w ds gs e : List ℕ) → records w ≡ records l ++ records m → IsDone (playing_on l i bs es a).number → IsDone (playing_on m (playing_on l i bs es a).image cs fs c).number
-      → IsDone (playing_on w i ds gs e).number
+  pub as_one_trace : (w ds gs e : List ℕ) → records w ≡ records l ++ records m → (playing_on l i bs es a).number ≡ 0 → (playing_on m (playing_on l i bs es a).image cs fs c).number ≡ 0
+      → (playing_on w i ds gs e).number ≡ 0
       → followed_by (wrote_of l i (playing_on l i bs es a)) (wrote_of m (playing_on l i bs es a).image (playing_on m (playing_on l i bs es a).image cs fs c)) ≡ wrote_of w i (playing_on w i ds gs e)
   as_one_trace w ds gs e same done again whole = in_turn done again ∙ ap (played_all i) (sym same) ∙ sym (wrote_all_on w i ds gs e whole)
 
@@ -131,7 +131,7 @@ module _ (l i bs es a : List ℕ) where
   by_tests e f s = rw (e, f) s
 
   -- a play is the reset, and then the trace played on what the reset left: in number, answers, events and answer area, and in the image where it is done
-  pub reset_then_on : (c : List ℕ) → AnswerRoom c → Same (outcome request.reset i c).image
+  pub reset_then_on : (c : List ℕ) → answer_length ≤ length c → Same (outcome request.reset i c).image
   reset_then_on c h = subst Same (sym (reset_image i c h)) (go (form_of (length i)) refl)
     where
       go : (k : Known) → form_of (length i) ≡ k → Same (afresh i)

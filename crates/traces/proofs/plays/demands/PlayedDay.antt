@@ -4,7 +4,6 @@ use Rattle.basics.proofs.Prelude.{◌≡◌, sym, ap, subst, ◌∙◌, true, Li
 use Rattle.rules.specs.{Ring.Event, Ring.dropped, Device.Call, Device.reset, Numbering.from_zero, History.history}
 use Rattle.rules.specs.Account.{carrying, asserts_among, deasserts_among}
 use Rattle.images.{specs.Form.Form, specs.Form.forms, specs.Form.known, specs.Form.form_of, specs.Image.accepted, specs.Image.image_test, specs.Image.decode, specs.Image.encode_as, proofs.laws.Tests.form_known_lem}
-use Rattle.calls.specs.Untouched.{IsDone}
 use Rattle.laws.proofs.laws.Images.{encode_as_lem}
 use Rattle.histories.specs.{Premises.Along, Premises.Admitted, Demands.in_service, Demands.Eligible, Demands.Spared, Demands.Undisturbed, Demands.polls_or_raises, Demands.ring_acts}
 use Rattle.histories.specs.exported.Exported.{Exported, Underway, carried_through, NoLoads, done_call, done_calls, after_reset, at_load, returned_by, drained_by, Balances}
@@ -28,7 +27,7 @@ module _ (h : Underway) (rs : List Record) where
 -- ---- from a reset
 
 -- bytes i of the length of the form f, on which a play was done
-module _ (l i bs es a : List ℕ) (f : Form) (k : form_of (length i) ≡ known f) (done : IsDone (playing l i bs es a).number) where
+module _ (l i bs es a : List ℕ) (f : Form) (k : form_of (length i) ≡ known f) (done : (playing l i bs es a).number ≡ 0) where
   -- the calls of its records, from the image that the reset leaves
   abbrev pub calls_played : List Exported
   calls_played = calls_of (encode_as f reset (from_zero 0)) (records l)
@@ -57,7 +56,7 @@ module _ (l i bs es a : List ℕ) (f : Form) (k : form_of (length i) ≡ known f
 
 -- ---- on from an image
 
-module _ (l i bs es a : List ℕ) (b : Bytes i) (t : image_test i ≡ accepted) (done : IsDone (playing_on l i bs es a).number) where
+module _ (l i bs es a : List ℕ) (b : Bytes i) (t : image_test i ≡ accepted) (done : (playing_on l i bs es a).number ≡ 0) where
   abbrev pub calls_played_on : List Exported
   calls_played_on = calls_of i (records l)
 

@@ -1,11 +1,20 @@
 -- The ways that a play ends, whatever it tests of the image, and whatever image its first record is played on.
-use Rattle.basics.proofs.Prelude.{◌≡◌, refl, sym, ap, ◌∙◌, Bool, true, false, cond, List, ℕ, ◌*◌, ◌<◌, ◌≤◌, arith, leb, length, take, length-take, test, part}
+use Rattle.basics.proofs.Prelude.{◌≡◌, refl, sym, ap, ◌∙◌, Bool, true, false, cond, List, ℕ, ◌*◌, ◌<◌, ◌≤◌, arith, leb, length, take, length-take, eq-eqb, test, part}
 use Rattle.rules.specs.Device.{Value, some}
 use Rattle.calls.specs.Calls.{answer_length, answered}
 use Rattle.traces.specs.{Trace.record_count, Trace.nth, Trace.TraceTest, Trace.good, Trace.wrong_contents, Trace.bad_record, Played.played_on, Played.drained_in, Played.played_through}
 use Rattle.traces.specs.plays.InTurn.{SameIfDone}
 use Rattle.traces.specs.plays.Playing.{played_on_to, PlayTest, refused, plays, trace_left, PlayLeft, play_leaves, play_ends, play_settled, play_told, in_front}
 use Rattle.traces.proofs.{demands.Play.answers_from, plays.laws.InFront.part_front, plays.demands.AfterEachOn.its_answer_on, plays.demands.AfterEachOn.first_events_on, plays.demands.AfterEachOn.its_events_on}
+
+-- not done: image, answers and events are as they were
+pub record Untouched (i bs es : List ℕ) (left : PlayLeft) : Type 0 where
+  pub image : left.image ≡ i
+  pub answers : left.answers ≡ bs
+  pub events : left.events ≡ es
+
+untouched : (i bs es : List ℕ) {left : PlayLeft} {n : ℕ} {x : List ℕ} → left ≡ play_leaves n i bs es x → Untouched i bs es left
+untouched i bs es e = record { image = ap (λ (p : PlayLeft). p.image) e; answers = ap (λ (p : PlayLeft). p.answers) e; events = ap (λ (p : PlayLeft). p.events) e }
 
 -- of two runs that leave x, by the contract of either play, the numbers handed back, images, answers, events and answer areas are the same
 pub one_played : {x : PlayLeft} {r s : ℕ} {i₁ i₂ bs₁ bs₂ es₁ es₂ a₁ a₂ : List ℕ} → play_leaves r i₁ bs₁ es₁ a₁ ≡ x → play_leaves s i₂ bs₂ es₂ a₂ ≡ x
@@ -39,6 +48,21 @@ module _ (l b i bs es a : List ℕ) where
 
   pub by_room : (t : PlayTest) {r : Bool} → leb answer_length (length a) ≡ r → left_if t ≡ cond r (play_settled a (play_ends t l b i bs es)) (play_leaves 7 i bs es a)
   by_room t e = (λ s. cond (e s) (play_settled a (play_ends t l b i bs es)) (play_leaves 7 i bs es a))
+
+  pub untouched_way : (t : PlayTest) → ((left_if t).number ≡ 0 → ⊥) → Untouched i bs es (left_if t)
+  untouched_way (refused m v) n = test (leb answer_length (length a)) (λ e. untouched i bs es (by_room (refused m v) e)) (λ e. untouched i bs es (by_room (refused m v) e))
+  untouched_way plays n = test (leb answer_length (length a)) (λ e. absurd (n (ap (λ (p : PlayLeft). p.number) (by_room plays e)))) (λ e. untouched i bs es (by_room plays e))
+
+  -- 7: nor is the answer area
+  pub seven_way : (t : PlayTest) → (left_if t).number ≡ 7 → (left_if t).answer ≡ a
+  seven_way (refused m v) s =
+      test (leb answer_length (length a))
+      (λ e. let is : m ≡ 7 = sym (ap (λ (p : PlayLeft). p.number) (by_room (refused m v) e)) ∙ s in
+      ap (λ (p : PlayLeft). p.answer) (by_room (refused m v) e) ∙ rw (eq-eqb m 7 is))
+      (λ e. ap (λ (p : PlayLeft). p.answer) (by_room (refused m v) e))
+  seven_way plays s =
+      test (leb answer_length (length a)) (λ e. absurd (let z : 0 ≡ 7 = sym (ap (λ (p : PlayLeft). p.number) (by_room plays e)) ∙ s in omega arith))
+      (λ e. ap (λ (p : PlayLeft). p.answer) (by_room plays e))
 
   -- done: the image after the last record, each record's answer and all drained events in front of what was lent, and how many records there are
   abbrev pub whole : PlayLeft

@@ -6,7 +6,8 @@ use Rattle.traces.specs.Trace.{contents_good}
 use Rattle.traces.specs.salvages.Kept.{bodies, kept, new_trace, drop_list}
 use Rattle.traces.specs.salvages.Salvaging.{is_empty, salvage_room, SalvageLeft, salvaging}
 use Rattle.traces.specs.Refusals.{salvage_left, NoSalvageRoom, SalvageGiven}
-use Rattle.traces.proofs.salvages.demands.Left.{none_left_lem, twelve_left, sixteen_left, seven_left, done_left}
+use Rattle.traces.proofs.salvages.demands.Left as salvage
+use Rattle.traces.proofs.salvages.demands.Left.{twelve_left, sixteen_left, seven_left, done_left}
 use Rattle.calls.proofs.laws.Tables as tables
 use Rattle.traces.proofs.salvages.laws.Computed as computed
 
@@ -33,7 +34,7 @@ module _ (l ks ds a : List ℕ) where
   salvage_refuses (of_trace bad_contents) g = ap salvage_left (twelve_left l ks ds a g.0 g.1)
   salvage_refuses (of_trace (bad_at k)) g = absurd g
   salvage_refuses (of_profile v) g = absurd g
-  salvage_refuses none_left g = ap salvage_left (sixteen_left l ks ds a g.0 g.1 (none_left_lem (bodies l) g.2))
+  salvage_refuses none_left g = ap salvage_left (sixteen_left l ks ds a g.0 g.1 (salvage.none_left (bodies l) g.2))
   salvage_refuses (of_tally p) g = absurd g
 
   abbrev Why : Type 0
@@ -70,5 +71,5 @@ module _ (l ks ds a : List ℕ) where
   salvage_by_number = tables.each_number (SalvageGiven l ks ds a) lent a _ refusals_of_a_salvage
 
   -- not done: the two buffers are as they were, and of the answer area the bytes past its 16; with 7 every byte
-  pub refused_untouched : (IsDone salvaged.number → ⊥) → Untouched lent a (salvage_left salvaged)
-  refused_untouched = tables.refused_untouched (SalvageGiven l ks ds a) lent a _ refusals_of_a_salvage
+  pub refused_salvage_untouched : (IsDone salvaged.number → ⊥) → Untouched lent a (salvage_left salvaged)
+  refused_salvage_untouched = tables.refused_untouched (SalvageGiven l ks ds a) lent a _ refusals_of_a_salvage

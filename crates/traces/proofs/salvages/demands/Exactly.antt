@@ -7,7 +7,7 @@ use Rattle.traces.specs.salvages.Kept.{body_of, bodies_from, bodies, records_of,
 use Rattle.traces.specs.salvages.{Salvaging.SalvageLeft, Salvaging.salvaging, Which.GoodBlock, Which.one_more_if, Which.good_before, Which.times_listed}
 use Rattle.traces.proofs.salvages.laws.Chosen.{kept_none, kept_good, kept_torn, dropped_none, dropped_good, dropped_torn, kept_all_good}
 use Rattle.traces.proofs.salvages.laws.Taken.{part_records, record_in, all_good_are, are_all_good, length_bodies, within}
-use Rattle.traces.proofs.salvages.demands.{Blocks.kept_stands, Left.salvaged, Left.comes_out, Left.list_read}
+use Rattle.traces.proofs.salvages.demands.{Blocks.kept_stands, Left.salvaged, Left.trace_comes_out, Left.list_is_read}
 
 -- ---- of any list of blocks
 
@@ -119,13 +119,13 @@ module _ (l ks ds a : List ℕ) (done : IsDone (salvaging l ks ds a).number) whe
   contents = (salvaged l ks ds a done).contents
 
   out_blocks : bodies came_out ≡ kept (bodies l)
-  out_blocks = ap bodies (comes_out l ks ds a done) ∙ kept_stands l contents
+  out_blocks = ap bodies (trace_comes_out l ks ds a done) ∙ kept_stands l contents
 
   out_count : block_count came_out ≡ length (kept (bodies l))
   out_count = sym (length_bodies came_out (block_count came_out) 0) ∙ ap length out_blocks
 
   in_list : listed ≡ dropped_from 0 (bodies l)
-  in_list = list_read l ks ds a done
+  in_list = list_is_read l ks ds a done
 
   module _ (b : ℕ) (h : b < block_count l) where
     in_trace : b < length (bodies l)
