@@ -21,7 +21,7 @@ fn whole_image(bytes: &[u8], image: &[u8]) -> Verdict
     requires { length bytes.now ≡ 320 }
     ensures { agreed result ≡ true → image.now ≡ take 300 bytes.now }
 {
-    if check::same(image, &bytes[0..300]) {
+    if image == &bytes[0..300] {
         Verdict::Agrees
     } else {
         Verdict::Whole

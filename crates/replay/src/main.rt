@@ -11,6 +11,8 @@ ghost use Rattle.std.specs.Prelude.{◌≡◌, ◌+◌, ◌^◌, ◌<◌, ◌≤
 
 use crate::records::Verdict;
 use bits::bytes::number;
+use std::fs::File;
+use std::io::Read;
 
 // A sum, or the largest number where that does not fit.
 fn sum(a: u64, b: u64) -> u64 {
@@ -66,29 +68,44 @@ fn fail(counts: Counts, kind: u8) -> Counts {
 }
 
 // A verdict counts, unless there was nothing to compare.
-fn tally(counts: Counts, at: u64, kind: u8, verdict: Verdict) -> Counts {
+fn tally(rt: &impl Print, counts: Counts, at: u64, kind: u8, verdict: Verdict) -> Counts {
     match verdict {
         Verdict::Agrees => pass(counts, kind),
         Verdict::Nothing => counts,
         _ => {
-            say::failure(at, verdict);
+            say::failure(rt, at, verdict);
             fail(counts, kind)
         }
     }
 }
 
+// Reads until the buffer is full, the file ends or a read fails, and hands back how many bytes stand at the front.
+fn read_full(file: &mut impl Read, buf: &mut [u8]) -> usize
+    ensures { result ≤ length buf.new }
+{
+    let mut done = 0;
+    while done < buf.len() {
+        let n = file.read(&mut buf[done..]).unwrap_or(0);
+        if n == 0 {
+            break;
+        }
+        done += n;
+    }
+    done
+}
+
 // The next record, and the five that stand behind an image's. It is false where the file ends in them.
-fn read_record(fd: i32, noted: &mut [u8], bytes: &mut [u8]) -> bool
+fn read_record(file: &mut impl Read, noted: &mut [u8], bytes: &mut [u8]) -> bool
     requires { length noted.old ≡ 64 }
 {
-    let n = io::read_full(fd, noted);
+    let n = read_full(file, noted);
     if n < 64 {
         return false;
     }
     if noted[0] != 7 && noted[0] != 8 {
         return true;
     }
-    let m = io::read_full(fd, bytes);
+    let m = read_full(file, bytes);
     m == bytes.len()
 }
 
@@ -100,14 +117,20 @@ struct Next {
 }
 
 // The next record, number `at`.
-fn replay_next(fd: i32, at: u64, image: &mut [u8], counts: Counts) -> Next
+fn replay_next(
+    rt: &impl Print,
+    file: &mut impl Read,
+    at: u64,
+    image: &mut [u8],
+    counts: Counts,
+) -> Next
     requires { (at < 2 ^ 32) × (length image.old ≡ 300) }
     ensures { at < result.at }
 {
     let mut noted = [0u8; 64];
     let mut bytes = [0u8; 320];
-    if !read_record(fd, &mut noted, &mut bytes) {
-        let cut = tally(counts, at, 0, Verdict::Cut);
+    if !read_record(file, &mut noted, &mut bytes) {
+        let cut = tally(rt, counts, at, 0, Verdict::Cut);
         return Next {
             counts: cut,
             at: u64::MAX,
@@ -115,7 +138,7 @@ fn replay_next(fd: i32, at: u64, image: &mut [u8], counts: Counts) -> Next
     }
     let kind = noted[0];
     let verdict = each::replay_record(&noted, &bytes, image);
-    let held = tally(counts, at, kind, verdict);
+    let held = tally(rt, counts, at, kind, verdict);
     let behind = at + together(kind);
     Next {
         counts: held,
@@ -123,7 +146,7 @@ fn replay_next(fd: i32, at: u64, image: &mut [u8], counts: Counts) -> Next
     }
 }
 
-fn replay_all(fd: i32, records: u64) -> Counts
+fn replay_all(rt: &impl Print, file: &mut impl Read, records: u64) -> Counts
     requires { records < 2 ^ 32 }
 {
     let mut image = [0u8; 300];
@@ -133,7 +156,7 @@ fn replay_all(fd: i32, records: u64) -> Counts
     };
     let mut at = 0;
     while at < records {
-        let next = replay_next(fd, at, &mut image, counts);
+        let next = replay_next(rt, file, at, &mut image, counts);
         counts = next.counts;
         at = next.at;
     }
@@ -147,68 +170,71 @@ fn calls(counts: [u64; 10]) -> u64 {
 }
 
 // The file ends where its header says.
-fn check_end(fd: i32, counts: Counts) -> Counts {
+fn check_end(rt: &impl Print, file: &mut impl Read, counts: Counts) -> Counts {
     let mut more = [0u8; 1];
-    let n = io::read_full(fd, &mut more);
+    let n = read_full(file, &mut more);
     if n == 0 {
         return counts;
     }
-    say::text(b"FAILED: the file does not end where its header says\n");
+    say::text(rt, b"FAILED: the file does not end where its header says\n");
     fail(counts, 0)
 }
 
 // As many calls were made as the header tells of.
-fn check_calls(wanted: u64, counts: Counts) -> Counts {
+fn check_calls(rt: &impl Print, wanted: u64, counts: Counts) -> Counts {
     let passed = counts.passed;
     let failed = counts.failed;
     if sum(calls(passed), calls(failed)) == wanted {
         return counts;
     }
-    say::text(b"FAILED: the header tells of another number of calls\n");
+    say::text(rt, b"FAILED: the header tells of another number of calls\n");
     fail(counts, 0)
 }
 
-fn say_kind(name: &[u8], kind: usize, counts: Counts)
+fn say_kind(rt: &impl Print, name: &[u8], kind: usize, counts: Counts)
     requires { kind < 10 }
 {
-    say::text(name);
-    say::counts(counts.passed[kind], counts.failed[kind]);
+    say::text(rt, name);
+    say::counts(rt, counts.passed[kind], counts.failed[kind]);
 }
 
-fn say_kinds(counts: Counts) {
-    say_kind(b"reset: ", 1, counts);
-    say_kind(b"read: ", 2, counts);
-    say_kind(b"write: ", 3, counts);
-    say_kind(b"level: ", 4, counts);
-    say_kind(b"poll: ", 5, counts);
-    say_kind(b"drain: ", 6, counts);
-    say_kind(b"whole images: ", 8, counts);
-    say_kind(b"", 0, counts);
+fn say_kinds(rt: &impl Print, counts: Counts) {
+    say_kind(rt, b"reset: ", 1, counts);
+    say_kind(rt, b"read: ", 2, counts);
+    say_kind(rt, b"write: ", 3, counts);
+    say_kind(rt, b"level: ", 4, counts);
+    say_kind(rt, b"poll: ", 5, counts);
+    say_kind(rt, b"drain: ", 6, counts);
+    say_kind(rt, b"whole images: ", 8, counts);
+    say_kind(rt, b"", 0, counts);
 }
 
 // The header's form is known: it begins with the letters of this form.
 fn is_known(header: &[u8]) -> bool
     requires { length header.now ≡ 64 }
 {
-    check::same(&header[0..8], b"PCHPICA1")
+    &header[0..8] == b"PCHPICA1".as_slice()
 }
 
-fn replay_file(fd: i32, header: &[u8])
+fn replay_file(rt: &impl Print, file: &mut impl Read, header: &[u8])
     requires { length header.now ≡ 64 }
 {
-    let replayed = replay_all(fd, number(&header[8..12]));
-    let ended = check_end(fd, replayed);
-    let counts = check_calls(number(&header[12..16]), ended);
-    say_kinds(counts);
+    let replayed = replay_all(rt, file, number(&header[8..12]));
+    let ended = check_end(rt, file, replayed);
+    let counts = check_calls(rt, number(&header[12..16]), ended);
+    say_kinds(rt, counts);
 }
 
-fn main() {
-    let fd = os::open_read(b"answers.bin");
-    let mut header = [0u8; 64];
-    let n = io::read_full(fd, &mut header);
-    if n < 64 || !is_known(&header) {
-        say::text(b"answers.bin is no file of recorded answers\n0 passed, 1 failed\n");
-        return;
+fn main(rt: HostRuntime) {
+    if let Ok(mut file) = File::open(&rt, "answers.bin") {
+        let mut header = [0u8; 64];
+        let n = read_full(&mut file, &mut header);
+        if n == 64 && is_known(&header) {
+            return replay_file(&rt, &mut file, &header);
+        }
     }
-    replay_file(fd, &header);
+    say::text(
+        &rt,
+        b"answers.bin is no file of recorded answers\n0 passed, 1 failed\n",
+    );
 }

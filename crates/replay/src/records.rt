@@ -64,7 +64,7 @@ pub fn compare(noted: &[u8], handed: u8, image: &[u8], answer: &[u8], events: &[
         return Verdict::Number;
     }
     let wanted = recorded_answer(noted);
-    if !check::same(answer, &wanted) {
+    if answer != wanted.as_slice() {
         return Verdict::Answer;
     }
     if checksum(image) != number(&noted[4..8]) {
