@@ -1,5 +1,5 @@
 // The call that moves a lent image to another form (02, C-17). It requires nothing: every input has its outcome. It stands apart from the six, so that the code which saves a state has one caller in
-// each object and becomes part of it: a reset is then a block of constants.
+// each object and becomes part of it.
 #![tactic(auto)]
 
 pub mod convert;
