@@ -26,7 +26,7 @@ function item_at(text, place,    n, i, lines, at, item, depth, type) {
             sub(/.*fn /, "", item)
             item = "fn " crate "::" module type item
             depth = indent(lines[i])
-        } else if (match(lines[i], /^ *(pub )?(const|struct|enum) [A-Za-z_0-9]+/) && (item !~ /^fn / || indent(lines[i]) <= depth)) {
+        } else if (match(lines[i], /^ *(pub )?(const|static|struct|enum) [A-Za-z_0-9]+/) && (item !~ /^fn / || indent(lines[i]) <= depth)) {
             item = substr(lines[i], RSTART, RLENGTH)
             sub(/.* /, "", item)
             item = "word " item

@@ -14,7 +14,7 @@ match($0, /^ *(pub )?(extern "C" )?fn [a-z_0-9]+/) {
     sub(/.*fn /, "", item)
     item = "fn " crate "::" module type item
 }
-match($0, /^ ?(    )?(pub )?(const|struct|enum) [A-Za-z_0-9]+/) {
+match($0, /^ ?(    )?(pub )?(const|static|struct|enum) [A-Za-z_0-9]+/) {
     item = substr($0, RSTART, RLENGTH)
     sub(/.* /, "", item)
     item = "word " item

@@ -127,13 +127,13 @@ impl Parser<'_> {
         let kind = match self.word() {
             "use" if !public && !exported => self.used()?,
             "mod" if !exported => self.module()?,
-            "const" if !exported => ItemKind::Const(self.constant()?),
+            "const" | "static" if !exported => ItemKind::Const(self.constant()?),
             "struct" if !exported => ItemKind::Struct(self.structure()?),
             "enum" if !exported => ItemKind::Enum(self.enumeration()?),
             "impl" if !public && !exported => self.implementation()?,
             "extern" if exported && public => self.exported_function()?,
             "fn" if !exported => ItemKind::Fn(self.function(false)?),
-            _ => return self.unknown("an item that is known is wanted here (use, mod, const, struct, enum, impl, fn)"),
+            _ => return self.unknown("an item that is known is wanted here (use, mod, const, static, struct, enum, impl, fn)"),
         };
         Ok(Item { span: self.since(start), attributes, public, kind })
     }

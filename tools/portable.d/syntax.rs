@@ -30,6 +30,7 @@ pub enum ItemKind {
     Fn(Function),
 }
 
+/// Or a static, which is not written either.
 pub struct Const {
     pub name: String,
     pub ty: Type,

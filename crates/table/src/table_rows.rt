@@ -3,6 +3,13 @@ pub mod rows;
 
 ghost use Rattle.table.specs.Meaning.{Agrees};
 
+// The whole table where it stands, which no caller copies.
+pub fn lent() -> &'static [[u8; 32]; 32]
+    ensures { Agrees result.now }
+{
+    &rows::TABLE
+}
+
 // The whole table. A caller lends it on: an array that is named again is copied again.
 pub fn whole() -> [[u8; 32]; 32]
     ensures { Agrees result }

@@ -35,7 +35,7 @@ const NO: u8 = 0;
 
 // ---- the table, by its rows
 
-pub const TABLE: [[u8; 32]; 32] = [
+pub static TABLE: [[u8; 32]; 32] = [
     // 0x000
     ID_ROW,
     MASK_ROW,

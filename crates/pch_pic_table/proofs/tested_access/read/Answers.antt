@@ -48,7 +48,7 @@ returns-in_default-locate c = let u = c in let l = u in let e = l in let w = e i
 
 pub read_access-value-requires : goal.read_access-value-requires
 read_access-value-requires c = let t = c in let o = t in let l = o in let e = l in let w = e in let p = w in
-    (long (on (goal.at.read_access-value-requires c).In-Good), t.whole-table.ensures, reach _ _ l.locate.ensures.1 o.in-At.is (sym w.width_of.ensures ∙ ap known_view e.in-As.is))
+    (long (on (goal.at.read_access-value-requires c).In-Good), t.lent-table.ensures, reach _ _ l.locate.ensures.1 o.in-At.is (sym w.width_of.ensures ∙ ap known_view e.in-As.is))
 
 pub returns : goal.returns
 returns c = let g = c in let o = g in let l = o in let e = l in let w = e in

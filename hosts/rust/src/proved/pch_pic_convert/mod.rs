@@ -1,6 +1,6 @@
 // Made from crates/pch_pic_convert/src/lib.rt by tools/portable: do not change it here.
 //! The call that moves a lent image to another form (02, C-17). It requires nothing: every input has its outcome. It stands apart from the six, so that the code which saves a state has one caller in
-//! each object and becomes part of it: a reset is then a block of constants.
+//! each object and becomes part of it.
 
 pub mod convert;
 pub mod load_numbers;

@@ -35,8 +35,8 @@ pub fn read(image: &[u8], base: u64, size: u64, address: u64, width: u64) -> Tol
     let Located::At(offset) = window::locate(base, size, address, width) else {
         return outside(address);
     };
-    let table = table_rows::whole();
-    let value = table_widths::read_access(image, form, &table, known, offset);
+    let table = table_rows::lent();
+    let value = table_widths::read_access(image, form, table, known, offset);
     done(Value::Present(value))
 }
 
@@ -57,7 +57,7 @@ pub fn write(image: &mut [u8], base: u64, size: u64, address: u64, width: u64, v
     let Located::At(offset) = window::locate(base, size, address, width) else {
         return outside(address);
     };
-    let table = table_rows::whole();
-    let dropped = table_widths::write_access(image, form, &table, known, offset, value);
+    let table = table_rows::lent();
+    let dropped = table_widths::write_access(image, form, table, known, offset, value);
     done(Value::Present(dropped as u64))
 }

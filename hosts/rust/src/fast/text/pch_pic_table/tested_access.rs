@@ -42,8 +42,8 @@ pub fn read<const N: usize>(
     let Located::At(offset) = window::locate(base, size, address, width) else {
         return outside(address);
     };
-    let table = table_rows::whole();
-    let value = table_widths::read_access(image, &table, known, offset);
+    let table = table_rows::lent();
+    let value = table_widths::read_access(image, table, known, offset);
     done(Value::Present(value))
 }
 
@@ -72,7 +72,7 @@ pub fn write<const N: usize>(
     let Located::At(offset) = window::locate(base, size, address, width) else {
         return outside(address);
     };
-    let table = table_rows::whole();
-    let dropped = table_widths::write_access(image, &table, known, offset, value);
+    let table = table_rows::lent();
+    let dropped = table_widths::write_access(image, table, known, offset, value);
     done(Value::Present(dropped as u64))
 }

@@ -3,6 +3,15 @@
 
 pub mod rows;
 
+/// The whole table where it stands, which no caller copies.
+///
+/// ```text
+/// ensures { Agrees result.now }
+/// ```
+pub fn lent() -> &'static [[u8; 32]; 32] {
+    &rows::TABLE
+}
+
 /// The whole table. A caller lends it on: an array that is named again is copied again.
 ///
 /// ```text
