@@ -1,6 +1,5 @@
-# Makes the replacements of an edit in the copy of a crate that stands in `folder`, and prints what each changes, a line each: 'fn PATH', or 'word NAME' for a
-# constant or a type. A 'file:' line holds for the pairs of 'old:' and 'new:' after it; an old text must be there exactly once. What is wrong is told, with status 1.
-# With `only_tell` nothing is written.
+# Makes the replacements of an edit in the copy of a crate that stands in `folder`, and prints what each changes, a line each, as items.awk names it. A 'file:' line
+# holds for the pairs of 'old:' and 'new:' after it; an old text must be there exactly once. What is wrong is told, with status 1. With `only_tell` nothing is written.
 
 function wrong(what) { print what; failed = 1; exit 1 }
 
@@ -11,28 +10,15 @@ function read_whole(path,    line, text) {
     return text
 }
 
-# indent LINE: how far its first word stands in
-function indent(line) { match(line, /^ */); return RLENGTH }
-
-# the item of a source text in which the character at a place stands
-function item_at(text, place,    n, i, lines, at, item, depth, type) {
+# the item of a source text in which the character at a place stands; an attribute and a comment are of what stands below them
+function item_at(text, place,    n, i, lines, at, begins) {
     n = split(text, lines, "\n")
+    begin(file)
     at = 1
     for (i = 1; i <= n; i++) {
-        if (lines[i] ~ /^impl /) { type = lines[i]; gsub(/^impl | *\{.*/, "", type); type = type "::" }
-        else if (lines[i] ~ /^}/) type = ""
-        if (match(lines[i], /^ *(pub )?(extern "C" )?fn [a-z_0-9]+/)) {
-            item = substr(lines[i], RSTART, RLENGTH)
-            sub(/.*fn /, "", item)
-            item = "fn " crate "::" module type item
-            depth = indent(lines[i])
-        } else if (match(lines[i], /^ *(pub )?(const|static|struct|enum) [A-Za-z_0-9]+/) && (item !~ /^fn / || indent(lines[i]) <= depth)) {
-            item = substr(lines[i], RSTART, RLENGTH)
-            sub(/.* /, "", item)
-            item = "word " item
-        }
+        begins = step(lines[i])
         at += length(lines[i]) + 1
-        if (at > place) return item
+        if (at > place && (begins || lines[i] !~ /^ *(#\[|\/\/)/)) return item
     }
     return item
 }
@@ -40,11 +26,6 @@ function item_at(text, place,    n, i, lines, at, item, depth, type) {
 /^file: / {
     file = substr($0, 7)
     if (file !~ /^src\/[a-z0-9_\/]+\.rt$/) wrong("'" file "' is no source file of the crate")
-    module = file
-    sub(/^src\//, "", module)
-    sub(/\.rt$/, "", module)
-    gsub(/\//, "::", module)
-    module = module == "lib" || module == "main" ? "" : module "::"
 }
 /^old: / { old = substr($0, 6) }
 /^new:/ {

@@ -12,35 +12,31 @@ function of_proof(path,    last) {
     return path last
 }
 
-# The function in which a line of a source stands; an attribute is of what stands below it.
-function of_source(path, at,    line, n, module, type, item, here) {
-    module = path
-    sub(/^src\//, "", module)
-    sub(/\.rt$/, "", module)
-    gsub(/\//, "::", module)
-    module = module == "lib" || module == "main" ? "" : module "::"
+# The item in which a line of a source stands; an attribute is of what stands below it.
+function of_source(path, at,    line, n) {
+    begin(path)
     while ((getline line < (folder "/" path)) > 0) {
         n++
-        here = 0
-        if (line ~ /^impl /) { type = line; gsub(/^impl | *\{.*/, "", type); type = type "::" }
-        else if (line ~ /^}/) type = ""
-        if (match(line, /^ *(pub )?(extern "C" )?fn [a-z_0-9]+/)) { item = substr(line, RSTART, RLENGTH); sub(/.*fn /, "", item); here = 1 }
+        step(line)
         if (n == at && line ~ /^ *#\[/) at++
         else if (n == at) break
     }
     close(folder "/" path)
-    return crate "::" module type item
+    sub(/^fn /, "", item)
+    return item
 }
 
-# Whether the edit changes a function; of those that call one another the proof is of all: +ONE+OTHER, or +NAME of a cycle that has a name.
+# Whether the edit changes a function; of those that call one another the proof is of all: +ONE+OTHER, or +NAME of a cycle that has a name. What stands in an `impl` and in none of
+# its functions is of each of them; and what a type derives is of the type.
 function is_changed(of,    n, i, names, last, front) {
     last = of
     sub(/.*::/, "", last)
     front = substr(of, 1, length(of) - length(last))
     n = split(ENVIRON["CHANGED"], names, " ")
     for (i = 1; i <= n; i++) {
-        if (names[i] == of) return 1
+        if (names[i] == of || names[i] == front "*" || last == "*" && index(names[i], front) == 1) return 1
         if (last ~ /^\+/ && index(names[i], front) == 1 && index(last "+", substr(names[i], length(front) + 1))) return 1
+        if (names[i] ~ /^word:/ && (of == "word " substr(names[i], 6) || of ~ ("::" substr(names[i], 6) "(Clone|Debug|Default|Drop|Eq|Hash|Ord|PartialEq|PartialOrd)::"))) return 1
     }
     return 0
 }

@@ -37,10 +37,11 @@ sources() {
     done
 }
 
-# weight CRATE: about how many seconds its proof takes, on a machine of today: by its functions, and by the text that is to be checked.
+# weight CRATE: about how many seconds its proof takes, on a machine of today: by its functions, those that types derive too, and by the text that is to be checked.
 weight() {
     local functions text
-    functions=$(find "$root/crates/$1/src" -name '*.rt' -exec cat {} + | grep -cE '^ *(pub )?(extern "C" )?fn ')
+    functions=$(find "$root/crates/$1/src" -name '*.rt' -exec cat {} + |
+        awk '/^ *(pub )?(extern "C" )?fn / { n++ } /^ *#\[derive\(/ { n += gsub(/PartialEq|PartialOrd|Ord|Hash|Debug|Default/, "") + (/Clone/ && !/Copy/) } END { print n + 0 }')
     text=$(find "$root/crates/$1" -name out -prune -o -name '*.antt' -exec cat {} + | wc -c)
     echo $((2 + functions + text / 20000))
 }

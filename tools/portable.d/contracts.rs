@@ -27,7 +27,8 @@ pub fn length_of(one: &Term) -> Option<&str> {
 /// Whether a conjunct says that the bytes of a parameter have the length of the form that another tells.
 pub fn says_form(one: &Term, image: &str, form: &str) -> bool {
     let named = |of: &Term, by: &str, name: &str| of.applied(by, 1).is_some_and(|all| all == [Term::Name(name.to_string())]);
-    if one.applied("Headed", 2).is_some_and(|all| named(&all[0], "Of", form) && named(&all[1], "now", image)) {
+    let tested = |head: &Term| named(head, "Ok", form) || named(head, "Of", form);
+    if one.applied("Headed", 2).is_some_and(|all| tested(&all[0]) && named(&all[1], "now", image)) {
         return true;
     }
     let Term::Pair(sign, left, right) = one else { return false };

@@ -4,8 +4,9 @@ use std::fs;
 use std::path::{Path, PathBuf};
 
 use crate::lexer::Refused;
+use crate::names::{self, Methods};
 use crate::parser::parse;
-use crate::syntax::{File, ItemKind};
+use crate::syntax::{File, ItemKind, Macro};
 
 /// One source: a module of a crate, or the crate's root, whose path is empty.
 pub struct Module {
@@ -28,6 +29,8 @@ pub struct House {
     pub crates: Vec<Crate>,
     /// The fronts, or what was asked for in their place.
     pub tops: Vec<String>,
+    /// The methods of all types.
+    pub methods: Methods,
 }
 
 pub type Told<T> = Result<T, String>;
@@ -60,7 +63,17 @@ impl House {
                 crates.push(Crate { name, modules });
             }
         }
-        Ok(House { crates, tops })
+        let mut methods = Methods::new();
+        let modules = crates.iter().flat_map(|krate: &Crate| &krate.modules);
+        modules.for_each(|module| names::methods(&module.syntax.items, &mut methods));
+        Ok(House { crates, tops, methods })
+    }
+
+    /// Where a crate declares `by_form!`.
+    pub fn by_form(&self, name: &str) -> Option<(&Module, &Macro)> {
+        let modules = self.crates.iter().filter(|krate| krate.name == name).flat_map(|krate| &krate.modules);
+        let mut items = modules.flat_map(|module| module.syntax.items.iter().map(move |item| (module, item)));
+        items.find_map(|(module, item)| if let ItemKind::Macro(declared) = &item.kind { Some((module, declared)) } else { None })
     }
 
     pub fn has(&self, name: &str) -> bool {

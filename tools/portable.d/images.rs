@@ -49,7 +49,10 @@ impl<'a> Images<'a> {
             }
         }
         while images.one_more(&all)? {}
-        all.iter().try_for_each(|(address, known)| images.only_passed_on(address, known).map_err(refused_in(known)))?;
+        for (address, known) in &all {
+            images.only_called(address, known).map_err(refused_in(known))?;
+            images.only_passed_on(address, known).map_err(refused_in(known))?;
+        }
         Ok(images)
     }
 
@@ -91,6 +94,7 @@ impl<'a> Images<'a> {
     }
 
     fn is_form(&self, module: &Module, ty: &Type) -> bool {
+        let (module, ty) = self.scope.meant(module, ty);
         let TypeKind::Named(path) = &ty.kind else { return false };
         self.scope.absolute(module, path) == format!("{}::{}", self.forms.module, self.forms.name)
     }
@@ -114,10 +118,37 @@ impl<'a> Images<'a> {
         let mut found = Vec::new();
         walk::block(&known.function.body, &mut |node| {
             let Node::Expr(Expr { kind: ExprKind::Call(callee, all), .. }) = node else { return };
-            let Some((address, _)) = self.scope.called(known.module, callee) else { return };
+            let Some((address, _)) = self.scope.called(known, callee) else { return };
             found.extend(self.at(&address).iter().filter_map(|image| Some((*image, all.get(image.param)?))));
         });
         found
+    }
+
+    /// A function that takes an image is called by its path, and nothing else is made of it; and the form that it is handed has a name: with the form goes nothing that
+    /// is done or told.
+    fn only_called(&self, address: &str, known: &Known) -> Result<(), Refused> {
+        if known.is_method() && !self.at(address).is_empty() {
+            return refuse(known.item.span.start, "a method that takes an image is not known");
+        }
+        let (mut callees, mut fault) = (Vec::new(), None);
+        walk::block(&known.function.body, &mut |node| {
+            let Node::Expr(expr) = node else { return };
+            if let ExprKind::Call(callee, all) = &expr.kind {
+                callees.push(callee.span);
+                let images = self.scope.called(known, callee).map_or(&[][..], |(address, _)| self.at(&address));
+                let forms = images.iter().filter_map(|image| all.get(image.form?));
+                if let Some(form) = forms.into_iter().find(|form| !matches!(form.kind, ExprKind::Path(_) | ExprKind::Field(_))) {
+                    fault.get_or_insert((form.span.start, "the form of an image is handed on that has no name"));
+                }
+            } else if !callees.contains(&expr.span) && !is_local(known.function, expr) && self.takes_image(known, expr) {
+                fault.get_or_insert((expr.span.start, "a function that takes an image is named here, and not called"));
+            }
+        });
+        fault.map_or(Ok(()), |(at, what)| refuse(at, what))
+    }
+
+    fn takes_image(&self, caller: &Known, callee: &Expr) -> bool {
+        self.scope.called(caller, callee).is_some_and(|(address, _)| !self.at(&address).is_empty())
     }
 
     /// A function that takes an image without its form looks at nothing but its length, and hands it on. So an image of no form's length may be
@@ -146,7 +177,7 @@ impl<'a> Images<'a> {
         let mut lets: Vec<(String, Span)> = Vec::new();
         walk::block(&known.function.body, &mut |node| match node {
             Node::Expr(Expr { kind: ExprKind::Call(callee, all), .. }) => {
-                let teller = self.scope.called(known.module, callee).is_some_and(|(address, _)| address == self.forms.teller);
+                let teller = self.scope.called(known, callee).is_some_and(|(address, _)| address == self.forms.teller);
                 told.extend(all.iter().filter(|_| teller).map(|one| one.span));
             }
             Node::Let(Let { pattern: Pattern { kind: PatternKind::Name(bound), .. }, value, .. }) => lets.push((bound.clone(), value.span)),
@@ -156,7 +187,8 @@ impl<'a> Images<'a> {
         let by_name: Vec<Span> = lets.iter().filter(|(bound, _)| only_told(bound)).map(|(_, value)| *value).collect();
         let mut found = Vec::new();
         walk::block(&known.function.body, &mut |node| {
-            if let Node::Expr(Expr { kind: ExprKind::Len(of), span }) = node
+            if let Node::Expr(Expr { kind: ExprKind::Method(Method { of, name: method, .. }), span }) = node
+                && method == "len"
                 && lent_name(of) == Some(name)
                 && (told.contains(span) || by_name.contains(span))
             {
@@ -171,7 +203,7 @@ impl<'a> Images<'a> {
         let mut found = Vec::new();
         walk::block(&known.function.body, &mut |node| {
             let Node::Expr(Expr { kind: ExprKind::Call(callee, all), .. }) = node else { return };
-            let Some((address, _)) = self.scope.called(known.module, callee) else { return };
+            let Some((address, _)) = self.scope.called(known, callee) else { return };
             for form in self.at(&address).iter().filter_map(|image| image.form) {
                 found.push(Span { start: all[form - 1].span.end, end: all[form].span.end });
             }
@@ -227,6 +259,12 @@ fn bound(function: &Function, name: &str) -> bool {
     found
 }
 
+/// Whether it is a parameter or a variable of the function.
+fn is_local(function: &Function, expr: &Expr) -> bool {
+    let ExprKind::Path(path) = &expr.kind else { return false };
+    path.len() == 1 && (bound(function, &path[0]) || function.params.iter().any(|param| param.name == path[0]))
+}
+
 /// The forms, from the one function that tells by a length which of them it is.
 fn forms(scope: &Scope) -> Told<Forms> {
     let mut found = Vec::new();
@@ -244,7 +282,7 @@ fn forms(scope: &Scope) -> Told<Forms> {
 
 type Lengths = ((String, String), Vec<(String, String)>);
 
-/// `match length { 259 => KnownForm::As(Form::One), .. }` over its only parameter.
+/// `match length { 259 => Some(Form::One), .. }` over its only parameter.
 fn told_lengths(known: &Known) -> Option<Lengths> {
     let [param] = known.function.params.as_slice() else { return None };
     let [Statement::Expr(Expr { kind: ExprKind::Match(over, arms), .. })] = known.function.body.statements.as_slice() else {
@@ -257,7 +295,10 @@ fn told_lengths(known: &Known) -> Option<Lengths> {
     }
     let mut lengths = Vec::new();
     let mut name = None;
-    for (pattern, value) in arms {
+    if arms.iter().any(|arm| arm.guard.is_some()) {
+        return None;
+    }
+    for Arm { pattern, value, .. } in arms {
         let (PatternKind::Literal, ExprKind::Call(_, all)) = (&pattern.kind, &value.kind) else { continue };
         let [Expr { kind: ExprKind::Path(path), span }] = all.as_slice() else { return None };
         name = path.first().cloned();

@@ -36,7 +36,7 @@ pub enum Kind {
     Sign,
     /// `requires` or `ensures` with what it promises, to its closing brace.
     Contract,
-    /// `ghost use ..;` or `ghost { .. }`.
+    /// `ghost use ..;`, `ghost { .. }`, or a ghost member of a type or of a trait: `ghost NAME: { .. }`, `ghost NAME = { .. }`.
     Ghost,
     End,
 }
@@ -55,7 +55,7 @@ pub struct Tokens {
 /// The signs of more than one character, the longest first.
 const SIGNS: [&str; 22] =
     ["<<=", ">>=", "..=", "->", "=>", "::", "..", "<<", ">>", "<=", ">=", "==", "!=", "&&", "||", "+=", "-=", "*=", "/=", "%=", "&=", "|="];
-const SINGLE: &str = "{}()[],;:.=<>+-*/%&|^!#";
+const SINGLE: &str = "{}()[],;:.=<>+-*/%&|^!#?$";
 
 pub fn tokens(text: &str) -> Result<Tokens, Refused> {
     let mut lexer = Lexer { text, at: 0, found: Tokens { tokens: Vec::new(), comments: Vec::new() } };
@@ -156,6 +156,7 @@ impl Lexer<'_> {
             self.push(kind, end + 1);
             return Ok(());
         }
+        let between = if kind == Kind::Ghost { " _\n:=" } else { " _\n*" };
         let mut depth = 0;
         for (at, c) in rest.char_indices().skip(word) {
             match c {
@@ -165,7 +166,7 @@ impl Lexer<'_> {
                     return Ok(());
                 }
                 '}' => depth -= 1,
-                c if depth == 0 && !(c.is_ascii_alphanumeric() || " _\n".contains(c)) => break,
+                c if depth == 0 && !(c.is_ascii_alphanumeric() || between.contains(c)) => break,
                 _ => {}
             }
         }

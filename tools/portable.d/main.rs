@@ -3,6 +3,7 @@ mod contracts;
 mod edits;
 mod house;
 mod images;
+mod known;
 mod lexer;
 mod made;
 mod names;

@@ -1,10 +1,12 @@
 //! Reads a source as the constructs of `syntax`, and refuses whatever is none of them.
+use crate::known::{self, NUMBERS};
 use crate::lexer::{Kind, Refused, Span, Token, Tokens, refuse, tokens};
 use crate::syntax::*;
+use crate::walk;
 
 pub fn parse(text: &str) -> Result<File, Refused> {
     let Tokens { tokens, comments } = tokens(text)?;
-    let mut parser = Parser { text, tokens, at: 0, structs: true };
+    let mut parser = Parser { text, tokens, at: 0, structs: true, within: false, paths: Vec::new() };
     let (mut asked, mut items) = (Vec::new(), Vec::new());
     while parser.token().kind != Kind::End {
         if parser.is("#") && parser.ahead(1, "!") {
@@ -13,6 +15,7 @@ pub fn parse(text: &str) -> Result<File, Refused> {
             items.push(parser.item()?);
         }
     }
+    parser.own_paths(&items)?;
     Ok(File { asked, items, comments })
 }
 
@@ -22,28 +25,33 @@ struct Parser<'a> {
     at: usize,
     /// Whether a brace behind a path begins a struct; it does not in the heads of `if`, `while`, `for` and `match`.
     structs: bool,
+    /// Whether a function may begin with `self`: it stands in an `impl`.
+    within: bool,
+    /// The paths of expressions and patterns, with their places.
+    paths: Vec<(Vec<String>, usize)>,
+}
+
+/// Whether a name is spelled as constants are.
+fn is_constant(name: &str) -> bool {
+    name.len() > 1
+        && name.starts_with(|c: char| c.is_ascii_uppercase())
+        && name.chars().all(|c| c.is_ascii_uppercase() || c.is_ascii_digit() || c == '_')
 }
 
 type Read<T> = Result<T, Refused>;
 
-/// The words that are no names.
-const RESERVED: [&str; 35] = [
-    "as", "async", "await", "break", "const", "continue", "crate", "dyn", "else", "enum", "extern", "fn", "for", "if", "impl", "in", "let",
-    "loop", "macro", "match", "mod", "move", "mut", "pub", "ref", "return", "static", "struct", "super", "trait", "type", "unsafe", "use",
-    "where", "while",
-];
-/// The functions of the kit and of Rust that are known, but for the sums and differences that wrap.
-const KNOWN: [&str; 1] = ["u64::trailing_zeros"];
-const WRAPPED: [&str; 5] = ["u8", "u16", "u32", "u64", "usize"];
-const NUMBERS: [&str; 8] = ["u8", "u16", "u32", "u64", "usize", "i16", "i32", "i64"];
+/// The signs between two operands.
+const ROWS: [&[&str]; 9] =
+    [&["||"], &["&&"], &["==", "!=", "<", ">", "<=", ">="], &["|"], &["^"], &["&"], &["<<", ">>"], &["+", "-"], &["*", "/", "%"]];
+/// The first row behind those of `||` and `&&`.
+const LAZY: usize = 2;
 
-/// `std::num::wrapping_add_u16` as Rust has it, and so on for the sums and differences that wrap.
-pub fn wrapping(path: &[String]) -> Option<String> {
-    let [a, b, name] = path else { return None };
-    let (operation, number) = name.strip_prefix("wrapping_")?.split_once('_')?;
-    let known = a == "std" && b == "num" && (operation == "add" || operation == "sub") && WRAPPED.contains(&number);
-    known.then(|| format!("{number}::wrapping_{operation}"))
-}
+/// The words that are no names.
+const RESERVED: [&str; 36] = [
+    "as", "async", "await", "break", "const", "continue", "crate", "dyn", "else", "enum", "extern", "fn", "for", "if", "impl", "in", "let",
+    "loop", "macro", "match", "mod", "move", "mut", "pub", "ref", "return", "self", "static", "struct", "super", "trait", "type", "unsafe",
+    "use", "where", "while",
+];
 
 impl Parser<'_> {
     fn token(&self) -> Token {
@@ -90,6 +98,22 @@ impl Parser<'_> {
         refuse(self.start(), format!("{what}, and not '{line}'"))
     }
 
+    /// What is the kit's or Rust's own is known: by its whole path, or by a name that a `use` line brings.
+    fn own_paths(&self, items: &[Item]) -> Read<()> {
+        let used = |item: &Item| if let ItemKind::Use(paths) = &item.kind { paths.clone() } else { Vec::new() };
+        let used: Vec<Vec<String>> = items.iter().flat_map(used).filter(|path| known::is_foreign(path)).collect();
+        for (path, at) in &self.paths {
+            let whole = match used.iter().find(|used| used.last() == path.first()) {
+                Some(front) => [front.as_slice(), &path[1..]].concat(),
+                None => path.clone(),
+            };
+            if known::is_foreign(&whole) && !known::is_known(&whole) {
+                return refuse(*at, format!("'{}' is not known", path.join("::")));
+            }
+        }
+        Ok(())
+    }
+
     fn name(&mut self) -> Read<String> {
         if self.token().kind != Kind::Word || RESERVED.contains(&self.word()) {
             return self.unknown("a name is wanted here");
@@ -118,39 +142,52 @@ impl Parser<'_> {
         let start = self.start();
         if self.token().kind == Kind::Ghost {
             self.at += 1;
-            let span = self.since(start);
-            return Ok(Item { span, attributes: Span { start, end: start }, public: false, kind: ItemKind::Ghost });
+            if self.within {
+                self.take(";");
+            }
+            let (span, attributes) = (self.since(start), Span { start, end: start });
+            return Ok(Item { span, attributes, derives: Vec::new(), public: false, kind: ItemKind::Ghost });
         }
-        let exported = self.exported()?;
+        if self.is("#") && self.ahead(2, "macro_export") {
+            return self.by_form_rules();
+        }
+        let (exported, derives) = self.attributes()?;
         let attributes = Span { start, end: self.start() };
         let public = self.take("pub");
+        if !(derives.is_empty() || self.is("struct") || self.is("enum")) {
+            return refuse(start, "only a struct or an enum derives something");
+        }
         let kind = match self.word() {
             "use" if !public && !exported => self.used()?,
             "mod" if !exported => self.module()?,
             "const" | "static" if !exported => ItemKind::Const(self.constant()?),
             "struct" if !exported => ItemKind::Struct(self.structure()?),
             "enum" if !exported => ItemKind::Enum(self.enumeration()?),
+            "type" if !exported => ItemKind::Alias(self.alias()?),
             "impl" if !public && !exported => self.implementation()?,
             "extern" if exported && public => self.exported_function()?,
             "fn" if !exported => ItemKind::Fn(self.function(false)?),
-            _ => return self.unknown("an item that is known is wanted here (use, mod, const, static, struct, enum, impl, fn)"),
+            _ => return self.unknown("an item that is known is wanted here (use, mod, const, static, struct, enum, type, impl, fn)"),
         };
-        Ok(Item { span: self.since(start), attributes, public, kind })
+        Ok(Item { span: self.since(start), attributes, derives, public, kind })
     }
 
-    /// The attributes of an item, and whether one exports it to C.
-    fn exported(&mut self) -> Read<bool> {
-        let mut exported = false;
+    /// The attributes of an item: whether one exports it to C, and what it derives.
+    fn attributes(&mut self) -> Read<(bool, Vec<String>)> {
+        let (mut exported, mut derives) = (false, Vec::new());
         while self.is("#") {
             let start = self.start();
-            match self.attribute(1)?.0.as_str() {
+            let said = self.attribute(1)?.0;
+            match said.as_str() {
                 "unsafe(no_mangle)" => exported = true,
-                "derive(Clone, Copy)" => {}
-                said if said.starts_with("cycle(") || said.starts_with("tactic(") => {}
-                said => return refuse(start, format!("the attribute '{said}' is not known")),
+                said if said.starts_with("cycle(") || said.starts_with("tactic(") || said.starts_with("inline(") => {}
+                said => match said.strip_prefix("derive(").and_then(|list| list.strip_suffix(')')) {
+                    Some(list) => derives.extend(derived(list, start)?),
+                    None => return refuse(start, format!("the attribute '{said}' is not known")),
+                },
             }
         }
-        Ok(exported)
+        Ok((exported, derives))
     }
 
     /// What an attribute says, and its place, to the bracket that closes it.
@@ -168,6 +205,49 @@ impl Parser<'_> {
         let said = self.text[inner..self.start()].to_string();
         self.at += 1;
         Ok((said, self.since(start)))
+    }
+
+    /// `by_form!` as it is declared, and no other macro: of each variant of a type an arm in which the name is bound to it.
+    fn by_form_rules(&mut self) -> Read<Item> {
+        let start = self.start();
+        self.all("# [ macro_export ]")?;
+        let attributes = Span { start, end: self.start() };
+        self.all("macro_rules ! by_form { ( $ form : ident , $ body : expr ) => { match $ form {")?;
+        let (mut ty, mut fronts) = (Vec::new(), Vec::new());
+        while !self.take("}") {
+            let at = self.start();
+            let arm = self.variant(&mut fronts)?;
+            self.all("=> { let $ form =")?;
+            let bound = self.variant(&mut fronts)?;
+            self.all("; $ body }")?;
+            let of = arm[..arm.len() - 1].to_vec();
+            if arm != bound || !(ty.is_empty() || ty == of) {
+                return refuse(at, "an arm of another type, or one that is bound to something else");
+            }
+            ty = of;
+        }
+        self.all("} ; }")?;
+        if ty.is_empty() {
+            return refuse(start, "a macro without an arm");
+        }
+        Ok(Item { span: self.since(start), attributes, derives: Vec::new(), public: false, kind: ItemKind::Macro(Macro { ty, fronts }) })
+    }
+
+    /// `$crate::a::Type::Variant`: its path in the crate. What stands before the type goes to `fronts`.
+    fn variant(&mut self, fronts: &mut Vec<Span>) -> Read<Vec<String>> {
+        let start = self.start();
+        self.all("$ crate ::")?;
+        let path = self.path()?;
+        if path.len() < 2 {
+            return refuse(start, "a variant with its type is wanted here");
+        }
+        fronts.push(Span { start, end: self.tokens[self.at - 3].span.start });
+        Ok(path)
+    }
+
+    /// Signs and words one behind the other.
+    fn all(&mut self, words: &str) -> Read<()> {
+        words.split(' ').try_for_each(|word| self.want(word))
     }
 
     fn used(&mut self) -> Read<ItemKind> {
@@ -214,24 +294,76 @@ impl Parser<'_> {
         }
         let name = self.word().to_string();
         self.at += 1;
-        self.want(">")?;
+        self.close_angle()?;
         Ok(Some(name))
+    }
+
+    /// The `>` that closes angles; two of them that stand together are one token.
+    fn close_angle(&mut self) -> Read<()> {
+        if self.is(">>") {
+            let Token { kind, span } = self.token();
+            let middle = span.start + 1;
+            self.tokens[self.at] = Token { kind, span: Span { start: span.start, end: middle } };
+            self.tokens.insert(self.at + 1, Token { kind, span: Span { start: middle, end: span.end } });
+        }
+        self.want(">")
+    }
+
+    /// So many types in angles.
+    fn angles(&mut self, count: usize) -> Read<Vec<Type>> {
+        self.want("<")?;
+        let mut found = vec![self.ty()?];
+        while found.len() < count {
+            self.want(",")?;
+            found.push(self.ty()?);
+        }
+        self.close_angle()?;
+        Ok(found)
+    }
+
+    /// A field of a struct or of a variant: its name and its type.
+    fn field(&mut self, start: usize) -> Read<Field> {
+        self.name()?;
+        self.want(":")?;
+        let ty = self.ty()?;
+        Ok(Field { span: self.since(start), ty })
     }
 
     fn structure(&mut self) -> Read<Struct> {
         self.at += 1;
         let name = self.name()?;
         self.lifetime()?;
+        if self.take("(") {
+            let fields = self.list(")", |parser| {
+                let start = parser.start();
+                parser.take("pub");
+                let ty = parser.ty()?;
+                Ok(Field { span: parser.since(start), ty })
+            })?;
+            self.want(";")?;
+            return Ok(Struct { name, fields, ghosts: Vec::new() });
+        }
         self.want("{")?;
-        let fields = self.list("}", |parser| {
-            let start = parser.start();
-            parser.take("pub");
-            parser.name()?;
-            parser.want(":")?;
-            let ty = parser.ty()?;
-            Ok(Field { span: parser.since(start), ty })
-        })?;
-        Ok(Struct { name, fields })
+        let (mut fields, mut ghosts) = (Vec::new(), Vec::new());
+        while !self.take("}") {
+            let start = self.start();
+            self.take("pub");
+            let ghost = self.token().kind == Kind::Ghost;
+            if ghost {
+                self.at += 1;
+            } else {
+                fields.push(self.field(start)?);
+            }
+            let more = self.take(",");
+            if ghost {
+                ghosts.push(self.since(start));
+            }
+            if !more {
+                self.want("}")?;
+                break;
+            }
+        }
+        Ok(Struct { name, fields, ghosts })
     }
 
     fn enumeration(&mut self) -> Read<Enum> {
@@ -242,23 +374,61 @@ impl Parser<'_> {
             let start = parser.start();
             parser.name()?;
             let holds = if parser.take("(") { parser.list(")", Self::ty)? } else { Vec::new() };
-            Ok(Variant { span: parser.since(start), holds })
+            let named = holds.is_empty() && parser.take("{");
+            let fields = if named { parser.list("}", |parser| parser.field(parser.start()))? } else { Vec::new() };
+            Ok(Variant { span: parser.since(start), holds, fields })
         })?;
         Ok(Enum { name, variants })
     }
 
-    fn implementation(&mut self) -> Read<ItemKind> {
+    fn alias(&mut self) -> Read<Alias> {
         self.at += 1;
         let name = self.name()?;
+        self.want("=")?;
+        let ty = self.ty()?;
+        self.want(";")?;
+        if walk::any_type(&ty, |kind| matches!(kind, TypeKind::Lent(..) | TypeKind::Slice(_))) {
+            return refuse(ty.span.start, "another name is known only of a type that lends nothing");
+        }
+        Ok(Alias { name, ty })
+    }
+
+    /// `impl TYPE` or `impl TRAIT for TYPE`, with its items.
+    fn implementation(&mut self) -> Read<ItemKind> {
+        self.at += 1;
+        self.lifetime()?;
+        let start = self.start();
+        let mut of = None;
+        if known::TRAITS.contains(&self.word()) && self.ahead(1, "<") {
+            self.at += 1;
+            let all = self.angles(1)?;
+            of = Some(Trait { span: self.since(start), all });
+            self.want("for")?;
+        }
+        let ty = self.ty()?;
+        if of.is_none() && !matches!(&ty.kind, TypeKind::Named(path) if path.len() == 1) {
+            return refuse(ty.span.start, "constants and functions are known of a type by its name");
+        }
         self.want("{")?;
+        let within = std::mem::replace(&mut self.within, true);
         let mut items = Vec::new();
         while !self.take("}") {
-            if !(self.is("pub") || self.is("const") || self.is("fn")) {
-                return self.unknown("of a type only constants and functions are known");
+            let start = self.start();
+            let item = self.item()?;
+            let fine = match &item.kind {
+                ItemKind::Ghost => true,
+                ItemKind::Const(_) => of.is_none(),
+                ItemKind::Alias(_) => of.is_some() && !item.public,
+                ItemKind::Fn(function) => !function.exported,
+                _ => false,
+            };
+            if !fine {
+                return refuse(start, "of a type only constants and functions are known");
             }
-            items.push(self.item()?);
+            items.push(item);
         }
-        Ok(ItemKind::Impl(name, items))
+        self.within = within;
+        Ok(ItemKind::Impl(Impl { of, ty, items }))
     }
 
     fn exported_function(&mut self) -> Read<ItemKind> {
@@ -278,7 +448,11 @@ impl Parser<'_> {
         let name = self.name()?;
         let lifetime = self.lifetime()?;
         self.want("(")?;
+        let mut first = self.within;
         let params = self.list(")", |parser| {
+            if let Some(own) = std::mem::take(&mut first).then(|| parser.own()).flatten() {
+                return Ok(own);
+            }
             let name = parser.name()?;
             parser.want(":")?;
             Ok(Param { name, ty: parser.ty()? })
@@ -291,6 +465,22 @@ impl Parser<'_> {
         }
         let body = self.block()?;
         Ok(Function { name, exported, lifetime, params, result, contracts, body })
+    }
+
+    /// `self`, `&self` or `&mut self`.
+    fn own(&mut self) -> Option<Param> {
+        let start = self.start();
+        let lent = self.is("&");
+        let changed = lent && self.ahead(1, "mut");
+        let signs = usize::from(lent) + usize::from(changed);
+        if !self.ahead(signs, "self") {
+            return None;
+        }
+        self.at += signs + 1;
+        let span = self.since(start);
+        let this = Type { span, kind: TypeKind::Named(vec!["Self".to_string()]) };
+        let ty = if lent { Type { span, kind: TypeKind::Lent(changed, Box::new(this)) } } else { this };
+        Some(Param { name: "self".to_string(), ty })
     }
 
     // ---- types and patterns
@@ -313,16 +503,26 @@ impl Parser<'_> {
                 self.want("]")?;
                 TypeKind::Slice(of)
             }
+        } else if self.take("(") {
+            TypeKind::Tuple(self.list(")", Self::ty)?)
         } else {
             let path = self.path()?;
-            self.lifetime()?;
-            TypeKind::Named(path)
+            match known::angles(&path[0]) {
+                Some(count) if path.len() == 1 => TypeKind::Of(self.angles(count)?),
+                _ => {
+                    self.lifetime()?;
+                    TypeKind::Named(path)
+                }
+            }
         };
         Ok(Type { span: self.since(start), kind })
     }
 
-    /// `a::b::c`, from a name or from `crate`.
+    /// `a::b::c`, from a name or from `crate`; or `self`.
     fn path(&mut self) -> Read<Vec<String>> {
+        if self.take("self") {
+            return Ok(vec!["self".to_string()]);
+        }
         let mut path = vec![if self.take("crate") { "crate".to_string() } else { self.name()? }];
         while self.take("::") {
             path.push(self.name()?);
@@ -363,10 +563,20 @@ impl Parser<'_> {
             _ if self.take("_") => PatternKind::Any,
             _ if self.take("true") || self.take("false") => PatternKind::Literal,
             _ if self.take("mut") => PatternKind::Name(self.name()?),
+            _ if self.take("(") => PatternKind::Tuple(self.list(")", Self::pattern)?),
+            _ if self.take("&") => {
+                self.take("mut");
+                PatternKind::Lent(Box::new(self.end_of_pattern()?))
+            }
             _ => {
                 let mut path = self.path()?;
+                self.paths.push((path.clone(), start));
                 if self.take("(") {
                     PatternKind::Of(path, self.list(")", Self::pattern)?)
+                } else if self.take("{") {
+                    PatternKind::Struct(path, self.list("}", Self::field_pattern)?)
+                } else if path[..] == ["None"] || (path.len() == 1 && is_constant(&path[0])) {
+                    PatternKind::Path(path)
                 } else if path.len() == 1 {
                     if !path[0].starts_with(|c: char| c.is_ascii_lowercase() || c == '_') {
                         return refuse(start, format!("'{}' in a pattern is no name, and no variant with its type", path[0]));
@@ -376,6 +586,26 @@ impl Parser<'_> {
                     PatternKind::Path(path)
                 }
             }
+        };
+        Ok(Pattern { span: self.since(start), kind })
+    }
+
+    /// What a field of a struct is; a field without a pattern has its name, and `..` at the end stands for all others.
+    fn field_pattern(&mut self) -> Read<Pattern> {
+        let start = self.start();
+        let kind = if self.take("..") {
+            if !self.is("}") {
+                return self.unknown("'}' is wanted here");
+            }
+            PatternKind::Any
+        } else if self.take("mut") {
+            PatternKind::Name(self.name()?)
+        } else {
+            let name = self.name()?;
+            if self.take(":") {
+                return self.pattern();
+            }
+            PatternKind::Name(name)
         };
         Ok(Pattern { span: self.since(start), kind })
     }
@@ -399,6 +629,14 @@ impl Parser<'_> {
         if self.token().kind == Kind::Ghost {
             self.at += 1;
             return Ok(Statement::Ghost(self.since(start)));
+        }
+        if self.is("#") {
+            let (said, span) = self.attribute(1)?;
+            return if said.starts_with("tactic(") {
+                Ok(Statement::Ghost(span))
+            } else {
+                refuse(start, format!("the attribute '{said}' is not known"))
+            };
         }
         if self.take("let") {
             return self.binding();
@@ -429,6 +667,9 @@ impl Parser<'_> {
         let start = self.start();
         let target = self.range()?;
         const ASSIGNS: [&str; 9] = ["=", "+=", "-=", "*=", "/=", "%=", "&=", "|=", "^="];
+        if matches!(target.kind, ExprKind::Range(_, None)) {
+            return refuse(start, "a range without an end is known as an index only");
+        }
         if !ASSIGNS.iter().any(|sign| self.is(sign)) {
             return Ok(target);
         }
@@ -440,19 +681,18 @@ impl Parser<'_> {
 
     fn range(&mut self) -> Read<Expr> {
         let start = self.start();
-        let low = if self.is("..") { None } else { Some(Box::new(self.binary(0)?)) };
-        if !self.take("..") {
+        let low = if self.is("..") || self.is("..=") { None } else { Some(Box::new(self.binary(0)?)) };
+        let last = self.take("..=");
+        if !(last || self.take("..")) {
             return Ok(*low.expect("no range"));
         }
-        let open = self.is("]") || self.is(")") || self.is("{");
+        let open = !last && (self.is("]") || self.is(")") || self.is("{"));
         let high = if open { None } else { Some(Box::new(self.binary(0)?)) };
         Ok(Expr { span: self.since(start), kind: ExprKind::Range(low, high) })
     }
 
     /// Two operands and the sign between; the signs bind more tightly from row to row.
     fn binary(&mut self, row: usize) -> Read<Expr> {
-        const ROWS: [&[&str]; 9] =
-            [&["||"], &["&&"], &["==", "!=", "<", ">", "<=", ">="], &["|"], &["^"], &["&"], &["<<", ">>"], &["+", "-"], &["*", "/", "%"]];
         if row == ROWS.len() {
             return self.cast();
         }
@@ -499,7 +739,7 @@ impl Parser<'_> {
         Ok(Expr { span: self.since(start), kind: ExprKind::Before(sign, Box::new(value)) })
     }
 
-    /// A thing and what follows it: calls, fields, `.len()`, indexes.
+    /// A thing and what follows it: calls, fields, methods, indexes, `?`.
     fn behind(&mut self) -> Read<Expr> {
         let start = self.start();
         let mut value = self.thing()?;
@@ -508,7 +748,10 @@ impl Parser<'_> {
                 if !matches!(value.kind, ExprKind::Path(_)) {
                     return refuse(value.span.start, "only functions that are named are known in calls");
                 }
-                ExprKind::Call(Box::new(value), self.listed(")")?)
+                let closures = matches!(&value.kind, ExprKind::Path(path) if path[path.len() - 1] == known::TAKES_CLOSURE);
+                ExprKind::Call(Box::new(value), self.values(closures)?)
+            } else if self.take("?") {
+                ExprKind::Try(Box::new(value))
             } else if self.take("[") {
                 let place = self.open(Self::range)?;
                 self.want("]")?;
@@ -522,16 +765,39 @@ impl Parser<'_> {
         }
     }
 
+    /// A field by its name, or of a tuple by its number; or a method.
     fn member(&mut self, value: Expr) -> Read<ExprKind> {
-        let name = self.name()?;
-        if !self.is("(") {
+        let numbered = self.token().kind == Kind::Number && self.word().chars().all(|c| c.is_ascii_digit());
+        if numbered && !matches!(value.kind, ExprKind::Literal) {
+            self.at += 1;
             return Ok(ExprKind::Field(Box::new(value)));
         }
-        if name != "len" || !self.ahead(1, ")") {
-            return refuse(self.tokens[self.at - 1].span.start, format!("the method '{name}' is not known, only len()"));
+        let (of, at) = (Box::new(value), self.start());
+        let name = self.name()?;
+        let typed = name == "sum" && self.take("::");
+        let ty = if typed { self.angles(1)?.pop() } else { None };
+        if !typed && !self.is("(") {
+            return Ok(ExprKind::Field(of));
         }
-        self.at += 2;
-        Ok(ExprKind::Len(Box::new(value)))
+        self.want("(")?;
+        let all = self.values(known::takes_closure(&name))?;
+        Ok(ExprKind::Method(Method { of, name, at, ty, all }))
+    }
+
+    /// What a function or a method is handed; closures only where they are known.
+    fn values(&mut self, closures: bool) -> Read<Vec<Expr>> {
+        self.open(|parser| parser.list(")", |parser| if closures && parser.is("|") { parser.closure() } else { parser.expr() }))
+    }
+
+    fn closure(&mut self) -> Read<Expr> {
+        let start = self.start();
+        self.want("|")?;
+        let params = self.list("|", |parser| {
+            let pattern = parser.one_pattern()?;
+            Ok((pattern, if parser.take(":") { Some(parser.ty()?) } else { None }))
+        })?;
+        let value = Box::new(self.expr()?);
+        Ok(Expr { span: self.since(start), kind: ExprKind::Closure(params, value) })
     }
 
     /// Within signs that close, a struct may begin again.
@@ -559,20 +825,11 @@ impl Parser<'_> {
                     self.at += 1;
                     ExprKind::Literal
                 }
-                "(" => {
-                    self.at += 1;
-                    let inner = self.open(Self::expr)?;
-                    self.want(")")?;
-                    ExprKind::Inner(Box::new(inner))
-                }
+                "(" => self.brackets()?,
                 "[" => self.array()?,
                 "{" => ExprKind::Block(self.block()?),
                 "if" => self.condition()?,
-                "while" => {
-                    self.at += 1;
-                    let test = self.head()?;
-                    ExprKind::While(Box::new(test), self.block()?)
-                }
+                "while" => self.repeated()?,
                 "for" => self.each()?,
                 "match" => self.cases()?,
                 "return" => {
@@ -584,6 +841,22 @@ impl Parser<'_> {
             },
         };
         Ok(Expr { span: self.since(start), kind })
+    }
+
+    /// One thing in brackets, or a tuple: of one thing with a comma behind it, and of none.
+    fn brackets(&mut self) -> Read<ExprKind> {
+        self.at += 1;
+        if self.take(")") {
+            return Ok(ExprKind::Tuple(Vec::new()));
+        }
+        let first = self.open(Self::expr)?;
+        if !self.take(",") {
+            self.want(")")?;
+            return Ok(ExprKind::Inner(Box::new(first)));
+        }
+        let mut all = vec![first];
+        all.extend(self.listed(")")?);
+        Ok(ExprKind::Tuple(all))
     }
 
     fn array(&mut self) -> Read<ExprKind> {
@@ -614,12 +887,30 @@ impl Parser<'_> {
         found
     }
 
+    /// Behind the `let` of `if` and `while`: a pattern and what it is for, which no `&&` goes on with.
+    fn bound(&mut self) -> Read<(Pattern, Box<Expr>)> {
+        let pattern = self.pattern()?;
+        self.want("=")?;
+        let structs = std::mem::replace(&mut self.structs, false);
+        let value = self.binary(LAZY);
+        self.structs = structs;
+        Ok((pattern, Box::new(value?)))
+    }
+
+    fn repeated(&mut self) -> Read<ExprKind> {
+        self.at += 1;
+        if self.take("let") {
+            let (pattern, value) = self.bound()?;
+            return Ok(ExprKind::WhileLet(pattern, value, self.block()?));
+        }
+        let test = Box::new(self.head()?);
+        Ok(ExprKind::While(test, self.block()?))
+    }
+
     fn condition(&mut self) -> Read<ExprKind> {
         self.at += 1;
         if self.take("let") {
-            let pattern = self.pattern()?;
-            self.want("=")?;
-            let value = Box::new(self.head()?);
+            let (pattern, value) = self.bound()?;
             let then = self.block()?;
             return Ok(ExprKind::IfLet(pattern, value, then, self.otherwise()?));
         }
@@ -640,13 +931,45 @@ impl Parser<'_> {
 
     fn each(&mut self) -> Read<ExprKind> {
         self.at += 1;
-        let name = self.name()?;
+        let pattern = self.one_pattern()?;
         self.want("in")?;
         let over = self.head()?;
-        if !matches!(over.kind, ExprKind::Range(Some(_), Some(_))) {
+        if matches!(over.kind, ExprKind::Range(None, _) | ExprKind::Range(_, None)) {
             return refuse(over.span.start, "a 'for' is known over a range with both ends only");
         }
-        Ok(ExprKind::For(name, Box::new(over), self.block()?))
+        Ok(ExprKind::For(pattern, Box::new(over), self.block()?))
+    }
+
+    /// What stands behind `if` in an arm.
+    fn guard(&mut self) -> Read<Option<Expr>> {
+        if self.take("if") { Ok(Some(self.open(Self::expr)?)) } else { Ok(None) }
+    }
+
+    /// Behind the name of `matches!`.
+    fn matches(&mut self) -> Read<ExprKind> {
+        self.want("!")?;
+        self.want("(")?;
+        let over = self.open(Self::expr)?;
+        self.want(",")?;
+        let pattern = self.pattern()?;
+        let guard = self.guard()?.map(Box::new);
+        self.take(",");
+        self.want(")")?;
+        Ok(ExprKind::Matches(Box::new(over), pattern, guard))
+    }
+
+    /// Behind the name of `by_form!`: a name that has a form, and what is done with each.
+    fn by_form(&mut self) -> Read<ExprKind> {
+        self.want("!")?;
+        self.want("(")?;
+        let start = self.start();
+        let name = self.name()?;
+        let form = Expr { span: self.since(start), kind: ExprKind::Path(vec![name]) };
+        self.want(",")?;
+        let body = self.open(Self::expr)?;
+        self.take(",");
+        self.want(")")?;
+        Ok(ExprKind::ByForm(Box::new(form), Box::new(body)))
     }
 
     fn cases(&mut self) -> Read<ExprKind> {
@@ -656,10 +979,11 @@ impl Parser<'_> {
         let mut arms = Vec::new();
         while !self.take("}") {
             let pattern = self.pattern()?;
+            let guard = self.guard()?;
             self.want("=>")?;
             let value = self.open(Self::expr)?;
             let block = matches!(value.kind, ExprKind::Block(_));
-            arms.push((pattern, value));
+            arms.push(Arm { pattern, guard, value });
             if !self.take(",") && !block && !self.is("}") {
                 return self.unknown("',' is wanted here");
             }
@@ -675,13 +999,15 @@ impl Parser<'_> {
         }
         let path = self.path()?;
         if self.is("!") {
+            if path[..] == ["matches"] {
+                return self.matches();
+            }
+            if path[..] == [known::BY_FORM] {
+                return self.by_form();
+            }
             return refuse(start, format!("the macro '{}!' is not known", path.join("::")));
         }
-        let first = path[0].as_str();
-        let foreign = matches!(first, "std" | "core" | "alloc") || (path.len() > 1 && (NUMBERS.contains(&first) || first == "bool"));
-        if foreign && wrapping(&path).is_none() && !KNOWN.contains(&path.join("::").as_str()) {
-            return refuse(start, format!("'{}' is not known", path.join("::")));
-        }
+        self.paths.push((path.clone(), start));
         if !(self.structs && self.is("{")) {
             return Ok(ExprKind::Path(path));
         }
@@ -689,6 +1015,10 @@ impl Parser<'_> {
         let fields = self.open(|parser| {
             parser.list("}", |parser| {
                 let start = parser.start();
+                if parser.take("..") {
+                    let others = parser.expr()?;
+                    return if parser.is("}") { Ok(others) } else { parser.unknown("'}' is wanted here") };
+                }
                 let name = parser.name()?;
                 let alone = Expr { span: parser.since(start), kind: ExprKind::Path(vec![name]) };
                 if parser.take(":") { parser.expr() } else { Ok(alone) }
@@ -696,4 +1026,13 @@ impl Parser<'_> {
         })?;
         Ok(ExprKind::Struct(path, fields))
     }
+}
+
+/// The names that a `derive` lists, in the order in which they are written.
+fn derived(list: &str, at: usize) -> Read<Vec<String>> {
+    let said: Vec<&str> = list.split(',').map(str::trim).filter(|name| !name.is_empty()).collect();
+    if let Some(name) = said.iter().find(|name| **name != "Drop" && !known::DERIVED.contains(name)) {
+        return refuse(at, format!("what derives '{name}' is not known"));
+    }
+    Ok(known::DERIVED.iter().filter(|name| said.contains(name)).map(|name| name.to_string()).collect())
 }

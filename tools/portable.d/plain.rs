@@ -3,10 +3,10 @@ use std::collections::BTreeSet;
 
 use crate::edits::{Edits, tidy};
 use crate::house::{House, Module, Told, told};
+use crate::known::{self, BY_FORM, wrapping};
 use crate::lexer::{Refused, Span, refuse};
 use crate::names;
-use crate::parser::wrapping;
-use crate::scope::{Known, address};
+use crate::scope::{Known, address, within_impl};
 use crate::steps::Steps;
 use crate::syntax::*;
 use crate::walk::{self, Node};
@@ -70,7 +70,7 @@ impl<'a> Copy<'a> {
         let mut copy = Copy { house, module, edits: Edits::default(), steps, names, crates: BTreeSet::new(), near: false };
         module.syntax.asked.iter().for_each(|asked| copy.edits.replace(*asked, ""));
         for item in &module.syntax.items {
-            names::check(item, &copy.names)?;
+            names::check(item, &copy.names, &house.methods)?;
             copy.item(item)?;
         }
         if let Some(steps) = steps {
@@ -82,7 +82,8 @@ impl<'a> Copy<'a> {
     /// The whole text in Rust.
     pub fn text(mut self) -> Result<String, Refused> {
         self.comments();
-        self.functions(&self.module.syntax.items, &address(self.module));
+        self.by_forms();
+        self.functions(&self.module.syntax.items, None, &address(self.module));
         self.uses()?;
         let text = &self.module.text;
         let mut body = self.edits.apply(text, Span { start: 0, end: text.len() });
@@ -109,9 +110,11 @@ impl<'a> Copy<'a> {
         let first = path[0].as_str();
         if first == "crate" {
             self.edits.replace(Span { start: span.start, end: span.start + "crate::".len() }, self.up(false));
+        } else if first == "std" && known::is_known(path) {
+            self.edits.replace(Span { start: span.start, end: span.start + "std".len() }, "core");
         } else if path.len() > 1 && !self.names.contains(first) && self.house.has(first) {
             self.crates.insert(first.to_string());
-        } else if path.len() > 1 && !self.names.contains(first) && !matches!(first, "u64" | "Self") {
+        } else if path.len() > 1 && !self.names.contains(first) && !known::is_known(path) && first != "Self" {
             return refuse(span.start, format!("nothing that is known is called '{first}'"));
         }
         Ok(())
@@ -127,7 +130,10 @@ impl<'a> Copy<'a> {
         walk::item(item, &mut |node| {
             let (path, span) = match node {
                 Node::Expr(Expr { kind: ExprKind::Path(path) | ExprKind::Struct(path, _), span }) => (path, span),
-                Node::Pattern(Pattern { kind: PatternKind::Path(path) | PatternKind::Of(path, _), span }) => (path, span),
+                Node::Pattern(Pattern {
+                    kind: PatternKind::Path(path) | PatternKind::Of(path, _) | PatternKind::Struct(path, _),
+                    span,
+                }) => (path, span),
                 Node::Type(Type { kind: TypeKind::Named(path), span }) => (path, span),
                 _ => return,
             };
@@ -136,67 +142,144 @@ impl<'a> Copy<'a> {
         for (path, span) in paths {
             self.path(&path, span)?;
         }
-        let copied = match &item.kind {
-            ItemKind::Struct(structure) => !structure.fields.iter().any(|field| changes(&field.ty)),
-            ItemKind::Enum(enumeration) => !enumeration.variants.iter().any(|variant| variant.holds.iter().any(changes)),
-            _ => false,
-        };
-        if matches!(item.kind, ItemKind::Struct(_) | ItemKind::Enum(_)) {
-            self.edits.replace(item.attributes, if copied { "#[derive(Clone, Copy)]\n" } else { "" });
-        }
+        self.attributes(item);
         self.places(item);
         self.ghosts(item);
         Ok(())
     }
 
+    /// What a struct or an enum derives; all else that attributes ask goes. Those of functions go with their heads.
+    fn attributes(&mut self, item: &'a Item) {
+        let copied = match &item.kind {
+            ItemKind::Struct(structure) => !structure.fields.iter().any(|field| changes(&field.ty)),
+            ItemKind::Enum(enumeration) => !enumeration.variants.iter().flat_map(walk::held).any(changes),
+            ItemKind::Impl(block) => {
+                block.items.iter().for_each(|inner| self.attributes(inner));
+                false
+            }
+            ItemKind::Fn(_) | ItemKind::Ghost | ItemKind::Use(_) => return,
+            ItemKind::Const(_) | ItemKind::Alias(_) | ItemKind::Macro(_) | ItemKind::Mod(_) => false,
+        };
+        let mut all: Vec<&str> = if copied { vec!["Clone", "Copy"] } else { Vec::new() };
+        all.extend(item.derives.iter().map(String::as_str).filter(|name| !matches!(*name, "Clone" | "Copy")));
+        self.edits.replace(item.attributes, if all.is_empty() { String::new() } else { format!("#[derive({})]\n", all.join(", ")) });
+    }
+
     /// A sum or a difference that wraps may be any number of 64 bits, and as a usize it may not fit.
     fn places(&mut self, item: &'a Item) {
+        if let ItemKind::Impl(block) = &item.kind {
+            return block.items.iter().for_each(|inner| self.places(inner));
+        }
+        let ItemKind::Fn(function) = &item.kind else { return };
         let (mut wide, mut casts) = (BTreeSet::new(), Vec::new());
         walk::item(item, &mut |node| match node {
-            Node::Let(Let {
-                pattern: Pattern { kind: PatternKind::Name(name), .. },
-                value: Expr { kind: ExprKind::Call(called, _), .. },
-                ..
-            }) => {
-                if let ExprKind::Path(path) = &called.kind
-                    && wrapping(path).is_some_and(|known| known.starts_with("u64::"))
-                {
-                    wide.insert(name.clone());
+            Node::Let(Let { pattern: Pattern { kind: PatternKind::Name(name), .. }, value, .. }) if wraps(function, value) => {
+                wide.insert(name.clone());
+            }
+            Node::Expr(Expr { kind: ExprKind::Assign(to, value), .. }) if wraps(function, value) => {
+                if let ExprKind::Path(path) = &to.kind {
+                    wide.insert(path.join("::"));
                 }
             }
             Node::Expr(Expr { kind: ExprKind::Cast(of, Type { kind: TypeKind::Named(to), .. }), span }) if to[..] == ["usize"] => {
-                if let ExprKind::Path(path) = &of.kind {
-                    casts.push((path.join("::"), *span));
-                }
+                casts.push((of.as_ref(), *span));
             }
             _ => {}
         });
-        for (name, span) in casts.into_iter().filter(|(name, _)| wide.contains(name)) {
-            self.edits.replace(span, format!("near({name})"));
-            self.near = true;
+        for (of, span) in casts {
+            if wraps(function, of) || matches!(&of.kind, ExprKind::Path(path) if wide.contains(&path.join("::"))) {
+                self.edits.insert(of.span.start, "near(");
+                self.edits.replace(Span { start: of.span.end, end: span.end }, ")");
+                self.near = true;
+            }
         }
     }
 
-    /// Ghost statements within functions.
+    /// Ghost statements within functions, and ghost members of types.
     fn ghosts(&mut self, item: &'a Item) {
-        let mut bodies = Vec::new();
-        match &item.kind {
-            ItemKind::Fn(function) => bodies.push(&function.body),
-            ItemKind::Impl(_, items) => items.iter().for_each(|inner| self.ghosts(inner)),
-            _ => {}
-        }
         let mut found: Vec<Span> = Vec::new();
-        for body in bodies {
-            ghosts_in(body, &mut found);
-            walk::block(body, &mut |node| {
-                if let Node::Expr(expr) = node {
-                    blocks_of(expr).into_iter().for_each(|inner| ghosts_in(inner, &mut found));
-                }
-            });
-        }
+        walk::item(item, &mut |node| {
+            if let Node::Block(block) = node {
+                found.extend(block.statements.iter().filter_map(|one| if let Statement::Ghost(span) = one { Some(*span) } else { None }));
+            }
+        });
+        let members: Vec<Span> = match &item.kind {
+            ItemKind::Struct(structure) => structure.ghosts.clone(),
+            ItemKind::Impl(block) => {
+                block.items.iter().filter(|inner| matches!(inner.kind, ItemKind::Ghost)).map(|inner| inner.span).collect()
+            }
+            _ => Vec::new(),
+        };
+        found.extend(members.into_iter().map(|span| self.lines(span)));
         for span in found {
             self.edits.replace(span, "");
         }
+    }
+
+    /// The lines that something fills; and the blank ones behind it, where nothing of the block stands before it.
+    fn lines(&self, span: Span) -> Span {
+        let text = &self.module.text;
+        let start = text[..span.start].rfind('\n').map_or(0, |end| end + 1);
+        let behind = text[span.end..].find('\n').map_or(text.len(), |end| span.end + end + 1);
+        if !(text[start..span.start].trim().is_empty() && text[span.end..behind].trim().is_empty()) {
+            return span;
+        }
+        let first = text[..start].trim_end().ends_with('{');
+        let blank = text[behind..].len() - text[behind..].trim_start_matches('\n').len();
+        Span { start, end: if first { behind + blank } else { behind } }
+    }
+
+    // ---- by_form!
+
+    /// `by_form!` is a macro in Rust too; its arms name the type of the forms as the file has it that uses them. With the steps a form is a constant of its image's length, so
+    /// that what would have an arm for each stands once.
+    fn by_forms(&mut self) {
+        for item in &self.module.syntax.items {
+            let ItemKind::Macro(declared) = &item.kind else { continue };
+            if self.steps.is_some() {
+                let above = self.above(item.span.start).filter(|block| block.start != self.front_of_file());
+                let start = above.map_or(item.span.start, |block| block.start);
+                self.edits.overwrite(Span { start, end: item.span.end }, "");
+            } else {
+                declared.fronts.iter().for_each(|front| self.edits.replace(*front, ""));
+                self.edits.insert(item.span.end, format!("\n\npub(crate) use {BY_FORM};"));
+            }
+        }
+        if self.steps.is_none() {
+            return;
+        }
+        let (mut found, mut last) = (Vec::new(), BTreeSet::new());
+        for item in &self.module.syntax.items {
+            walk::item(item, &mut |node| match node {
+                Node::Expr(Expr { kind: ExprKind::ByForm(_, body), span }) => found.push((*span, body)),
+                Node::Block(block) => last.extend(self.ending(block)),
+                _ => {}
+            });
+        }
+        // One within another first. A block with nothing behind it needs no braces.
+        for (span, body) in found.into_iter().rev() {
+            let bare = matches!(body.kind, ExprKind::Block(_)) && last.contains(&span.start);
+            let (mut start, mut end) = (body.span.start, body.span.end);
+            if bare {
+                (start, end) = (start + 1, end - 1);
+                start += self.module.text[start..].len() - self.module.text[start..].trim_start().len();
+            }
+            let text = self.source(Span { start, end });
+            let further_in = self.margin(start).saturating_sub(self.margin(span.start));
+            self.edits.overwrite(span, moved(text.trim_end(), further_in));
+        }
+    }
+
+    /// How far in the line stands that a place is in.
+    fn margin(&self, at: usize) -> usize {
+        let line = &self.module.text[self.module.text[..at].rfind('\n').map_or(0, |end| end + 1)..];
+        line.len() - line.trim_start_matches(' ').len()
+    }
+
+    /// Where the expression begins that a block ends with.
+    fn ending(&self, block: &Block) -> Option<usize> {
+        let Some(Statement::Expr(last)) = block.statements.last() else { return None };
+        self.module.text[last.span.end..block.span.end - 1].trim().is_empty().then_some(last.span.start)
     }
 
     // ---- use
@@ -209,7 +292,7 @@ impl<'a> Copy<'a> {
             match &item.kind {
                 ItemKind::Use(paths) => {
                     for path in paths {
-                        lines.insert(self.used(path, item.span)?);
+                        lines.extend(self.used(path, item.span)?);
                     }
                     place.get_or_insert(item.span.start);
                     self.edits.replace(item.span, "");
@@ -239,15 +322,24 @@ impl<'a> Copy<'a> {
         Some(self.above(first.span.start).map_or(first.span.start, |block| block.start))
     }
 
-    fn used(&self, path: &[String], span: Span) -> Result<(String, String), Refused> {
+    fn used(&self, path: &[String], span: Span) -> Result<Vec<(String, String)>, Refused> {
         let rest = path[1..].join("::");
-        if path[0] == "crate" {
-            return Ok(sortable(&format!("{}{rest}", self.up(false))));
+        let own = path[0] == "crate";
+        let front = if own { self.up(false) } else { format!("{}{}::", self.up(true), path[0]) };
+        let krate = if own { &self.module.krate } else { &path[0] };
+        let declared = if rest == BY_FORM { self.house.by_form(krate) } else { None };
+        if let Some((module, declared)) = declared {
+            let here = module.path.iter().map(String::as_str).chain([BY_FORM]).collect::<Vec<_>>().join("::");
+            let lines = [here, declared.ty.join("::")].map(|rest| sortable(&format!("{front}{rest}")));
+            return Ok(if self.steps.is_some() { Vec::new() } else { lines.to_vec() });
         }
-        if !self.house.has(&path[0]) {
+        if known::is_used(path) {
+            return Ok(vec![sortable(&format!("core::{rest}"))]);
+        }
+        if !own && !self.house.has(&path[0]) {
             return refuse(span.start, format!("no crate that is known is called '{}'", path[0]));
         }
-        Ok(sortable(&format!("{}{}", self.up(true), path.join("::"))))
+        Ok(vec![sortable(&format!("{front}{rest}"))])
     }
 
     // ---- comments and contracts
@@ -290,11 +382,11 @@ impl<'a> Copy<'a> {
         }
     }
 
-    fn functions(&mut self, items: &'a [Item], within: &str) {
+    fn functions(&mut self, items: &'a [Item], around: Option<&'a Impl>, within: &str) {
         for item in items {
             match &item.kind {
                 ItemKind::Fn(function) => {
-                    let known = Known { module: self.module, item, function };
+                    let known = Known { module: self.module, around, item, function };
                     let head = Span { start: item.span.start, end: function.body.span.start + 1 };
                     let text = match self.steps {
                         Some(steps) => self.stepped(steps, &format!("{within}::{}", function.name), &known),
@@ -302,7 +394,7 @@ impl<'a> Copy<'a> {
                     };
                     self.edits.overwrite(head, format!("{}{text}", self.contracts(item, function)));
                 }
-                ItemKind::Impl(name, inner) => self.functions(inner, &format!("{within}::{name}")),
+                ItemKind::Impl(block) => self.functions(&block.items, Some(block), &within_impl(self.module, within, block)),
                 _ => {}
             }
         }
@@ -311,13 +403,13 @@ impl<'a> Copy<'a> {
     /// A function's head with the steps on it, up to the first line of its body that is copied.
     fn stepped(&mut self, steps: &Steps, address: &str, known: &Known) -> String {
         let (function, indent) = (known.function, self.indent(known.item.span.start));
-        let (params, lengths) = steps.params(address, known);
+        let (params, lengths) = steps.params(address, known, &|span| self.source(span));
         let result = function.result.as_ref().map(|result| self.source(result.span));
         let (mut arms, mut name, mut public) = (String::new(), function.name.clone(), known.item.public);
         if function.exported && !lengths.is_empty() {
             let tests = Span { start: function.body.span.start + 1, end: steps.tests_before(address, known) };
             let lines = format!("{}\n", self.source(tests));
-            arms = steps.arms(address, known, lines.trim_start_matches('\n'));
+            arms = steps.arms(address, known, lines.trim_start_matches('\n'), &|span| self.source(span));
             (name, public) = (format!("{name}_of"), false);
             self.edits.overwrite(tests, "");
         }
@@ -356,7 +448,7 @@ impl<'a> Copy<'a> {
     }
 
     pub fn signature(&self, item: &Item, function: &Function) -> String {
-        let params: Vec<String> = function.params.iter().map(|param| format!("{}: {}", param.name, self.source(param.ty.span))).collect();
+        let params: Vec<String> = function.params.iter().map(|param| param_of(param, self.source(param.ty.span))).collect();
         let result = function.result.as_ref().map(|result| self.source(result.span));
         let angles = function.lifetime.iter().cloned().collect::<Vec<_>>();
         signed(&self.indent(item.span.start), item.public, &function.name, &angles, &params, result.as_deref())
@@ -366,6 +458,12 @@ impl<'a> Copy<'a> {
     pub fn source(&self, span: Span) -> String {
         self.edits.apply(&self.module.text, span)
     }
+}
+
+/// The lines behind the first so much less far in.
+fn moved(text: &str, by: usize) -> String {
+    let margin = " ".repeat(by);
+    text.split('\n').map(|line| line.strip_prefix(&margin).unwrap_or(line)).collect::<Vec<_>>().join("\n")
 }
 
 /// A comment's words in docs: what Markdown would read as a tag or a link is marked, but within backticks.
@@ -395,30 +493,29 @@ pub fn signed(indent: &str, public: bool, name: &str, angles: &[String], params:
     format!("{head}({lines}\n{indent}){result}")
 }
 
+/// A parameter of a type that is written so.
+pub fn param_of(param: &Param, ty: String) -> String {
+    if param.name == "self" { ty } else { format!("{}: {ty}", param.name) }
+}
+
 /// Whether a type holds something that is lent to be changed; it cannot be copied then.
 fn changes(ty: &Type) -> bool {
-    match &ty.kind {
-        TypeKind::Named(_) => false,
-        TypeKind::Lent(changed, of) => *changed || changes(of),
-        TypeKind::Slice(of) | TypeKind::Array(of, _) => changes(of),
-    }
+    walk::any_type(ty, |kind| matches!(kind, TypeKind::Lent(true, _)))
 }
 
-fn ghosts_in(block: &Block, found: &mut Vec<Span>) {
-    for statement in &block.statements {
-        match statement {
-            Statement::Ghost(span) => found.push(*span),
-            Statement::Let(Let { otherwise: Some(inner), .. }) => ghosts_in(inner, found),
-            _ => {}
+/// Whether a value is a sum or a difference that wraps, of 64 bits; of a parameter that is another number it is not.
+fn wraps(function: &Function, value: &Expr) -> bool {
+    match &value.kind {
+        ExprKind::Inner(inner) => wraps(function, inner),
+        ExprKind::Call(called, _) => {
+            matches!(&called.kind, ExprKind::Path(path) if wrapping(path).is_some_and(|known| known.starts_with("u64::")))
         }
-    }
-}
-
-fn blocks_of(expr: &Expr) -> Vec<&Block> {
-    match &expr.kind {
-        ExprKind::Block(block) => vec![block],
-        ExprKind::If(_, block, _) | ExprKind::IfLet(_, _, block, _) | ExprKind::While(_, block) | ExprKind::For(_, _, block) => vec![block],
-        _ => Vec::new(),
+        ExprKind::Method(method) if method.name == "wrapping_add" || method.name == "wrapping_sub" => {
+            let ExprKind::Path(path) = &method.of.kind else { return true };
+            let param = function.params.iter().find(|param| path[..] == [param.name.as_str()]);
+            param.is_none_or(|param| matches!(&param.ty.kind, TypeKind::Named(of) if of[..] == ["u64"]))
+        }
+        _ => false,
     }
 }
 
@@ -442,10 +539,13 @@ fn owned(items: &[Item], found: &mut Vec<usize>) {
     for item in items {
         match &item.kind {
             ItemKind::Ghost | ItemKind::Use(_) | ItemKind::Mod(_) => continue,
-            ItemKind::Impl(_, inner) => owned(inner, found),
+            ItemKind::Impl(block) => owned(&block.items, found),
             ItemKind::Struct(structure) => found.extend(structure.fields.iter().map(|field| field.span.start)),
-            ItemKind::Enum(enumeration) => found.extend(enumeration.variants.iter().map(|variant| variant.span.start)),
-            ItemKind::Const(_) | ItemKind::Fn(_) => {}
+            ItemKind::Enum(enumeration) => {
+                found.extend(enumeration.variants.iter().map(|variant| variant.span.start));
+                found.extend(enumeration.variants.iter().flat_map(|variant| &variant.fields).map(|field| field.span.start));
+            }
+            ItemKind::Const(_) | ItemKind::Alias(_) | ItemKind::Macro(_) | ItemKind::Fn(_) => {}
         }
         found.push(item.span.start);
     }

@@ -7,40 +7,45 @@ use crate::edits::Edits;
 use crate::house::{House, Module, Told};
 use crate::images::{Image, Images, named};
 use crate::lexer::Span;
-use crate::plain::signed;
+use crate::plain::{param_of, signed};
 use crate::scope::{Known, Scope, address};
 use crate::syntax::*;
+use crate::walk::{self, Node};
 
 pub struct Steps<'a> {
     pub images: Images<'a>,
     large: BTreeSet<String>,
+    structs: BTreeSet<String>,
 }
 
 const LENGTHS: [&str; 3] = ["N", "M", "L"];
+
+/// Gives a part of a text in Rust.
+pub type Source<'s> = &'s dyn Fn(Span) -> String;
 
 impl<'a> Steps<'a> {
     pub fn of(root: &Path, house: &'a House) -> Told<Steps<'a>> {
         let images = Images::of(root, house)?;
         let large = large(house, &images.scope);
-        Ok(Steps { images, large })
+        Ok(Steps { images, large, structs: structs(house) })
     }
 
-    /// The parameters of a function as they are then, and the lengths over which it goes.
-    pub fn params(&self, address: &str, known: &Known) -> (Vec<String>, Vec<String>) {
-        self.lent(known, self.images.at(address), true)
+    /// The parameters of a function as they are then, and the lengths over which it goes. What `source` gives is a part of the text in Rust.
+    pub fn params(&self, address: &str, known: &Known, source: Source) -> (Vec<String>, Vec<String>) {
+        self.lent(known, self.images.at(address), true, source)
     }
 
     /// With some of its images as arrays; their forms may be left out.
-    fn lent(&self, known: &Known, images: &[Image], formless: bool) -> (Vec<String>, Vec<String>) {
+    fn lent(&self, known: &Known, images: &[Image], formless: bool, source: Source) -> (Vec<String>, Vec<String>) {
         let mut params = Vec::new();
         for (at, param) in known.function.params.iter().enumerate() {
             if formless && images.iter().any(|image| image.form == Some(at)) {
                 continue;
             }
-            let text = &known.module.text[param.ty.span.start..param.ty.span.end];
+            let text = source(param.ty.span);
             let length = images.iter().position(|image| image.param == at).map(|place| LENGTHS[place]);
-            let ty = length.map_or(text.to_string(), |length| text.replace("[u8]", &format!("[u8; {length}]")));
-            params.push(format!("{}: {ty}", param.name));
+            let ty = length.map_or(text.clone(), |length| text.replace("[u8]", &format!("[u8; {length}]")));
+            params.push(param_of(param, ty));
         }
         (params, lengths(images.len()))
     }
@@ -68,17 +73,19 @@ impl<'a> Steps<'a> {
         required(&self.images.specs, known).iter().filter_map(|one| arithmetic.test(one)).collect()
     }
 
-    /// Whether a form is still named when it is no longer handed on.
+    /// Whether a form is still named when it is no longer handed on, and has no arms.
     fn still_named(&self, known: &Known, name: &str) -> bool {
-        let dropped = self.images.dropped(known);
+        let dropped = [self.images.dropped(known), armed(known.function)].concat();
         named(known.function, name).iter().any(|span| !dropped.iter().any(|part| part.holds(*span)))
     }
 
     /// The body that a contract names: a word read or written, or bytes copied: Rust has functions for them.
     pub fn body(&self, known: &Known) -> Option<String> {
+        if known.is_method() {
+            return None;
+        }
         let text = &known.module.text;
-        let said =
-            |what: String| known.function.contracts.iter().any(|span| text[span.start..span.end] == format!("ensures {{ {what} }}"));
+        let said = |what: String| known.function.contracts.iter().any(|span| text[span.start..span.end] == format!("ensures {{ {what} }}"));
         let names: Vec<&str> = known.function.params.iter().map(|param| param.name.as_str()).collect();
         match names.as_slice() {
             [bytes, at] if said(format!("result ≡ register_at {at} {bytes}.now")) => {
@@ -89,9 +96,7 @@ impl<'a> Steps<'a> {
                 let part = format!("{bytes}[{at}..].first_chunk_mut::<8>()");
                 Some(format!("if let Some(word) = {part} {{\n        *word = {x}.to_le_bytes();\n    }}"))
             }
-            [to, from, ..] if said(format!("{to}.new ≡ {from}.now")) => {
-                Some(format!("{to}.copy_from_slice({from});"))
-            }
+            [to, from, ..] if said(format!("{to}.new ≡ {from}.now")) => Some(format!("{to}.copy_from_slice({from});")),
             _ => None,
         }
     }
@@ -99,19 +104,41 @@ impl<'a> Steps<'a> {
     /// Every function but a front has its body at hand where it is called, however the crate is split for the compiler. Where a state or an array goes by value, a call
     /// would copy it: the function becomes part of its caller. The long way of a call stays apart, so that what it keeps is not kept by the short one.
     pub fn inlining(&self, known: &Known) -> &'static str {
-        if is_long_way(known) {
+        if is_long_way(known) || self.only_says_why(known) {
             return "#[inline(never)]";
         }
-        let types = known.function.params.iter().map(|param| &param.ty).chain(&known.function.result);
+        if self.tells_form(known) {
+            return "#[inline(always)]";
+        }
+        let own = known.around.map(|around| &around.ty);
+        let is_own = |param: &Param| param.name == "self" && matches!(param.ty.kind, TypeKind::Named(_));
+        let types = known.function.params.iter().filter_map(|param| if is_own(param) { own } else { Some(&param.ty) });
+        let types = types.chain(&known.function.result);
         if types.into_iter().any(|ty| self.is_large(known.module, ty)) { "#[inline(always)]" } else { "#[inline]" }
     }
 
-    fn is_large(&self, module: &Module, ty: &Type) -> bool {
-        match &ty.kind {
+    /// The test of an image, by which a call begins: it hands back the form, or an error. A call of it would hand that over in memory.
+    fn tells_form(&self, known: &Known) -> bool {
+        let form = self.images.forms.name.rsplit("::").next().unwrap_or_default();
+        handed_back(known).is_some_and(|text| text.starts_with(&format!("Result<{form}, ")))
+    }
+
+    /// What hands back a struct as its error and else nothing is asked only of what is refused already: why, and where.
+    fn only_says_why(&self, known: &Known) -> bool {
+        let error = handed_back(known).and_then(|text| text.strip_prefix("Result<(), ")).and_then(|text| text.strip_suffix('>'));
+        error.is_some_and(|name| self.structs.contains(name))
+    }
+
+    fn is_large<'t>(&self, module: &'t Module, ty: &'t Type) -> bool
+    where
+        'a: 't,
+    {
+        let scope = &self.images.scope;
+        by_value(scope, module, ty).into_iter().any(|(module, ty)| match &ty.kind {
             TypeKind::Array(..) => true,
-            TypeKind::Named(path) => self.large.contains(&self.images.scope.absolute(module, path)),
-            TypeKind::Lent(..) | TypeKind::Slice(_) => false,
-        }
+            TypeKind::Named(path) => self.large.contains(&scope.absolute(module, path)),
+            _ => false,
+        })
     }
 
     /// The constant function that tells the form of a length.
@@ -131,17 +158,17 @@ impl<'a> Steps<'a> {
     }
 
     /// A front, which any bytes may be handed to: its own tests of room, and then one arm for each length of a form. Of several images each has a function with such arms.
-    pub fn arms(&self, address: &str, known: &Known, tests: &str) -> String {
+    pub fn arms(&self, address: &str, known: &Known, tests: &str, source: Source) -> String {
         let images = self.images.at(address);
         let name = &known.function.name;
         let mut text = String::new();
         for place in 0..images.len() {
-            let (params, _) = self.lent(known, &images[..place], false);
+            let (params, _) = self.lent(known, &images[..place], false, source);
             let angles: Vec<String> = lengths(place);
             let this = if place == 0 { name.clone() } else { format!("{name}_{place}") };
             let next = if place + 1 == images.len() { format!("{name}_of") } else { format!("{name}_{}", place + 1) };
-            let result = known.function.result.as_ref().map(|ty| &known.module.text[ty.span.start..ty.span.end]);
-            let head = signed("", place == 0, &this, &angles, &params, result);
+            let result = known.function.result.as_ref().map(|ty| source(ty.span));
+            let head = signed("", place == 0, &this, &angles, &params, result.as_deref());
             let tests = if place == 0 { tests } else { "" };
             let arms = self.arms_of(known, images[place].param, &next);
             let inlined = if place == 0 { "" } else { "#[inline]\n" };
@@ -195,6 +222,17 @@ impl<'a> Steps<'a> {
     }
 }
 
+/// The names that `by_form!` is handed.
+fn armed(function: &Function) -> Vec<Span> {
+    let mut found = Vec::new();
+    walk::block(&function.body, &mut |node| {
+        if let Node::Expr(Expr { kind: ExprKind::ByForm(form, _), .. }) = node {
+            found.push(form.span);
+        }
+    });
+    found
+}
+
 fn lengths(count: usize) -> Vec<String> {
     LENGTHS[..count].iter().map(|length| format!("const {length}: usize")).collect()
 }
@@ -205,8 +243,9 @@ fn large(house: &House, scope: &Scope) -> BTreeSet<String> {
     for module in house.crates.iter().flat_map(|krate| &krate.modules) {
         for item in &module.syntax.items {
             let ItemKind::Struct(structure) = &item.kind else { continue };
-            let holds = structure.fields.iter().any(|field| matches!(field.ty.kind, TypeKind::Array(..)));
-            let parts = structure.fields.iter().filter_map(|field| match &field.ty.kind {
+            let held: Vec<(&Module, &Type)> = structure.fields.iter().flat_map(|field| by_value(scope, module, &field.ty)).collect();
+            let holds = held.iter().any(|(_, ty)| matches!(ty.kind, TypeKind::Array(..)));
+            let parts = held.iter().filter_map(|(module, ty)| match &ty.kind {
                 TypeKind::Named(path) => Some(scope.absolute(module, path)),
                 _ => None,
             });
@@ -226,6 +265,27 @@ fn large(house: &House, scope: &Scope) -> BTreeSet<String> {
     let parts: Vec<String> = found.iter().flat_map(|name| structs[name].1.clone()).filter(|part| structs.contains_key(part)).collect();
     found.extend(parts);
     found
+}
+
+/// The types that go by value where one does: itself, or what an `Option`, a `Result` or a tuple may hold. Each with the module where it is written.
+fn by_value<'t>(scope: &Scope<'t>, module: &'t Module, ty: &'t Type) -> Vec<(&'t Module, &'t Type)> {
+    let (module, ty) = scope.meant(module, ty);
+    match &ty.kind {
+        TypeKind::Of(all) | TypeKind::Tuple(all) => all.iter().flat_map(|one| by_value(scope, module, one)).collect(),
+        TypeKind::Named(_) | TypeKind::Array(..) => vec![(module, ty)],
+        TypeKind::Lent(..) | TypeKind::Slice(_) => Vec::new(),
+    }
+}
+
+/// What a function hands back, as it is written.
+fn handed_back<'k>(known: &'k Known) -> Option<&'k str> {
+    known.function.result.as_ref().map(|ty| &known.module.text[ty.span.start..ty.span.end])
+}
+
+/// The names of all structs.
+fn structs(house: &House) -> BTreeSet<String> {
+    let items = house.crates.iter().flat_map(|krate| &krate.modules).flat_map(|module| &module.syntax.items);
+    items.filter_map(|item| if let ItemKind::Struct(structure) = &item.kind { Some(structure.name.clone()) } else { None }).collect()
 }
 
 /// The long way of a call, by its name, where what the call tells is handed back.

@@ -13,6 +13,8 @@ pub struct Item {
     pub span: Span,
     /// The attributes alone, up to what they stand before.
     pub attributes: Span,
+    /// What it derives, as written.
+    pub derives: Vec<String>,
     pub public: bool,
     pub kind: ItemKind,
 }
@@ -25,8 +27,9 @@ pub enum ItemKind {
     Const(Const),
     Struct(Struct),
     Enum(Enum),
-    /// Constants and functions of a type of the same file.
-    Impl(String, Vec<Item>),
+    Alias(Alias),
+    Impl(Impl),
+    Macro(Macro),
     Fn(Function),
 }
 
@@ -40,6 +43,8 @@ pub struct Const {
 pub struct Struct {
     pub name: String,
     pub fields: Vec<Field>,
+    /// Facts over the fields: members without a value.
+    pub ghosts: Vec<Span>,
 }
 
 pub struct Field {
@@ -47,14 +52,43 @@ pub struct Field {
     pub ty: Type,
 }
 
+/// Another name of a type, which lends nothing.
+pub struct Alias {
+    pub name: String,
+    pub ty: Type,
+}
+
+/// `by_form!` where it is declared.
+pub struct Macro {
+    /// The type of the forms, by its path in the crate.
+    pub ty: Vec<String>,
+    /// What stands before that type's name wherever an arm says it: `$crate::` and modules.
+    pub fronts: Vec<Span>,
+}
+
+/// Constants and functions of a type of the same file, or how a type meets a trait.
+pub struct Impl {
+    pub of: Option<Trait>,
+    pub ty: Type,
+    pub items: Vec<Item>,
+}
+
+/// `From<T>` or `TryFrom<T>`, with what stands in angles.
+pub struct Trait {
+    pub span: Span,
+    pub all: Vec<Type>,
+}
+
 pub struct Enum {
     pub name: String,
     pub variants: Vec<Variant>,
 }
 
+/// It holds nothing, types, or fields with names.
 pub struct Variant {
     pub span: Span,
     pub holds: Vec<Type>,
+    pub fields: Vec<Field>,
 }
 
 pub struct Function {
@@ -68,6 +102,7 @@ pub struct Function {
     pub body: Block,
 }
 
+/// Of `self`, `&self` and `&mut self` the name is `self`, and the type has the place of the whole.
 pub struct Param {
     pub name: String,
     pub ty: Type,
@@ -81,6 +116,9 @@ pub struct Type {
 pub enum TypeKind {
     /// A number, `bool`, or a type by its path; with a lifetime perhaps.
     Named(Vec<String>),
+    /// `Option<T>` or `Result<T, E>`.
+    Of(Vec<Type>),
+    Tuple(Vec<Type>),
     /// Whether it is lent to be changed, and what.
     Lent(bool, Box<Type>),
     Slice(Box<Type>),
@@ -94,6 +132,7 @@ pub struct Block {
 }
 
 pub enum Statement {
+    /// Or what the next one asks of the prover.
     Ghost(Span),
     Let(Let),
     Expr(Expr),
@@ -121,24 +160,50 @@ pub enum ExprKind {
     Assign(Box<Expr>, Box<Expr>),
     Cast(Box<Expr>, Type),
     Call(Box<Expr>, Vec<Expr>),
-    /// `.len()`, the only method.
-    Len(Box<Expr>),
+    Method(Method),
+    /// `|x| ..`, as what a method or a function is handed.
+    Closure(Vec<(Pattern, Option<Type>)>, Box<Expr>),
+    /// `?` behind something.
+    Try(Box<Expr>),
     Field(Box<Expr>),
     Index(Box<Expr>, Box<Expr>),
     Range(Option<Box<Expr>>, Option<Box<Expr>>),
     Inner(Box<Expr>),
+    Tuple(Vec<Expr>),
     List(Vec<Expr>),
     Repeat(Box<Expr>, Box<Expr>),
-    /// A struct by its path, with the values of its fields; a field without a value is the value of that name.
+    /// A struct by its path, with the values of its fields; a field without a value is the value of that name. What stands behind `..` at the end is the last.
     Struct(Vec<String>, Vec<Expr>),
     Block(Block),
     If(Box<Expr>, Block, Option<Box<Expr>>),
     /// `if let`.
     IfLet(Pattern, Box<Expr>, Block, Option<Box<Expr>>),
     While(Box<Expr>, Block),
-    For(String, Box<Expr>, Block),
-    Match(Box<Expr>, Vec<(Pattern, Expr)>),
+    /// `while let`.
+    WhileLet(Pattern, Box<Expr>, Block),
+    For(Pattern, Box<Expr>, Block),
+    Match(Box<Expr>, Vec<Arm>),
+    /// `matches!(value, pattern if guard)`.
+    Matches(Box<Expr>, Pattern, Option<Box<Expr>>),
+    /// `by_form!(form, body)`.
+    ByForm(Box<Expr>, Box<Expr>),
     Return(Option<Box<Expr>>),
+}
+
+/// A call `of.name(all)`, and of `sum` the type perhaps.
+pub struct Method {
+    pub of: Box<Expr>,
+    pub name: String,
+    /// Where the name stands.
+    pub at: usize,
+    pub ty: Option<Type>,
+    pub all: Vec<Expr>,
+}
+
+pub struct Arm {
+    pub pattern: Pattern,
+    pub guard: Option<Expr>,
+    pub value: Expr,
 }
 
 pub struct Pattern {
@@ -154,5 +219,11 @@ pub enum PatternKind {
     Path(Vec<String>),
     Range(Box<Pattern>, Box<Pattern>),
     Of(Vec<String>, Vec<Pattern>),
+    /// A struct, or a variant with named fields, with what its fields are.
+    Struct(Vec<String>, Vec<Pattern>),
+    /// Or a pattern in brackets.
+    Tuple(Vec<Pattern>),
+    /// What is behind `&`.
+    Lent(Box<Pattern>),
     Or(Vec<Pattern>),
 }

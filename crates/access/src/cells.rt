@@ -14,7 +14,7 @@ use fields::entries::{put_routes, put_vectors, route, routes, vector, vectors};
 use image::form::Form;
 use lines::halves::{value_of, write_half};
 
-// ---- route and vector bytes: 64 each, from offsets that 64 divides
+// ---- route and vector bytes: 64 each, from offsets that 64 divides. The two are told apart by number: an enum of them would be made here and taken apart at once.
 
 pub fn read_entry(image: &[u8], form: Form, offset: usize) -> u8
     requires { length image.now ≡ form_length (form_view form) }

@@ -9,7 +9,7 @@ ghost use Rattle.access.specs.cells.Runs.{Run};
 use crate::cells::{read_dword, read_run, write_dword, write_run};
 use image::form::Form;
 
-// Eight bytes from an offset on lie wholly among the route or the vector bytes, where one read or store serves them all.
+// Eight bytes from an offset on lie wholly among the route or the vector bytes, where one read or store serves them all; by number, as in `cells`.
 fn eight_together(offset: usize) -> bool
     ensures { result ≡ true → Run offset 8 }
 {

@@ -1,2 +1,3 @@
 -- The laws that the proofs of the calls cite.
 pub mod Ends
+pub mod Numbers

@@ -1,54 +1,71 @@
-// What a call tells that is refused: 01's and 02's numbers, and the value that goes with each. Which refusal comes first is known above.
-ghost use Rattle.std.specs.Prelude.{◌≡◌, length};
-ghost use Rattle.rules.specs.Device.{none};
-ghost use Rattle.calls.specs.Calls.{fault_number, refusal_number, refusal_value, no_width, no_input, wrong_length, image_number, image_value};
-ghost use Rattle.calls.specs.Calls as asked;
-ghost use Rattle.images.specs.Form.{form_length};
-ghost use Rattle.image.specs.Shown.{form_view};
-ghost use Rattle.image.specs.head.Good.{head_test};
-ghost use Rattle.image.specs.bodies.Good.{bodies_test};
-ghost use Rattle.image.specs.faults.Found.{fault_view, checked_view};
-ghost use Rattle.answer.specs.Given.{value_view, Tells};
+// Why a call is refused: 01's and 02's numbers, and the value that goes with each. Which refusal comes first is known above.
+ghost use Rattle.std.specs.Prelude.{◌≡◌};
+ghost use Rattle.calls.specs.Calls.{fault_number};
+ghost use Rattle.image.specs.faults.Found.{fault_view};
+ghost use Rattle.answer.specs.Given.{value_view, refusal_number, refusal_value, of_head};
+ghost use Rattle.answer.specs.declared.refusals.Refusal.TheVariants as refusal;
 
-use crate::{Told, Value};
-use image::faults::{Checked, Fault, first_fault};
-use image::form::Form;
-use image::head::Head;
+use image::faults::{Broken, Fault};
+use image::head::HeadFault;
 
-// The access is not wholly inside the window.
-pub fn outside(address: u64) -> Told
-    ensures { Tells result (refusal_number (asked.outside address)) (refusal_value (asked.outside address)) }
-{
-    Told {
-        number: 1,
-        value: Value::Present(address),
-    }
+// What an exported call hands back where what it was lent has no room: nothing is told then.
+pub const NO_ROOM: u8 = 7;
+
+// In the order of their numbers.
+#[derive(Clone, Copy)]
+pub enum Refusal {
+    // The access at this address is not wholly inside the window.
+    Outside(u64),
+    NoWidth,
+    NoInput,
+    WrongLength,
+    WrongContents,
+    NoRoom,
+    // A body of the image breaks a rule: which, and where.
+    Body(Broken),
+    TraceContents,
+    // The first bad record of a trace, counted from 0.
+    BadRecord(usize),
+    Unaligned,
+    Unfit,
+    NothingLeft,
+    // Where the first wrong number of a tally stands.
+    WrongTally(u64),
 }
 
-pub fn no_width() -> Told
-    ensures { Tells result (refusal_number no_width) (refusal_value no_width) }
-{
-    Told {
-        number: 2,
-        value: Value::Absent,
+impl Refusal {
+    // The number that is handed back.
+    pub fn number(self) -> u8
+        ensures { result ≡ refusal_number self }
+    {
+        match self {
+            Refusal::Outside(_) => 1,
+            Refusal::NoWidth => 2,
+            Refusal::NoInput => 3,
+            Refusal::WrongLength => 4,
+            Refusal::WrongContents => 5,
+            Refusal::NoRoom => NO_ROOM,
+            Refusal::Body(broken) => fault_number(broken.rule),
+            Refusal::TraceContents => 12,
+            Refusal::BadRecord(_) => 13,
+            Refusal::Unaligned => 14,
+            Refusal::Unfit => 15,
+            Refusal::NothingLeft => 16,
+            Refusal::WrongTally(_) => 17,
+        }
     }
-}
 
-pub fn no_input() -> Told
-    ensures { Tells result (refusal_number no_input) (refusal_value no_input) }
-{
-    Told {
-        number: 3,
-        value: Value::Absent,
-    }
-}
-
-pub fn wrong_length() -> Told
-    ensures { Tells result (refusal_number wrong_length) (refusal_value wrong_length) }
-{
-    Told {
-        number: 4,
-        value: Value::Absent,
+    // The value that goes with it.
+    pub fn value(self) -> Option<u64>
+        ensures { value_view result ≡ refusal_value self }
+    {
+        match self {
+            Refusal::Outside(address) => Some(address),
+            Refusal::Body(broken) => Some(broken.place as u64),
+            Refusal::BadRecord(k) => Some(k as u64),
+            Refusal::WrongTally(at) => Some(at),
+            _ => None,
+        }
     }
 }
 
@@ -63,57 +80,21 @@ fn fault_number(fault: Fault) -> u8
     }
 }
 
-// The number for what the test of an image found, and its value: the place of what is wrong in a body.
-fn image_number(checked: Checked) -> u8
-    ensures { result ≡ image_number (checked_view checked) }
-{
-    match checked {
-        Checked::Accepted => 0,
-        Checked::WrongLength => 4,
-        Checked::WrongContents => 5,
-        Checked::Broken(fault, _) => fault_number(fault),
+impl From<HeadFault> for Refusal {
+    ghost from_gives = { λ fault r. r ≡ of_head fault };
+
+    fn from(fault: HeadFault) -> Refusal {
+        match fault {
+            HeadFault::WrongLength => Refusal::WrongLength,
+            HeadFault::WrongContents => Refusal::WrongContents,
+        }
     }
 }
 
-fn image_value(checked: Checked) -> Value
-    ensures { value_view result ≡ image_value (checked_view checked) }
-{
-    match checked {
-        Checked::Accepted => Value::Absent,
-        Checked::WrongLength => Value::Absent,
-        Checked::WrongContents => Value::Absent,
-        Checked::Broken(_, place) => Value::Present(place as u64),
-    }
-}
+impl From<Broken> for Refusal {
+    ghost from_gives = { λ broken r. r ≡ refusal.Body broken };
 
-fn head_number(head: Head) -> u8
-    ensures { result ≡ image_number (head_test head) }
-{
-    match head {
-        Head::WrongLength => 4,
-        Head::WrongContents => 5,
-        Head::Of(_) => 0,
-    }
-}
-
-// By the length or the contents.
-pub fn of_head(head: Head) -> Told
-    ensures { Tells result (image_number (head_test head)) none }
-{
-    Told {
-        number: head_number(head),
-        value: Value::Absent,
-    }
-}
-
-// By the first rule that a body breaks.
-pub fn of_bodies(image: &[u8], form: Form) -> Told
-    requires { length image.now ≡ form_length (form_view form) }
-    ensures { Tells result (image_number (bodies_test (form_view form) image.now)) (image_value (bodies_test (form_view form) image.now)) }
-{
-    let checked = first_fault(&*image, form);
-    Told {
-        number: image_number(checked),
-        value: image_value(checked),
+    fn from(broken: Broken) -> Refusal {
+        Refusal::Body(broken)
     }
 }

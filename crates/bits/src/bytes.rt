@@ -4,22 +4,14 @@ ghost use Rattle.basics.specs.Numbers.{number_of, bytes_of};
 ghost use Rattle.images.specs.Image.{register_at};
 ghost use Rattle.bits.specs.bytes.Put.{with_bytes, with_word};
 
-pub fn wide(x: u8) -> u64
-    ensures { result ≡ x }
-{
-    x as u64
-}
-
 // The number that at most eight bytes spell, the low one first. Read from the front, so that eight bytes become one load.
 pub fn number(b: &[u8]) -> u64
     requires { length b.now ≤ 8 }
     ensures { result ≡ number_of b.now }
 {
     let mut x = 0u64;
-    let mut i = 0;
-    while i < b.len() {
-        x |= wide(b[i]) << (8 * i);
-        i += 1;
+    for (i, byte) in b.iter().enumerate() {
+        x |= u64::from(*byte) << (8 * i);
     }
     x
 }
@@ -29,11 +21,9 @@ pub fn put_number(dst: &mut [u8], x: u64)
     ensures { dst.new ≡ bytes_of (length dst.old) x }
 {
     let mut y = x;
-    let mut i = 0;
-    while i < dst.len() {
-        dst[i] = (y % 256) as u8;
-        y = y / 256;
-        i += 1;
+    for byte in dst.iter_mut() {
+        *byte = (y % 256) as u8;
+        y /= 256;
     }
 }
 
@@ -42,8 +32,7 @@ pub fn word_at(image: &[u8], at: usize) -> u64
     requires { at + 8 ≤ length image.now }
     ensures { result ≡ register_at at image.now }
 {
-    let end = at + 8;
-    number(&image[at..end])
+    number(&image[at..at + 8])
 }
 
 // The n low bytes of x from a place on; every other byte stays.
@@ -51,8 +40,7 @@ pub fn put_bytes(dst: &mut [u8], at: usize, n: usize, x: u64)
     requires { at + n ≤ length dst.old }
     ensures { dst.new ≡ with_bytes at n x dst.old }
 {
-    let end = at + n;
-    put_number(&mut dst[at..end], x);
+    put_number(&mut dst[at..at + n], x);
 }
 
 // All eight bytes of x.
@@ -68,10 +56,8 @@ pub fn copy(dst: &mut [u8], src: &[u8])
     requires { length dst.old ≡ length src.now }
     ensures { dst.new ≡ src.now }
 {
-    let mut i = 0;
-    while i < src.len() {
-        dst[i] = src[i];
-        i += 1;
+    for (i, byte) in src.iter().enumerate() {
+        dst[i] = *byte;
     }
 }
 
@@ -79,9 +65,7 @@ pub fn copy(dst: &mut [u8], src: &[u8])
 pub fn put_zeros(dst: &mut [u8])
     ensures { dst.new ≡ replicate (length dst.old) 0 }
 {
-    let mut i = 0;
-    while i < dst.len() {
-        dst[i] = 0;
-        i += 1;
+    for byte in dst.iter_mut() {
+        *byte = 0;
     }
 }

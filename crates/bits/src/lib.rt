@@ -16,9 +16,9 @@ pub fn replace_u32(old: u64, val: u32, high: bool) -> u64
     ensures { result ≡ with_half high old val }
 {
     if high {
-        (val as u64) * HALF + old % HALF
+        u64::from(val) * HALF + old % HALF
     } else {
-        old - old % HALF + (val as u64)
+        old - old % HALF + u64::from(val)
     }
 }
 
@@ -37,7 +37,11 @@ pub fn half(x: u64, high: bool) -> u32
 pub fn in_half(v: u32, high: bool) -> u64
     ensures { result ≡ as_half high v }
 {
-    if high { (v as u64) << 32 } else { v as u64 }
+    if high {
+        u64::from(v) << 32
+    } else {
+        u64::from(v)
+    }
 }
 
 // Byte k of x, the low one being 0.
@@ -55,5 +59,5 @@ pub fn with_byte(old: u32, k: usize, val: u8) -> u32
     ensures { result ≡ with_byte old k val }
 {
     let shift = k * 8;
-    (old & !(0xff << shift)) | ((val as u32) << shift)
+    (old & !(0xff << shift)) | (u32::from(val) << shift)
 }

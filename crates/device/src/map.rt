@@ -5,13 +5,6 @@ ghost use Rattle.device.specs.map.Views.{byte_index, cell_view};
 
 use crate::state::PchPicState;
 
-// An index, where there is one: the Rust's Option<usize>.
-#[derive(Clone, Copy)]
-pub enum Index {
-    None,
-    At(usize),
-}
-
 // The registers that are stored and change nothing else.
 #[derive(Clone, Copy)]
 pub enum Plain {
@@ -49,6 +42,7 @@ pub enum Width {
 }
 
 // What stands at an offset: the one place that tells the offsets of registers apart, by the arms of the Rust's read_dword and write_dword.
+#[tactic(auto, unfolding(rules::specs::Map::cell_at))]
 pub fn decode(offset: usize) -> Cell
     ensures { cell_view result ≡ cell_at offset }
 {
@@ -83,16 +77,12 @@ pub fn decode(offset: usize) -> Cell
 pub fn in_byte_area(offset: usize) -> bool
     ensures { result ≡ in_byte_area offset }
 {
-    PchPicState::ROUTE_ENTRY_BASE <= offset && offset < PchPicState::INT_ISR_LO
+    (PchPicState::ROUTE_ENTRY_BASE..PchPicState::INT_ISR_LO).contains(&offset)
 }
 
 // The offset, where a Byte access meets only route and vector bytes.
-pub fn reg8_offset(offset: usize) -> Index
+pub fn reg8_offset(offset: usize) -> Option<usize>
     ensures { result ≡ byte_index offset }
 {
-    if in_byte_area(offset) {
-        Index::At(offset)
-    } else {
-        Index::None
-    }
+    in_byte_area(offset).then_some(offset)
 }

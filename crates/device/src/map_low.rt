@@ -20,6 +20,7 @@ fn is_high(offset: usize) -> bool
 }
 
 // What stands at an offset, as decode says it.
+#[tactic(auto, unfolding(rules::specs::Map::cell_at))]
 pub fn decode_low(offset: usize) -> Cell
     ensures { cell_view result ≡ cell_at offset }
 {

@@ -3,6 +3,8 @@
 ghost use Rattle.rules.specs.Device.{reset};
 ghost use Rattle.device.specs.state.View.{Is};
 
+use std::array;
+
 // The registers that move, of all 64 inputs.
 #[derive(Clone, Copy)]
 pub struct Lines {
@@ -28,7 +30,8 @@ pub struct Tables {
     pub htmsi_vector: [u8; PchPicState::IRQ_COUNT],
 }
 
-// The output events that wait: output_len of them, from output_head on and round; and how many were dropped.
+// The output events that wait: output_len of them, from output_head on and round; and how many were dropped. 01 asks for plain arrays of vectors and flags. That head and length fit is a clause
+// (`WellRing`) and no invariant of the type, since the readers of `port` answer on any state.
 #[derive(Clone, Copy)]
 pub struct Ring {
     pub output_vectors: [u8; PchPicState::OUTPUT_QUEUE_CAPACITY],
@@ -107,15 +110,9 @@ impl PchPicState {
     pub fn reset() -> Self
         ensures { Is result reset }
     {
-        let mut vectors = [0u8; PchPicState::IRQ_COUNT];
-        let mut irq = 0;
-        while irq < PchPicState::IRQ_COUNT {
-            vectors[irq] = irq as u8;
-            irq += 1;
-        }
         PchPicState {
             lines: Lines {
-                int_mask: 0xffff_ffff_ffff_ffff,
+                int_mask: u64::MAX,
                 intirr: 0,
                 intisr: 0,
             },
@@ -128,7 +125,7 @@ impl PchPicState {
             },
             tables: Tables {
                 route_entry: [1u8; PchPicState::IRQ_COUNT],
-                htmsi_vector: vectors,
+                htmsi_vector: array::from_fn(|irq| irq as u8),
             },
             ring: Ring {
                 output_vectors: [0u8; PchPicState::OUTPUT_QUEUE_CAPACITY],
@@ -145,11 +142,4 @@ impl PchPicState {
 pub struct PchPicOutputEvent {
     pub vector: u8,
     pub asserted: bool,
-}
-
-// What update_irq hands back: the vector of the input that went into service or left it, if one did.
-#[derive(Clone, Copy)]
-pub enum Answer {
-    None,
-    Vector(u8),
 }

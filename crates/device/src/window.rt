@@ -5,22 +5,16 @@ ghost use Rattle.device.specs.window.Tests.{known_view, located_view, Ends};
 
 use crate::map::Width;
 
-// A width that is known, or not.
-#[derive(Clone, Copy)]
-pub enum Known {
-    As(Width),
-    Unknown,
-}
-
-pub fn width_of(width: u64) -> Known
+// A width that is known, or None.
+pub fn width_of(width: u64) -> Option<Width>
     ensures { known_view result ≡ width_test width }
 {
     match width {
-        1 => Known::As(Width::Byte),
-        2 => Known::As(Width::Word),
-        4 => Known::As(Width::Dword),
-        8 => Known::As(Width::Qword),
-        _ => Known::Unknown,
+        1 => Some(Width::Byte),
+        2 => Some(Width::Word),
+        4 => Some(Width::Dword),
+        8 => Some(Width::Qword),
+        _ => None,
     }
 }
 
@@ -28,27 +22,19 @@ pub fn width_of(width: u64) -> Known
 fn bytes_in(base: u64, size: u64) -> u64
     ensures { base + result ≡ min (base + size) (2 ^ 64 - 1) }
 {
-    let most = 0xffff_ffff_ffff_ffff - base;
-    if size < most { size } else { most }
+    size.min(u64::MAX - base)
 }
 
-// An access inside the window as an offset, or outside.
-#[derive(Clone, Copy)]
-pub enum Located {
-    At(usize),
-    Outside,
-}
-
-// All bytes of an access must be inside; so no offset within it passes 2^64 - 1. An address below the base wraps to an offset past every window's end.
-pub fn locate(base: u64, size: u64, address: u64, width: u64) -> Located
+// An access inside the window as an offset; None of one outside. All its bytes must be inside; so no offset within it passes 2^64 - 1. An address below the base wraps to an offset past every window's end.
+pub fn locate(base: u64, size: u64, address: u64, width: u64) -> Option<usize>
     ensures { (located_view address result ≡ address_test base size address width) × Ends result width }
 {
     let bytes = bytes_in(base, size);
     if width <= bytes {
-        let offset = std::num::wrapping_sub_u64(address, base);
+        let offset = address.wrapping_sub(base);
         if offset <= bytes - width {
-            return Located::At(offset as usize);
+            return Some(offset as usize);
         }
     }
-    Located::Outside
+    None
 }

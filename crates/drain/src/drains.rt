@@ -1,5 +1,5 @@
 // A drain in place: the oldest events are copied out, and no longer wait.
-ghost use Rattle.std.specs.Prelude.{◌≡◌, ◌/◌, ◌≤◌, min, length};
+ghost use Rattle.std.specs.Prelude.{◌≡◌, ◌≤◌, length};
 ghost use Rattle.rules.specs.Ring.{capacity};
 ghost use Rattle.rules.specs.Numbering.{drained_length};
 ghost use Rattle.images.specs.Form.{form_length};
@@ -12,14 +12,7 @@ use crate::shifts::shift;
 use image::form;
 use image::form::{Form, places_of};
 
-// As many events as wait or as fit, whichever is fewer.
-fn fitting(waiting: usize, bytes: usize) -> usize
-    ensures { result ≡ min waiting (bytes / 4) }
-{
-    let events = bytes / form::EVENT;
-    if waiting < events { waiting } else { events }
-}
-
+// As many events go as wait or as fit, whichever is fewer.
 pub fn drain(image: &mut [u8], form: Form, out: &mut [u8]) -> usize
     requires { (length image.old ≡ form_length (form_view form)) × (count_in (form_view form) image.old ≤ capacity) }
     ensures { Drains image.old image.new out.old out.new result }
@@ -27,7 +20,7 @@ pub fn drain(image: &mut [u8], form: Form, out: &mut [u8]) -> usize
     let p = places_of(form);
     let count = p.count;
     let len = image[count] as usize;
-    let n = fitting(len, out.len());
+    let n = len.min(out.len() / form::EVENT);
     let room = form::EVENT * n;
     copy_out(image, form, &mut out[0..room], n);
     shift(image, form, n, len);

@@ -18,7 +18,7 @@ pub fn from_zero() -> [u8; 32]
     ]
 }
 
-// The number that two bytes from a place on spell.
+// The number that two bytes from a place on spell. `drops_at` of pch_pic_convert does the same with four bytes: one function over the width would be longer than both.
 fn number_at(image: &[u8], at: usize) -> u16
     requires { at + 2 ≤ length image.now }
     ensures { result ≡ number_of (part at 2 image.now) }
@@ -33,11 +33,6 @@ pub fn take_next(image: &mut [u8], at: usize) -> u16
     ensures { NextTaken at image.old image.new result }
 {
     let taken = number_at(image, at);
-    put_bytes(
-        image,
-        at,
-        form::NUMBER,
-        std::num::wrapping_add_u16(taken, 1) as u64,
-    );
+    put_bytes(image, at, form::NUMBER, taken.wrapping_add(1) as u64);
     taken
 }

@@ -1,6 +1,5 @@
 // The ring as it stands in an image: the count, the drops, and sixteen pairs of which the oldest is first.
-ghost use Rattle.std.specs.Prelude.{◌≡◌, ◌+◌, ◌≤◌, min, length};
-ghost use Rattle.rules.specs.Ring.{stop, flag};
+ghost use Rattle.std.specs.Prelude.{◌≡◌, ◌≤◌, length};
 ghost use Rattle.images.specs.Form.{form_length};
 ghost use Rattle.images.specs.Image.{ring_length};
 ghost use Rattle.image.specs.Shown.{form_view};
@@ -8,7 +7,7 @@ ghost use Rattle.fields.specs.inplace.Held.{Reads, Offers};
 ghost use Rattle.fields.specs.ring.Fields.{RingOffered, event, offering};
 
 use crate::event_numbers;
-use bits::bytes::{number, put_bytes, wide};
+use bits::bytes::{number, put_bytes};
 use image::form;
 use image::form::{Form, places_of};
 
@@ -19,40 +18,28 @@ pub fn waiting(image: &[u8], form: Form) -> u64
 {
     let p = places_of(form);
     let at = p.count;
-    wide(image[at])
+    u64::from(image[at])
 }
 
-// The drops with one more, up to their stop.
-fn counted(drops: u64) -> u64
-    ensures { result ≡ min (drops + 1) stop }
-{
-    if drops < 0xffff_ffff {
-        drops + 1
-    } else {
-        0xffff_ffff
-    }
-}
-
-fn flag_of(asserted: bool) -> u8
-    ensures { result ≡ flag asserted }
-{
-    if asserted { 1 } else { 0 }
-}
-
-// An event is offered to body 4; the answer is how many were dropped.
+// An event is offered to body 4; the answer is how many were dropped. The drops are counted up to their stop.
 fn offer_to(body: &mut [u8], vector: u8, asserted: bool) -> u32
     requires { length body.old ≡ ring_length }
     ensures { (result ≤ 1) × RingOffered body.old body.new result (event vector asserted) }
 {
     let len = body[form::COUNT] as usize;
     if form::CAPACITY <= len {
-        let drops = number(&body[form::DROPS..form::PAIRS]);
-        put_bytes(body, form::DROPS, form::DROPS_LENGTH, counted(drops));
+        let drops = number(&body[form::DROPS..form::PAIRS]) as u32;
+        put_bytes(
+            body,
+            form::DROPS,
+            form::DROPS_LENGTH,
+            drops.saturating_add(1) as u64,
+        );
         return 1;
     }
     let at = form::PAIRS + form::PAIR * len;
     body[at] = vector;
-    body[at + form::FLAG] = flag_of(asserted);
+    body[at + form::FLAG] = u8::from(asserted);
     body[form::COUNT] = (len + 1) as u8;
     0
 }

@@ -1,12 +1,18 @@
 -- A form in code and in the rules.
-use Rattle.basics.proofs.Prelude.{◌≡◌, refl, sym, ap, ◌∙◌, true, false, List, [], ◌∷◌, ⊎_elim, inl, inr, ℕ, ◌+◌, ◌≤◌, arith, length, OneOf, tag_of, test}
+use Rattle.std.specs.Int.{from_bool}
+use Rattle.rules.specs.Ring.{flag}
+use Rattle.basics.proofs.Prelude.{◌≡◌, refl, sym, Bool, true, false, List, ℕ, ◌+◌, ◌≤◌, arith, length, test}
 use Rattle.images.specs.Form.{Word, Field, word, copy, irr, next, numbers, one, two, numbered, has, size, place, form_length}
-use Rattle.images.specs.Image.{register_at, word_in, number_body_length}
+use Rattle.images.specs.Image.{number_body_length}
 use Rattle.images.proofs.laws.Layout.{never, always, has_all, field_fits}
 use Rattle.image.specs.Shown.{form_view, place_in, PlacesOf}
 use Rattle.image.specs.declared.form.{Form.Form, Form.TheVariants.One, Form.TheVariants.Two, Form.TheVariants.Numbered, Places.Places}
-use Rattle.image.specs.contracts.form.Form.{the_type}
 use Rattle.images.specs.Form as rules-form
+
+-- a flag as `u8::from` makes it
+pub byte_flag : (b : Bool) → from_bool b ≡ flag b
+byte_flag true = refl
+byte_flag false = refl
 
 -- where a field stands that every form has
 pub placed : {f : rules-form.Form} {p : Places} → PlacesOf f p → (q : Field) → always q ≡ true → place_in p q ≡ place f q
@@ -22,16 +28,10 @@ has_numbers x e = rw e
 pub has_next : (x : Form) → x ≡ Numbered → has (form_view x) next ≡ true
 has_next x e = rw e
 
--- what is not the numbered one is one of the others
-pub among : (x : Form) → (x ≡ Numbered → ⊥) → OneOf (0 ∷ 1 ∷ []) (tag_of the_type x)
-among One h = inl refl
-among Two h = inr refl
-among Numbered h = absurd (h refl)
-
-pub no_numbers : (x : Form) → OneOf (0 ∷ 1 ∷ []) (tag_of the_type x) → has (form_view x) numbers ≡ false
+pub no_numbers : (x : Form) → (x ≡ Numbered → ⊥) → has (form_view x) numbers ≡ false
 no_numbers One h = refl
 no_numbers Two h = refl
-no_numbers Numbered h = absurd (⊎_elim (λ e. omega (arith, e)) (λ e. omega (arith, e)) h)
+no_numbers Numbered h = absurd (h refl)
 
 -- the numbers stand behind the next one
 pub behind_next : (f : rules-form.Form) → has f numbers ≡ true → place f next + size next ≡ place f numbers
@@ -50,10 +50,6 @@ module _ (f : rules-form.Form) (l : List ℕ) (s : length l ≡ form_length f) (
 
   pub always_within : (q : Field) → always q ≡ true → place_in p q + size q ≤ length l
   always_within q h = field_within q (has_all f q h)
-
-  -- of a word: what is read where the code says it is
-  pub always_word : (w : Word) → always (word w) ≡ true → (x : ℕ) → x ≡ register_at (place_in p (word w)) l → x ≡ word_in f l w
-  always_word w h x e = e ∙ ap (λ a. register_at a l) (always_at (word w) h)
 
   pub copy_within : p.last_intirr + 8 ≤ length l
   copy_within = test (has f (word copy)) (field_within (word copy)) (λ h. omega (arith, o.copy h, field_within (word irr) (has_all f (word irr) refl)))

@@ -1,5 +1,5 @@
 -- What the functions of this crate hand back, as the rules see it.
-use Rattle.std.specs.Prelude.{◌≡◌, ℕ, ◌+◌, ◌≤◌, true, false, cond}
+use Rattle.std.specs.Prelude.{◌≡◌, ℕ, ◌+◌, ◌≤◌, true, false, cond, Option, Some, None}
 use Rattle.rules.specs.Core.{htmsi_en, edge, pol, auto0, auto1}
 use Rattle.images.specs.Form.{mask, irr, isr, copy, stored, Field, word, routes, vectors, count, drops, pairs, next, numbers, one, two, numbered}
 use Rattle.images.specs.Form.{has, size, place, contents_length, contents_of, unknown, known}
@@ -7,8 +7,6 @@ use Rattle.images.specs.Form as rules-form
 use Rattle.images.specs.Image.{register_at}
 use Rattle.image.specs.declared.form.Form.{Form}
 use Rattle.image.specs.declared.form.Form.TheVariants.{One, Two, Numbered}
-use Rattle.image.specs.declared.form.KnownForm.{KnownForm}
-use Rattle.image.specs.declared.form.KnownForm.TheVariants.{Unknown, As}
 use Rattle.image.specs.declared.form.Places.{Places}
 use Rattle.image.specs.declared.form.Contents.{Contents}
 
@@ -17,9 +15,9 @@ form_view One = one
 form_view Two = two
 form_view Numbered = numbered
 
-abbrev pub form_known : KnownForm → rules-form.Known
-form_known Unknown = unknown
-form_known (As f) = known (form_view f)
+abbrev pub form_known : Option Form → rules-form.Known
+form_known None = unknown
+form_known (Some f) = known (form_view f)
 
 -- the place that is said of a field
 abbrev pub place_in : Places → Field → ℕ

@@ -12,23 +12,21 @@ use bits::bytes::word_at;
 // Where the last word of the pairs or numbers begins.
 const LAST_WORD: usize = 24;
 
-// The first flag of a waiting pair that is neither 0 nor 1, or the length.
+// The first flag of a waiting pair that is neither 0 nor 1, or the length: no Option, since `First` has the length for none.
 pub fn bad_flag(count: usize, pairs: &[u8]) -> usize
     requires { (length pairs.now ≡ 2 * capacity) × (count ≤ capacity) }
     ensures { First (flag_rule count).bad pairs.now result }
 {
-    let mut i = 0;
-    while i < count {
-        let pair = PAIR * i;
-        if pairs[pair + FLAG] > 1 {
-            return pair + FLAG;
+    for i in 0..count {
+        let flag = PAIR * i + FLAG;
+        if pairs[flag] > 1 {
+            return flag;
         }
-        i += 1;
     }
     pairs.len()
 }
 
-// Where words of zeros from a byte on end.
+// Where words of zeros from a byte on end. A while and no for: where it stops is the answer, past the last word too.
 fn zeros_end(pairs: &[u8], from: usize) -> usize
     requires { (length pairs.now ≡ 2 * capacity) × (from ≤ 2 * capacity) }
     ensures { ZerosTo pairs.now from result }
@@ -43,17 +41,16 @@ fn zeros_end(pairs: &[u8], from: usize) -> usize
     i
 }
 
-// The first byte behind the waiting pairs, or numbers, that is not zero, or the length.
+// The first byte behind the waiting pairs, or numbers, that is not zero, or the length, as `First` has it.
 pub fn used_byte(count: usize, pairs: &[u8]) -> usize
     requires { (length pairs.now ≡ 2 * capacity) × (count ≤ capacity) }
     ensures { First (unused_rule rules-form.pairs count).bad pairs.now result }
 {
-    let mut i = zeros_end(&*pairs, PAIR * count);
-    while i < pairs.len() {
+    let start = zeros_end(&*pairs, PAIR * count);
+    for i in start..pairs.len() {
         if pairs[i] != 0 {
             return i;
         }
-        i += 1;
     }
     pairs.len()
 }

@@ -4,17 +4,11 @@
 ghost use Rattle.std.specs.Prelude.{◌≡◌, length};
 ghost use Rattle.images.specs.Form.{form_length};
 ghost use Rattle.image.specs.Shown.{form_view};
-ghost use Rattle.image.specs.bodies.Good.{holds, spare_at, bodies_good};
+ghost use Rattle.image.specs.bodies.Good.{spare_at, bodies_good};
 
 use crate::form::{CAPACITY, Form, NUMBERS_LENGTH, PAIRS_LENGTH, places_of};
 use crate::unused;
 use bits::bytes::word_at;
-
-#[derive(Clone, Copy)]
-pub enum Bodies {
-    Broken,
-    Good,
-}
 
 // Where the numbers stand; in a form without numbers, the pairs.
 pub fn spare_of(form: Form) -> usize
@@ -29,18 +23,18 @@ pub fn spare_of(form: Form) -> usize
 }
 
 // The rules of the bodies. A form without a copy of IRR has IRR's own place there, and one without numbers the pairs' place.
-pub fn test_bodies(image: &[u8], form: Form) -> Bodies
+pub fn test_bodies(image: &[u8], form: Form) -> bool
     requires { length image.now ≡ form_length (form_view form) }
-    ensures { holds result ≡ bodies_good (form_view form) image.now }
+    ensures { result ≡ bodies_good (form_view form) image.now }
 {
     let p = places_of(form);
     if word_at(image, p.last_intirr) != word_at(image, p.intirr) {
-        return Bodies::Broken;
+        return false;
     }
     let place = p.count;
     let count = image[place] as usize;
     if count > CAPACITY {
-        return Bodies::Broken;
+        return false;
     }
     let at = p.pairs;
     let end = at + PAIRS_LENGTH;
@@ -49,45 +43,39 @@ pub fn test_bodies(image: &[u8], form: Form) -> Bodies
     let found = unused::all_bits(&image[at..end]);
     // every pair and every number is zero: the commonest ring
     if found | unused::all_bits(&image[spare..last]) == 0 {
-        return Bodies::Good;
+        return true;
     }
     // a flag is over 1, of a waiting pair or of an unused one
     if found & 0xfe00_fe00_fe00_fe00 != 0 {
-        return Bodies::Broken;
+        return false;
     }
-    if !unused::unused_zero(count, &image[at..end], &image[spare..last]) {
-        return Bodies::Broken;
-    }
-    Bodies::Good
+    unused::unused_zero(count, &image[at..end], &image[spare..last])
 }
 
 // The same, of an image in which something waits as a rule: that every pair is zero is not looked for first, and with sixteen that wait none is unused.
-pub fn test_waiting(image: &[u8], form: Form) -> Bodies
+pub fn test_waiting(image: &[u8], form: Form) -> bool
     requires { length image.now ≡ form_length (form_view form) }
-    ensures { holds result ≡ bodies_good (form_view form) image.now }
+    ensures { result ≡ bodies_good (form_view form) image.now }
 {
     let p = places_of(form);
     let copy = word_at(image, p.last_intirr);
     if copy != word_at(image, p.intirr) {
-        return Bodies::Broken;
+        return false;
     }
     let place = p.count;
     let count = image[place] as usize;
     if 16 < count {
-        return Bodies::Broken;
+        return false;
     }
     let at = p.pairs;
     let end = at + PAIRS_LENGTH;
     if unused::all_bits(&image[at..end]) & 0xfe00_fe00_fe00_fe00 != 0 {
-        return Bodies::Broken;
+        return false;
     }
     if count == 16 {
-        return Bodies::Good;
+        return true;
     }
     let spare = spare_of(form);
     let last = spare + NUMBERS_LENGTH;
-    if !unused::unused_zero(count, &image[at..end], &image[spare..last]) {
-        return Bodies::Broken;
-    }
-    Bodies::Good
+    unused::unused_zero(count, &image[at..end], &image[spare..last])
 }

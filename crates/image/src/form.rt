@@ -11,20 +11,35 @@ pub enum Form {
     Numbered,
 }
 
-#[derive(Clone, Copy)]
-pub enum KnownForm {
-    Unknown,
-    As(Form),
+// An arm for each form, in which the form is a constant, and with it every place of its images. Where it is not, the compiler looks up each place, and a raise takes 121 instructions in place of 65.
+#[macro_export]
+macro_rules! by_form {
+    ($form:ident, $body:expr) => {
+        match $form {
+            $crate::form::Form::One => {
+                let $form = $crate::form::Form::One;
+                $body
+            }
+            $crate::form::Form::Two => {
+                let $form = $crate::form::Form::Two;
+                $body
+            }
+            $crate::form::Form::Numbered => {
+                let $form = $crate::form::Form::Numbered;
+                $body
+            }
+        }
+    };
 }
 
-pub fn form_of(length: usize) -> KnownForm
+pub fn form_of(length: usize) -> Option<Form>
     ensures { form_known result ≡ form_of length }
 {
     match length {
-        259 => KnownForm::As(Form::One),
-        251 => KnownForm::As(Form::Two),
-        290 => KnownForm::As(Form::Numbered),
-        _ => KnownForm::Unknown,
+        259 => Some(Form::One),
+        251 => Some(Form::Two),
+        290 => Some(Form::Numbered),
+        _ => None,
     }
 }
 

@@ -5,15 +5,15 @@ ghost use Rattle.images.specs.Form.{form_length, form_of, known};
 ghost use Rattle.image.specs.Shown.{form_view};
 ghost use Rattle.image.specs.head.Good.{Headed, head_good};
 
-use crate::form::{Form, KnownForm, contents_of, form_of};
+use crate::by_form;
+use crate::form::{Form, contents_of, form_of};
 use bits::bytes::word_at;
 
-// What the length and the contents tell: an image of a form, or why it is none.
-#[derive(Clone, Copy)]
-pub enum Head {
+// Why bytes are no image of a form.
+#[derive(Clone, Copy, PartialEq, Eq)]
+pub enum HeadFault {
     WrongLength,
     WrongContents,
-    Of(Form),
 }
 
 fn contents_good(image: &[u8], form: Form) -> bool
@@ -33,26 +33,22 @@ fn contents_good(image: &[u8], form: Form) -> bool
     word_at(image, c.last_at) == c.last
 }
 
-fn headed(image: &[u8], form: Form) -> Head
+fn headed(image: &[u8], form: Form) -> Result<Form, HeadFault>
     requires { form_of (length image.now) ≡ known (form_view form) }
     ensures { Headed result image.now }
 {
     if contents_good(image, form) {
-        return Head::Of(form);
+        return Ok(form);
     }
-    Head::WrongContents
+    Err(HeadFault::WrongContents)
 }
 
 // An arm for each form, so that each compares with constants.
-pub fn test_head(image: &[u8]) -> Head
+pub fn test_head(image: &[u8]) -> Result<Form, HeadFault>
     ensures { Headed result image.now }
 {
-    let KnownForm::As(form) = form_of(image.len()) else {
-        return Head::WrongLength;
+    let Some(form) = form_of(image.len()) else {
+        return Err(HeadFault::WrongLength);
     };
-    match form {
-        Form::One => headed(image, Form::One),
-        Form::Two => headed(image, Form::Two),
-        Form::Numbered => headed(image, Form::Numbered),
-    }
+    by_form!(form, headed(image, form))
 }

@@ -10,7 +10,7 @@ ghost use Rattle.image.specs.quick.Quiet.{QuietBodies, Quiet, Kept};
 use crate::bodies::spare_of;
 use crate::form::{FLAG, Form, NUMBERS_LENGTH, PAIRS_LENGTH, contents_of, places_of};
 use crate::unused::{all_bits, behind};
-use bits::bytes::{wide, word_at};
+use bits::bytes::word_at;
 
 // The bits of four flags above their lowest.
 const FLAGS: u64 = 0xfe00_fe00_fe00_fe00;
@@ -19,7 +19,7 @@ const FLAGS: u64 = 0xfe00_fe00_fe00_fe00;
 fn apart(a: u64, b: u64) -> u64
     ensures { (result == 0) ≡ (a == b) }
 {
-    std::num::wrapping_sub_u64(a, b)
+    a.wrapping_sub(b)
 }
 
 // 0 exactly where the contents are those of the form.
@@ -46,7 +46,7 @@ fn bodies_odd(image: &[u8], form: Form) -> u64
     let spare = spare_of(form);
     let last = spare + NUMBERS_LENGTH;
     apart(word_at(image, p.last_intirr), word_at(image, p.intirr))
-        | wide(image[place])
+        | u64::from(image[place])
         | all_bits(&image[at..end])
         | all_bits(&image[spare..last])
 }
@@ -91,7 +91,7 @@ pub fn single_odd(image: &[u8], form: Form) -> u64
     let last = spare + NUMBERS_LENGTH;
     let copy = word_at(image, p.last_intirr);
     apart(copy, word_at(image, p.intirr))
-        | wide(image[pairs + FLAG] / 2)
+        | u64::from(image[pairs + FLAG] / 2)
         | behind(1, &image[pairs..end])
         | behind(1, &image[spare..last])
 }

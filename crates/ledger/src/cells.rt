@@ -1,5 +1,5 @@
 // The numbers of a sheet or a tally, kept in the bytes that are lent for it, in four bytes each or wide, in eight: read and written, and what a mark does to them.
-ghost use Rattle.std.specs.Prelude.{◌≡◌, ◌+◌, ◌-◌, ◌^◌, ◌<◌, max, false, [], ◌∷◌};
+ghost use Rattle.std.specs.Prelude.{◌≡◌, ◌+◌, ◌-◌, ◌^◌, ◌<◌, false, [], ◌∷◌};
 ghost use Rattle.passes.specs.tallies.Grid.{cell_bytes, cell_place, is_wait, Roomy, Reads, Puts, Becomes, bump};
 ghost use Rattle.passes.specs.tallies.Marks.{began, taken_back, happened, kind_column, fate_columns, bumped, settled};
 ghost use Rattle.passes.specs.tallies.Following.{Takes};
@@ -79,7 +79,7 @@ pub fn count(sheet: &mut [u8], wide: bool, row: usize, column: usize)
     ensures { Becomes wide sheet.old sheet.new (λ f. bump f row column) }
 {
     let x = cell(sheet, wide, row, column);
-    put_cell(sheet, wide, row, column, std::num::wrapping_add_u64(x, 1));
+    put_cell(sheet, wide, row, column, x.wrapping_add(1));
 }
 
 // ---- waits
@@ -89,13 +89,7 @@ fn elapsed(k: u64, since: u64) -> u64
     requires { k < 2 ^ 64 - 1 }
     ensures { result ≡ k + 1 - since }
 {
-    if since <= k { k + 1 - since } else { 0 }
-}
-
-pub fn greater(a: u64, b: u64) -> u64
-    ensures { result ≡ max a b }
-{
-    if a < b { b } else { a }
+    (k + 1).saturating_sub(since)
 }
 
 // A wait begins at the record k.
@@ -116,7 +110,7 @@ fn settle(sheet: &mut [u8], wide: bool, n: usize, k: u64)
         return;
     }
     let most = cell(sheet, wide, n, GREATEST);
-    put_cell(sheet, wide, n, GREATEST, greater(most, elapsed(k, since)));
+    put_cell(sheet, wide, n, GREATEST, most.max(elapsed(k, since)));
     put_cell(sheet, wide, n, OPEN, 0);
 }
 

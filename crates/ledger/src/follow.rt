@@ -25,10 +25,8 @@ pub fn zero_row(sheet: &mut [u8], wide: bool, n: usize)
     requires { Roomy wide sheet.old × (n < 65) }
     ensures { Becomes wide sheet.old sheet.new (λ f. row_cleared f n 10) }
 {
-    let mut c = 0;
-    while c < COLUMNS {
+    for c in 0..COLUMNS {
         put_cell(sheet, wide, n, c, 0);
-        c += 1;
     }
 }
 
@@ -52,11 +50,8 @@ fn copy_row(from: &[u8], sheet: &mut [u8], n: usize)
     requires { Roomy true from.now × Roomy true sheet.old × (n < 64) }
     ensures { CopiesOf from.now sheet.old sheet.new (λ g f. row_from g f n 10) }
 {
-    let mut c = 0;
-    while c < COLUMNS {
-        let x = cell(from, true, n, c);
-        put_cell(sheet, true, n, c, x);
-        c += 1;
+    for c in 0..COLUMNS {
+        put_cell(sheet, true, n, c, cell(from, true, n, c));
     }
 }
 
@@ -90,11 +85,8 @@ pub fn follow(
         (map item_of (records_from trace.now records 0)) }
 {
     let mut w = kept;
-    let mut k = 0;
-    while k < records {
-        let place = first + LENGTH * k;
-        let r = record_at(trace, place);
+    for k in 0..records {
+        let r = record_at(trace, first + LENGTH * k);
         w = step(sheet, wide, w, base + k as u64, r);
-        k += 1;
     }
 }

@@ -1,10 +1,10 @@
 // The end of a day's sheet, in the bytes lent for it: of each input whether its wait is open, and then its row joined to the total.
 ghost use Rattle.std.specs.Prelude.{◌≡◌, ◌+◌, ◌*◌, ◌%◌, ◌^◌, ◌<◌, ◌≤◌, length};
 ghost use Rattle.passes.specs.tallies.Grid.{cell_bytes, cell_place, Roomy, Becomes, put};
-ghost use Rattle.passes.specs.Finish.{is_on, shut, joined, row_joined, finished};
+ghost use Rattle.passes.specs.Finish.{shut, joined, row_joined, finished};
 ghost use Rattle.ledger.specs.totals.Zeros.{FoundZero};
 
-use crate::cells::{GREATEST, OPEN, cell, greater, place, put_cell};
+use crate::cells::{GREATEST, OPEN, cell, place, put_cell};
 use bits::bytes::word_at;
 
 const INPUTS: usize = 64;
@@ -14,19 +14,13 @@ pub const COLUMNS: usize = 10;
 // The row of the total.
 pub const TOTAL: usize = 64;
 
-fn is_on(x: u64) -> u64
-    ensures { result ≡ is_on x }
-{
-    if x == 0 { 0 } else { 1 }
-}
-
 // A wait that is not over is open.
 fn close(sheet: &mut [u8], wide: bool, n: usize)
     requires { Roomy wide sheet.old × (n < 64) }
     ensures { Becomes wide sheet.old sheet.new (λ f. shut f n) }
 {
     let since = cell(sheet, wide, n, OPEN);
-    put_cell(sheet, wide, n, OPEN, is_on(since));
+    put_cell(sheet, wide, n, OPEN, u64::from(since != 0));
 }
 
 // The greater wait, and of all else the sum.
@@ -34,9 +28,9 @@ fn join_with(column: usize, total: u64, x: u64) -> u64
     ensures { result ≡ joined column total x % 2 ^ 64 }
 {
     if column == GREATEST {
-        return greater(total, x);
+        return total.max(x);
     }
-    std::num::wrapping_add_u64(total, x)
+    total.wrapping_add(x)
 }
 
 fn join(sheet: &mut [u8], wide: bool, n: usize, column: usize)
@@ -52,10 +46,8 @@ fn join_row(sheet: &mut [u8], wide: bool, n: usize)
     requires { Roomy wide sheet.old × (n < 64) }
     ensures { Becomes wide sheet.old sheet.new (λ f. row_joined f n 10) }
 {
-    let mut c = 0;
-    while c < COLUMNS {
+    for c in 0..COLUMNS {
         join(sheet, wide, n, c);
-        c += 1;
     }
 }
 
@@ -99,9 +91,7 @@ pub fn join_all(sheet: &mut [u8], wide: bool)
     requires { Roomy wide sheet.old }
     ensures { Becomes wide sheet.old sheet.new (λ f. finished f 64) }
 {
-    let mut n = 0;
-    while n < INPUTS {
+    for n in 0..INPUTS {
         finish_row(sheet, wide, n);
-        n += 1;
     }
 }

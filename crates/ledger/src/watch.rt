@@ -80,10 +80,9 @@ fn enter(sheet: &mut [u8], wide: bool, w: Watched, set: u64, k: u64) -> Watched
     let n = u64::trailing_zeros(waits) as usize;
     let waiting = offer(sheet, wide, n, k, true, w.waiting);
     Watched {
-        mask: w.mask,
-        irr: w.irr,
         isr: w.isr | 1u64 << n,
         waiting,
+        ..w
     }
 }
 
@@ -95,10 +94,9 @@ fn leave(sheet: &mut [u8], wide: bool, w: Watched, set: u64, k: u64) -> Watched
     let served = decide::served(set, w.isr);
     let waiting = offer_each(sheet, wide, served, k, w.waiting);
     Watched {
-        mask: w.mask,
-        irr: w.irr,
         isr: w.isr & !set,
         waiting,
+        ..w
     }
 }
 
@@ -114,10 +112,8 @@ fn enter_one(sheet: &mut [u8], wide: bool, w: Watched, n: usize, k: u64) -> Watc
     }
     event(sheet, wide, n, k, true, Fate::Returned);
     Watched {
-        mask: w.mask,
-        irr: w.irr,
         isr: w.isr | bit,
-        waiting: w.waiting,
+        ..w
     }
 }
 
@@ -133,10 +129,8 @@ fn leave_one(sheet: &mut [u8], wide: bool, w: Watched, n: usize, k: u64) -> Watc
     }
     event(sheet, wide, n, k, false, Fate::Returned);
     Watched {
-        mask: w.mask,
-        irr: w.irr,
         isr: w.isr & !bit,
-        waiting: w.waiting,
+        ..w
     }
 }
 
@@ -170,10 +164,8 @@ pub fn raise(sheet: &mut [u8], wide: bool, w: Watched, n: usize, k: u64) -> Watc
 {
     count_raise(sheet, wide, w, n, k);
     let latched = Watched {
-        mask: w.mask,
         irr: w.irr | 1u64 << n,
-        isr: w.isr,
-        waiting: w.waiting,
+        ..w
     };
     enter_one(sheet, wide, latched, n, k)
 }
@@ -187,10 +179,8 @@ pub fn lower(sheet: &mut [u8], wide: bool, w: Watched, n: usize, k: u64) -> Watc
     count(sheet, wide, n, LOWERS);
     withdraw(sheet, wide, n);
     let unlatched = Watched {
-        mask: w.mask,
         irr: w.irr & !(1u64 << n),
-        isr: w.isr,
-        waiting: w.waiting,
+        ..w
     };
     leave_one(sheet, wide, unlatched, n, k)
 }
@@ -205,9 +195,7 @@ pub fn write_mask(sheet: &mut [u8], wide: bool, w: Watched, k: u64, val: u32, hi
     let old = w.mask;
     let masked = Watched {
         mask: bits::replace_u32(old, val, high),
-        irr: w.irr,
-        isr: w.isr,
-        waiting: w.waiting,
+        ..w
     };
     let entered = enter(
         sheet,
@@ -232,10 +220,8 @@ pub fn write_clear(sheet: &mut [u8], wide: bool, w: Watched, k: u64, bits: u64) 
 {
     withdraw_each(sheet, wide, bits);
     let cleared = Watched {
-        mask: w.mask,
         irr: w.irr & !bits,
-        isr: w.isr,
-        waiting: w.waiting,
+        ..w
     };
     leave(sheet, wide, cleared, bits, k)
 }

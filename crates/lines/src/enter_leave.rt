@@ -8,36 +8,35 @@ ghost use Rattle.device.specs.state.View.{answer_value};
 ghost use Rattle.fields.specs.inplace.Held.{MovesIn, given, untaken};
 
 use device::decide;
-use device::state::Answer;
 use fields::entries::vector;
 use fields::words;
 use image::form::Form;
 
 // The lowest of a set that waits goes into service; the answer is its vector.
-pub fn enter(image: &mut [u8], form: Form, set: u64) -> Answer
+pub fn enter(image: &mut [u8], form: Form, set: u64) -> Option<u8>
     requires { length image.old ≡ form_length (form_view form) }
     ensures { MovesIn image.old image.new (answer_value result) untaken given (λ vs. lines.enter vs false (on set)) }
 {
     let isr = words::isr(image, form);
     let waiting = decide::pending(set, words::irr(image, form), words::mask(image, form), isr);
     if waiting == 0 {
-        return Answer::None;
+        return None;
     }
-    let irq = u64::trailing_zeros(waiting) as usize;
+    let irq = waiting.trailing_zeros() as usize;
     words::put_isr(image, form, isr | 1u64 << irq);
-    Answer::Vector(vector(image, form, irq))
+    Some(vector(image, form, irq))
 }
 
 // An input that is in service leaves it; the answer is its vector.
-pub fn leave_one(image: &mut [u8], form: Form, irq: usize) -> Answer
+pub fn leave_one(image: &mut [u8], form: Form, irq: usize) -> Option<u8>
     requires { (length image.old ≡ form_length (form_view form)) × (irq < 64) }
     ensures { MovesIn image.old image.new (answer_value result) untaken given (λ vs. lines.leave vs false (only irq)) }
 {
     let isr = words::isr(image, form);
     let bit = 1u64 << irq;
     if decide::served(bit, isr) == 0 {
-        return Answer::None;
+        return None;
     }
     words::put_isr(image, form, isr & !bit);
-    Answer::Vector(vector(image, form, irq))
+    Some(vector(image, form, irq))
 }

@@ -7,19 +7,18 @@ ghost use Rattle.device.specs.state.View.{answer_value};
 ghost use Rattle.fields.specs.inplace.Held.{Offers};
 ghost use Rattle.lines.specs.events.Offered.{assert_of, deasserts};
 
-use device::state::Answer;
 use fields::entries::vector;
 use fields::ring::offer;
 use image::form::Form;
 
 // The assert of the input that entered, if one did.
-pub fn offer_entered(image: &mut [u8], form: Form, entered: Answer) -> u32
+pub fn offer_entered(image: &mut [u8], form: Form, entered: Option<u8>) -> u32
     requires { length image.old ≡ form_length (form_view form) }
     ensures { (result ≤ 1) × Offers image.old image.new result (λ d. assert_of (answer_value entered)) }
 {
     match entered {
-        Answer::None => 0,
-        Answer::Vector(v) => offer(image, form, v, true),
+        None => 0,
+        Some(v) => offer(image, form, v, true),
     }
 }
 
@@ -31,7 +30,7 @@ fn offer_rest(image: &mut [u8], form: Form, set: u64) -> u32
     let mut left = set;
     let mut dropped = 0;
     while left != 0 {
-        let irq = u64::trailing_zeros(left) as usize;
+        let irq = left.trailing_zeros() as usize;
         let vector = vector(image, form, irq);
         dropped += offer(image, form, vector, false);
         left &= left - 1;
@@ -46,7 +45,7 @@ pub fn offer_each(image: &mut [u8], form: Form, set: u64) -> u32
 {
     let mut left = set;
     while left != 0 {
-        let irq = u64::trailing_zeros(left) as usize;
+        let irq = left.trailing_zeros() as usize;
         let vector = vector(image, form, irq);
         let dropped = offer(image, form, vector, false);
         left &= left - 1;

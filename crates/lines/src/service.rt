@@ -8,11 +8,10 @@ ghost use Rattle.fields.specs.inplace.Held.{Returns};
 ghost use Rattle.lines.specs.service.Offered.{level_move};
 
 use crate::enter_leave::{enter, leave_one};
-use device::state::Answer;
 use fields::words;
 use image::form::Form;
 
-pub fn poll(image: &mut [u8], form: Form, irq: usize) -> Answer
+pub fn poll(image: &mut [u8], form: Form, irq: usize) -> Option<u8>
     requires { (length image.old ≡ form_length (form_view form)) × (irq < 64) }
     ensures { Returns image.old image.new (answer_value result) (core.poll irq) }
 {
@@ -20,7 +19,7 @@ pub fn poll(image: &mut [u8], form: Form, irq: usize) -> Answer
 }
 
 // It is latched, and then polled.
-fn raise(image: &mut [u8], form: Form, irq: usize) -> Answer
+fn raise(image: &mut [u8], form: Form, irq: usize) -> Option<u8>
     requires { (length image.old ≡ form_length (form_view form)) × (irq < 64) }
     ensures { Returns image.old image.new (answer_value result) (core.raise irq) }
 {
@@ -31,7 +30,7 @@ fn raise(image: &mut [u8], form: Form, irq: usize) -> Answer
 }
 
 // Its latch goes off, and it leaves service, masked or not.
-fn lower(image: &mut [u8], form: Form, irq: usize) -> Answer
+fn lower(image: &mut [u8], form: Form, irq: usize) -> Option<u8>
     requires { (length image.old ≡ form_length (form_view form)) × (irq < 64) }
     ensures { Returns image.old image.new (answer_value result) (core.lower irq) }
 {
@@ -40,7 +39,7 @@ fn lower(image: &mut [u8], form: Form, irq: usize) -> Answer
     leave_one(image, form, irq)
 }
 
-pub fn set_level(image: &mut [u8], form: Form, irq: usize, level: bool) -> Answer
+pub fn set_level(image: &mut [u8], form: Form, irq: usize, level: bool) -> Option<u8>
     requires { (length image.old ≡ form_length (form_view form)) × (irq < 64) }
     ensures { Returns image.old image.new (answer_value result) (level_move irq level) }
 {

@@ -1,25 +1,25 @@
 // Reads and writes through the window, where the answer area has room. What they tell goes into it. A Dword is what guests use: it has the quick test, and arms in which the form
 // is a constant. All other widths go one way.
-ghost use Rattle.std.specs.Prelude.{◌≡◌, [], ◌≤◌, length};
+// A read and a write stand beside one another: of a closure that made the access nothing would be known of the image that it changed.
+ghost use Rattle.std.specs.Prelude.{◌≡◌, [], ◌≤◌, length, Ok};
 ghost use Rattle.calls.specs.Calls.{answer_length, leaves, outcome};
 ghost use Rattle.calls.specs.Calls as asked;
 ghost use Rattle.image.specs.Shown.{form_view};
 ghost use Rattle.image.specs.head.Good.{Headed};
-ghost use Rattle.image.specs.declared.head.Head.TheVariants.{Of};
 ghost use Rattle.fields.specs.inplace.Passed.{Passed};
 
 use access::cells;
-use answer::refusals::{of_bodies, of_head, outside};
-use answer::{Value, done, tell};
+use answer::accepted::bodies_accepted;
+use answer::refusals::Refusal;
+use answer::tell;
 use device::window;
-use device::window::Located;
-use image::bodies::{Bodies, test_waiting};
-use image::form::{Form, KnownForm, form_of};
-use image::head::Head;
+use image::by_form;
+use image::form::{Form, form_of};
 use image::quick::{contents_apart, few_odd, odd};
 use six_calls::tested_access;
 
-// A read of any width: the image is tested the whole way.
+// A read of any width: the image is tested the whole way. It stays a call: within `read_at_once`, that would be one too, and every Dword would take 30 instructions more.
+#[inline(never)]
 pub fn read_any(
     image: &[u8],
     base: u64,
@@ -42,11 +42,11 @@ fn read_on(image: &[u8], form: Form, base: u64, size: u64, address: u64, answer:
     ensures { leaves result image.now answer.new []
         ≡ outcome (asked.read base size address 4) image.now answer.old }
 {
-    let Located::At(offset) = window::locate(base, size, address, 4) else {
-        return tell(answer, outside(address));
+    let Some(offset) = window::locate(base, size, address, 4) else {
+        return tell(answer, Err(Refusal::Outside(address)));
     };
     let value = cells::read_dword(&*image, form, offset) as u64;
-    tell(answer, done(Value::Present(value)))
+    tell(answer, Ok(Some(value)))
 }
 
 // The contents are those of the form, and the bodies are tested in full.
@@ -58,13 +58,13 @@ fn read_tested(
     address: u64,
     answer: &mut [u8],
 ) -> u8
-    requires { Headed (Of form) image.now × (answer_length ≤ length answer.old) }
+    requires { Headed (Ok form) image.now × (answer_length ≤ length answer.old) }
     ensures { leaves result image.now answer.new []
         ≡ outcome (asked.read base size address 4) image.now answer.old }
 {
-    let Bodies::Good = test_waiting(&*image, form) else {
-        return tell(answer, of_bodies(&*image, form));
-    };
+    if let Err(refusal) = bodies_accepted(&*image, form) {
+        return tell(answer, Err(refusal));
+    }
     read_on(&*image, form, base, size, address, answer)
 }
 
@@ -77,30 +77,19 @@ fn read_waiting(
     address: u64,
     answer: &mut [u8],
 ) -> u8
-    requires { Headed (Of form) image.now × (answer_length ≤ length answer.old) }
+    requires { Headed (Ok form) image.now × (answer_length ≤ length answer.old) }
     ensures { leaves result image.now answer.new []
         ≡ outcome (asked.read base size address 4) image.now answer.old }
 {
-    match form {
-        Form::One => {
-            if few_odd(&*image, Form::One) == 0 {
-                return read_on(&*image, Form::One, base, size, address, answer);
+    by_form!(
+        form,
+        {
+            if few_odd(&*image, form) == 0 {
+                return read_on(&*image, form, base, size, address, answer);
             }
-            read_tested(&*image, Form::One, base, size, address, answer)
+            read_tested(&*image, form, base, size, address, answer)
         }
-        Form::Two => {
-            if few_odd(&*image, Form::Two) == 0 {
-                return read_on(&*image, Form::Two, base, size, address, answer);
-            }
-            read_tested(&*image, Form::Two, base, size, address, answer)
-        }
-        Form::Numbered => {
-            if few_odd(&*image, Form::Numbered) == 0 {
-                return read_on(&*image, Form::Numbered, base, size, address, answer);
-            }
-            read_tested(&*image, Form::Numbered, base, size, address, answer)
-        }
-    }
+    )
 }
 
 // Of an image that is accepted, behind the quick test. An access outside the window goes the way of any other width: a refusal that was told here would share its stores with
@@ -117,11 +106,11 @@ fn read_at_once(
     ensures { leaves result image.now answer.new []
         ≡ outcome (asked.read base size address 4) image.now answer.old }
 {
-    let Located::At(offset) = window::locate(base, size, address, 4) else {
+    let Some(offset) = window::locate(base, size, address, 4) else {
         return read_any(&*image, base, size, address, 4, answer);
     };
     let read = cells::read_dword(&*image, form, offset) as u64;
-    tell(answer, done(Value::Present(read)))
+    tell(answer, Ok(Some(read)))
 }
 
 // A Dword. The quick test comes first, in an arm for each form.
@@ -130,41 +119,25 @@ pub fn read_dword(image: &[u8], base: u64, size: u64, address: u64, answer: &mut
     ensures { leaves result image.now answer.new []
         ≡ outcome (asked.read base size address 4) image.now answer.old }
 {
-    let KnownForm::As(form) = form_of(image.len()) else {
-        return tell(answer, of_head(Head::WrongLength));
+    let Some(form) = form_of(image.len()) else {
+        return tell(answer, Err(Refusal::WrongLength));
     };
-    match form {
-        Form::One => {
-            if odd(&*image, Form::One) == 0 {
-                return read_at_once(&*image, Form::One, base, size, address, answer);
+    by_form!(
+        form,
+        {
+            if odd(&*image, form) == 0 {
+                return read_at_once(&*image, form, base, size, address, answer);
             }
-            if contents_apart(&*image, Form::One) == 0 {
-                return read_waiting(&*image, Form::One, base, size, address, answer);
+            if contents_apart(&*image, form) == 0 {
+                return read_waiting(&*image, form, base, size, address, answer);
             }
-            tell(answer, of_head(Head::WrongContents))
+            tell(answer, Err(Refusal::WrongContents))
         }
-        Form::Two => {
-            if odd(&*image, Form::Two) == 0 {
-                return read_at_once(&*image, Form::Two, base, size, address, answer);
-            }
-            if contents_apart(&*image, Form::Two) == 0 {
-                return read_waiting(&*image, Form::Two, base, size, address, answer);
-            }
-            tell(answer, of_head(Head::WrongContents))
-        }
-        Form::Numbered => {
-            if odd(&*image, Form::Numbered) == 0 {
-                return read_at_once(&*image, Form::Numbered, base, size, address, answer);
-            }
-            if contents_apart(&*image, Form::Numbered) == 0 {
-                return read_waiting(&*image, Form::Numbered, base, size, address, answer);
-            }
-            tell(answer, of_head(Head::WrongContents))
-        }
-    }
+    )
 }
 
-// A write of any width: the image is tested the whole way.
+// A write of any width: the image is tested the whole way. It stays a call, as a read does.
+#[inline(never)]
 pub fn write_any(
     image: &mut [u8],
     base: u64,
@@ -196,11 +169,11 @@ fn write_on(
     ensures { leaves result image.new answer.new []
         ≡ outcome (asked.write base size address 4 value) image.old answer.old }
 {
-    let Located::At(offset) = window::locate(base, size, address, 4) else {
-        return tell(answer, outside(address));
+    let Some(offset) = window::locate(base, size, address, 4) else {
+        return tell(answer, Err(Refusal::Outside(address)));
     };
     let dropped = cells::write_dword(image, form, offset, bits::half(value, false)) as u64;
-    tell(answer, done(Value::Present(dropped)))
+    tell(answer, Ok(Some(dropped)))
 }
 
 // The contents are those of the form, and the bodies are tested in full.
@@ -213,13 +186,13 @@ fn write_tested(
     value: u64,
     answer: &mut [u8],
 ) -> u8
-    requires { Headed (Of form) image.old × (answer_length ≤ length answer.old) }
+    requires { Headed (Ok form) image.old × (answer_length ≤ length answer.old) }
     ensures { leaves result image.new answer.new []
         ≡ outcome (asked.write base size address 4 value) image.old answer.old }
 {
-    let Bodies::Good = test_waiting(image, form) else {
-        return tell(answer, of_bodies(image, form));
-    };
+    if let Err(refusal) = bodies_accepted(image, form) {
+        return tell(answer, Err(refusal));
+    }
     write_on(image, form, base, size, address, value, answer)
 }
 
@@ -233,30 +206,19 @@ fn write_waiting(
     value: u64,
     answer: &mut [u8],
 ) -> u8
-    requires { Headed (Of form) image.old × (answer_length ≤ length answer.old) }
+    requires { Headed (Ok form) image.old × (answer_length ≤ length answer.old) }
     ensures { leaves result image.new answer.new []
         ≡ outcome (asked.write base size address 4 value) image.old answer.old }
 {
-    match form {
-        Form::One => {
-            if few_odd(image, Form::One) == 0 {
-                return write_on(image, Form::One, base, size, address, value, answer);
+    by_form!(
+        form,
+        {
+            if few_odd(image, form) == 0 {
+                return write_on(image, form, base, size, address, value, answer);
             }
-            write_tested(image, Form::One, base, size, address, value, answer)
+            write_tested(image, form, base, size, address, value, answer)
         }
-        Form::Two => {
-            if few_odd(image, Form::Two) == 0 {
-                return write_on(image, Form::Two, base, size, address, value, answer);
-            }
-            write_tested(image, Form::Two, base, size, address, value, answer)
-        }
-        Form::Numbered => {
-            if few_odd(image, Form::Numbered) == 0 {
-                return write_on(image, Form::Numbered, base, size, address, value, answer);
-            }
-            write_tested(image, Form::Numbered, base, size, address, value, answer)
-        }
-    }
+    )
 }
 
 // Of an image that is accepted, behind the quick test. An access outside the window goes the way of any other width: a refusal that was told here would share its stores with
@@ -274,11 +236,11 @@ fn write_at_once(
     ensures { leaves result image.new answer.new []
         ≡ outcome (asked.write base size address 4 value) image.old answer.old }
 {
-    let Located::At(offset) = window::locate(base, size, address, 4) else {
+    let Some(offset) = window::locate(base, size, address, 4) else {
         return write_any(image, base, size, address, 4, value, answer);
     };
     let lost = cells::write_dword(image, form, offset, bits::half(value, false)) as u64;
-    tell(answer, done(Value::Present(lost)))
+    tell(answer, Ok(Some(lost)))
 }
 
 // A Dword. The quick test comes first, in an arm for each form.
@@ -294,36 +256,19 @@ pub fn write_dword(
     ensures { leaves result image.new answer.new []
         ≡ outcome (asked.write base size address 4 value) image.old answer.old }
 {
-    let KnownForm::As(form) = form_of(image.len()) else {
-        return tell(answer, of_head(Head::WrongLength));
+    let Some(form) = form_of(image.len()) else {
+        return tell(answer, Err(Refusal::WrongLength));
     };
-    match form {
-        Form::One => {
-            if odd(image, Form::One) == 0 {
-                return write_at_once(image, Form::One, base, size, address, value, answer);
+    by_form!(
+        form,
+        {
+            if odd(image, form) == 0 {
+                return write_at_once(image, form, base, size, address, value, answer);
             }
-            if contents_apart(image, Form::One) == 0 {
-                return write_waiting(image, Form::One, base, size, address, value, answer);
+            if contents_apart(image, form) == 0 {
+                return write_waiting(image, form, base, size, address, value, answer);
             }
-            tell(answer, of_head(Head::WrongContents))
+            tell(answer, Err(Refusal::WrongContents))
         }
-        Form::Two => {
-            if odd(image, Form::Two) == 0 {
-                return write_at_once(image, Form::Two, base, size, address, value, answer);
-            }
-            if contents_apart(image, Form::Two) == 0 {
-                return write_waiting(image, Form::Two, base, size, address, value, answer);
-            }
-            tell(answer, of_head(Head::WrongContents))
-        }
-        Form::Numbered => {
-            if odd(image, Form::Numbered) == 0 {
-                return write_at_once(image, Form::Numbered, base, size, address, value, answer);
-            }
-            if contents_apart(image, Form::Numbered) == 0 {
-                return write_waiting(image, Form::Numbered, base, size, address, value, answer);
-            }
-            tell(answer, of_head(Head::WrongContents))
-        }
-    }
+    )
 }

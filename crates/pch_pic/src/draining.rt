@@ -1,5 +1,5 @@
 // A drain, behind what a front tests first. What it tells goes into the answer area.
-ghost use Rattle.std.specs.Prelude.{◌≡◌, ◌+◌, ◌≤◌, length};
+ghost use Rattle.std.specs.Prelude.{◌≡◌, ◌+◌, ◌≤◌, length, Ok};
 ghost use Rattle.rules.specs.Numbering.{drained_length};
 ghost use Rattle.images.specs.Form.{form_length};
 ghost use Rattle.images.specs.Image.{count_in};
@@ -7,14 +7,12 @@ ghost use Rattle.calls.specs.Calls.{answer_length, leaves, outcome};
 ghost use Rattle.calls.specs.Calls as asked;
 ghost use Rattle.image.specs.Shown.{form_view};
 ghost use Rattle.image.specs.head.Good.{Headed};
-ghost use Rattle.image.specs.declared.head.Head.TheVariants.{Of};
 ghost use Rattle.fields.specs.inplace.Passed.{Passed};
 ghost use Rattle.six_calls.specs.reset_drain.Waits.{Waits};
 
-use answer::refusals::of_bodies;
-use answer::{Value, done, tell};
+use answer::accepted::bodies_accepted;
+use answer::tell;
 use drain::drains;
-use image::bodies::{Bodies, test_waiting};
 use image::form::{Form, places_of};
 use image::quick::odd;
 
@@ -44,7 +42,7 @@ pub fn drain_one(
         ≡ outcome (asked.drain events.old place) image.old answer.old }
 {
     drains::one(image, form, &mut events[place..]);
-    tell(answer, done(Value::Present(1)))
+    tell(answer, Ok(Some(1)))
 }
 
 // The contents are those of the form, and the bodies are still to be tested. The events go into the buffer from a place on.
@@ -55,13 +53,13 @@ pub fn drain_waiting(
     place: usize,
     answer: &mut [u8],
 ) -> u8
-    requires { Headed (Of form) image.old × (answer_length ≤ length answer.old) × (place ≤ length events.old) }
+    requires { Headed (Ok form) image.old × (answer_length ≤ length answer.old) × (place ≤ length events.old) }
     ensures { leaves result image.new answer.new events.new
         ≡ outcome (asked.drain events.old place) image.old answer.old }
 {
-    let Bodies::Good = test_waiting(image, form) else {
-        return tell(answer, of_bodies(image, form));
-    };
+    if let Err(refusal) = bodies_accepted(image, form) {
+        return tell(answer, Err(refusal));
+    }
     let count = drains::drain(image, form, &mut events[place..]);
-    tell(answer, done(Value::Present(count as u64)))
+    tell(answer, Ok(Some(count as u64)))
 }

@@ -4,13 +4,15 @@ ghost use Rattle.images.specs.Form.{form_length};
 ghost use Rattle.images.specs.Image.{image_test, accepted};
 ghost use Rattle.image.specs.Shown.{form_view};
 ghost use Rattle.fields.specs.inplace.Held.{Reads};
+ghost use Rattle.answer.specs.Given.{told_number};
 ghost use Rattle.boards.specs.Board.{board_length};
 ghost use Rattle.boards.specs.Boarding.{recounted, board_after, heard_count};
 
+use answer::Told;
 use bits::bytes::put_zeros;
 use fields::entries::vector;
 use fields::words::isr;
-use image::form::{Form, KnownForm, form_of};
+use image::form::{Form, form_of};
 
 // 256 zeros, and then one step for each input in service, masked or not.
 pub fn recount(image: &[u8], form: Form, board: &mut [u8])
@@ -20,26 +22,24 @@ pub fn recount(image: &[u8], form: Form, board: &mut [u8])
     put_zeros(&mut board[0..256]);
     let mut left = isr(image, form);
     while left != 0 {
-        let irq = u64::trailing_zeros(left) as usize;
+        let irq = left.trailing_zeros() as usize;
         let carried = vector(image, form, irq) as usize;
         board[carried] += 1;
         left &= left - 1;
     }
 }
 
-// After a call that handed back the number: done, the counts are those of the image that it left; refused, the board stays.
-pub fn bring(image: &[u8], board: &mut [u8], number: u8)
-    requires { (number ≡ 0 → image_test image.now ≡ accepted) × (board_length ≤ length board.old) }
-    ensures { board.new ≡ board_after number image.now board.old }
+// After a call: done, the counts are those of the image that it left; refused, the board stays.
+pub fn bring(image: &[u8], board: &mut [u8], told: Told)
+    requires { (told_number told ≡ 0 → image_test image.now ≡ accepted) × (board_length ≤ length board.old) }
+    ensures { board.new ≡ board_after (told_number told) image.now board.old }
 {
-    if number != 0 {
+    if told.is_err() {
         return;
     }
-    let length = image.len();
-    let KnownForm::As(form) = form_of(length) else {
-        return;
-    };
-    recount(image, form, board);
+    if let Some(form) = form_of(image.len()) {
+        recount(image, form, board);
+    }
 }
 
 // The count after an event: one less for flag 0, one more for any other, within a byte.
@@ -47,15 +47,10 @@ fn heard(flag: u8, count: u8) -> u8
     ensures { result ≡ heard_count flag count }
 {
     if flag == 0 {
-        if count == 0 {
-            return 0;
-        }
-        return count - 1;
+        count.saturating_sub(1)
+    } else {
+        count.saturating_add(1)
     }
-    if count == 255 {
-        return 255;
-    }
-    count + 1
 }
 
 // An event moves the count of its vector, which is handed back.

@@ -1,6 +1,6 @@
 // The calls with a board, for a host: each is in every other byte the call without, and then the board has the fresh counts of the image that it left. None requires
 // anything: every input has its outcome. Here is what lacks room, refusal 7, which comes first; the crates below make the call, and `counts` counts.
-#![tactic(auto)]
+#![tactic(auto, using(crate::proofs::Ended::answer_first, boards::proofs::laws::Fronts::board_short))]
 
 pub mod counts;
 
@@ -8,9 +8,11 @@ ghost use Rattle.std.specs.Prelude.{◌≡◌, [], ◌≤◌, length};
 ghost use Rattle.calls.specs.Calls as asked;
 ghost use Rattle.boards.specs.Board.{board_length};
 ghost use Rattle.boards.specs.Boarding.{board_leaves, boarding, hears, hearing};
+ghost use Rattle.answer.specs.Given.{told_number};
 ghost use Rattle.pch_pic_board.specs.Finished.{Finishing, Finished, cleared_after};
 
-use answer::{Told, Value, done};
+use answer::refusals::NO_ROOM;
+use answer::{Told, tell};
 use bits::bytes::put_zeros;
 use six_calls::{reset_drain, tested_access, tested_input};
 
@@ -19,20 +21,18 @@ fn finish(image: &[u8], board: &mut [u8], answer: &mut [u8], told: Told) -> u8
     requires { Finishing told image.now board.old answer.old }
     ensures { Finished told image.now board.old answer.old result board.new answer.new }
 {
-    let number = told.number;
-    counts::bring(image, board, number);
-    answer::tell(answer, told)
+    counts::bring(image, board, told);
+    tell(answer, told)
 }
 
-// After a reset that handed back the number: done, no input is in service, so that nothing has to be counted; refused, the board stays.
-fn clear(board: &mut [u8], number: u8)
+// After a reset: done, no input is in service, so that nothing has to be counted; refused, the board stays.
+fn clear(board: &mut [u8], told: Told)
     requires { board_length ≤ length board.old }
-    ensures { board.new ≡ cleared_after number board.old }
+    ensures { board.new ≡ cleared_after (told_number told) board.old }
 {
-    if number != 0 {
-        return;
+    if told.is_ok() {
+        put_zeros(&mut board[0..256]);
     }
-    put_zeros(&mut board[0..256]);
 }
 
 #[unsafe(no_mangle)]
@@ -41,15 +41,14 @@ pub extern "C" fn pch_pic_board_reset(image: &mut [u8], board: &mut [u8], answer
         ≡ boarding asked.reset image.old board.old answer.old }
 {
     if answer.len() < 16 {
-        return 7;
+        return NO_ROOM;
     }
     if board.len() < 256 {
-        return 7;
+        return NO_ROOM;
     }
     let told = reset_drain::reset(image);
-    let number = told.number;
-    clear(board, number);
-    answer::tell(answer, told)
+    clear(board, told);
+    tell(answer, told)
 }
 
 #[unsafe(no_mangle)]
@@ -66,10 +65,10 @@ pub extern "C" fn pch_pic_board_read(
         ≡ boarding (asked.read base size address width) image.now board.old answer.old }
 {
     if answer.len() < 16 {
-        return 7;
+        return NO_ROOM;
     }
     if board.len() < 256 {
-        return 7;
+        return NO_ROOM;
     }
     let told = tested_access::read(image, base, size, address, width);
     finish(image, board, answer, told)
@@ -90,10 +89,10 @@ pub extern "C" fn pch_pic_board_write(
         ≡ boarding (asked.write base size address width value) image.old board.old answer.old }
 {
     if answer.len() < 16 {
-        return 7;
+        return NO_ROOM;
     }
     if board.len() < 256 {
-        return 7;
+        return NO_ROOM;
     }
     let told = tested_access::write(image, base, size, address, width, value);
     finish(image, board, answer, told)
@@ -111,10 +110,10 @@ pub extern "C" fn pch_pic_board_level(
         ≡ boarding (asked.level input level) image.old board.old answer.old }
 {
     if answer.len() < 16 {
-        return 7;
+        return NO_ROOM;
     }
     if board.len() < 256 {
-        return 7;
+        return NO_ROOM;
     }
     let told = tested_input::level(image, input, level);
     finish(image, board, answer, told)
@@ -131,10 +130,10 @@ pub extern "C" fn pch_pic_board_poll(
         ≡ boarding (asked.poll input) image.old board.old answer.old }
 {
     if answer.len() < 16 {
-        return 7;
+        return NO_ROOM;
     }
     if board.len() < 256 {
-        return 7;
+        return NO_ROOM;
     }
     let told = tested_input::poll(image, input);
     finish(image, board, answer, told)
@@ -152,19 +151,20 @@ pub extern "C" fn pch_pic_board_drain(
         ≡ boarding (asked.drain events.old place) image.old board.old answer.old }
 {
     if answer.len() < 16 {
-        return 7;
+        return NO_ROOM;
     }
     if board.len() < 256 {
-        return 7;
+        return NO_ROOM;
     }
     if events.len() < place {
-        return 7;
+        return NO_ROOM;
     }
     let told = reset_drain::drain(image, &mut events[place..]);
     finish(image, board, answer, told)
 }
 
 // A second board hears one event.
+#[tactic(auto, using(boards::proofs::laws::Fronts::heard_answer_short, boards::proofs::laws::Fronts::heard_board_short))]
 #[unsafe(no_mangle)]
 pub extern "C" fn pch_pic_board_event(
     board: &mut [u8],
@@ -175,12 +175,11 @@ pub extern "C" fn pch_pic_board_event(
     ensures { hears result board.new answer.new ≡ hearing board.old vector flag answer.old }
 {
     if answer.len() < 16 {
-        return 7;
+        return NO_ROOM;
     }
     if board.len() < 256 {
-        return 7;
+        return NO_ROOM;
     }
     let count = counts::hear(board, vector, flag);
-    let told = done(Value::Present(count as u64));
-    answer::tell(answer, told)
+    tell(answer, Ok(Some(u64::from(count))))
 }

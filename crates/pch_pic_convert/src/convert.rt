@@ -5,31 +5,24 @@ ghost use Rattle.calls.specs.Convert.{convert_ending};
 ghost use Rattle.answer.specs.Given.{ends};
 
 use crate::{load_numbers, load_state};
-use answer::refusals::{of_bodies, of_head, wrong_length};
-use answer::{Told, Value, done};
-use image::bodies::{Bodies, test_bodies};
-use image::form::{KnownForm, form_of};
-use image::head::{Head, test_head};
+use answer::Told;
+use answer::accepted::accepted;
+use answer::refusals::Refusal;
+use image::form::form_of;
 use stored::save_state;
 
 // The target is written only where all tests have passed; any bytes of its length will do.
 pub fn convert(image: &[u8], target: &mut [u8]) -> Told
     ensures { ends result target.new [] ≡ convert_ending image.now target.old }
 {
-    let KnownForm::As(_) = form_of(image.len()) else {
-        return wrong_length();
+    let Some(_) = form_of(image.len()) else {
+        return Err(Refusal::WrongLength);
     };
-    let KnownForm::As(form) = form_of(target.len()) else {
-        return wrong_length();
+    let Some(form) = form_of(target.len()) else {
+        return Err(Refusal::WrongLength);
     };
-    let told = test_head(image);
-    let Head::Of(own) = told else {
-        return of_head(told);
-    };
-    let Bodies::Good = test_bodies(image, own) else {
-        return of_bodies(image, own);
-    };
+    let own = accepted(image)?;
     let numbers = load_numbers::load_numbers(image, own);
     save_state::save(target, form, load_state::load(image, own), &numbers);
-    done(Value::Absent)
+    Ok(None)
 }

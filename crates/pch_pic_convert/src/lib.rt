@@ -13,14 +13,17 @@ ghost use Rattle.std.specs.Prelude.{◌≡◌, []};
 ghost use Rattle.calls.specs.Calls.{leaves};
 ghost use Rattle.calls.specs.Convert.{conversion};
 
+use answer::refusals::NO_ROOM;
+use answer::tell;
+
 // The image goes into the target, in the form of the target's length.
 #[unsafe(no_mangle)]
 pub extern "C" fn pch_pic_convert(image: &[u8], target: &mut [u8], answer: &mut [u8]) -> u8
     ensures { leaves result target.new answer.new [] ≡ conversion image.now target.old answer.old }
 {
     if answer.len() < 16 {
-        return 7;
+        return NO_ROOM;
     }
     let told = convert::convert(image, target);
-    answer::tell(answer, told)
+    tell(answer, told)
 }

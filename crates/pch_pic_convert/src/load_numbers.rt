@@ -19,10 +19,8 @@ fn counted(count: usize) -> [u8; 34]
 {
     let mut body = [0u8; 34];
     body[0] = count as u8;
-    let mut i = 0;
-    while i < count {
+    for i in 0..count {
         body[form::NEXT_LENGTH + form::NUMBER * i] = i as u8;
-        i += 1;
     }
     body
 }

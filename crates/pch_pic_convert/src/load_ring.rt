@@ -13,7 +13,7 @@ use image::form;
 use image::form::{Form, places_of};
 use stored::pairs::ring_of;
 
-// The number that four bytes from a place on spell.
+// The number that four bytes from a place on spell, as `number_at` of `fields` does with two: one function over the width would be longer than both.
 fn drops_at(image: &[u8], at: usize) -> u32
     requires { at + 4 ≤ length image.now }
     ensures { result ≡ number_of (part at 4 image.now) }

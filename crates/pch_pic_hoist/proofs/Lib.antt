@@ -1,3 +1,2 @@
 -- What follows from how a call ends, and from the promises of this crate.
-pub mod Told
 pub mod Once

@@ -6,29 +6,28 @@ ghost use Rattle.fields.specs.inplace.Passed.{Passed};
 ghost use Rattle.answer.specs.Given.{ends};
 ghost use Rattle.hoists.specs.HoistCalls.{hoist_ending};
 
-use crate::judge::{Fit, judge};
-use crate::profile::{Aligned, test_aligned, unaligned, unfit};
+use crate::judge::forbidden;
+use crate::profile::is_aligned_dword;
 use access::cells::{read_dword, write_dword};
-use answer::refusals::{no_width, outside};
-use answer::{Told, Value, done};
+use answer::Told;
+use answer::refusals::Refusal;
 use device::window;
-use device::window::{Known, Located};
 use image::form::Form;
 
 pub fn read(image: &[u8], form: Form, base: u64, size: u64, address: u64, width: u64) -> Told
     requires { Passed (form_view form) image.now }
     ensures { ends result image.now [] ≡ hoist_ending false (asked.read base size address width) image.now }
 {
-    let Known::As(known) = window::width_of(width) else {
-        return no_width();
+    let Some(known) = window::width_of(width) else {
+        return Err(Refusal::NoWidth);
     };
-    let Located::At(offset) = window::locate(base, size, address, width) else {
-        return outside(address);
+    let Some(offset) = window::locate(base, size, address, width) else {
+        return Err(Refusal::Outside(address));
     };
-    let Aligned::Dword = test_aligned(known, offset) else {
-        return unaligned();
-    };
-    done(Value::Present(read_dword(image, form, offset) as u64))
+    if !is_aligned_dword(known, offset) {
+        return Err(Refusal::Unaligned);
+    }
+    Ok(Some(read_dword(image, form, offset) as u64))
 }
 
 // The value that is told is how many events were dropped.
@@ -45,18 +44,18 @@ pub fn write(
     requires { Passed (form_view form) image.old }
     ensures { ends result image.new [] ≡ hoist_ending running (asked.write base size address width value) image.old }
 {
-    let Known::As(known) = window::width_of(width) else {
-        return no_width();
+    let Some(known) = window::width_of(width) else {
+        return Err(Refusal::NoWidth);
     };
-    let Located::At(offset) = window::locate(base, size, address, width) else {
-        return outside(address);
+    let Some(offset) = window::locate(base, size, address, width) else {
+        return Err(Refusal::Outside(address));
     };
-    let Aligned::Dword = test_aligned(known, offset) else {
-        return unaligned();
-    };
-    let Fit::Passes = judge(image, form, running, offset, value) else {
-        return unfit();
-    };
+    if !is_aligned_dword(known, offset) {
+        return Err(Refusal::Unaligned);
+    }
+    if forbidden(image, form, running, offset, value) {
+        return Err(Refusal::Unfit);
+    }
     let lost = write_dword(image, form, offset, bits::half(value, false));
-    done(Value::Present(lost as u64))
+    Ok(Some(lost as u64))
 }

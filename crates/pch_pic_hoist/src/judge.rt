@@ -7,62 +7,43 @@ ghost use Rattle.image.specs.Shown.{form_view};
 ghost use Rattle.fields.specs.inplace.Held.{Reads};
 ghost use Rattle.hoists.specs.Profile.{changes_served, forbidden};
 ghost use Rattle.hoists.specs.HoistCalls.{cannot_end};
-ghost use Rattle.pch_pic_hoist.specs.judge.Judged.{refuses};
 
 use crate::profile::{changes_served, in_vectors, is_isr};
 use access::cells::read_dword;
 use fields::words;
 use image::form::Form;
 
-// Whether it is for this guest.
-#[derive(Clone, Copy)]
-pub enum Fit {
-    Passes,
-    Refused,
-}
-
 // A vector write in start-up, by the four bytes that it would replace.
-fn judge_vectors(image: &[u8], form: Form, offset: usize, value: u64) -> Fit
+fn forbidden_in_vectors(image: &[u8], form: Form, offset: usize, value: u64) -> bool
     requires { (length image.now ≡ form_length (form_view form)) × (0x200 ≤ offset) × (offset + 4 ≤ 0x240) }
-    ensures { Reads image.now (refuses result) (λ d. changes_served d (write dword offset value)) }
+    ensures { Reads image.now result (λ d. changes_served d (write dword offset value)) }
 {
     let isr = words::isr(image, form);
     let old = read_dword(image, form, offset);
-    if changes_served(isr, offset - 0x200, old, bits::half(value, false)) {
-        Fit::Refused
-    } else {
-        Fit::Passes
-    }
+    changes_served(isr, offset - 0x200, old, bits::half(value, false))
 }
 
 // 15: to ISR, after start-up to the vectors, or where it would change a byte in service.
-pub fn judge(image: &[u8], form: Form, running: bool, offset: usize, value: u64) -> Fit
+pub fn forbidden(image: &[u8], form: Form, running: bool, offset: usize, value: u64) -> bool
     requires { (length image.now ≡ form_length (form_view form)) × (offset % 4 ≡ 0) }
-    ensures { Reads image.now (refuses result) (λ d. forbidden running d offset value) }
+    ensures { Reads image.now result (λ d. forbidden running d offset value) }
 {
     if is_isr(offset) {
-        return Fit::Refused;
+        return true;
     }
     if !in_vectors(offset) {
-        return Fit::Passes;
+        return false;
     }
     if running {
-        return Fit::Refused;
+        return true;
     }
-    judge_vectors(image, form, offset, value)
+    forbidden_in_vectors(image, form, offset, value)
 }
 
 // Start-up can end once, and while no input is in service, masked or not.
-pub fn judge_end(image: &[u8], form: Form, running: bool) -> Fit
+pub fn cannot_end(image: &[u8], form: Form, running: bool) -> bool
     requires { length image.now ≡ form_length (form_view form) }
-    ensures { Reads image.now (refuses result) (λ d. cannot_end running d) }
+    ensures { Reads image.now result (λ d. cannot_end running d) }
 {
-    if running {
-        return Fit::Refused;
-    }
-    if words::isr(image, form) != 0 {
-        Fit::Refused
-    } else {
-        Fit::Passes
-    }
+    running || words::isr(image, form) != 0
 }

@@ -13,27 +13,30 @@ ghost use Rattle.std.specs.Prelude.{◌≡◌, []};
 ghost use Rattle.calls.specs.Calls.{leaves};
 ghost use Rattle.hoists.specs.HoistCalls.{hoist_read, hoist_write, phase_leaves, hoist_reset, end_startup};
 
+use answer::refusals::NO_ROOM;
+use answer::tell;
 use six_calls::reset_drain;
 
 // Starts the first phase.
 #[unsafe(no_mangle)]
+#[tactic(auto, unfolding(hoists::specs::HoistCalls::hoist_reset))]
 pub extern "C" fn pch_pic_hoist_reset(image: &mut [u8], phase: &mut [u8], answer: &mut [u8]) -> u8
     ensures { phase_leaves result image.new phase.new answer.new
         ≡ hoist_reset image.old phase.old answer.old }
 {
     if answer.len() < 16 {
-        return 7;
+        return NO_ROOM;
     }
-    if phase.len() < 1 {
-        return 7;
+    if phase.is_empty() {
+        return NO_ROOM;
     }
     let told = reset_drain::reset(image);
-    let number = told.number;
-    phases::begin_startup(phase, number);
-    answer::tell(answer, told)
+    phases::begin(phase, phases::IN_START_UP, told);
+    tell(answer, told)
 }
 
 #[unsafe(no_mangle)]
+#[tactic(auto, unfolding(hoists::specs::HoistCalls::hoist_read))]
 pub extern "C" fn pch_pic_hoist_read(
     image: &[u8],
     base: u64,
@@ -46,13 +49,14 @@ pub extern "C" fn pch_pic_hoist_read(
         ≡ hoist_read base size address width image.now answer.old }
 {
     if answer.len() < 16 {
-        return 7;
+        return NO_ROOM;
     }
     let told = tested_dword::read(image, base, size, address, width);
-    answer::tell(answer, told)
+    tell(answer, told)
 }
 
 #[unsafe(no_mangle)]
+#[tactic(auto, unfolding(hoists::specs::HoistCalls::hoist_write))]
 pub extern "C" fn pch_pic_hoist_write(
     image: &mut [u8],
     phase: &[u8],
@@ -67,31 +71,31 @@ pub extern "C" fn pch_pic_hoist_write(
         ≡ hoist_write base size address width value image.old phase.now answer.old }
 {
     if answer.len() < 16 {
-        return 7;
+        return NO_ROOM;
     }
-    if phase.len() < 1 {
-        return 7;
+    if phase.is_empty() {
+        return NO_ROOM;
     }
     let running = phases::is_running(phase);
     let told = tested_dword::write(image, running, base, size, address, width, value);
-    answer::tell(answer, told)
+    tell(answer, told)
 }
 
 // Starts the second phase.
 #[unsafe(no_mangle)]
+#[tactic(auto, unfolding(hoists::specs::HoistCalls::end_startup))]
 pub extern "C" fn pch_pic_hoist_end_startup(image: &[u8], phase: &mut [u8], answer: &mut [u8]) -> u8
     ensures { phase_leaves result image.now phase.new answer.new
         ≡ end_startup image.now phase.old answer.old }
 {
     if answer.len() < 16 {
-        return 7;
+        return NO_ROOM;
     }
-    if phase.len() < 1 {
-        return 7;
+    if phase.is_empty() {
+        return NO_ROOM;
     }
     let running = phases::is_running(phase);
     let told = tested_dword::end_startup(image, running);
-    let number = told.number;
-    phases::end_startup(phase, number);
-    answer::tell(answer, told)
+    phases::begin(phase, phases::AFTER_START_UP, told);
+    tell(answer, told)
 }

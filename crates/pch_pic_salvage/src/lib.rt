@@ -9,7 +9,7 @@ pub mod torn;
 ghost use Rattle.std.specs.Prelude.{◌≡◌};
 ghost use Rattle.traces.specs.salvages.Salvaging.{salvage_leaves, salvaging};
 
-use trace::trace_refusals::NO_ROOM;
+use answer::refusals::NO_ROOM;
 
 // The blocks whose records are all good, as a new trace; and of each dropped block the number and the first bad record in it.
 #[unsafe(no_mangle)]
@@ -26,9 +26,5 @@ pub extern "C" fn pch_pic_salvage(
         return NO_ROOM;
     }
     let told = salvage::salvage(trace, kept, list);
-    let number = told.number;
-    if number == NO_ROOM {
-        return NO_ROOM;
-    }
-    answer::tell(answer, told)
+    answer::tell_late(answer, told)
 }

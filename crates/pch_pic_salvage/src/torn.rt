@@ -30,22 +30,19 @@ pub fn survey(trace: &[u8], blocks: usize) -> [u16; 64]
     ensures { BadIn result trace.now blocks }
 {
     let mut bads = [0u16; 64];
-    let mut b = 0;
-    while b < blocks {
+    for b in 0..blocks {
         let block = block_at(trace, b);
         bads[b] = first_bad(trace, block.place, block.records) as u16;
-        b += 1;
     }
     bads
 }
 
-// What is known of a block: where it stands, how many records it has, the first bad one in it, and that there is none.
+// What is known of a block: where it stands, how many records it has, and the first bad one in it, if there is one.
 #[derive(Clone, Copy)]
 pub struct Looked {
     pub place: usize,
     pub records: usize,
-    pub bad: usize,
-    pub good: bool,
+    pub bad: Option<usize>,
 }
 
 pub fn look(trace: &[u8], bads: &[u16; 64], b: usize) -> Looked
@@ -53,13 +50,11 @@ pub fn look(trace: &[u8], bads: &[u16; 64], b: usize) -> Looked
     ensures { Looks result trace.now b }
 {
     let block = block_at(trace, b);
-    let records = block.records;
     let bad = bads[b] as usize;
     Looked {
         place: block.place,
-        records,
-        bad,
-        good: bad == records,
+        records: block.records,
+        bad: (bad != block.records).then_some(bad),
     }
 }
 
@@ -76,15 +71,12 @@ pub fn count(trace: &[u8], blocks: usize, bads: &[u16; 64]) -> Left
 {
     let mut left = 0;
     let mut all = 0;
-    let mut b = 0;
-    while b < blocks {
+    for b in 0..blocks {
         let block = look(trace, bads, b);
-        let records = block.records;
-        if block.good {
+        if block.bad.is_none() {
             left += 1;
-            all += records;
+            all += block.records;
         }
-        b += 1;
     }
     Left {
         blocks: left,

@@ -3,7 +3,8 @@ use Rattle.basics.proofs.Prelude.{◌≡◌, refl, sym, ap, ◌∙◌, Bool, con
 use Rattle.calls.specs.Calls.{answer_length, answered}
 use Rattle.traces.specs.Trace.{TraceTest, good, wrong_contents, bad_record, trace_test}
 use Rattle.sheets.specs.{Sheet.sheet_length, Sheeting.SheetLeft, Sheeting.sheet_leaves, Sheeting.sheet_settled, Sheeting.sheeting}
-use Rattle.answer.specs.{Given.value_view, declared.Told.Told}
+use Rattle.std.proofs.Common.{Option, Result}
+use Rattle.answer.specs.{Given.told_number, Given.told_value, declared.refusals.Refusal.Refusal}
 use Rattle.pch_pic_sheet.specs.sheet.Made.{Made, told, made_by, made_of}
 
 -- what is made, put into the answer area
@@ -27,7 +28,7 @@ module _ (l s a : List ℕ) where
   pub sheet_short : length s < sheet_length → sheet_leaves 7 s a ≡ sheeting l s a
   sheet_short h = by_room (ap (λ b. leb answer_length (length a) && b) (lt-leb sheet_length (length s) h) ∙ and-false (leb answer_length (length a)))
 
-  pub tells : answer_length ≤ length a → sheet_length ≤ length s → (t : Told) {s₂ : List ℕ} → told t s₂ ≡ made_of l s → {r : ℕ} {b : List ℕ} → (r ≡ t.number) × (b ≡ answered t.number (value_view t.value) a) → sheet_leaves r s₂ b ≡ sheeting l s a
+  pub tells : answer_length ≤ length a → sheet_length ≤ length s → (t : Result (Option ℕ) Refusal) {s₂ : List ℕ} → told t s₂ ≡ made_of l s → {r : ℕ} {b : List ℕ} → (r ≡ told_number t) × (b ≡ answered (told_number t) (told_value t) a) → sheet_leaves r s₂ b ≡ sheeting l s a
   unfolding settled
   tells h k t {s₂} d p =
       (λ i. sheet_leaves (p.0 i) s₂ (p.1 i)) ∙ ap (λ m. settled m a) d ∙ made_settled (trace_test l) l s a

@@ -8,7 +8,7 @@ ghost use Rattle.std.specs.Prelude.{◌≡◌};
 ghost use Rattle.sheets.specs.Sheeting.{sheet_leaves, sheeting};
 
 use crate::sheet::make;
-use trace::trace_refusals::NO_ROOM;
+use answer::refusals::NO_ROOM;
 
 // How many bytes a sheet has: 65 rows of ten numbers of four bytes.
 const LENGTH: usize = 2600;

@@ -3,31 +3,26 @@ ghost use Rattle.std.specs.Prelude.{◌≡◌, ◌≤◌, length};
 ghost use Rattle.sheets.specs.Sheet.{sheet_length};
 ghost use Rattle.pch_pic_sheet.specs.sheet.Made.{told, made_of};
 
-use answer::{Told, Value, done};
+use answer::Told;
 use ledger::follow::{follow, zero, zero_row};
 use ledger::totals::{TOTAL, join_all};
 use ledger::watch::Watched;
-use trace::Tested;
-use trace::trace_refusals::of_trace;
 
 // A trace that is refused leaves the sheet as it was.
 pub fn make(trace: &[u8], sheet: &mut [u8]) -> Told
     requires { sheet_length ≤ length sheet.old }
     ensures { told result sheet.new ≡ made_of trace.now sheet.old }
 {
-    let tested = trace::test(trace);
-    let Tested::Good(first, records) = tested else {
-        return of_trace(tested);
-    };
+    let records = trace::test(trace)?;
     zero(sheet, false);
     let begun = Watched {
-        mask: 0xffff_ffff_ffff_ffff,
+        mask: u64::MAX,
         irr: 0,
         isr: 0,
         waiting: 0,
     };
-    follow(trace, first, records, sheet, false, begun, 0);
+    follow(trace, records.first, records.count, sheet, false, begun, 0);
     zero_row(sheet, false, TOTAL);
     join_all(sheet, false);
-    done(Value::Present(records as u64))
+    Ok(Some(records.count as u64))
 }

@@ -1,1 +1,1 @@
--- The laws that the proofs of this module cite stand in narrow, wide and accesses.
+-- The laws that the proofs of this module cite stand in access and six_calls.

@@ -1,1 +1,1 @@
--- The laws that the proofs of this module cite stand in accesses.
+-- The laws that the proofs of this module cite stand in six_calls and answer.

@@ -10,6 +10,9 @@ ghost use Rattle.std.specs.Prelude.{◌≡◌, []};
 ghost use Rattle.calls.specs.Calls.{leaves, outcome};
 ghost use Rattle.calls.specs.Calls as asked;
 
+use answer::refusals::NO_ROOM;
+use answer::tell;
+
 #[unsafe(no_mangle)]
 pub extern "C" fn pch_pic_table_read(
     image: &[u8],
@@ -23,10 +26,10 @@ pub extern "C" fn pch_pic_table_read(
         ≡ outcome (asked.read base size address width) image.now answer.old }
 {
     if answer.len() < 16 {
-        return 7;
+        return NO_ROOM;
     }
     let told = tested_access::read(image, base, size, address, width);
-    answer::tell(answer, told)
+    tell(answer, told)
 }
 
 #[unsafe(no_mangle)]
@@ -43,8 +46,8 @@ pub extern "C" fn pch_pic_table_write(
         ≡ outcome (asked.write base size address width value) image.old answer.old }
 {
     if answer.len() < 16 {
-        return 7;
+        return NO_ROOM;
     }
     let told = tested_access::write(image, base, size, address, width, value);
-    answer::tell(answer, told)
+    tell(answer, told)
 }

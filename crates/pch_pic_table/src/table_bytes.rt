@@ -11,12 +11,18 @@ use image::form::Form;
 use lines::halves::{value_of, write_half};
 use table::{Place, look};
 
+#[tactic(auto, using(crate::proofs::table_bytes::Parts::below, crate::proofs::table_bytes::Parts::byte_meant))]
 pub fn read_byte(image: &[u8], form: Form, table: &[[u8; 32]; 32], offset: usize) -> u8
     requires { (length image.now ≡ form_length (form_view form)) × Agrees table.now }
     ensures { Reads image.now result (λ d. read_byte d.core offset) }
 {
     match look(table, offset) {
-        Place::Part(register, high, byte, silent) => {
+        Place::Part {
+            register,
+            high,
+            byte,
+            silent,
+        } => {
             if silent {
                 return 0;
             }
@@ -28,6 +34,7 @@ pub fn read_byte(image: &[u8], form: Form, table: &[[u8; 32]; 32], offset: usize
     }
 }
 
+#[tactic(auto, using(crate::proofs::table_bytes::Parts::below))]
 pub fn write_byte(
     image: &mut [u8],
     form: Form,
@@ -39,7 +46,12 @@ pub fn write_byte(
     ensures { (result ≤ 65) × Writes image.old image.new result (λ c. byte_acts c offset val) }
 {
     match look(table, offset) {
-        Place::Part(register, high, byte, silent) => {
+        Place::Part {
+            register,
+            high,
+            byte,
+            silent,
+        } => {
             if silent {
                 return 0;
             }

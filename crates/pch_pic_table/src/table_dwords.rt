@@ -12,6 +12,7 @@ use image::form::Form;
 use lines::halves::{value_of, write_half};
 use table::{Place, look};
 
+#[tactic(auto, using(laws::proofs::laws::Maps::at_bytes, laws::proofs::laws::Widths::dword_four))]
 fn read_four(image: &[u8], form: Form, table: &[[u8; 32]; 32], offset: usize) -> u32
     requires { (length image.now ≡ form_length (form_view form)) × Agrees table.now × (cell_at offset ≡ bytes) }
     ensures { Reads image.now result (λ d. read_dword d.core offset) }
@@ -23,24 +24,30 @@ fn read_four(image: &[u8], form: Form, table: &[[u8; 32]; 32], offset: usize) ->
     a + 256 * (b + 256 * (c + 256 * d))
 }
 
+#[tactic(auto, using(crate::proofs::table_dwords::Dwords::dword_meant))]
 pub fn read_dword(image: &[u8], form: Form, table: &[[u8; 32]; 32], offset: usize) -> u32
     requires { (length image.now ≡ form_length (form_view form)) × Agrees table.now }
     ensures { Reads image.now result (λ d. read_dword d.core offset) }
 {
     match look(table, offset) {
-        Place::Part(register, high, byte, _silent) => {
+        Place::Part {
+            register,
+            high,
+            byte,
+            ..
+        } => {
             if byte != 0 {
                 return 0;
             }
             bits::half(value_of(image, form, register), high)
         }
-        Place::Route(input) => read_four(image, form, table, offset),
-        Place::Vector(input) => read_four(image, form, table, offset),
+        Place::Route(_) | Place::Vector(_) => read_four(image, form, table, offset),
         Place::Nothing => 0,
     }
 }
 
 // No Byte among them drops an event.
+#[tactic(auto, using(laws::proofs::laws::Maps::at_bytes))]
 fn write_four(image: &mut [u8], form: Form, table: &[[u8; 32]; 32], offset: usize, val: u32)
     requires { (length image.old ≡ form_length (form_view form)) × Agrees table.now × (cell_at offset ≡ bytes) }
     ensures { Writes image.old image.new 0 (λ c. dword_acts offset val) }
@@ -51,6 +58,7 @@ fn write_four(image: &mut [u8], form: Form, table: &[[u8; 32]; 32], offset: usiz
     write_byte(image, form, table, offset + 3, bits::byte_of(val, 3));
 }
 
+#[tactic(auto, using(crate::proofs::table_dwords::Dwords::dword_meant))]
 pub fn write_dword(
     image: &mut [u8],
     form: Form,
@@ -62,17 +70,18 @@ pub fn write_dword(
     ensures { (result ≤ 65) × Writes image.old image.new result (λ c. dword_acts offset val) }
 {
     match look(table, offset) {
-        Place::Part(register, high, byte, _silent) => {
+        Place::Part {
+            register,
+            high,
+            byte,
+            ..
+        } => {
             if byte != 0 {
                 return 0;
             }
             write_half(image, form, register, val, high)
         }
-        Place::Route(input) => {
-            write_four(image, form, table, offset, val);
-            0
-        }
-        Place::Vector(input) => {
+        Place::Route(_) | Place::Vector(_) => {
             write_four(image, form, table, offset, val);
             0
         }

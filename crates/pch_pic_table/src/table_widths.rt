@@ -12,6 +12,7 @@ use crate::table_dwords::{read_dword, write_dword};
 use device::map::Width;
 use image::form::Form;
 
+#[tactic(auto, unfolding(rules::specs::Access::read_at))]
 fn read_word(image: &[u8], form: Form, table: &[[u8; 32]; 32], offset: usize) -> u64
     requires { (length image.now ≡ form_length (form_view form)) × Agrees table.now × (offset + 2 ≤ 2 ^ 64 - 1) }
     ensures { Reads image.now result (λ d. read_at d.core word offset) }
@@ -30,6 +31,7 @@ fn read_qword(image: &[u8], form: Form, table: &[[u8; 32]; 32], offset: usize) -
 }
 
 // What an access reads. It lies wholly inside the window, which ends at 2^64 - 1 at most.
+#[tactic(auto, unfolding(rules::specs::Access::read_at))]
 pub fn read_access(
     image: &[u8],
     form: Form,

@@ -9,7 +9,8 @@ use Rattle.passes.specs.tallies.Tallying.{TallyLeft, tally_leaves, over_tally, w
 use Rattle.passes.specs.Finish.{zeros, row_cleared, cleared, all_inputs}
 use Rattle.passes.proofs.laws.{Bytes.tally_is, Bytes.no_numbers, Finishing.row_from_lem, Finishing.row_kept, Finishing.all_from}
 use Rattle.ledger.proofs.follow.Loops.{some_grid, holds_some}
-use Rattle.answer.specs.{Given.value_view, Given.Tells, declared.Told.Told}
+use Rattle.std.proofs.Common.{Option, Result}
+use Rattle.answer.specs.{Given.told_number, Given.told_value, declared.refusals.Refusal.Refusal}
 use Rattle.pch_pic_tally.specs.adding.Ended.{Ended, ends_as, add_by, added, sum_by, summed}
 
 -- ---- room
@@ -35,7 +36,7 @@ module _ (a t : List ℕ) (x : TallyLeft) where
 settled : Ended → List ℕ → TallyLeft
 settled e a = tally_leaves e.number e.bytes (answered e.number e.value a)
 
-told : (a : List ℕ) (t : Told) {s : List ℕ} {e : Ended} → ends_as t s ≡ e → {r : ℕ} {b : List ℕ} → (r ≡ t.number) × (b ≡ answered t.number (value_view t.value) a) → tally_leaves r s b ≡ settled e a
+told : (a : List ℕ) (t : Result (Option ℕ) Refusal) {s : List ℕ} {e : Ended} → ends_as t s ≡ e → {r : ℕ} {b : List ℕ} → (r ≡ told_number t) × (b ≡ answered (told_number t) (told_value t) a) → tally_leaves r s b ≡ settled e a
 unfolding settled
 told a t {s} d p = (λ i. tally_leaves (p.0 i) s (p.1 i)) ∙ ap (λ e. settled e a) d
 
@@ -57,12 +58,12 @@ module _ (t a : List ℕ) where
   no_begin e = e
 
   pub begins : Bytes t → answer_length ≤ length a → tally_length ≤ length t → {t₁ t₂ : List ℕ} → Becomes true t t₁ (λ f. cleared f all_inputs) → Becomes true t₁ t₂ (λ f. row_cleared f 64 10)
-      → (x : Told) → Tells x 0 none → {r : ℕ} {b : List ℕ} → (r ≡ x.number) × (b ≡ answered x.number (value_view x.value) a) → tally_leaves r t₂ b ≡ beginning t a
+      → {r : ℕ} {b : List ℕ} → (r ≡ 0) × (b ≡ answered 0 none a) → tally_leaves r t₂ b ≡ beginning t a
   unfolding beginning
-  begins y h k {t₁} {t₂} p q x d e =
+  begins y h k {t₁} {t₂} p q e =
       let held = q _ _ (p (some_grid true t) (drop tally_length t) (holds_some true t y k)) in
       let is = tally_is t₂ (drop tally_length t) _ held ∙ ap (λ xs. over_tally xs t) (no_numbers _ none_there) in
-      (λ i. tally_leaves ((e.0 ∙ d.0) i) (is i) ((e.1 ∙ (λ j. answered (d.0 j) (d.1 j) a)) i)) ∙ roomy a t _ h k
+      (λ i. tally_leaves (e.0 i) (is i) (e.1 i)) ∙ roomy a t _ h k
     where
       none_there : (n c : ℕ) → n < 65 → c < 10 → row_cleared (cleared (some_grid true t) all_inputs) 64 10 n c ≡ 0
       none_there n c p q =
@@ -81,7 +82,7 @@ module _ (l i t a : List ℕ) where
   unfolding adding
   add_tally_short h = bytes_short a t _ h
 
-  pub add_told : answer_length ≤ length a → tally_length ≤ length t → (x : Told) {s : List ℕ} → ends_as x s ≡ added l i t → {r : ℕ} {b : List ℕ} → (r ≡ x.number) × (b ≡ answered x.number (value_view x.value) a) → tally_leaves r s b ≡ adding l i t a
+  pub add_told : answer_length ≤ length a → tally_length ≤ length t → (x : Result (Option ℕ) Refusal) {s : List ℕ} → ends_as x s ≡ added l i t → {r : ℕ} {b : List ℕ} → (r ≡ told_number x) × (b ≡ answered (told_number x) (told_value x) a) → tally_leaves r s b ≡ adding l i t a
   unfolding adding
   add_told h k x d p = told a x d p ∙ adds_settled (add_test l i t) l i t a ∙ roomy a t _ h k
 
@@ -103,5 +104,5 @@ module _ (t s a : List ℕ) where
   sum_sheet_short h =
       test (leb tally_length (length t)) (λ u. bytes_short a s _ h ∙ by_tally u) (λ u. by_tally u)
 
-  pub sum_told : answer_length ≤ length a → tally_length ≤ length t → tally_length ≤ length s → (x : Told) {u : List ℕ} → ends_as x u ≡ summed t s → {r : ℕ} {b : List ℕ} → (r ≡ x.number) × (b ≡ answered x.number (value_view x.value) a) → tally_leaves r u b ≡ summing t s a
+  pub sum_told : answer_length ≤ length a → tally_length ≤ length t → tally_length ≤ length s → (x : Result (Option ℕ) Refusal) {u : List ℕ} → ends_as x u ≡ summed t s → {r : ℕ} {b : List ℕ} → (r ≡ told_number x) × (b ≡ answered (told_number x) (told_value x) a) → tally_leaves r u b ≡ summing t s a
   sum_told h k j x d p = told a x d p ∙ sums_settled (tally_test t) t s a ∙ roomy a s _ h j ∙ by_tally (le-leb tally_length (length t) k)

@@ -8,34 +8,25 @@ ghost use Rattle.ledger.specs.follow.Reached.{Reaches};
 ghost use Rattle.pch_pic_tally.specs.adding.Ended.{Keeps, CountsFrom, ends_as, added, added_to};
 
 use crate::soundness;
-use crate::soundness::Sound;
-use answer::refusals::{of_bodies, of_head};
-use answer::{Told, Value, done};
+use answer::Told;
+use answer::accepted::accepted;
 use fields::{ring, words};
-use image::bodies::{Bodies, test_bodies};
 use image::form::Form;
-use image::head::{Head, test_head};
 use ledger::cells::{cell, put_cell};
 use ledger::follow::follow;
 use ledger::totals::TOTAL;
 use ledger::watch::Watched;
-use trace::Tested;
-use trace::trace_refusals::of_trace;
 
 // What a pass keeps of the device that an image holds.
 fn kept_of(image: &[u8], form: Form) -> Watched
     requires { length image.now ≡ form_length (form_view form) }
     ensures { Keeps image.now result }
 {
-    let mask = words::mask(image, form);
-    let irr = words::irr(image, form);
-    let isr = words::isr(image, form);
-    let waiting = ring::waiting(image, form);
     Watched {
-        mask,
-        irr,
-        isr,
-        waiting,
+        mask: words::mask(image, form),
+        irr: words::irr(image, form),
+        isr: words::isr(image, form),
+        waiting: ring::waiting(image, form),
     }
 }
 
@@ -54,29 +45,17 @@ fn add_on(trace: &[u8], image: &[u8], form: Form, tally: &mut [u8]) -> Told
     requires { Passed (form_view form) image.now × (tally_length ≤ length tally.old) }
     ensures { ends_as result tally.new ≡ added_to trace.now image.now tally.old }
 {
-    let tested = trace::test(trace);
-    let Tested::Good(first, records) = tested else {
-        return of_trace(tested);
-    };
-    let found = soundness::test(tally);
-    let Sound::Whole = found else {
-        return soundness::of_tally(found);
-    };
+    let records = trace::test(trace)?;
+    soundness::test(tally)?;
     let kept = kept_of(image, form);
-    count(trace, first, records, kept, tally);
-    done(Value::Absent)
+    count(trace, records.first, records.count, kept, tally);
+    Ok(None)
 }
 
 pub fn add(trace: &[u8], image: &[u8], tally: &mut [u8]) -> Told
     requires { tally_length ≤ length tally.old }
     ensures { ends_as result tally.new ≡ added trace.now image.now tally.old }
 {
-    let told = test_head(image);
-    let Head::Of(form) = told else {
-        return of_head(told);
-    };
-    let Bodies::Good = test_bodies(image, form) else {
-        return of_bodies(image, form);
-    };
+    let form = accepted(image)?;
     add_on(trace, image, form, tally)
 }

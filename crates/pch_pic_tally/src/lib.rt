@@ -9,10 +9,9 @@ pub mod summing;
 ghost use Rattle.std.specs.Prelude.{◌≡◌};
 ghost use Rattle.passes.specs.tallies.Tallying.{tally_leaves, beginning, adding, summing};
 
-use answer::{Value, done};
+use answer::refusals::NO_ROOM;
 use ledger::follow::{zero, zero_row};
 use ledger::totals::TOTAL;
-use trace::trace_refusals::NO_ROOM;
 
 // How many bytes a tally has, and the sheet of one: 65 rows of ten numbers of eight bytes.
 const LENGTH: usize = 5200;
@@ -30,7 +29,7 @@ pub extern "C" fn pch_pic_tally_begin(tally: &mut [u8], answer: &mut [u8]) -> u8
     }
     zero(tally, true);
     zero_row(tally, true, TOTAL);
-    answer::tell(answer, done(Value::Absent))
+    answer::tell(answer, Ok(None))
 }
 
 // The records of a trace are counted, as the day goes on from the image, which stays as it is.

@@ -4,8 +4,7 @@ ghost use Rattle.passes.specs.tallies.Tally.{tally_length};
 ghost use Rattle.pch_pic_tally.specs.adding.Ended.{ends_as, summed};
 
 use crate::soundness;
-use crate::soundness::Sound;
-use answer::{Told, Value, done};
+use answer::Told;
 use ledger::follow::{copy_rows, zero_row};
 use ledger::totals::{TOTAL, join_all};
 
@@ -14,12 +13,9 @@ pub fn sum(tally: &[u8], sheet: &mut [u8]) -> Told
     requires { (tally_length ≤ length tally.now) × (tally_length ≤ length sheet.old) }
     ensures { ends_as result sheet.new ≡ summed tally.now sheet.old }
 {
-    let found = soundness::test(tally);
-    let Sound::Whole = found else {
-        return soundness::of_tally(found);
-    };
+    soundness::test(tally)?;
     copy_rows(tally, sheet);
     zero_row(sheet, true, TOTAL);
     join_all(sheet, true);
-    done(Value::Absent)
+    Ok(None)
 }

@@ -1,3 +1,4 @@
 -- The laws that the proofs of this module cite.
-pub mod Rounds
 pub mod Counting
+pub mod Good
+pub mod Rounds

@@ -1,2 +1,2 @@
--- The laws that the proofs of this module cite.
+-- The laws that the proofs of this module cite, and of `play_on`.
 pub mod Endings

@@ -1,13 +1,16 @@
-// The records of a good trace, one after another: how many of them drain, and all of them played on an image that is accepted, with nothing of it tested again.
+// The records of a good trace, one after another: how many of them drain, whether there is room for them, and all of them played on an image that is accepted, with
+// nothing of it tested again.
 ghost use Rattle.std.specs.Prelude.{◌≡◌};
 ghost use Rattle.traces.specs.Played.{records_from};
 ghost use Rattle.traces.specs.plays.Playing.{drains_in};
 ghost use Rattle.image.specs.Shown.{form_view};
-ghost use Rattle.pch_pic_trace.specs.play_records.Played.{Reaches, Ready, PlayedTo};
+ghost use Rattle.pch_pic_trace.specs.play_records.Played.{Reaches, Fits, Ready, PlayedTo};
 
-use crate::record_step::{DRAIN, step};
+use crate::record_step::{ROOM, step};
+use answer::refusals::Refusal;
 use image::form::Form;
-use trace::record_bytes::LENGTH;
+use trace::contents::Records;
+use trace::record_bytes::{DRAIN, LENGTH};
 use trace::record_view::record_at;
 
 // The bytes of an answer.
@@ -19,17 +22,28 @@ pub fn count_drains(trace: &[u8], first: usize, records: usize) -> usize
     ensures { result ≡ drains_in (records_from trace.now records 0) }
 {
     let mut drains = 0;
-    let mut k = 0;
-    while k < records {
-        let place = first + LENGTH * k;
-        let r = record_at(trace, place);
-        let kind = r.kind;
-        if kind == DRAIN {
+    for k in 0..records {
+        let r = record_at(trace, first + LENGTH * k);
+        if r.kind == DRAIN {
             drains += 1;
         }
-        k += 1;
     }
     drains
+}
+
+// The records of a good trace, where so many bytes are room for their answers, and so many for the events of those that drain.
+pub fn roomy(trace: &[u8], answers: usize, events: usize) -> Result<Records, Refusal>
+    ensures { Fits result trace.now answers events }
+{
+    let records = trace::test(trace)?;
+    if answers < ANSWER * records.count {
+        return Err(Refusal::NoRoom);
+    }
+    let drains = count_drains(trace, records.first, records.count);
+    if events < ROOM * drains {
+        return Err(Refusal::NoRoom);
+    }
+    Ok(records)
 }
 
 // The records of a good trace, on an image that is accepted. A record's answer has its own sixteen bytes, and events follow those before them. It is counted in
@@ -51,8 +65,7 @@ pub fn play_all(
     let mut used = 0;
     let mut at = 0;
     while at < last {
-        let place = first + at;
-        let r = record_at(trace, place);
+        let r = record_at(trace, first + at);
         let end = at + ANSWER;
         used += step(image, form, r, &mut answers[at..end], &mut events[used..]);
         at = end;

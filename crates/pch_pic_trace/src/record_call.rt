@@ -10,7 +10,7 @@ ghost use Rattle.pch_pic_trace.specs.record_call.Callable.{Callable};
 use answer::Told;
 use image::form::Form;
 use six_calls::{accepted_access, accepted_input};
-use trace::record_bytes::Record;
+use trace::record_bytes::{LOWER, POLL, RAISE, READ, Record};
 
 const SIZE: u64 = 0x1_0000;
 
@@ -19,13 +19,12 @@ pub fn call(image: &mut [u8], form: Form, r: Record) -> Told
     requires { Callable (form_view form) (record_view r) image.old }
     ensures { ends result image.new [] ≡ ending (request_of (record_view r)) image.old }
 {
-    let kind = r.kind;
     let byte = r.byte as u64;
-    match kind {
-        1 => accepted_input::level(image, form, byte, 1),
-        2 => accepted_input::level(image, form, byte, 0),
-        3 => accepted_input::poll(image, form, byte),
-        4 => accepted_access::read(image, form, 0, SIZE, r.offset as u64, byte),
+    match r.kind {
+        RAISE => accepted_input::level(image, form, byte, 1),
+        LOWER => accepted_input::level(image, form, byte, 0),
+        POLL => accepted_input::poll(image, form, byte),
+        READ => accepted_access::read(image, form, 0, SIZE, r.offset as u64, byte),
         _ => accepted_access::write(image, form, 0, SIZE, r.offset as u64, byte, r.value),
     }
 }

@@ -4,14 +4,11 @@ ghost use Rattle.trace.specs.record_bytes.Shown.{record_view};
 ghost use Rattle.pch_pic_trace.specs.record_step.Step.{Drainable, Playable, Steps};
 
 use crate::record_call::call;
-use answer::{Value, put_answer, tell};
+use answer::{put_answer, tell};
 use drain::drains;
 use image::form;
 use image::form::Form;
-use trace::record_bytes::Record;
-
-// The kind of a record that drains.
-pub const DRAIN: u8 = 6;
+use trace::record_bytes::{DRAIN, Record};
 
 // The room of a drain of all.
 pub const ROOM: usize = 64;
@@ -22,7 +19,7 @@ fn drain_all(image: &mut [u8], form: Form, r: Record, answer: &mut [u8], out: &m
     ensures { Steps (record_view r) image.old image.new answer.new out.old out.new result }
 {
     let count = drains::drain(image, form, out);
-    put_answer(answer, 0, Value::Present(count as u64));
+    put_answer(answer, 0, Some(count as u64));
     form::EVENT * count
 }
 
@@ -31,8 +28,7 @@ pub fn step(image: &mut [u8], form: Form, r: Record, answer: &mut [u8], events: 
     requires { Playable (form_view form) (record_view r) image.old answer.old events.old }
     ensures { Steps (record_view r) image.old image.new answer.new events.old events.new result }
 {
-    let kind = r.kind;
-    if kind == DRAIN {
+    if r.kind == DRAIN {
         return drain_all(image, form, r, answer, &mut events[0..ROOM]);
     }
     let told = call(image, form, r);

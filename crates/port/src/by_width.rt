@@ -12,14 +12,15 @@ use device::map::Width;
 use device::state::PchPicState;
 
 // What an access reads. It lies wholly inside the window, which ends at 2^64 - 1 at most.
+#[tactic(auto, using(crate::proofs::readers::Bytes::word_read), unfolding(rules::specs::Access::read_at))]
 pub fn read_register(state: PchPicState, width: Width, offset: usize) -> u64
     requires { offset + bytes_in (width_view width) ≤ 2 ^ 64 - 1 }
     ensures { result ≡ read_at (view state).core (width_view width) offset }
 {
     match width {
-        Width::Byte => readers::read_byte(state, offset, 1) as u64,
-        Width::Word => readers::read_split_bytes(state, offset, 2, 2) as u64,
-        Width::Dword => readers::read_dword(state, offset, 2) as u64,
+        Width::Byte => u64::from(readers::read_byte(state, offset, 1)),
+        Width::Word => u64::from(readers::read_split_bytes(state, offset, 2, 2)),
+        Width::Dword => u64::from(readers::read_dword(state, offset, 2)),
         Width::Qword => read_qword(state, offset),
     }
 }
@@ -29,8 +30,9 @@ fn read_qword(state: PchPicState, offset: usize) -> u64
     requires { offset + 8 ≤ 2 ^ 64 - 1 }
     ensures { result ≡ read_at (view state).core qword offset }
 {
-    let low = readers::read_dword(state, offset, 2) as u64;
-    low | ((readers::read_dword(state, offset + 4, 2) as u64) << 32)
+    let low = readers::read_dword(state, offset, 2);
+    let high = readers::read_dword(state, offset + 4, 2);
+    u64::from(low) | (u64::from(high) << 32)
 }
 
 // What an access writes; a value loses its bits above the width.
@@ -53,11 +55,9 @@ fn write_qword(state: PchPicState, offset: usize, val: u64) -> Written
     ensures { Writes result (view state) (write_acts (view state).core qword offset val) }
 {
     let first = writers::write_dword(state, offset, bits::half(val, false), 2);
-    let dropped = first.dropped;
     let second = writers::write_dword(first.state, offset + 4, bits::half(val, true), 2);
-    let out = second.state;
     Written {
-        state: out,
-        dropped: dropped + second.dropped,
+        state: second.state,
+        dropped: first.dropped + second.dropped,
     }
 }

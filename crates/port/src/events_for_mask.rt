@@ -17,7 +17,7 @@ pub struct Queued {
 pub fn lost(kept: bool) -> u32
     ensures { result ≡ cond kept 0 1 }
 {
-    if kept { 0 } else { 1 }
+    u32::from(!kept)
 }
 
 // An event for each input in mask is offered to the ring, lowest first.
@@ -34,7 +34,7 @@ pub fn queue_events_for_mask(
     let mut dropped = 0;
     let mut left = mask;
     while left != 0 {
-        let irq = u64::trailing_zeros(left) as usize;
+        let irq = left.trailing_zeros() as usize;
         let vector = vectors[irq];
         let pushed = push::push_output_event(out, PchPicOutputEvent { vector, asserted });
         out = pushed.ring;

@@ -6,12 +6,12 @@ ghost use Rattle.device.specs.state.View.{lines_view};
 ghost use Rattle.port.specs.irq_level.Moves.{Answers, updated};
 
 use device::decide;
-use device::state::{Answer, Lines, PchPicState};
+use device::state::{Lines, PchPicState};
 
 #[derive(Clone, Copy)]
 pub struct Routed {
     pub lines: Lines,
-    pub answer: Answer,
+    pub answer: Option<u8>,
 }
 
 // Raise (level true) or lower input irq.
@@ -55,28 +55,26 @@ pub fn update_irq(
     if level {
         let pending = decide::pending(mask, out.intirr, out.int_mask, out.intisr);
         if pending != 0 {
-            let irq = u64::trailing_zeros(pending) as usize;
+            let irq = pending.trailing_zeros() as usize;
             out.intisr |= 1u64 << irq;
-            let vector = vectors[irq];
             return Routed {
                 lines: out,
-                answer: Answer::Vector(vector),
+                answer: Some(vectors[irq]),
             };
         }
     } else {
         let inactive = mask & out.intisr & !out.intirr;
         if inactive != 0 {
-            let irq = u64::trailing_zeros(inactive) as usize;
+            let irq = inactive.trailing_zeros() as usize;
             out.intisr &= !(1u64 << irq);
-            let vector = vectors[irq];
             return Routed {
                 lines: out,
-                answer: Answer::Vector(vector),
+                answer: Some(vectors[irq]),
             };
         }
     }
     Routed {
         lines: out,
-        answer: Answer::None,
+        answer: None,
     }
 }

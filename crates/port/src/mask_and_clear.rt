@@ -9,7 +9,7 @@ ghost use Rattle.port.specs.mask_and_clear.Moves.{Moves};
 use crate::events_for_mask::{lost, queue_events_for_mask};
 use crate::{irq_level, push};
 use device::decide;
-use device::state::{Answer, Lines, PchPicOutputEvent, PchPicState, Ring};
+use device::state::{Lines, PchPicOutputEvent, PchPicState, Ring};
 
 // The lines and the ring after a register write that moves them, and how many of its events were dropped.
 #[derive(Clone, Copy)]
@@ -34,10 +34,9 @@ pub fn clear_irq(
     out.intirr &= !mask;
     out.intisr &= !mask;
     let queued = queue_events_for_mask(ring, vectors, active, false);
-    let queue = queued.ring;
     Moved {
         lines: out,
-        ring: queue,
+        ring: queued.ring,
         dropped: queued.dropped,
     }
 }
@@ -62,8 +61,7 @@ pub fn update_int_mask(
     if newly_unmasked != 0 {
         let routed = irq_level::update_irq(out, vectors, newly_unmasked, true);
         out = routed.lines;
-        let answer = routed.answer;
-        if let Answer::Vector(vector) = answer {
+        if let Some(vector) = routed.answer {
             let pushed = push::push_output_event(
                 queue,
                 PchPicOutputEvent {

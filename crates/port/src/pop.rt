@@ -4,17 +4,11 @@ ghost use Rattle.port.specs.pop.Pops.{Pops};
 
 use device::state::{PchPicOutputEvent, PchPicState, Ring};
 
-// What pop_output_event takes out: the Rust's Option<PchPicOutputEvent>.
-#[derive(Clone, Copy)]
-pub enum Taken {
-    Nothing,
-    One(PchPicOutputEvent),
-}
-
+// The ring after a pop, and what it took out.
 #[derive(Clone, Copy)]
 pub struct Popped {
     pub ring: Ring,
-    pub event: Taken,
+    pub event: Option<PchPicOutputEvent>,
 }
 
 // The oldest event comes out.
@@ -26,7 +20,7 @@ pub fn pop_output_event(ring: Ring) -> Popped
     if out.output_len == 0 {
         return Popped {
             ring: out,
-            event: Taken::Nothing,
+            event: None,
         };
     }
     let head = out.output_head;
@@ -36,6 +30,6 @@ pub fn pop_output_event(ring: Ring) -> Popped
     out.output_len -= 1;
     Popped {
         ring: out,
-        event: Taken::One(PchPicOutputEvent { vector, asserted }),
+        event: Some(PchPicOutputEvent { vector, asserted }),
     }
 }

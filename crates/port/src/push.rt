@@ -4,7 +4,7 @@ ghost use Rattle.port.specs.push.Pushes.{Pushes};
 
 use device::state::{PchPicOutputEvent, PchPicState, Ring};
 
-// The ring after a push, and whether the event was kept.
+// The ring after a push, and whether the event was kept: a flag beside it, since the Rust's function answers whether, and `Pushes` says so.
 #[derive(Clone, Copy)]
 pub struct Pushed {
     pub ring: Ring,
@@ -18,9 +18,7 @@ pub fn push_output_event(ring: Ring, event: PchPicOutputEvent) -> Pushed
 {
     let mut out = ring;
     if out.output_len == PchPicState::OUTPUT_QUEUE_CAPACITY {
-        if out.output_drops < 0xffff_ffff {
-            out.output_drops += 1;
-        }
+        out.output_drops = out.output_drops.saturating_add(1);
         return Pushed {
             ring: out,
             kept: false,

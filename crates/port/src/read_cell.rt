@@ -10,24 +10,23 @@ use device::map::{Plain, Register};
 use device::state::PchPicState;
 
 // A route or vector byte, and 0 at any other offset.
+#[tactic(auto, unfolding(rules::specs::Access::entry))]
 pub fn read_entry(state: PchPicState, index: usize) -> u8
     ensures { result ≡ entry (view state).core index }
 {
-    let tables = state.tables;
     match index {
         PchPicState::ROUTE_ENTRY_BASE..=PchPicState::ROUTE_ENTRY_LAST => {
-            let irq = index - PchPicState::ROUTE_ENTRY_BASE;
-            tables.route_entry[irq]
+            state.tables.route_entry[index - PchPicState::ROUTE_ENTRY_BASE]
         }
         PchPicState::HTMSI_VEC_BASE..=PchPicState::HTMSI_VEC_LAST => {
-            let irq = index - PchPicState::HTMSI_VEC_BASE;
-            tables.htmsi_vector[irq]
+            state.tables.htmsi_vector[index - PchPicState::HTMSI_VEC_BASE]
         }
         _ => 0,
     }
 }
 
 // A register as it reads: CLEAR as 0, ISR without the masked bits.
+#[tactic(auto, unfolding(rules::specs::Access::value_of))]
 pub fn value_of(state: PchPicState, register: Register) -> u64
     ensures { result ≡ value_of (view state).core (register_view register) }
 {

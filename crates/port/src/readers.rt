@@ -7,7 +7,7 @@ ghost use Rattle.port.specs.readers.Bytes.{bytes_read};
 
 use crate::read_cell;
 use device::map;
-use device::map::{Cell, Index};
+use device::map::Cell;
 use device::state::PchPicState;
 
 // The three readers call one another, each time at a smaller depth: a Byte outside 0x100..0x39f needs 1, a Dword among the bytes 2.
@@ -16,7 +16,7 @@ pub fn read_byte(state: PchPicState, offset: usize, depth: usize) -> u8
     requires { ByteDepth offset depth }
     ensures { result ≡ read_byte (view state).core offset }
 {
-    if let Index::At(index) = map::reg8_offset(offset) {
+    if let Some(index) = map::reg8_offset(offset) {
         return read_cell::read_entry(state, index);
     }
     let place = offset & 0x3;
@@ -30,7 +30,7 @@ pub fn read_split_bytes(state: PchPicState, offset: usize, len: usize, depth: us
 {
     let mut value = 0;
     for idx in 0..len {
-        value |= (read_byte(state, offset + idx, depth - 1) as u32) << (idx * 8);
+        value |= u32::from(read_byte(state, offset + idx, depth - 1)) << (idx * 8);
     }
     value
 }

@@ -21,30 +21,26 @@ pub struct Written {
 }
 
 // A route or vector byte; at any other offset nothing.
+#[tactic(auto, using(crate::proofs::write_cell::Acted::entry_written), unfolding(rules::specs::Access::entry_acts))]
 pub fn write_entry(state: PchPicState, index: usize, val: u8) -> PchPicState
     requires { Well state }
     ensures { Is result (acted (view state) (entry_acts index val)) }
 {
     let mut out = state;
-    let mut tables = out.tables;
     match index {
         PchPicState::ROUTE_ENTRY_BASE..=PchPicState::ROUTE_ENTRY_LAST => {
-            let irq = index - PchPicState::ROUTE_ENTRY_BASE;
-            tables.route_entry[irq] = val;
-            out.tables = tables;
-            out
+            out.tables.route_entry[index - PchPicState::ROUTE_ENTRY_BASE] = val;
         }
         PchPicState::HTMSI_VEC_BASE..=PchPicState::HTMSI_VEC_LAST => {
-            let irq = index - PchPicState::HTMSI_VEC_BASE;
-            tables.htmsi_vector[irq] = val;
-            out.tables = tables;
-            out
+            out.tables.htmsi_vector[index - PchPicState::HTMSI_VEC_BASE] = val;
         }
-        _ => out,
+        _ => {}
     }
+    out
 }
 
 // A register's half; ID and IRR ignore it.
+#[tactic(auto, using(crate::proofs::write_cell::Acted::half_written))]
 pub fn write_half(state: PchPicState, register: Register, val: u32, high: bool) -> Written
     requires { Well state }
     ensures { Writes result (view state) (register_acts (register_view register) high val) }
@@ -70,21 +66,14 @@ fn write_mask(state: PchPicState, val: u32, high: bool) -> Written
     requires { Well state }
     ensures { Writes result (view state) (move (set_mask high val) ∷ []) }
 {
-    let mut out = state;
-    let tables = out.tables;
-    let moved = mask_and_clear::update_int_mask(
-        out.lines,
-        out.ring,
-        &tables.htmsi_vector,
-        val,
-        high,
-    );
-    let lines = moved.lines;
-    let ring = moved.ring;
-    out.lines = lines;
-    out.ring = ring;
+    let vectors = &state.tables.htmsi_vector;
+    let moved = mask_and_clear::update_int_mask(state.lines, state.ring, vectors, val, high);
     Written {
-        state: out,
+        state: PchPicState {
+            lines: moved.lines,
+            ring: moved.ring,
+            ..state
+        },
         dropped: moved.dropped,
     }
 }
@@ -94,32 +83,32 @@ fn write_clear(state: PchPicState, val: u32, high: bool) -> Written
     requires { Well state }
     ensures { Writes result (view state) (move (clear (as_half high val)) ∷ []) }
 {
-    let mut out = state;
-    let tables = out.tables;
     let mask = bits::in_half(val, high);
-    let moved = mask_and_clear::clear_irq(out.lines, out.ring, &tables.htmsi_vector, mask);
-    let lines = moved.lines;
-    let ring = moved.ring;
-    out.lines = lines;
-    out.ring = ring;
+    let vectors = &state.tables.htmsi_vector;
+    let moved = mask_and_clear::clear_irq(state.lines, state.ring, vectors, mask);
     Written {
-        state: out,
+        state: PchPicState {
+            lines: moved.lines,
+            ring: moved.ring,
+            ..state
+        },
         dropped: moved.dropped,
     }
 }
 
 // ISR: the stored half is replaced, and no event is made.
+#[tactic(auto, using(laws::proofs::laws::Writes::acted_isr))]
 fn write_isr(state: PchPicState, val: u32, high: bool) -> PchPicState
     requires { Well state }
     ensures { Is result (acted (view state) (set_isr high val ∷ [])) }
 {
     let mut out = state;
-    let new = bits::replace_u32(out.lines.intisr, val, high);
-    out.lines.intisr = new;
+    out.lines.intisr = bits::replace_u32(out.lines.intisr, val, high);
     out
 }
 
 // The other registers are stored.
+#[tactic(auto, using(laws::proofs::laws::Writes::acted_store))]
 fn write_plain(state: PchPicState, register: Plain, val: u32, high: bool) -> PchPicState
     requires { Well state }
     ensures { Is result (acted (view state) (store (set_plain (plain_view register) high val) ∷ [])) }
@@ -127,25 +116,11 @@ fn write_plain(state: PchPicState, register: Plain, val: u32, high: bool) -> Pch
     let mut out = state;
     let new = bits::replace_u32(read_cell::plain_of(state, register), val, high);
     match register {
-        Plain::HtmsiEn => {
-            out.stored.htmsi_en = new;
-            out
-        }
-        Plain::Edge => {
-            out.stored.intedge = new;
-            out
-        }
-        Plain::Pol => {
-            out.stored.int_polarity = new;
-            out
-        }
-        Plain::Auto0 => {
-            out.stored.auto_ctrl0 = new;
-            out
-        }
-        Plain::Auto1 => {
-            out.stored.auto_ctrl1 = new;
-            out
-        }
+        Plain::HtmsiEn => out.stored.htmsi_en = new,
+        Plain::Edge => out.stored.intedge = new,
+        Plain::Pol => out.stored.int_polarity = new,
+        Plain::Auto0 => out.stored.auto_ctrl0 = new,
+        Plain::Auto1 => out.stored.auto_ctrl1 = new,
     }
+    out
 }

@@ -7,7 +7,7 @@ ghost use Rattle.port.specs.write_cell.Writes.{Writes, bytes_acts};
 use crate::write_cell::Written;
 use crate::{readers, write_cell};
 use device::map;
-use device::map::{Cell, Index};
+use device::map::Cell;
 use device::state::PchPicState;
 
 // The three writers call one another as the readers do.
@@ -16,10 +16,9 @@ pub fn write_byte(state: PchPicState, offset: usize, val: u8, depth: usize) -> W
     requires { Well state × ByteDepth offset depth }
     ensures { Writes result (view state) (byte_acts (view state).core offset val) }
 {
-    if let Index::At(index) = map::reg8_offset(offset) {
-        let out = write_cell::write_entry(state, index, val);
+    if let Some(index) = map::reg8_offset(offset) {
         return Written {
-            state: out,
+            state: write_cell::write_entry(state, index, val),
             dropped: 0,
         };
     }

@@ -1,15 +1,14 @@
 // One record of the file, with the bytes of the five that stand behind an image's, replayed on the image buffer.
-ghost use Rattle.std.specs.Prelude.{◌≡◌, true, ◌<◌, length, take};
-ghost use Rattle.replay.specs.records.Records.{agreed, word_at};
+ghost use Rattle.std.specs.Prelude.{◌≡◌, ◌<◌, take, OnOk};
+ghost use Rattle.replay.specs.records.Records.{word_at};
 ghost use Rattle.replay.specs.Replays.{loaded, damaged_by, Replays};
 
-use crate::records::Verdict;
+use crate::records::{Held, Kind, Mismatch};
 use crate::replay_call;
 use bits::bytes::{copy, put_zeros, word_at};
 
 // The buffer becomes a recorded image, with zeros behind it.
-fn set_image(bytes: &[u8], image: &mut [u8])
-    requires { (length bytes.now ≡ 320) × (length image.old ≡ 300) }
+fn set_image(bytes: &[u8; 320], image: &mut [u8; 300])
     ensures { image.new ≡ loaded bytes.now }
 {
     copy(&mut image[0..290], &bytes[0..290]);
@@ -17,42 +16,51 @@ fn set_image(bytes: &[u8], image: &mut [u8])
 }
 
 // The whole buffer, held against a recorded one.
-fn whole_image(bytes: &[u8], image: &[u8]) -> Verdict
-    requires { length bytes.now ≡ 320 }
-    ensures { agreed result ≡ true → image.now ≡ take 300 bytes.now }
+fn whole_image(bytes: &[u8; 320], image: &[u8; 300]) -> Result<(), Mismatch>
+    ensures { OnOk result (image.now ≡ take 300 bytes.now) }
 {
-    if image == &bytes[0..300] {
-        Verdict::Agrees
+    if image.as_slice() == &bytes[0..300] {
+        Ok(())
     } else {
-        Verdict::Whole
+        Err(Mismatch::Whole)
     }
 }
 
 // One byte of the buffer is damaged, or mended.
-fn set_byte(noted: &[u8], image: &mut [u8]) -> Verdict
-    requires { (length noted.now ≡ 64) × (length image.old ≡ 300) }
+fn set_byte(noted: &[u8; 64], image: &mut [u8; 300]) -> Result<(), Mismatch>
     ensures { word_at 16 noted.now < 300 → image.new ≡ damaged_by noted.now image.old }
 {
     let at = word_at(noted, 16) as usize;
     if 300 <= at {
-        return Verdict::Lent;
+        return Err(Mismatch::Lent);
     }
     image[at] = noted[24];
-    Verdict::Nothing
+    Ok(())
 }
 
-pub fn replay_record(noted: &[u8], bytes: &[u8], image: &mut [u8]) -> Verdict
-    requires { (length noted.now ≡ 64) × (length bytes.now ≡ 320) × (length image.old ≡ 300) }
+pub fn replay_record(
+    noted: &[u8; 64],
+    bytes: &[u8; 320],
+    image: &mut [u8; 300],
+) -> Result<Held, Mismatch>
     ensures { Replays noted.now bytes.now image.old image.new result }
 {
-    match noted[0] {
-        1..=6 => replay_call::replay_call(noted, image),
-        7 => {
-            set_image(bytes, image);
-            Verdict::Nothing
+    match Kind::try_from(noted[0])? {
+        Kind::Call(_) => {
+            replay_call::replay_call(noted, image)?;
+            Ok(Held::Agrees)
         }
-        8 => whole_image(bytes, image),
-        9 => set_byte(noted, image),
-        _ => Verdict::Kind,
+        Kind::Image => {
+            set_image(bytes, image);
+            Ok(Held::Nothing)
+        }
+        Kind::Whole => {
+            whole_image(bytes, image)?;
+            Ok(Held::Agrees)
+        }
+        Kind::Byte => {
+            set_byte(noted, image)?;
+            Ok(Held::Nothing)
+        }
     }
 }

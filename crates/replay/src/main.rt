@@ -7,29 +7,26 @@ mod records;
 mod replay_call;
 mod say;
 
-ghost use Rattle.std.specs.Prelude.{◌≡◌, ◌+◌, ◌^◌, ◌<◌, ◌≤◌, length};
+ghost use Rattle.std.specs.Prelude.{◌≡◌, ◌+◌, ◌^◌, ◌<◌, ◌≤◌, length, IfSome};
 
-use crate::records::Verdict;
+use crate::records::{Held, Kind, Mismatch};
 use bits::bytes::number;
 use std::fs::File;
 use std::io::Read;
 
-// A sum, or the largest number where that does not fit.
-fn sum(a: u64, b: u64) -> u64 {
-    if a <= u64::MAX - b { a + b } else { u64::MAX }
+// Behind the record of an image, and of a whole buffer, stand five with its bytes.
+fn has_bytes(kind: u8) -> bool {
+    matches!(Kind::try_from(kind), Ok(Kind::Image | Kind::Whole))
 }
 
-// How many records stand together: an image has five behind its own.
+// How many records stand together.
 fn together(kind: u8) -> u64
     ensures { (1 ≤ result) × (result ≤ 6) }
 {
-    match kind {
-        7 | 8 => 6,
-        _ => 1,
-    }
+    if has_bytes(kind) { 6 } else { 1 }
 }
 
-// How many comparisons passed and how many failed: of each kind, and at place 0 of all.
+// How many comparisons passed and how many failed: of each kind, and at place 0 of all. Two arrays, since each is counted by itself.
 #[derive(Clone, Copy)]
 struct Counts {
     passed: [u64; 10],
@@ -37,44 +34,22 @@ struct Counts {
 }
 
 // One comparison more.
-fn count(counts: [u64; 10], kind: u8) -> [u64; 10] {
-    let mut next = counts;
-    next[0] = sum(next[0], 1);
-    let k = kind as usize;
+fn count(counts: &mut [u64; 10], kind: u8) {
+    counts[0] = counts[0].saturating_add(1);
+    let k = usize::from(kind);
     if k < 10 {
-        next[k] = sum(next[k], 1);
-    }
-    next
-}
-
-fn pass(counts: Counts, kind: u8) -> Counts {
-    let passed = counts.passed;
-    let failed = counts.failed;
-    let more = count(passed, kind);
-    Counts {
-        passed: more,
-        failed,
+        counts[k] = counts[k].saturating_add(1);
     }
 }
 
-fn fail(counts: Counts, kind: u8) -> Counts {
-    let passed = counts.passed;
-    let failed = counts.failed;
-    let more = count(failed, kind);
-    Counts {
-        passed,
-        failed: more,
-    }
-}
-
-// A verdict counts, unless there was nothing to compare.
-fn tally(rt: &impl Print, counts: Counts, at: u64, kind: u8, verdict: Verdict) -> Counts {
+// A record counts, unless there was nothing to compare.
+fn tally(rt: &impl Print, counts: &mut Counts, at: u64, kind: u8, verdict: Result<Held, Mismatch>) {
     match verdict {
-        Verdict::Agrees => pass(counts, kind),
-        Verdict::Nothing => counts,
-        _ => {
-            say::failure(rt, at, verdict);
-            fail(counts, kind)
+        Ok(Held::Agrees) => count(&mut counts.passed, kind),
+        Ok(Held::Nothing) => {}
+        Err(mismatch) => {
+            say::failure(rt, at, mismatch);
+            count(&mut counts.failed, kind);
         }
     }
 }
@@ -84,6 +59,7 @@ fn read_full(file: &mut impl Read, buf: &mut [u8]) -> usize
     ensures { result ≤ length buf.new }
 {
     let mut done = 0;
+    // A while and no for: a step is as long as what was read.
     while done < buf.len() {
         let n = file.read(&mut buf[done..]).unwrap_or(0);
         if n == 0 {
@@ -94,56 +70,40 @@ fn read_full(file: &mut impl Read, buf: &mut [u8]) -> usize
     done
 }
 
-// The next record, and the five that stand behind an image's. It is false where the file ends in them.
-fn read_record(file: &mut impl Read, noted: &mut [u8], bytes: &mut [u8]) -> bool
-    requires { length noted.old ≡ 64 }
-{
+// The next record, and the five that may stand behind it. It is false where the file ends in them.
+fn read_record(file: &mut impl Read, noted: &mut [u8; 64], bytes: &mut [u8; 320]) -> bool {
     let n = read_full(file, noted);
     if n < 64 {
         return false;
     }
-    if noted[0] != 7 && noted[0] != 8 {
+    if !has_bytes(noted[0]) {
         return true;
     }
     let m = read_full(file, bytes);
     m == bytes.len()
 }
 
-// What a record leaves: the counts, and the number of the record behind it, or one past all where the file ends.
-#[derive(Clone, Copy)]
-struct Next {
-    counts: Counts,
-    at: u64,
-}
-
-// The next record, number `at`.
+// The next record, number `at`; and the number of the record behind it, or none where the file ends.
 fn replay_next(
     rt: &impl Print,
     file: &mut impl Read,
     at: u64,
-    image: &mut [u8],
-    counts: Counts,
-) -> Next
-    requires { (at < 2 ^ 32) × (length image.old ≡ 300) }
-    ensures { at < result.at }
+    image: &mut [u8; 300],
+    counts: &mut Counts,
+) -> Option<u64>
+    requires { at < 2 ^ 32 }
+    ensures { IfSome result (λ behind. at < behind) }
 {
     let mut noted = [0u8; 64];
     let mut bytes = [0u8; 320];
     if !read_record(file, &mut noted, &mut bytes) {
-        let cut = tally(rt, counts, at, 0, Verdict::Cut);
-        return Next {
-            counts: cut,
-            at: u64::MAX,
-        };
+        tally(rt, counts, at, 0, Err(Mismatch::Cut));
+        return None;
     }
     let kind = noted[0];
     let verdict = each::replay_record(&noted, &bytes, image);
-    let held = tally(rt, counts, at, kind, verdict);
-    let behind = at + together(kind);
-    Next {
-        counts: held,
-        at: behind,
-    }
+    tally(rt, counts, at, kind, verdict);
+    Some(at + together(kind))
 }
 
 fn replay_all(rt: &impl Print, file: &mut impl Read, records: u64) -> Counts
@@ -155,50 +115,50 @@ fn replay_all(rt: &impl Print, file: &mut impl Read, records: u64) -> Counts
         failed: [0u64; 10],
     };
     let mut at = 0;
+    // A while and no for: an image has five records more behind its own.
     while at < records {
-        let next = replay_next(rt, file, at, &mut image, counts);
-        counts = next.counts;
-        at = next.at;
+        let Some(behind) = replay_next(rt, file, at, &mut image, &mut counts) else {
+            break;
+        };
+        at = behind;
     }
     counts
 }
 
 // How many calls were made and compared.
-fn calls(counts: [u64; 10]) -> u64 {
-    let few = sum(sum(counts[1], counts[2]), counts[3]);
-    sum(few, sum(sum(counts[4], counts[5]), counts[6]))
+fn calls(counts: &[u64; 10]) -> u64 {
+    let mut all = 0u64;
+    for n in &counts[1..7] {
+        all = all.saturating_add(*n);
+    }
+    all
 }
 
 // The file ends where its header says.
-fn check_end(rt: &impl Print, file: &mut impl Read, counts: Counts) -> Counts {
+fn check_end(rt: &impl Print, file: &mut impl Read, counts: &mut Counts) {
     let mut more = [0u8; 1];
-    let n = read_full(file, &mut more);
-    if n == 0 {
-        return counts;
+    if read_full(file, &mut more) != 0 {
+        say::text(rt, b"FAILED: the file does not end where its header says\n");
+        count(&mut counts.failed, 0);
     }
-    say::text(rt, b"FAILED: the file does not end where its header says\n");
-    fail(counts, 0)
 }
 
 // As many calls were made as the header tells of.
-fn check_calls(rt: &impl Print, wanted: u64, counts: Counts) -> Counts {
-    let passed = counts.passed;
-    let failed = counts.failed;
-    if sum(calls(passed), calls(failed)) == wanted {
-        return counts;
+fn check_calls(rt: &impl Print, wanted: u64, counts: &mut Counts) {
+    if calls(&counts.passed).saturating_add(calls(&counts.failed)) != wanted {
+        say::text(rt, b"FAILED: the header tells of another number of calls\n");
+        count(&mut counts.failed, 0);
     }
-    say::text(rt, b"FAILED: the header tells of another number of calls\n");
-    fail(counts, 0)
 }
 
-fn say_kind(rt: &impl Print, name: &[u8], kind: usize, counts: Counts)
+fn say_kind(rt: &impl Print, name: &[u8], kind: usize, counts: &Counts)
     requires { kind < 10 }
 {
     say::text(rt, name);
     say::counts(rt, counts.passed[kind], counts.failed[kind]);
 }
 
-fn say_kinds(rt: &impl Print, counts: Counts) {
+fn say_kinds(rt: &impl Print, counts: &Counts) {
     say_kind(rt, b"reset: ", 1, counts);
     say_kind(rt, b"read: ", 2, counts);
     say_kind(rt, b"write: ", 3, counts);
@@ -210,19 +170,15 @@ fn say_kinds(rt: &impl Print, counts: Counts) {
 }
 
 // The header's form is known: it begins with the letters of this form.
-fn is_known(header: &[u8]) -> bool
-    requires { length header.now ≡ 64 }
-{
+fn is_known(header: &[u8; 64]) -> bool {
     &header[0..8] == b"PCHPICA1".as_slice()
 }
 
-fn replay_file(rt: &impl Print, file: &mut impl Read, header: &[u8])
-    requires { length header.now ≡ 64 }
-{
-    let replayed = replay_all(rt, file, number(&header[8..12]));
-    let ended = check_end(rt, file, replayed);
-    let counts = check_calls(rt, number(&header[12..16]), ended);
-    say_kinds(rt, counts);
+fn replay_file(rt: &impl Print, file: &mut impl Read, header: &[u8; 64]) {
+    let mut counts = replay_all(rt, file, number(&header[8..12]));
+    check_end(rt, file, &mut counts);
+    check_calls(rt, number(&header[12..16]), &mut counts);
+    say_kinds(rt, &counts);
 }
 
 fn main(rt: HostRuntime) {

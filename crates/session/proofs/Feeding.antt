@@ -71,16 +71,6 @@ pub record Feeding (s : Session) (line chunk entry : List ℕ) (t : Session) (af
   pub size : length exit ≡ length entry
   pub line_size : length after ≡ length line
 
-pub feed_start : (s : Session) (line chunk entry : List ℕ) → Ready s line → Feeding s line chunk entry s line 0 0 entry
-feed_start s line chunk entry ready =
-    record {
-      fed = record { ready = ready; said = []; writes = record { len = refl; out = refl }; whole = λ rest. refl };
-      within = omega arith;
-      most = omega arith;
-      size = refl;
-      line_size = refl;
-    }
-
 -- the next byte's answer goes behind those before it
 pub feed_next : (s t u : Session) (line mid after chunk entry exit ys : List ℕ) (i n m : ℕ) → Feeding s line chunk entry t mid i n exit
     → i < length chunk → n ≤ length entry - 66 → 66 ≤ length entry

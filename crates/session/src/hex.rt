@@ -3,69 +3,44 @@ ghost use Rattle.std.specs.Prelude.{◌≡◌, ◌++◌, ◌+◌, ◌<◌, ◌�
 ghost use Rattle.sessions.specs.Session.{digit_of, digit, digits, digits_spell};
 ghost use Rattle.session.specs.hex.Reads.{digit_view, number_view, field_of};
 
-// What a byte is worth as a digit.
-#[derive(Clone, Copy)]
-pub enum Digit {
-    Worth(u8),
-    Other,
-}
-
-pub fn digit_of(byte: u8) -> Digit
+// What a byte is worth as a digit, if it is one.
+pub fn digit_of(byte: u8) -> Option<u8>
     ensures { digit_view result ≡ digit_of byte }
 {
     match byte {
-        b'0'..=b'9' => Digit::Worth(byte - b'0'),
-        b'a'..=b'f' => Digit::Worth(byte - b'a' + 10),
-        _ => Digit::Other,
+        b'0'..=b'9' => Some(byte - b'0'),
+        b'a'..=b'f' => Some(byte - b'a' + 10),
+        _ => None,
     }
 }
 
-// The number that some digits spell.
-#[derive(Clone, Copy)]
-pub enum Number {
-    Is(u64),
-    Wrong,
-}
-
-pub fn wide(x: u8) -> u64
-    ensures { result ≡ x }
-{
-    x as u64
-}
-
-pub fn number_of(text: &[u8]) -> Number
+// The number that some digits spell, if they are digits.
+pub fn number_of(text: &[u8]) -> Option<u64>
     requires { length text.now ≤ 16 }
     ensures { number_view result ≡ digits_spell 0 text.now }
 {
     let mut value: u64 = 0;
-    let mut i = 0;
-    while i < text.len() {
-        let Digit::Worth(digit) = digit_of(text[i]) else {
-            return Number::Wrong;
-        };
-        value = 16 * value + wide(digit);
-        i += 1;
+    for byte in text {
+        let digit = digit_of(*byte)?;
+        value = 16 * value + u64::from(digit);
     }
-    Number::Is(value)
+    Some(value)
 }
 
 // A field of a line: a space at its place, and n digits behind it.
-pub fn field(line: &[u8], at: usize, n: usize) -> Number
+pub fn field(line: &[u8], at: usize, n: usize) -> Option<u64>
     requires { (at < 32) × (n ≤ 16) }
     ensures { number_view result ≡ field_of n (drop at line.now) }
 {
     let start = at + 1;
     let end = start + n;
-    if line.len() < end {
-        return Number::Wrong;
-    }
-    if line[at] != b' ' {
-        return Number::Wrong;
+    if line.len() < end || line[at] != b' ' {
+        return None;
     }
     number_of(&line[start..end])
 }
 
-// The digit of a number below 16.
+// The digit of a number below 16. By hand, since std's `char::from_digit` answers an Option of a character.
 fn hex_digit(x: u8) -> u8
     requires { x < 16 }
     ensures { result ≡ digit x }
@@ -79,10 +54,8 @@ pub fn put_digits(out: &mut [u8], n: usize, x: u64)
     ensures { out.new ≡ digits n x ++ drop n out.old }
 {
     let mut rest = x;
-    let mut left = n;
-    while 0 < left {
-        left -= 1;
-        out[left] = hex_digit((rest % 16) as u8);
+    for i in (0..n).rev() {
+        out[i] = hex_digit((rest % 16) as u8);
         rest /= 16;
     }
 }

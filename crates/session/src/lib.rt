@@ -27,8 +27,10 @@ pub struct Session {
 pub fn start() -> Session
     ensures { Starts result }
 {
-    let state = PchPicState::reset();
-    Session { state, kept: 0 }
+    Session {
+        state: PchPicState::reset(),
+        kept: 0,
+    }
 }
 
 // What a byte of the input leaves, and how many bytes it had written.
@@ -43,17 +45,14 @@ fn feed_byte(session: Session, line: &mut [u8], byte: u8, out: &mut [u8]) -> Ste
     requires { Ready session line.old × (66 ≤ length out.old) }
     ensures { FeedsByte session line.old byte out.old result line.new out.new }
 {
-    let state = session.state;
-    let kept = session.kept;
+    let Session { state, kept } = session;
     if byte == b'\n' {
         let played = line_end::play_line(state, &line[..kept], out);
-        let next = played.state;
-        let fresh = Session {
-            state: next,
-            kept: 0,
-        };
         return Step {
-            session: fresh,
+            session: Session {
+                state: played.state,
+                kept: 0,
+            },
             len: played.len,
         };
     }
@@ -61,12 +60,11 @@ fn feed_byte(session: Session, line: &mut [u8], byte: u8, out: &mut [u8]) -> Ste
         return Step { session, len: 0 };
     }
     line[kept] = byte;
-    let longer = Session {
-        state,
-        kept: kept + 1,
-    };
     Step {
-        session: longer,
+        session: Session {
+            state,
+            kept: kept + 1,
+        },
         len: 0,
     }
 }
@@ -88,6 +86,7 @@ pub fn feed(session: Session, line: &mut [u8], chunk: &[u8], out: &mut [u8]) -> 
     let mut next = session;
     let mut taken = 0;
     let mut len = 0;
+    // A while and no for: it stops where no room is left, and tells how far it came.
     while taken < chunk.len() && len <= room {
         let step = feed_byte(next, line, chunk[taken], &mut out[len..]);
         next = step.session;
@@ -106,14 +105,12 @@ pub fn close(session: Session, line: &[u8], out: &mut [u8]) -> usize
     requires { Ready session line.now × (81 ≤ length out.old) }
     ensures { Says result out.old out.new (answers (view session.state) (lines_of (take session.kept line.now))) }
 {
-    let state = session.state;
-    let kept = session.kept;
+    let Session { state, kept } = session;
     if kept == 0 {
         return line_end::end(state, out);
     }
     let played = line_end::play_line(state, &line[..kept], out);
-    let next = played.state;
     let len = played.len;
-    let more = line_end::end(next, &mut out[len..]);
+    let more = line_end::end(played.state, &mut out[len..]);
     len + more
 }

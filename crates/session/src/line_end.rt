@@ -16,11 +16,10 @@ pub fn play_line(state: PchPicState, line: &[u8], out: &mut [u8]) -> Played
     ensures { Plays result out.old out.new (ended (played (view state) line.now)) × (result.len ≤ 66) }
 {
     let played = play_line::play(state, line, &mut out[..65]);
-    let next = played.state;
     let len = played.len;
     out[len] = b'\n';
     Played {
-        state: next,
+        state: played.state,
         len: len + 1,
     }
 }

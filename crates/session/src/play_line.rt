@@ -1,5 +1,5 @@
 // A line of a session played: what it asks for is done or refused, and the answer is written.
-ghost use Rattle.std.specs.Prelude.{◌<◌, ◌≤◌, length};
+ghost use Rattle.std.specs.Prelude.{◌<◌, ◌≤◌, length, Some};
 ghost use Rattle.sessions.specs.Session.{played_line, played, ending};
 ghost use Rattle.device.specs.state.View.{view, Well};
 ghost use Rattle.session.specs.request.Requests.{request_view};
@@ -11,7 +11,6 @@ use crate::request::Request;
 use crate::{reply, request};
 use device::state::PchPicState;
 use device::window;
-use device::window::{Known, Located};
 use port::irq_level::Routed;
 use port::{by_width, drain_output, irq_level};
 
@@ -41,46 +40,48 @@ fn routed(state: PchPicState, moved: Routed, out: &mut [u8]) -> Played
     requires { Well state × (4 ≤ length out.old) }
     ensures { Plays result out.old out.new (routed_with (view state) moved) }
 {
-    let mut next = state;
-    let lines = moved.lines;
-    let vector = moved.answer;
-    next.lines = lines;
-    let len = reply::put_vector(out, vector);
-    Played { state: next, len }
+    let len = reply::put_vector(out, moved.answer);
+    Played {
+        state: PchPicState {
+            lines: moved.lines,
+            ..state
+        },
+        len,
+    }
 }
 
 fn play_level(state: PchPicState, input: u64, raise: bool, out: &mut [u8]) -> Played
     requires { Well state × (65 ≤ length out.old) }
-    ensures { Plays result out.old out.new (played_line (view state) (request_view (Level input raise))) }
+    ensures { Plays result out.old out.new (played_line (view state) (request_view (Some (Level input raise)))) }
 {
     if 64 <= input {
         return refused(state, 3, out);
     }
-    let tables = state.tables;
-    let moved = irq_level::set_irq_level(state.lines, &tables.htmsi_vector, input as usize, raise);
+    let vectors = &state.tables.htmsi_vector;
+    let moved = irq_level::set_irq_level(state.lines, vectors, input as usize, raise);
     routed(state, moved, out)
 }
 
 fn play_poll(state: PchPicState, input: u64, out: &mut [u8]) -> Played
     requires { Well state × (65 ≤ length out.old) }
-    ensures { Plays result out.old out.new (played_line (view state) (request_view (Poll input))) }
+    ensures { Plays result out.old out.new (played_line (view state) (request_view (Some (Poll input)))) }
 {
     if 64 <= input {
         return refused(state, 3, out);
     }
-    let tables = state.tables;
-    let moved = irq_level::pending_vector(state.lines, &tables.htmsi_vector, input as usize);
+    let vectors = &state.tables.htmsi_vector;
+    let moved = irq_level::pending_vector(state.lines, vectors, input as usize);
     routed(state, moved, out)
 }
 
 fn play_read(state: PchPicState, width: u64, address: u64, out: &mut [u8]) -> Played
     requires { Well state × (65 ≤ length out.old) }
-    ensures { Plays result out.old out.new (played_line (view state) (request_view (Read width address))) }
+    ensures { Plays result out.old out.new (played_line (view state) (request_view (Some (Read width address)))) }
 {
-    let Known::As(bytes) = window::width_of(width) else {
+    let Some(bytes) = window::width_of(width) else {
         return refused(state, 2, out);
     };
-    let Located::At(offset) = window::locate(BASE, SIZE, address, width) else {
+    let Some(offset) = window::locate(BASE, SIZE, address, width) else {
         return refused(state, 1, out);
     };
     let value = by_width::read_register(state, bytes, offset);
@@ -90,32 +91,37 @@ fn play_read(state: PchPicState, width: u64, address: u64, out: &mut [u8]) -> Pl
 
 fn play_write(state: PchPicState, width: u64, address: u64, value: u64, out: &mut [u8]) -> Played
     requires { Well state × (65 ≤ length out.old) }
-    ensures { Plays result out.old out.new (played_line (view state) (request_view (Write width address value))) }
+    ensures { Plays result out.old out.new (played_line (view state) (request_view (Some (Write width address value)))) }
 {
-    let Known::As(bytes) = window::width_of(width) else {
+    let Some(bytes) = window::width_of(width) else {
         return refused(state, 2, out);
     };
-    let Located::At(offset) = window::locate(BASE, SIZE, address, width) else {
+    let Some(offset) = window::locate(BASE, SIZE, address, width) else {
         return refused(state, 1, out);
     };
     // How many events were dropped is not said: a write answers ok.
     let written = by_width::write_register(state, bytes, offset, value);
-    let next = written.state;
     let len = reply::put_ok(out);
-    Played { state: next, len }
+    Played {
+        state: written.state,
+        len,
+    }
 }
 
 fn play_drain(state: PchPicState, out: &mut [u8]) -> Played
     requires { Well state × (65 ≤ length out.old) }
-    ensures { Plays result out.old out.new (played_line (view state) (request_view Drain)) }
+    ensures { Plays result out.old out.new (played_line (view state) (request_view (Some Drain))) }
 {
-    let mut next = state;
     let mut pairs = [0u8; 32];
-    let drained = drain_output::drain_output_events(next.ring, &mut pairs);
-    let ring = drained.ring;
-    next.ring = ring;
+    let drained = drain_output::drain_output_events(state.ring, &mut pairs);
     let len = reply::put_drained(out, &pairs, drained.count);
-    Played { state: next, len }
+    Played {
+        state: PchPicState {
+            ring: drained.ring,
+            ..state
+        },
+        len,
+    }
 }
 
 // One line, without its ending. The answer stands at the front of out, without an ending; every other byte stays.
@@ -123,16 +129,16 @@ pub fn play(state: PchPicState, line: &[u8], out: &mut [u8]) -> Played
     requires { Well state × (65 ≤ length out.old) }
     ensures { Plays result out.old out.new (played (view state) line.now) }
 {
-    match request::parse(line) {
+    let Some(request) = request::parse(line) else {
+        let len = reply::put_unknown(out);
+        return Played { state, len };
+    };
+    match request {
         Request::Level(input, raise) => play_level(state, input, raise, out),
         Request::Poll(input) => play_poll(state, input, out),
         Request::Read(width, address) => play_read(state, width, address, out),
         Request::Write(width, address, value) => play_write(state, width, address, value, out),
         Request::Drain => play_drain(state, out),
-        Request::Unknown => {
-            let len = reply::put_unknown(out);
-            Played { state, len }
-        }
     }
 }
 

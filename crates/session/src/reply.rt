@@ -5,7 +5,6 @@ ghost use Rattle.device.specs.state.View.{answer_value};
 ghost use Rattle.session.specs.reply.Says.{Says, pair_said, pairs_said};
 
 use crate::hex;
-use device::state::Answer;
 
 // A line of no form that is known.
 pub fn put_unknown(out: &mut [u8]) -> usize
@@ -25,17 +24,17 @@ pub fn put_refusal(out: &mut [u8], number: u8) -> usize
     2
 }
 
-pub fn put_vector(out: &mut [u8], answer: Answer) -> usize
+pub fn put_vector(out: &mut [u8], answer: Option<u8>) -> usize
     requires { 4 ≤ length out.old }
     ensures { Says result out.old out.new (vector_said (answer_value answer)) }
 {
-    let Answer::Vector(vector) = answer else {
+    let Some(vector) = answer else {
         out[0] = b'-';
         return 1;
     };
     out[0] = b'v';
     out[1] = b' ';
-    hex::put_digits(&mut out[2..4], 2, hex::wide(vector));
+    hex::put_digits(&mut out[2..4], 2, u64::from(vector));
     4
 }
 
@@ -68,7 +67,7 @@ pub fn put_drops(out: &mut [u8], drops: u32) -> usize
     out[3] = b'p';
     out[4] = b's';
     out[5] = b' ';
-    hex::put_digits(&mut out[6..14], 8, drops as u64);
+    hex::put_digits(&mut out[6..14], 8, u64::from(drops));
     14
 }
 
@@ -85,7 +84,7 @@ fn put_event(out: &mut [u8], vector: u8, asserted: u8)
 {
     out[0] = b' ';
     out[1] = sign(asserted);
-    hex::put_digits(&mut out[2..4], 2, hex::wide(vector));
+    hex::put_digits(&mut out[2..4], 2, u64::from(vector));
 }
 
 // Events one after another, from their pairs.
@@ -93,12 +92,8 @@ fn put_events(out: &mut [u8], pairs: &[u8], count: usize)
     requires { (2 * count ≤ length pairs.now) × (4 * count ≤ length out.old) }
     ensures { Says (4 * count) out.old out.new (pairs_said count pairs.now) }
 {
-    let mut i = 0;
-    while i < count {
-        let at = 4 * i;
-        let end = at + 4;
-        put_event(&mut out[at..end], pairs[2 * i], pairs[2 * i + 1]);
-        i += 1;
+    for i in 0..count {
+        put_event(&mut out[4 * i..4 * i + 4], pairs[2 * i], pairs[2 * i + 1]);
     }
 }
 

@@ -4,7 +4,6 @@ ghost use Rattle.sessions.specs.Session.{fields, if_right, level_line, poll_line
 ghost use Rattle.session.specs.request.Requests.{request_view};
 
 use crate::hex;
-use crate::hex::Number;
 
 #[derive(Clone, Copy)]
 pub enum Request {
@@ -15,99 +14,79 @@ pub enum Request {
     Read(u64, u64),
     Write(u64, u64, u64),
     Drain,
-    // A line of no form that is known.
-    Unknown,
 }
 
 // l II V
-fn level_request(line: &[u8]) -> Request
+fn level_request(line: &[u8]) -> Option<Request>
     ensures { request_view result ≡ if_right (fields (2 ∷ 1 ∷ []) (drop 1 line.now)) level_line }
 {
-    let Number::Is(input) = hex::field(line, 1, 2) else {
-        return Request::Unknown;
-    };
-    let Number::Is(level) = hex::field(line, 4, 1) else {
-        return Request::Unknown;
-    };
+    let input = hex::field(line, 1, 2)?;
+    let level = hex::field(line, 4, 1)?;
     if 6 < line.len() {
-        return Request::Unknown;
+        return None;
     }
     if 1 < level {
-        return Request::Unknown;
+        return None;
     }
-    Request::Level(input, level == 1)
+    Some(Request::Level(input, level == 1))
 }
 
 // p II
-fn poll_request(line: &[u8]) -> Request
+fn poll_request(line: &[u8]) -> Option<Request>
     ensures { request_view result ≡ if_right (fields (2 ∷ []) (drop 1 line.now)) poll_line }
 {
-    let Number::Is(input) = hex::field(line, 1, 2) else {
-        return Request::Unknown;
-    };
+    let input = hex::field(line, 1, 2)?;
     if 4 < line.len() {
-        return Request::Unknown;
+        return None;
     }
-    Request::Poll(input)
+    Some(Request::Poll(input))
 }
 
 // r W AAAA
-fn read_request(line: &[u8]) -> Request
+fn read_request(line: &[u8]) -> Option<Request>
     ensures { request_view result ≡ if_right (fields (1 ∷ 4 ∷ []) (drop 1 line.now)) read_line }
 {
-    let Number::Is(width) = hex::field(line, 1, 1) else {
-        return Request::Unknown;
-    };
-    let Number::Is(address) = hex::field(line, 3, 4) else {
-        return Request::Unknown;
-    };
+    let width = hex::field(line, 1, 1)?;
+    let address = hex::field(line, 3, 4)?;
     if 8 < line.len() {
-        return Request::Unknown;
+        return None;
     }
-    Request::Read(width, address)
+    Some(Request::Read(width, address))
 }
 
 // w W AAAA and 16 digits
-fn write_request(line: &[u8]) -> Request
+fn write_request(line: &[u8]) -> Option<Request>
     ensures { request_view result ≡ if_right (fields (1 ∷ 4 ∷ 16 ∷ []) (drop 1 line.now)) write_line }
 {
-    let Number::Is(width) = hex::field(line, 1, 1) else {
-        return Request::Unknown;
-    };
-    let Number::Is(address) = hex::field(line, 3, 4) else {
-        return Request::Unknown;
-    };
-    let Number::Is(value) = hex::field(line, 8, 16) else {
-        return Request::Unknown;
-    };
+    let width = hex::field(line, 1, 1)?;
+    let address = hex::field(line, 3, 4)?;
+    let value = hex::field(line, 8, 16)?;
     if 25 < line.len() {
-        return Request::Unknown;
+        return None;
     }
-    Request::Write(width, address, value)
+    Some(Request::Write(width, address, value))
 }
 
 // d
-fn drain_request(line: &[u8]) -> Request
+fn drain_request(line: &[u8]) -> Option<Request>
     ensures { request_view result ≡ if_right (fields [] (drop 1 line.now)) drain_line }
 {
     if 1 < line.len() {
-        return Request::Unknown;
+        return None;
     }
-    Request::Drain
+    Some(Request::Drain)
 }
 
-pub fn parse(line: &[u8]) -> Request
+// None of a line of no form that is known.
+pub fn parse(line: &[u8]) -> Option<Request>
     ensures { request_view result ≡ line_of line.now }
 {
-    if line.len() == 0 {
-        return Request::Unknown;
-    }
-    match line[0] {
+    match *line.first()? {
         b'l' => level_request(line),
         b'p' => poll_request(line),
         b'r' => read_request(line),
         b'w' => write_request(line),
         b'd' => drain_request(line),
-        _ => Request::Unknown,
+        _ => None,
     }
 }

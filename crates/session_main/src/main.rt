@@ -9,17 +9,11 @@ ghost use Rattle.session.specs.Feeds.{Ready};
 use session::Session;
 use std::io;
 use std::io::{ErrorKind, Read};
+use std::ops::ControlFlow;
 use std::process::ExitCode;
 
 // The status that a shell tells of a program which ends because its reader has closed the pipe.
 const CLOSED_PIPE: u8 = 141;
-
-// Where the program stands, and whether it goes on.
-#[derive(Clone, Copy)]
-struct Turn {
-    session: Session,
-    more: bool,
-}
 
 // Whether it was written, all of it. Of a reader that has closed its pipe nothing is told.
 fn put(rt: &(impl Print + Eprint), text: &[u8]) -> io::Result<()> {
@@ -33,36 +27,38 @@ fn put(rt: &(impl Print + Eprint), text: &[u8]) -> io::Result<()> {
 }
 
 // The answers to a chunk are written together, as many as the buffer holds. The program ends where they cannot be written.
-fn play_chunk(rt: &(impl Print + Eprint), session: Session, line: &mut [u8], chunk: &[u8]) -> Turn
-    requires { Ready session line.old }
-    ensures { Ready result.session line.new }
+fn play_chunk(
+    rt: &(impl Print + Eprint),
+    session: &mut Session,
+    line: &mut [u8],
+    chunk: &[u8],
+) -> ControlFlow<()>
+    requires { Ready session.old line.old }
+    ensures { Ready session.new line.new }
 {
     let mut out = [0u8; 4096];
-    let mut next = session;
-    let mut more = true;
     let mut at = 0;
-    while more && at < chunk.len() {
-        let fed = session::feed(next, line, &chunk[at..], &mut out);
-        let len = fed.len;
-        more = put(rt, &out[..len]).is_ok();
-        next = fed.session;
+    // A while and no for: a step is as long as what was taken.
+    while at < chunk.len() {
+        let fed = session::feed(*session, line, &chunk[at..], &mut out);
+        *session = fed.session;
         at += fed.taken;
+        if put(rt, &out[..fed.len]).is_err() {
+            return ControlFlow::Break(());
+        }
     }
-    Turn {
-        session: next,
-        more,
-    }
+    ControlFlow::Continue(())
 }
 
 // One read. It gives nothing where the input ends, or fails.
 fn play_some(
     rt: &(impl Print + Eprint),
     input: &mut impl Read,
-    session: Session,
+    session: &mut Session,
     line: &mut [u8],
-) -> Turn
-    requires { Ready session line.old }
-    ensures { Ready result.session line.new }
+) -> ControlFlow<()>
+    requires { Ready session.old line.old }
+    ensures { Ready session.new line.new }
 {
     let mut buf = [0u8; 4096];
     let n = match input.read(&mut buf) {
@@ -73,27 +69,21 @@ fn play_some(
         }
     };
     if n == 0 {
-        return Turn {
-            session,
-            more: false,
-        };
+        return ControlFlow::Break(());
     }
     play_chunk(rt, session, line, &buf[..n])
 }
 
-// A proved loop has to end, and nothing says that the input does. So the loop counts its turns down, from a number that no run uses up.
+// A proved loop has to end, and nothing says that the input does. So the turns are counted, to a number that no run reaches.
 fn play_all(rt: &(impl Print + Eprint), input: &mut impl Read, line: &mut [u8]) -> Session
     requires { 32 ≤ length line.old }
     ensures { Ready result line.new }
 {
     let mut session = session::start();
-    let mut more = true;
-    let mut turns = u64::MAX;
-    while more && 0 < turns {
-        let turn = play_some(rt, input, session, line);
-        session = turn.session;
-        more = turn.more;
-        turns -= 1;
+    for _ in 0..u64::MAX {
+        if play_some(rt, input, &mut session, line).is_break() {
+            break;
+        }
     }
     session
 }

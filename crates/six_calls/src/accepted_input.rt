@@ -1,4 +1,5 @@
 // The calls on an input of an image that is accepted: 3, and then the move. What they tell is handed back.
+// A level and a poll stand beside one another: of a closure that made the move nothing would be known of the image that it changed.
 ghost use Rattle.std.specs.Prelude.{◌≡◌, [], length};
 ghost use Rattle.images.specs.Form.{form_length};
 ghost use Rattle.calls.specs.Calls.{ending};
@@ -9,24 +10,23 @@ ghost use Rattle.fields.specs.inplace.Passed.{Passed};
 ghost use Rattle.answer.specs.Given.{value_view, ends};
 ghost use Rattle.six_calls.specs.accepted_input.Returned.{TakesNumber};
 
-use answer::refusals::no_input;
-use answer::{Told, Value, done};
-use device::state;
+use answer::Told;
+use answer::refusals::Refusal;
 use fields::event_numbers;
 use image::form::Form;
 use lines::service;
 
 // The vector that a call on an input returns, with its number, as a value.
-fn numbered(image: &mut [u8], form: Form, answer: state::Answer) -> Value
+fn numbered(image: &mut [u8], form: Form, answer: Option<u8>) -> Option<u64>
     requires { length image.old ≡ form_length (form_view form) }
     ensures { TakesNumber image.old image.new (answer_value answer) (value_view result) }
 {
     match answer {
-        state::Answer::Vector(vector) => {
+        Some(vector) => {
             let number = event_numbers::take(image, form);
-            Value::Present(vector as u64 + 0x1_0000 * (number as u64))
+            Some(vector as u64 + 0x1_0000 * (number as u64))
         }
-        state::Answer::None => Value::Absent,
+        None => None,
     }
 }
 
@@ -35,10 +35,10 @@ pub fn level(image: &mut [u8], form: Form, input: u64, level: u64) -> Told
     ensures { ends result image.new [] ≡ ending (asked.level input level) image.old }
 {
     if 64 <= input {
-        return no_input();
+        return Err(Refusal::NoInput);
     }
     let returned = service::set_level(image, form, input as usize, level != 0);
-    done(numbered(image, form, returned))
+    Ok(numbered(image, form, returned))
 }
 
 pub fn poll(image: &mut [u8], form: Form, input: u64) -> Told
@@ -46,8 +46,8 @@ pub fn poll(image: &mut [u8], form: Form, input: u64) -> Told
     ensures { ends result image.new [] ≡ ending (asked.poll input) image.old }
 {
     if 64 <= input {
-        return no_input();
+        return Err(Refusal::NoInput);
     }
     let returned = service::poll(image, form, input as usize);
-    done(numbered(image, form, returned))
+    Ok(numbered(image, form, returned))
 }

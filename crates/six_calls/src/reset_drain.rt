@@ -8,12 +8,12 @@ ghost use Rattle.image.specs.Shown.{form_view};
 ghost use Rattle.answer.specs.Given.{ends};
 ghost use Rattle.six_calls.specs.reset_drain.Waits.{Waits};
 
-use answer::refusals::{of_bodies, of_head, wrong_length};
-use answer::{Told, Value, done};
+use answer::Told;
+use answer::accepted::accepted;
+use answer::refusals::Refusal;
 use drain::drains;
-use image::bodies::{Bodies, test_bodies};
-use image::form::{EVENT, Form, KnownForm, form_of, places_of};
-use image::head::{Head, test_head};
+use image::by_form;
+use image::form::{EVENT, Form, form_of, places_of};
 use image::quick::{contents_apart, single_odd};
 use stored::save_reset;
 
@@ -22,26 +22,20 @@ pub fn reset(image: &mut [u8]) -> Told
     ensures { ends result image.new [] ≡ ending asked.reset image.old }
 {
     let length = image.len();
-    let KnownForm::As(form) = form_of(length) else {
-        return wrong_length();
+    let Some(form) = form_of(length) else {
+        return Err(Refusal::WrongLength);
     };
     save_reset::save_reset(image, form);
-    done(Value::Absent)
+    Ok(None)
 }
 
 // The events go to the front of the buffer. The image is tested in full.
 fn drain_tested(image: &mut [u8], events: &mut [u8]) -> Told
     ensures { ends result image.new events.new ≡ ending (asked.drain events.old 0) image.old }
 {
-    let told = test_head(image);
-    let Head::Of(form) = told else {
-        return of_head(told);
-    };
-    let Bodies::Good = test_bodies(image, form) else {
-        return of_bodies(image, form);
-    };
+    let form = accepted(image)?;
     let count = drains::drain(image, form, events);
-    done(Value::Present(count as u64))
+    Ok(Some(count as u64))
 }
 
 // True only where the image is accepted, one waits in it, and there is room for it: the commonest drain. False tells nothing.
@@ -62,30 +56,17 @@ pub fn one_fits(image: &[u8], form: Form, room: usize) -> bool
 pub fn drain(image: &mut [u8], events: &mut [u8]) -> Told
     ensures { ends result image.new events.new ≡ ending (asked.drain events.old 0) image.old }
 {
-    let KnownForm::As(form) = form_of(image.len()) else {
+    let Some(form) = form_of(image.len()) else {
         return drain_tested(image, events);
     };
-    match form {
-        Form::One => {
-            if one_fits(image, Form::One, events.len()) {
-                drains::one(image, Form::One, events);
-                return done(Value::Present(1));
+    by_form!(
+        form,
+        {
+            if one_fits(image, form, events.len()) {
+                drains::one(image, form, events);
+                return Ok(Some(1));
             }
             drain_tested(image, events)
         }
-        Form::Two => {
-            if one_fits(image, Form::Two, events.len()) {
-                drains::one(image, Form::Two, events);
-                return done(Value::Present(1));
-            }
-            drain_tested(image, events)
-        }
-        Form::Numbered => {
-            if one_fits(image, Form::Numbered, events.len()) {
-                drains::one(image, Form::Numbered, events);
-                return done(Value::Present(1));
-            }
-            drain_tested(image, events)
-        }
-    }
+    )
 }

@@ -6,13 +6,11 @@ ghost use Rattle.image.specs.Shown.{form_view};
 ghost use Rattle.fields.specs.inplace.Held.{Reads};
 ghost use Rattle.answer.specs.Given.{ends};
 
-use answer::refusals::{of_bodies, of_head};
-use answer::{Told, Value, done};
+use answer::Told;
+use answer::accepted::accepted;
 use device::decide;
 use fields::words;
-use image::bodies::{Bodies, test_bodies};
 use image::form::Form;
-use image::head::{Head, test_head};
 
 // Of all 64 inputs those that a poll would bring into service.
 pub fn set_of(image: &[u8], form: Form) -> u64
@@ -28,12 +26,6 @@ pub fn set_of(image: &[u8], form: Form) -> u64
 pub fn waiting(image: &[u8]) -> Told
     ensures { ends result image.now [] ≡ waiting_ending image.now }
 {
-    let told = test_head(image);
-    let Head::Of(form) = told else {
-        return of_head(told);
-    };
-    let Bodies::Good = test_bodies(image, form) else {
-        return of_bodies(image, form);
-    };
-    done(Value::Present(set_of(image, form)))
+    let form = accepted(image)?;
+    Ok(Some(set_of(image, form)))
 }

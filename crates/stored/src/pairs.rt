@@ -1,6 +1,6 @@
 // The ring's events as sixteen pairs of bytes, read and written: the oldest first, the unused ones zero.
 ghost use Rattle.std.specs.Prelude.{◌≡◌, ◌++◌, ◌*◌, ◌≤◌, length, take, drop};
-ghost use Rattle.rules.specs.Ring.{capacity, flag, event_twos, pairs_of};
+ghost use Rattle.rules.specs.Ring.{capacity, event_twos, pairs_of};
 ghost use Rattle.images.specs.Image.{sixteen, events_of};
 ghost use Rattle.device.specs.state.View.{WellRing, IsRing, ring_view};
 
@@ -15,11 +15,9 @@ pub fn ring_of(pairs: &[u8], len: usize, drops: u32) -> Ring
 {
     let mut output_vectors = [0u8; 16];
     let mut output_asserted = [false; 16];
-    let mut i = 0;
-    while i < 16 {
+    for i in 0..16 {
         output_vectors[i] = pairs[PAIR * i];
         output_asserted[i] = pairs[PAIR * i + FLAG] == 1;
-        i += 1;
     }
     Ring {
         output_vectors,
@@ -30,23 +28,15 @@ pub fn ring_of(pairs: &[u8], len: usize, drops: u32) -> Ring
     }
 }
 
-fn flag_byte(asserted: bool) -> u8
-    ensures { result ≡ flag asserted }
-{
-    if asserted { 1 } else { 0 }
-}
-
 // The n oldest events as pairs, from the front of dst; every other byte stays.
 fn put_events(dst: &mut [u8], ring: Ring, n: usize)
     requires { WellRing ring × (n ≤ ring.output_len) × (2 * n ≤ length dst.old) }
     ensures { dst.new ≡ pairs_of (take n (ring_view ring).waiting) ++ drop (2 * n) dst.old }
 {
-    let mut i = 0;
-    while i < n {
+    for i in 0..n {
         let at = (ring.output_head + i) % 16;
         dst[PAIR * i] = ring.output_vectors[at];
-        dst[PAIR * i + FLAG] = flag_byte(ring.output_asserted[at]);
-        i += 1;
+        dst[PAIR * i + FLAG] = u8::from(ring.output_asserted[at]);
     }
 }
 

@@ -1,8 +1,8 @@
-// What a reset saves, part by part, each by value: route bytes, the ring's body, the numbers' body. A part that is lent could be the image's own, and would be copied byte by byte.
+// What a reset saves, part by part, each by value: route bytes and the ring's body. A part that is lent could be the image's own, and would be copied byte by byte.
 ghost use Rattle.std.specs.Prelude.{◌≡◌, length};
 ghost use Rattle.images.specs.Form.{form_length};
 ghost use Rattle.image.specs.Shown.{form_view};
-ghost use Rattle.stored.specs.saves.Shown.{SavesRoutes, SavesRingBody, SavesNumbers};
+ghost use Rattle.stored.specs.saves.Shown.{SavesRoutes, SavesRingBody};
 
 use bits::bytes::copy;
 use image::form;
@@ -26,19 +26,5 @@ pub fn save_ring(image: &mut [u8], form: Form, body: [u8; 37])
     let p = places_of(form);
     let at = p.count;
     let end = at + form::RING_LENGTH;
-    copy(&mut image[at..end], &body);
-}
-
-// The numbers, as their body has them, in the form that has it.
-pub fn save_numbers(image: &mut [u8], form: Form, body: [u8; 34])
-    requires { length image.old ≡ form_length (form_view form) }
-    ensures { SavesNumbers (form_view form) body image.old image.new }
-{
-    let Form::Numbered = form else {
-        return;
-    };
-    let p = places_of(form);
-    let at = p.next;
-    let end = at + form::NUMBER_BODY_LENGTH;
     copy(&mut image[at..end], &body);
 }

@@ -7,7 +7,8 @@ ghost use Rattle.images.specs.Image.{encode_as};
 ghost use Rattle.image.specs.Shown.{form_view};
 ghost use Rattle.stored.specs.saves.Shown.{SavesOthers};
 
-use crate::reset_parts::{save_numbers, save_ring, save_routes};
+use crate::reset_parts::{save_ring, save_routes};
+use crate::save_parts::save_numbers;
 use crate::save_words::{put_contents, save_lines, save_stored};
 use device::state::{Lines, Stored};
 use image::form::Form;
@@ -17,10 +18,8 @@ fn put_order(dst: &mut [u8])
     requires { length dst.old ≤ 256 }
     ensures { dst.new ≡ up_from 0 (length dst.old) }
 {
-    let mut n = 0;
-    while n < dst.len() {
+    for n in 0..dst.len() {
         dst[n] = n as u8;
-        n += 1;
     }
 }
 

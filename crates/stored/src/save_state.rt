@@ -19,5 +19,5 @@ pub fn save(image: &mut [u8], form: Form, state: PchPicState, numbers: &[u8; 34]
     save_words::save_stored(image, form, state.stored);
     save_parts::save_tables(image, form, state.tables);
     save_parts::save_ring(image, form, state.ring);
-    save_parts::save_numbers(image, form, numbers);
+    save_parts::save_numbers(image, form, *numbers);
 }

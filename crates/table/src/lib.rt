@@ -11,11 +11,16 @@ ghost use Rattle.table.specs.Views.{place_view};
 
 use device::map::{Plain, Register};
 
-// What a byte belongs to: a register, its high (true) or low half, which byte of that, and whether it is silent to Byte and Word; the route or the
-// vector byte of an input; nothing.
+// What a byte belongs to: a register, its high or low half, which byte of that, and whether it is silent to Byte and Word; the route or the vector byte of an
+// input; nothing.
 #[derive(Clone, Copy)]
 pub enum Place {
-    Part(Register, bool, usize, bool),
+    Part {
+        register: Register,
+        high: bool,
+        byte: usize,
+        silent: bool,
+    },
     Route(usize),
     Vector(usize),
     Nothing,
@@ -28,15 +33,16 @@ const SILENT: u8 = 0x70;
 fn part_of(register: Register, entry: u8) -> Place
     ensures { place_view result ≡ part_of (register_view register) entry }
 {
-    Place::Part(
+    Place::Part {
         register,
-        entry / 4 % 2 == 1,
-        (entry % 4) as usize,
-        entry >= SILENT,
-    )
+        high: entry / 4 % 2 == 1,
+        byte: (entry % 4) as usize,
+        silent: entry >= SILENT,
+    }
 }
 
-// What a number of the table tells.
+// What a number of the table tells: the numbers are the table's own bytes, and C-18 asks for the table.
+#[tactic(auto, unfolding(crate::specs::Meaning::reading))]
 pub fn place_of(entry: u8) -> Place
     ensures { place_view result ≡ reading entry }
 {
@@ -58,6 +64,7 @@ pub fn place_of(entry: u8) -> Place
 }
 
 // What stands at an offset; from 1,024 up nothing does.
+#[tactic(auto, using(crate::proofs::Meant::beyond))]
 pub fn look(table: &[[u8; 32]; 32], offset: usize) -> Place
     requires { Agrees table.now }
     ensures { place_view result ≡ meant offset }

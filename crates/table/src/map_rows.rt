@@ -9,12 +9,7 @@ use crate::{Place, look};
 fn is_nothing(place: Place) -> bool
     ensures { result ≡ is_nothing (place_view place) }
 {
-    match place {
-        Place::Part(register, high, byte, silent) => false,
-        Place::Route(input) => false,
-        Place::Vector(input) => false,
-        Place::Nothing => true,
-    }
+    matches!(place, Place::Nothing)
 }
 
 // Whether a row begins at a place, behind a row that began at another.
@@ -22,9 +17,8 @@ fn begins(first: Place, next: Place) -> bool
     ensures { result ≡ begins (place_view first) (place_view next) }
 {
     match next {
-        Place::Part(register, high, byte, silent) => byte == 0,
-        Place::Route(input) => input == 0,
-        Place::Vector(input) => input == 0,
+        Place::Part { byte, .. } => byte == 0,
+        Place::Route(input) | Place::Vector(input) => input == 0,
         Place::Nothing => !is_nothing(first),
     }
 }
@@ -35,12 +29,10 @@ pub fn row_end(table: &[[u8; 32]; 32], start: usize) -> usize
     ensures { Row start result }
 {
     let first = look(table, start);
-    let mut at = start + 1;
-    while at < 1024 {
+    for at in start + 1..1024 {
         if begins(first, look(table, at)) {
             return at;
         }
-        at += 1;
     }
-    at
+    1024
 }

@@ -1,3 +1,2 @@
 -- The laws that the proofs of this module cite.
-pub mod Twos
 pub mod Standing

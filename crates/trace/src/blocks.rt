@@ -17,35 +17,27 @@ pub fn two_at(trace: &[u8], at: usize) -> usize
     low + 256 * high
 }
 
-// How many records the blocks have together, or that they do not stand as they have to.
-#[derive(Clone, Copy)]
-pub enum Listed {
-    Records(usize),
-    Wrong,
-}
-
-// Each block begins where the one before ends and has a record; the first begins right behind the contents.
-pub fn count_records(trace: &[u8], blocks: usize) -> Listed
+// How many records the blocks have together. None if they do not stand as they have to: each block begins where the one before ends and has a record; the first begins right
+// behind the contents.
+pub fn count_records(trace: &[u8], blocks: usize) -> Option<usize>
     requires { (blocks ≤ most_blocks) × (listed_at blocks ≤ length trace.now) }
     ensures { result ≡ listed_as blocks trace.now }
 {
     let first = 2 + 4 * blocks;
     let mut records = 0;
-    let mut b = 0;
-    while b < blocks {
+    for b in 0..blocks {
         let at = 2 + 4 * b;
         if two_at(trace, at) != first + LENGTH * records {
-            return Listed::Wrong;
+            return None;
         }
         let count = two_at(trace, at + 2);
         if count == 0 {
-            return Listed::Wrong;
+            return None;
         }
         records += count;
         if records > MOST_RECORDS {
-            return Listed::Wrong;
+            return None;
         }
-        b += 1;
     }
-    Listed::Records(records)
+    Some(records)
 }

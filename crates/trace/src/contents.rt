@@ -2,40 +2,39 @@
 ghost use Rattle.std.specs.Prelude.{◌≡◌};
 ghost use Rattle.trace.specs.contents.Found.{contents_as};
 
-use crate::blocks::{Listed, count_records, two_at};
+use crate::blocks::{count_records, two_at};
 use crate::record_bytes::LENGTH;
 
 const MOST_BLOCKS: usize = 64;
 
-// Good contents, with the place of the first record and how many there are.
+// The records of a trace: the place of the first, and how many there are.
 #[derive(Clone, Copy)]
-pub enum Contents {
-    Good(usize, usize),
-    Wrong,
+pub struct Records {
+    pub first: usize,
+    pub count: usize,
 }
 
-pub fn contents_of(trace: &[u8]) -> Contents
+// Of good contents.
+pub fn contents_of(trace: &[u8]) -> Option<Records>
     ensures { result ≡ contents_as trace.now }
 {
     if trace.len() < 2 {
-        return Contents::Wrong;
+        return None;
     }
     let blocks = two_at(trace, 0);
     if blocks == 0 {
-        return Contents::Wrong;
+        return None;
     }
     if blocks > MOST_BLOCKS {
-        return Contents::Wrong;
+        return None;
     }
     let first = 2 + 4 * blocks;
     if trace.len() < first {
-        return Contents::Wrong;
+        return None;
     }
-    let Listed::Records(records) = count_records(trace, blocks) else {
-        return Contents::Wrong;
-    };
-    if trace.len() != first + LENGTH * records {
-        return Contents::Wrong;
+    let count = count_records(trace, blocks)?;
+    if trace.len() != first + LENGTH * count {
+        return None;
     }
-    Contents::Good(first, records)
+    Some(Records { first, count })
 }

@@ -6,50 +6,57 @@ pub mod contents;
 pub mod good_record;
 pub mod record_bytes;
 pub mod record_view;
-pub mod trace_refusals;
 
 ghost use Rattle.std.specs.Prelude.{◌≡◌, ◌+◌, ◌*◌, ◌≤◌, length};
 ghost use Rattle.traces.specs.Trace.{most_records, record_length, first_bad, trace_test};
-ghost use Rattle.trace.specs.Found.{bad_from, tested_view};
+ghost use Rattle.trace.specs.Found.{bad_from, tested_view, of_trace};
 
-use crate::contents::{Contents, contents_of};
+use crate::contents::{Records, contents_of};
 use crate::good_record::is_good;
 use crate::record_bytes::LENGTH;
 use crate::record_view::record_at;
+use answer::refusals::Refusal;
 
-// The first bad one of so many records from a place on, counted from 0; their number where all are good.
+// The first bad one of so many records from a place on, counted from 0; their number where all are good, as `first_bad` of the rules has it.
 pub fn first_bad(trace: &[u8], first: usize, records: usize) -> usize
     requires { (records ≤ most_records) × (first + record_length * records ≤ length trace.now) }
     ensures { result ≡ first_bad (bad_from first trace.now) records 0 }
 {
-    let mut k = 0;
-    while k < records {
+    for k in 0..records {
         let place = first + LENGTH * k;
         if !is_good(record_at(trace, place)) {
             return k;
         }
-        k += 1;
     }
     records
 }
 
-// A good trace, with the place of its first record and how many it has; or what is wrong.
+// Why a trace is refused: its contents, or the first bad record, counted from 0.
 #[derive(Clone, Copy)]
-pub enum Tested {
-    Good(usize, usize),
+pub enum TraceFault {
     WrongContents,
     BadRecord(usize),
 }
 
-pub fn test(trace: &[u8]) -> Tested
+impl From<TraceFault> for Refusal {
+    ghost from_gives = { λ fault r. r ≡ of_trace fault };
+
+    fn from(fault: TraceFault) -> Refusal {
+        match fault {
+            TraceFault::WrongContents => Refusal::TraceContents,
+            TraceFault::BadRecord(k) => Refusal::BadRecord(k),
+        }
+    }
+}
+
+// The records of a good trace.
+pub fn test(trace: &[u8]) -> Result<Records, TraceFault>
     ensures { tested_view result ≡ trace_test trace.now }
 {
-    let Contents::Good(first, records) = contents_of(trace) else {
-        return Tested::WrongContents;
-    };
-    let bad = first_bad(trace, first, records);
-    if bad < records {
-        return Tested::BadRecord(bad);
+    let records = contents_of(trace).ok_or(TraceFault::WrongContents)?;
+    let bad = first_bad(trace, records.first, records.count);
+    if bad < records.count {
+        return Err(TraceFault::BadRecord(bad));
     }
-    Tested::Good(first, records)
+    Ok(records)
 }

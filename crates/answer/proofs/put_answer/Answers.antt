@@ -1,14 +1,11 @@
 -- `put_answer`: eight zeros, of which the lowest two bytes become the refusal and the presence; the next eight are the value's.
-use mathlib.Core.Path.{◌≡◌, refl, ap, ◌∙◌}
-use mathlib.Core.List.{List, [], ◌∷◌, ◌++◌}
-use Prim.Native.Nat.{ℕ, ◌≤◌}
-use native.Mathlib.Omega.{arith}
-use lib.ListN.{length, drop, set, replicate, length-set}
-use borrow.Rule.Slice.PartMut.{put_mid}
-use Rattle.basics.specs.Numbers.{bytes_of, part}
-use Rattle.calls.specs.Calls.{answer_length, answered}
-use Rattle.basics.proofs.laws.Parts.{Filled, start, put_this, length_next}
+use Rattle.std.proofs.Common.{Option, Some, None, is_some, unwrap_or}
+use Rattle.std.specs.Int.{from_bool}
+use Rattle.basics.proofs.Prelude.{◌≡◌, refl, ap, ◌∙◌, List, [], ◌∷◌, ◌++◌, ℕ, ◌≤◌, arith, length, drop, set, replicate, put_mid, bytes_of, part, Filled, start, put_this, length_next}
+use Rattle.rules.specs.Device.{amount}
+use Rattle.calls.specs.Calls.{answer_length, present, answered}
 use Rattle.bits.proofs.bytes.Putting.{word_put}
+use Rattle.answer.specs.Given.{value_view}
 use Rattle.answer.proofs.put_answer.Goals as goal
 
 -- the first two of eight zeros are written over
@@ -18,26 +15,19 @@ head_put l ys n p h e =
     let eight = put_this (start l) 8 (replicate 8 0) ys refl zeros in
     record { is = ap (λ m. set (set m 0 n) 1 p) eight.is; len = refl }
 
+presence : (v : Option ℕ) → from_bool (is_some v) ≡ present (value_view v)
+presence None = refl
+presence (Some x) = refl
+
+amount_of : (v : Option ℕ) → unwrap_or v 0 ≡ amount (value_view v)
+amount_of None = refl
+amount_of (Some x) = refl
+
 pub returns : goal.returns
 unfolding answered
-returns c =
-    let two = c in
-    let b = two in
-    let z = b in
-    let s = z in
-    let eight = head_put s.args.answer.now z.put_zeros.new.dst s.args.number b.present_byte.result s.requires z.put_zeros.ensures in
-    (word_put two.amount_of.result two.put_word.new.dst eight two.put_word.ensures).is
-    ∙ (λ i. (s.args.number ∷ b.present_byte.ensures i ∷ 0 ∷ 0 ∷ 0 ∷ 0 ∷ 0 ∷ 0 ∷ bytes_of 8 (two.amount_of.ensures i)) ++ drop answer_length s.args.answer.now)
-
-pub bounds-answer-1 : goal.bounds-answer-1
-bounds-answer-1 c = simp length-set (omega arith)
-
-pub put_word-requires : goal.put_word-requires
-put_word-requires c = simp length-set (omega arith)
-
-pub shape_of-answer : goal.shape_of-answer
-shape_of-answer c = let b = c in
-    let z = b in
-    let s = z in
-    let l = put_mid 0 8 s.args.answer.now z.put_zeros.new.dst in
-    omega (arith, length-set l 0 s.args.number, length-set (set l 0 s.args.number) 1 b.present_byte.result)
+returns c = let a = c.args in
+    let eight = head_put a.answer.now c.put_zeros.new.dst a.number c.from.result c.requires c.put_zeros.ensures in
+    let here = c.from.ensures ∙ ap from_bool c.is_some.ensures ∙ presence a.value in
+    let value = c.unwrap_or.ensures ∙ amount_of a.value in
+    (word_put c.unwrap_or.result c.put_word.new.dst eight c.put_word.ensures).is
+    ∙ (λ i. (a.number ∷ here i ∷ 0 ∷ 0 ∷ 0 ∷ 0 ∷ 0 ∷ 0 ∷ bytes_of 8 (value i)) ++ drop answer_length a.answer.now)

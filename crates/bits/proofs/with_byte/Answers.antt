@@ -4,4 +4,4 @@ use Rattle.laws.proofs.laws.Halves.{byte_replaced}
 use Rattle.bits.proofs.with_byte.Goals as goal
 
 pub returns : goal.returns
-returns c = byte_replaced 32 c.args.old c.args.k c.args.val (omega arith) c.ranges.old.fits c.ranges.val.fits
+returns c = rw c.from.ensures (byte_replaced 32 c.args.old c.args.k c.args.val (omega arith) c.ranges.old.fits c.ranges.val.fits)

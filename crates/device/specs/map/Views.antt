@@ -1,10 +1,8 @@
 -- The enums of the code as the rules see them.
-use Rattle.std.specs.Prelude.{ℕ, Bool, true, false}
+use Rattle.std.specs.Prelude.{ℕ, Bool, true, false, Option, Some, None}
 use Rattle.rules.specs.Core as core
 use Rattle.rules.specs.Map as map
 use Rattle.rules.specs.Access as access
-use Rattle.device.specs.declared.map.Index.{Index}
-use Rattle.device.specs.declared.map.Index.TheVariants.{None, At}
 use Rattle.device.specs.declared.map.Plain.{Plain}
 use Rattle.device.specs.declared.map.Plain.TheVariants as plain
 use Rattle.device.specs.declared.map.Register.{Register}
@@ -14,12 +12,12 @@ use Rattle.device.specs.declared.map.Cell.TheVariants as cell
 use Rattle.device.specs.declared.map.Width.{Width}
 use Rattle.device.specs.declared.map.Width.TheVariants as width
 
-abbrev pub index_if : Bool → ℕ → Index
-index_if true i = At i
+abbrev pub index_if : Bool → ℕ → Option ℕ
+index_if true i = Some i
 index_if false i = None
 
 -- an offset as one where a Byte access meets only route and vector bytes, if it is
-unfoldable pub byte_index : ℕ → Index
+unfoldable pub byte_index : ℕ → Option ℕ
 byte_index o = index_if (map.in_byte_area o) o
 
 abbrev pub plain_view : Plain → core.Plain

@@ -1,22 +1,20 @@
 -- The state as the rules see it, and what holds of every state that the types do not say.
-use Rattle.std.specs.Prelude.{◌≡◌, ℕ, zero, suc, ◌%◌, ◌<◌, ◌≤◌, Bool, false, List, [], ◌∷◌, slice_index, slice_index_or}
+use Rattle.std.specs.Prelude.{◌≡◌, ℕ, zero, suc, ◌%◌, ◌<◌, ◌≤◌, Bool, false, List, [], ◌∷◌, slice_index, slice_index_or, Option, Some, None}
 use Rattle.rules.specs.Lines as rules-lines
 use Rattle.rules.specs.Ring as rules-ring
 use Rattle.rules.specs.Ring.{Event}
 use Rattle.rules.specs.Core as rules-core
 use Rattle.rules.specs.Device.{Device, Value, none, some}
 use Rattle.device.specs.declared.state.PchPicOutputEvent.{PchPicOutputEvent}
-use Rattle.device.specs.declared.state.Answer.{Answer}
-use Rattle.device.specs.declared.state.Answer.TheVariants.{None, Vector}
 use Rattle.device.specs.declared.state.Lines.{Lines}
 use Rattle.device.specs.declared.state.Stored.{Stored}
 use Rattle.device.specs.declared.state.Ring.{Ring}
 use Rattle.device.specs.declared.state.PchPicState.{PchPicState}
 
 -- what a move hands back
-abbrev pub answer_value : Answer → Value
+abbrev pub answer_value : Option ℕ → Value
 answer_value None = none
-answer_value (Vector v) = some v
+answer_value (Some v) = some v
 
 abbrev pub event_of : PchPicOutputEvent → Event
 event_of e = record { vector = e.vector; asserted = e.asserted }

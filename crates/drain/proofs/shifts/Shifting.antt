@@ -1,5 +1,5 @@
 -- Fields of an image replaced one after another: between them the bytes are no device's image, and after the last they are.
-use Rattle.basics.proofs.Prelude.{◌≡◌, refl, sym, ap, subst, ◌∙◌, true, false, cond, false≢true, List, [], ◌∷◌, ◌++◌, ℕ, suc, ◌+◌, ◌-◌, ◌≤◌, add-one, arith, length, take, drop, set, length-drop, set_split, drop-drop, put_mid, part, test}
+use Rattle.basics.proofs.Prelude.{◌≡◌, refl, sym, ap, subst, ◌∙◌, true, cond, false≢true, List, [], ◌∷◌, ◌++◌, ℕ, suc, ◌+◌, ◌-◌, ◌≤◌, add-one, arith, length, take, drop, set, length-drop, set_split, drop-drop, put_mid, part, test}
 use Rattle.rules.specs.{Ring.Event, Ring.capacity, Ring.event_twos, Ring.drawn, Device.Device, Device.with_ring, Numbering.Numbers, Numbering.number_twos, Numbering.fewer}
 use Rattle.rules.proofs.laws.{Numbered.fits, Numbered.fitting, Numbered.drawn_fit, Steps.drain_well}
 use Rattle.images.specs.{Form.Form, Form.Field, Form.count, Form.pairs, Form.numbers, Form.is, Form.has, Form.size, Form.place, Form.form_length, Form.read, Form.image, Image.sixteen, Image.field_of}
@@ -108,6 +108,3 @@ module _ (f : Form) (i : List ℕ) (m n : ℕ) where
         there = λ z u. λ t. put_mid (e t) (width t) i ((l (subst (λ k. Unused k m) (sym there) u) ∙ ap (λ k. shifted k n) there) t);
         without = λ z. absurd (false≢true (sym z ∙ y));
       }
-
-  pub none_leave : has f numbers ≡ false → NumbersLeave f i i m n
-  none_leave z = record { there = λ y u. absurd (false≢true (sym z ∙ y)); without = λ z. refl }

@@ -1,5 +1,5 @@
 -- Pairs and numbers woven by a loop: one round more.
-use Rattle.basics.proofs.Prelude.{◌≡◌, sym, ap, ◌∙◌, List, [], ◌∷◌, ◌++◌, append-nil, append_assoc, ℕ, zero, suc, ◌+◌, ◌-◌, ◌*◌, ◌<◌, ◌≤◌, arith, lit<, length, take, drop, get_or, length-append, length-drop, drop_of_length-le, drop-cons, length-take-le, take_all, take_at, part, number_of, bytes_of, bytes_of_number_of, Bytes}
+use Rattle.basics.proofs.Prelude.{◌≡◌, sym, ap, ◌∙◌, List, [], ◌∷◌, ◌++◌, append_assoc, ℕ, zero, suc, ◌+◌, ◌-◌, ◌*◌, ◌<◌, ◌≤◌, arith, lit<, length, take, drop, get_or, length-append, length-drop, drop-cons, length-take-le, take_at, part, number_of, bytes_of, bytes_of_number_of, Bytes}
 use Rattle.bits.specs.bytes.Put.{with_bytes}
 use Rattle.drain.specs.weave.Weave.{woven}
 
@@ -56,10 +56,3 @@ module _ {ps ns out : List ℕ} {n k : ℕ} (w : Weaving ps ns out n k) (lp : le
             ap (λ l. take (4 * (k + 1)) l ++ rest) wrote ∙ ap (λ l. l ++ rest) (take_at (take (4 * k) out ++ four) (drop (4 * k + 4) out) (4 * (k + 1)) ahead)
             ∙ append_assoc (take (4 * k) out) four rest ∙ (λ t. take (4 * k) out ++ woven (sym (next_two ps k (omega arith)) t) (sym (next_two ns k (omega arith)) t)) ∙ w.front;
       }
-
-  pub weaving_done : n ≤ k → out ≡ woven ps ns
-  weaving_done h =
-      let all : length out ≤ 4 * k = omega (arith, w.size) in
-      let none : length ps ≤ 2 * k = omega arith in
-      let none-too : length ns ≤ 2 * k = omega arith in
-      sym (append-nil out) ∙ (λ t. sym (take_all (4 * k) out all) t ++ woven (sym (drop_of_length-le ps none) t) (sym (drop_of_length-le ns none-too) t)) ∙ w.front

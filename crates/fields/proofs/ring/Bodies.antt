@@ -42,12 +42,13 @@ module _ (r : Ring) (v : ℕ) (a : Bool) {i : List ℕ} (n : ℕ) (e : i ≡ rin
       )
 
   -- there is none
-  pub ring_full : {x y : ℕ} → 16 ≤ n → r.drops ≤ stop → x ≡ number_of (part 1 4 i) → y ≡ min (x + 1) stop → (with_bytes 1 4 y i ≡ ring_body (with_ring reset (offered r (event v a)))) × (1 ≡ length (dropped_by r (offer (event v a))))
+  pub ring_full : {x y : ℕ} {j : List ℕ} → 16 ≤ n → r.drops ≤ stop → x ≡ number_of (part 1 4 i) → j ≡ with_bytes 1 4 y i → y ≡ min (x + 1) stop
+      → (j ≡ ring_body (with_ring reset (offered r (event v a)))) × (1 ≡ length (dropped_by r (offer (event v a))))
   unfolding ring_body
-  ring_full {x} {y} h k f g =
+  ring_full {x} {y} h k f b g =
       let full : capacity ≤ length r.waiting = omega (arith, count_is) in
       let drops : x ≡ r.drops = f ∙ ap (λ m. number_of (part 1 4 m)) e ∙ number_of_bytes_of 4 r.drops (omega arith) in (
-        (λ t. with_bytes 1 4 ((g ∙ ap (λ z. min (z + 1) stop) drops) t) (e t)) ∙ ap (λ q. ring_body (with_ring reset q)) (sym (offered_full r (event v a) full)),
+        b ∙ (λ t. with_bytes 1 4 ((g ∙ ap (λ z. min (z + 1) stop) drops) t) (e t)) ∙ ap (λ q. ring_body (with_ring reset q)) (sym (offered_full r (event v a) full)),
         rw (le-ltb (length r.waiting) capacity full) refl,
       )
 

@@ -39,6 +39,10 @@ module _ (f : Form) (l : List ℕ) (s : length l ≡ form_length f) (p : Places)
         (λ i. sym h i && ((sym k ∙ ap (λ n. leb n capacity) counts) i && (sym q ∙ ap (λ n. ring_good f n l) counts) i))
         ∙ sym (rules_tested f l s x y (λ c. e ∙ at _ _ (o.fields (word copy) c)) (λ c. e ∙ at _ _ (o.copy c) ∙ sym g) (g ∙ at _ _ (always_at f l s p o (word irr) refl)))
 
+    -- the copy is IRR, no more than fit wait, and the ring decides
+    pub by_ring : x ≡ y → get_or l p.count 0 ≤ capacity → {r : Bool} → ring_good f (get_or l p.count 0) l ≡ r → r ≡ bodies_good f l
+    by_ring h k q = tested (eq-eqb x y h) (le-leb (get_or l p.count 0) capacity k) q
+
   -- no pair has a bit, and no number: whatever waits, both rules of the ring hold
   module _ (b : Bytes l) (n : ℕ) (few : n ≤ capacity) where
     empty : (a : ℕ) → a + 32 ≤ length l → bits_of 4 (part a 32 l) ≡ 0 → true ≡ pairs_good n (part a 32 l)

@@ -1,5 +1,5 @@
 -- What the rules find, by what the first bad bytes are.
-use Rattle.basics.proofs.Prelude.{◌≡◌, sym, ap, ◌∙◌, subst, Bool, true, false, List, ℕ, ◌+◌, ◌*◌, ◌<◌, ◌≤◌, arith, length, part, length_part}
+use Rattle.basics.proofs.Prelude.{◌≡◌, sym, ap, ◌∙◌, subst, Bool, true, List, ℕ, ◌+◌, ◌*◌, ◌<◌, ◌≤◌, arith, length, part, length_part}
 use Rattle.rules.specs.Ring.{capacity}
 use Rattle.images.specs.Form.{pairs, Form, size, has, place, form_length, read}
 use Rattle.images.specs.Image.{Fault, bad_flag, unused_set, clear, found, Rule, flag_rule, unused_rule, search, finding, accepted, broken, body_test}
@@ -15,9 +15,6 @@ module _ (k : Fault) (bad : ℕ → ℕ → Bool) (a : ℕ) (l : List ℕ) (j : 
 
 -- a rule that finds its first bad byte in the w bytes of its field
 module _ (f : Form) (l : List ℕ) (s : length l ≡ form_length f) (r : Rule) where
-  pub lacks_clear : has f r.field ≡ false → clear ≡ finding f l r
-  lacks_clear h = sym (rw h)
-
   module _ (h : has f r.field ≡ true) {a w j : ℕ} (at : a ≡ place f r.field) (e : w ≡ size r.field) (u : First r.bad (part a w l) j) where
     in_field : First r.bad (read f l r.field) j
     in_field = subst (λ m. First r.bad m j) (λ t. part (at t) (e t) l) u

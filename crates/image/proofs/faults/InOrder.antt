@@ -1,10 +1,10 @@
 -- The rules of the bodies in their order, by what code reads: the first that finds something is told, with its place.
-use Rattle.basics.proofs.Prelude.{◌≡◌, refl, sym, ap, ◌∙◌, true, List, ℕ, ◌+◌, ◌*◌, ◌<◌, ◌≤◌, add-zero, arith, length, get_or, ne_eqb, lt-ltb, part, test}
+use Rattle.basics.proofs.Prelude.{◌≡◌, refl, sym, ap, ◌∙◌, true, false≢true, List, ℕ, ◌+◌, ◌*◌, ◌<◌, ◌≤◌, add-zero, arith, length, get_or, ne_eqb, lt-ltb, part, test}
 use Rattle.rules.specs.Ring.{capacity}
 use Rattle.images.specs.Form.{Form, word, copy, irr, count, pairs, numbers, has, place, form_length, read}
-use Rattle.images.specs.Image.{register_at, word_in, count_in, copy_differs, many_wait, bad_flag, unused_set, Finding, clear, found, copy_rule, count_rule, flag_rule, unused_rule, rules, search, finding, or_else, first_fault, ImageTest, accepted, broken, body_test}
+use Rattle.images.specs.Image.{register_at, word_in, count_in, copy_differs, many_wait, bad_flag, unused_set, Fault, Finding, clear, found, copy_rule, count_rule, flag_rule, unused_rule, rules, search, finding, or_else, first_fault, ImageTest, accepted, broken, body_test}
 use Rattle.images.proofs.laws.{Layout.has_all, Tests.search_first, Tests.finds_nothing, Tests.length_read, Tests.count_read, Tests.hold_copy, Tests.hold_count}
-use Rattle.image.specs.{Shown.PlacesOf, declared.form.Places.Places, faults.Found.pair_fault}
+use Rattle.image.specs.{Shown.PlacesOf, declared.form.Places.Places, faults.Found.pair_fault, head.Good.is_accepted}
 use Rattle.image.proofs.Forms.{always_at}
 
 -- three rules that are looked at one after another, the first two together
@@ -21,7 +21,7 @@ first_two (found k a) y n = refl
 
 then_third : (x y : Finding) → body_test x ≡ accepted → body_test y ≡ body_test (or_else x y)
 then_third clear y e = refl
-then_third (found k a) y e = absurd (let z : ◌≡◌ {A = ℕ} 0 1 = cc in omega arith)
+then_third (found k a) y e = absurd (false≢true (ap is_accepted e))
 
 module _ (f : Form) (l : List ℕ) (s : length l ≡ form_length f) (p : Places) (o : PlacesOf f p) where
   abbrev copies : Finding
@@ -94,9 +94,8 @@ module _ (f : Form) (l : List ℕ) (s : length l ≡ form_length f) (p : Places)
             ∙ sym (ap body_test (two_and_one (search bad_flag (flag_rule n).bad (place f pairs) (read f l pairs)) (search unused_set (unused_rule pairs n).bad (place f pairs) (read f l pairs)) (finding f l (unused_rule numbers n))))
             ∙ sym (λ i. body_test (or_else (copy_clear i) (or_else (count-clear i) (or_else (flags i) (or_else (unused i) (or_else (finding f l (unused_rule numbers n)) clear))))))
 
-        module _ (r : ImageTest) (q : r ≡ body_test of_pairs) where
-          pub by_pairs : (r ≡ accepted → ⊥) → r ≡ body_test (first_fault f l (rules f l))
-          by_pairs n = q ∙ first_two of_pairs of_numbers (λ t. n (q ∙ t)) ∙ left_over
+        pub by_pairs : {k : Fault} {a : ℕ} → broken k a ≡ body_test of_pairs → broken k a ≡ body_test (first_fault f l (rules f l))
+        by_pairs q = q ∙ first_two of_pairs of_numbers (λ t. false≢true (ap is_accepted (q ∙ t))) ∙ left_over
 
-          pub by_numbers : r ≡ accepted → (t : ImageTest) → t ≡ body_test of_numbers → t ≡ body_test (first_fault f l (rules f l))
-          by_numbers e t u = u ∙ then_third of_pairs of_numbers (sym q ∙ e) ∙ left_over
+        pub by_numbers : accepted ≡ body_test of_pairs → {t : ImageTest} → t ≡ body_test of_numbers → t ≡ body_test (first_fault f l (rules f l))
+        by_numbers q u = u ∙ then_third of_pairs of_numbers (sym q) ∙ left_over

@@ -57,7 +57,3 @@ module _ (l : List ℕ) (b : Bytes l) where
         let top = register_at 24 l / 2 ^ (8 * (2 * (n - 12))) in
         (λ i. eqb (e i / 2 ^ bits i) 0) ∙ sym (and-true (eqb top 0)) ∙ ap (λ t. eqb top 0 && t) (sym nothing_behind)
         ∙ zero_word 24 (2 * (n - 12)) l b (omega (arith, long)) (omega arith) ∙ ap (λ m. all_zero (drop m l)) begin
-
-    -- none is left
-    pub none_behind : (n : ℕ) → n ≡ 16 → true ≡ all_zero (drop (2 * n) l)
-    none_behind n e = let all : length l ≤ 2 * n = omega (arith, long, e) in sym (ap all_zero (drop_of_length-le l all))

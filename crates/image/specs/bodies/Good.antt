@@ -3,13 +3,6 @@ use Rattle.std.specs.Prelude.{ℕ, Bool, true, false, cond, ◌&&◌, List}
 use Rattle.images.specs.Form.{Form, pairs, numbers, has, place, read}
 use Rattle.images.specs.Image.{Finding, clear, found, rules, first_fault, ImageTest, body_test}
 use Rattle.image.specs.unused.Events.{pairs_good, numbers_good}
-use Rattle.image.specs.declared.bodies.Bodies.{Bodies}
-use Rattle.image.specs.declared.bodies.Bodies.TheVariants.{Broken, Good}
-
--- whether the rules of an image's bodies hold
-abbrev pub holds : Bodies → Bool
-holds Broken = false
-holds Good = true
 
 -- no rule of the bodies finds anything
 abbrev pub is_clear : Finding → Bool

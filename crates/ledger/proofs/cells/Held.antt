@@ -1,17 +1,12 @@
 -- The numbers of a sheet or a tally, as the functions of this module read and write them.
-use Rattle.basics.proofs.Prelude.{◌≡◌, refl, sym, ap, subst, ◌∙◌, Bool, true, false, ◌||◌, List, [], ◌∷◌, ◌++◌, ℕ, ◌+◌, ◌-◌, ◌%◌, ◌^◌, ◌<◌, max, arith, eqb, take, drop-drop, eq-eqb, ne_eqb, true≢false, bytes_of, number_of, part}
+use Rattle.basics.proofs.Prelude.{◌≡◌, refl, sym, ap, subst, ◌∙◌, Bool, true, false, ◌||◌, List, [], ◌∷◌, ◌++◌, ℕ, ◌+◌, ◌-◌, ◌%◌, ◌^◌, ◌<◌, max, arith, eqb, take, drop-drop, eq-eqb, ne_eqb, true≢false, bytes_of}
 use Rattle.bits.specs.bytes.Put.{with_bytes}
 use Rattle.passes.specs.tallies.{Grid.Grid, Grid.cell_bytes, Grid.cell_place, Grid.limit, Grid.record_limit, Grid.is_wait, Grid.Fits, Grid.put, Grid.bump, Grid.Holds, Grid.Reads, Grid.Puts, Grid.Becomes, Following.Takes}
 use Rattle.passes.specs.tallies.Marks.{happened, kind_column, fate_columns, bumped, settled, withdrawn, began}
-use Rattle.passes.proofs.tallies.laws.{Taking.takes_one, Grids.cell_read, Grids.cell_put, Grids.bytes_same, Grids.small_low, Grids.soon_small, Grids.next_low}
+use Rattle.passes.proofs.tallies.laws.{Taking.takes_one, Grids.cell_put, Grids.bytes_same, Grids.small_low, Grids.soon_small, Grids.next_low}
 use Rattle.ledger.specs.{cells.Fates.fate_view, cells.Fates.note_with, declared.cells.Fate.Fate}
 
 module _ (wide : Bool) (l : List ℕ) (n c : ℕ) (p : n < 65) (q : c < 10) where
-  pub reads_cell : {at end x : ℕ} → at ≡ cell_place wide n c → end ≡ at + cell_bytes wide → x ≡ number_of (part at (end - at) l) → Reads wide l x n c
-  reads_cell {at} {end} a b e f rest h =
-      let z : end - at ≡ cell_bytes wide = omega (arith, b) in
-      e ∙ (λ i. number_of (part (a i) (z i) l)) ∙ cell_read wide h n c p q
-
   pub puts_cell : (x : ℕ) {at k : ℕ} → at ≡ cell_place wide n c → k ≡ cell_bytes wide → {m : List ℕ} → m ≡ with_bytes at k x l → Puts wide l m n c x
   puts_cell x a b e v s fits f rest h =
       subst (λ (k : List ℕ). Holds wide k (put f n c v) rest)
@@ -83,14 +78,6 @@ pub fated : {wide : Bool} {l m : List ℕ} (n : ℕ) {x y : Fate} → x ≡ y �
 fated {wide} {l} {m} n e b = subst (λ (z : Fate). Becomes wide l m (λ f. bumped f n (fate_columns (fate_view z)))) e b
 
 -- ---- events
-
-pub kind_few : (b : Bool) {x : ℕ} → x ≡ kind_column b → x < 10
-kind_few true e = omega (arith, e)
-kind_few false e = omega (arith, e)
-
-pub kind_counted : (b : Bool) {x : ℕ} → x ≡ kind_column b → is_wait x ≡ false
-kind_counted true e = ap is_wait e
-kind_counted false e = ap is_wait e
 
 module _ {wide : Bool} (n k : ℕ) (b : Bool) (x : Fate) {c : ℕ} (e : c ≡ kind_column b) where
   pub asserted_taken : b ≡ true → {l m o p : List ℕ} → Becomes wide l m (λ f. bump f n c) → Becomes wide m o (λ f. bumped f n (fate_columns (fate_view x))) → Becomes wide o p (λ f. settled f n k)

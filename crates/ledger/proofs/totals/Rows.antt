@@ -73,13 +73,3 @@ module _ {wide : Bool} {b a : List ℕ} (n c : ℕ) (p : n < 64) {x t v : ℕ} (
 
   pub joins : Becomes wide b a (λ f. put f 64 c (joined c (f 64 c) (f n c)))
   joins = test (eqb c 7) (λ k. joins_greatest (eqb-true c 7 k)) (λ k. joins_sum (eqb-false c 7 k))
-
-module _ (c t x : ℕ) where
-  pub joined_greatest : c ≡ 7 → t < 2 ^ 64 → x < 2 ^ 64 → {r : ℕ} → r ≡ max t x → r ≡ joined c t x % 2 ^ 64
-  joined_greatest e p q {r} z = z ∙ low ∙ ap (λ b. cond b (max t x) (t + x) % 2 ^ 64) (sym (eq-eqb c 7 e))
-    where
-      low : max t x ≡ max t x % 2 ^ 64
-      low = omega (arith, p, q)
-
-  pub joined_other : (c ≡ 7 → ⊥) → {r : ℕ} → r ≡ (t + x) % 2 ^ 64 → r ≡ joined c t x % 2 ^ 64
-  joined_other h q = q ∙ ap (λ b. cond b (max t x) (t + x) % 2 ^ 64) (sym (ne_eqb c 7 h))

@@ -1,6 +1,6 @@
 -- A row of zeros: it has no open wait, and joins nothing to the total, so that the bytes stay as they are.
-use Rattle.basics.proofs.Prelude.{Bool, true, false, ◌≡◌, sym, ap, subst, ◌∙◌, List, [], ◌∷◌, ◌++◌, ℕ, zero, suc, ◌+◌, ◌*◌, ◌-◌, ◌%◌, ◌^◌, ◌<◌, ◌≤◌, max, arith, refl, take, drop, take-append-drop, length, part, part_add, number_of, put_mid, eqb, test, eqb-true, ◌&&◌, and-eq-true_iff, true≢false}
-use Rattle.passes.specs.{tallies.Grid.cell_bytes, tallies.Grid.cell_place, tallies.Grid.grid_length, tallies.Grid.limit, tallies.Grid.put, tallies.Grid.Reads, tallies.Grid.Puts, tallies.Grid.Becomes, tallies.Grid.Holds, Finish.shut, Finish.joined, Finish.row_joined}
+use Rattle.basics.proofs.Prelude.{Bool, true, false, ◌≡◌, sym, ap, subst, ◌∙◌, List, [], ◌∷◌, ◌++◌, ℕ, zero, suc, ◌+◌, ◌*◌, ◌-◌, ◌%◌, ◌^◌, ◌<◌, ◌≤◌, max, arith, refl, take, drop, take-append-drop, part, part_add, number_of, put_mid, eqb, test, eqb-true, ◌&&◌, and-eq-true_iff}
+use Rattle.passes.specs.{tallies.Grid.cell_bytes, tallies.Grid.cell_place, tallies.Grid.limit, tallies.Grid.put, tallies.Grid.Reads, tallies.Grid.Puts, tallies.Grid.Becomes, tallies.Grid.Holds, Finish.shut, Finish.joined, Finish.row_joined}
 use Rattle.passes.proofs.tallies.laws.Grids.{bytes_same, cell_read, cell_put}
 use Rattle.ledger.specs.totals.Zeros.{FoundZero}
 use Rattle.ledger.proofs.totals.Rows.{row_none, row_next, shuts, joins}
@@ -53,14 +53,7 @@ module _ (l : List ℕ) (at : ℕ) {a b c d e : ℕ} where
       zeros_add l at 32 8 four (sym t ∙ eqb-true e 0 f.1)
 
 module _ (l : List ℕ) (n : ℕ) where
-  pub row_inside : (w : Bool) → n < 64 → grid_length w ≤ length l → (cell_place w n 0 + 40 ≤ length l) × (w ≡ true → cell_place w n 0 + 80 ≤ length l)
-  row_inside true p h = (omega (arith, p, h), λ e. omega (arith, p, h))
-  row_inside false p h = (omega (arith, p, h), λ e. absurd (true≢false (sym e)))
-
   module _ {w : Bool} {at : ℕ} where
-    pub narrow_row : w ≡ false → at ≡ cell_place w n 0 → {a : Bool} → FoundZero a at 40 l → FoundZero a (cell_place w n 0) (10 * cell_bytes w) l
-    narrow_row e p f t = let all : 40 ≡ 10 * cell_bytes w = ap (λ v. 10 * cell_bytes v) (sym e) in (λ i. number_of (part (sym p i) (sym all i) l)) ∙ f t
-
     pub wide_row : w ≡ true → at ≡ cell_place w n 0 → {a b : Bool} → FoundZero a at 40 l → FoundZero b (at + 40) 40 l → FoundZero (a && b) (cell_place w n 0) (10 * cell_bytes w) l
     wide_row e p {a} {b} f g t =
         let both = (and-eq-true_iff a b).0 t in

@@ -1,5 +1,5 @@
 -- The loops over the inputs of a set, lowest first: what was done so far, and then what is left, is all.
-use Rattle.basics.proofs.Prelude.{Bool, one_less, ◌≡◌, refl, sym, ap, subst, ◌∙◌, true, false, List, [], ◌∷◌, ◌++◌, map, map-append, append-nil, append_assoc, ℕ, suc, ◌-◌, ◌^◌, ◌<◌, lt_of_le_of_lt, bit_and, and_le_l, count_trailing_zeros, length, on, inputs, first_below, first_input, lowest_dropped, no_input_lem}
+use Rattle.basics.proofs.Prelude.{Bool, one_less, ◌≡◌, refl, sym, ap, subst, ◌∙◌, true, false, List, [], ◌∷◌, ◌++◌, map, map-append, append-nil, append_assoc, ℕ, suc, ◌-◌, ◌^◌, ◌<◌, lt_of_le_of_lt, bit_and, and_le_l, count_trailing_zeros, length, on, inputs, first_input, lowest_dropped, no_input_lem}
 use Rattle.rules.specs.Lines.{event}
 use Rattle.passes.{specs.tallies.Marks.taken_back, specs.tallies.Following.Takes, specs.tallies.Following.Offers, proofs.tallies.laws.Taking.takes_then, proofs.tallies.laws.Taking.takes_same}
 use Rattle.passes.proofs.tallies.laws.Turning.{offers_then, offers_same}
@@ -21,9 +21,6 @@ module _ (P : List ℕ → Type 0) where
     module _ (some : x ≡ 0 → ⊥) where
       abbrev lowest : ℕ
       lowest = count_trailing_zeros 64 x
-
-      pub lowest_below : lowest < 64
-      lowest_below = first_below x q.below some
 
       pub fewer : suc (length (inputs (on (bit_and x (x - 1))))) ≡ length (inputs (on x))
       fewer = one_less x q.below some

@@ -1,5 +1,5 @@
 -- A call of the device as a record's, refused or done.
-use Rattle.basics.proofs.Prelude.{◌≡◌, refl, sym, ap, subst, ◌∙◌, Bool, true, false, cond, List, [], ◌∷◌, inl, inr, ℕ, ◌<◌, ◌≤◌, arith, eqb, length, drop, length-drop, lt-ltb, le-ltb, ne_eqb, eqb-true}
+use Rattle.basics.proofs.Prelude.{◌≡◌, refl, sym, ap, subst, ◌∙◌, Bool, true, false, cond, false≢true, List, [], ◌∷◌, inl, inr, ℕ, ◌<◌, ◌≤◌, arith, eqb, length, drop, length-drop, lt-ltb, le-ltb, ne_eqb, eqb-true}
 use Rattle.rules.specs.{Lines.Lines, Ring.drawn, Core.Core, Core.Act, Core.Move, Core.move, Access.Width, Access.byte, Access.word, Access.dword, Access.qword, Access.write_acts}
 use Rattle.rules.specs.Device.{Device, Call, level, poll, read, write, drain, acts_of, draws}
 use Rattle.rules.proofs.laws.{Acts.step_acted, Steps.read_device, Steps.drain_device}
@@ -7,8 +7,8 @@ use Rattle.calls.specs.Calls.{Tested, pass, refuse, on_pass, width_test, address
 use Rattle.calls.proofs.laws.Outcomes.{width_refused, address_refused, access_passed}
 use Rattle.plain.specs.Sequence.{Item, call, refused}
 use Rattle.traces.specs.{Trace.Record, Played.request_of}
-use Rattle.device.specs.{map.Views.width_view, window.Tests.known_view, window.Tests.located_view}
-use Rattle.device.specs.declared.window.{Known.Known, Known.TheVariants.As, Known.TheVariants.Unknown, Located.Located, Located.TheVariants.At, Located.TheVariants.Outside}
+use Rattle.device.specs.{map.Views.width_view, window.Tests.known_view}
+use Rattle.std.specs.Prelude.{Option, Some, None, is_some}
 use Rattle.sheets.specs.Day.{as_item, item_of}
 use Rattle.passes.{specs.tallies.Marks.marks_of, specs.tallies.Following.Stands, specs.tallies.Following.Follows, specs.tallies.Following.FollowsItem, proofs.tallies.laws.Taking.takes_none}
 use Rattle.passes.proofs.tallies.laws.Quiet.{follows_same}
@@ -62,21 +62,29 @@ module _ (l : Lines) (w : ℕ) (b : List ℕ) (k : ℕ) where
 abbrev written : (base size address width v : ℕ) → Item
 written base size address width v = as_item (asked_by (asked.write base size address width v))
 
-module _ (base size address width v : ℕ) {x : Known} (e : known_view x ≡ width_test width) where
-  pub no_width_lem : {wide : Bool} (l : Lines) (w : ℕ) (b : List ℕ) (k : ℕ) → x ≡ Unknown → FollowsItem wide l w l w b b k (written base size address width v)
-  no_width_lem l w b k t =
-      item_as k refused (written base size address width v) (ap (λ c. as_item (calls c)) (sym (width_refused base size address width (λ w o. write w o v) no_width (sym e ∙ ap known_view t)))) (follows_refused l w b k)
+module _ (base size address width v : ℕ) where
+  pub no_width_lem : {wide : Bool} (l : Lines) (w : ℕ) (b : List ℕ) (k : ℕ) → refuse no_width ≡ width_test width → FollowsItem wide l w l w b b k (written base size address width v)
+  no_width_lem l w b k e =
+      item_as k refused (written base size address width v) (ap (λ c. as_item (calls c)) (sym (width_refused base size address width (λ w o. write w o v) no_width (sym e)))) (follows_refused l w b k)
 
-  module _ {y : code.Width} (wide : x ≡ As y) {p : Located} (g : located_view address p ≡ address_test base size address width) where
-    pub no_place : {wide : Bool} (l : Lines) (w : ℕ) (b : List ℕ) (k : ℕ) → p ≡ Outside → FollowsItem wide l w l w b b k (written base size address width v)
-    no_place l w b k t =
-        item_as k refused (written base size address width v) (ap (λ c. as_item (calls c)) (sym (address_refused base size address width (λ w o. write w o v) (width_view y) (outside address) (sym e ∙ ap known_view wide) (sym g ∙ ap (located_view address) t)))) (follows_refused l w b k)
+  module _ {y : Width} (e : pass y ≡ width_test width) where
+    pub no_place : {wide : Bool} (l : Lines) (w : ℕ) (b : List ℕ) (k : ℕ) → refuse (outside address) ≡ address_test base size address width → FollowsItem wide l w l w b b k (written base size address width v)
+    no_place l w b k g =
+        item_as k refused (written base size address width v) (ap (λ c. as_item (calls c)) (sym (address_refused base size address width (λ w o. write w o v) y (outside address) (sym e) (sym g)))) (follows_refused l w b k)
 
-    pub write_done : {wide : Bool} {o : ℕ} → p ≡ At o → {l : Lines} {w : ℕ} {m : Lines} {u : ℕ} {b a : List ℕ} (k : ℕ) → Follows wide l w m u b a k (λ c. write_acts c (width_view y) o v) → FollowsItem wide l w m u b a k (written base size address width v)
+    pub write_done : {wide : Bool} {o : ℕ} → pass o ≡ address_test base size address width → {l : Lines} {w : ℕ} {m : Lines} {u : ℕ} {b a : List ℕ} (k : ℕ) → Follows wide l w m u b a k (λ c. write_acts c y o v) → FollowsItem wide l w m u b a k (written base size address width v)
     unfolding acts_of
-    write_done {o} at k s =
-        item_as k (call (write (width_view y) o v)) (written base size address width v) (ap (λ c. as_item (calls c)) (sym (access_passed base size address width (λ w o. write w o v) (width_view y) o (sym e ∙ ap known_view wide) (sym g ∙ ap (located_view address) at))))
-        (follows_call k (write (width_view y) o v) (λ c. write_acts c (width_view y) o v) refl (λ c. refl) s)
+    write_done {o} g k s =
+        item_as k (call (write y o v)) (written base size address width v) (ap (λ c. as_item (calls c)) (sym (access_passed base size address width (λ w o. write w o v) y o (sym e) (sym g))))
+        (follows_call k (write y o v) (λ c. write_acts c y o v) refl (λ c. refl) s)
+
+pub width_none : (n : ℕ) (x : Option code.Width) → is_some x ≡ false → known_view x ≡ width_test n → refuse no_width ≡ width_test n
+width_none n None h e = e
+width_none n (Some y) h e = absurd (false≢true (sym h))
+
+pub width_some : (n : ℕ) (x : Option code.Width) → is_some x ≡ true → known_view x ≡ width_test n → (y : Width) × (pass y ≡ width_test n)
+width_some n None h e = absurd (false≢true h)
+width_some n (Some y) h e = (width_view y, e)
 
 -- a width that is known is one of four, and is that width
 pub known_width : (n : ℕ) (w : Width) → width_test n ≡ pass w → Sized n × (width_of n ≡ w)

@@ -1,11 +1,11 @@
 -- The arms over a register and over a cell.
-use Rattle.basics.proofs.Prelude.{◌≡◌, refl, sym, ap, subst, ◌∙◌, Bool, true, false, cond, ◌&&◌, true≢false, ◌⊎◌, inl, inr, ⊎_elim, List, [], ◌∷◌, ℕ, ◌+◌, ◌-◌, ◌*◌, ◌/◌, ◌^◌, ◌<◌, ◌≤◌, arith, bit_and, and_le_r, ltb, byte_of, with_byte, on, without, half, as_half, without_is}
+use Rattle.basics.proofs.Prelude.{◌≡◌, refl, sym, ap, subst, ◌∙◌, Bool, true, false, cond, ◌&&◌, true≢false, ◌⊎◌, inl, inr, ⊎_elim, List, [], ◌∷◌, ℕ, ◌+◌, ◌-◌, ◌*◌, ◌/◌, ◌^◌, ◌<◌, arith, bit_and, ltb, byte_of, with_byte, on, without, half, as_half, without_is}
 use Rattle.rules.specs.{Lines.Lines, Core.move, Core.clear}
 use Rattle.rules.specs.Access.{Width, byte, word, dword, qword, value_of, register_acts, cell_acts, dword_acts, byte_acts, write_acts}
 use Rattle.device.specs.{map.Views.register_view, declared.map.Register.Register}
 use Rattle.passes.{specs.tallies.Following.Follows, specs.tallies.Following.heeded, specs.tallies.Following.ReadsAs, proofs.tallies.laws.Taking.follows_then}
 use Rattle.passes.proofs.tallies.laws.Quiet.{follows_same, byte_of_half, byte_of_bytes, byte_of_none, dword_follows}
-use Rattle.ledger.specs.watch_write.Pieces.{piece_width, place_of, Sized, width_of, ByteIn, PutIn}
+use Rattle.ledger.specs.watch_write.Pieces.{piece_width, place_of, Sized, width_of, PutIn}
 use Rattle.rules.specs.Map as map
 use Rattle.device.specs.declared.map.Register.TheVariants as register
 
@@ -47,9 +47,6 @@ module _ {l : Lines} {w : ℕ} {m : Lines} {u : ℕ} {n : Lines} {v : ℕ} {b c 
   word_follows e f s t =
       follows_then k (λ d. byte_acts d o (byte_of x 0)) (λ d. byte_acts d (o + 1) (byte_of x 1)) (follows_same k _ (λ d. byte_acts d o (byte_of x 0)) (λ d _. ap (byte_acts d o) e) s) (follows_same k _ (λ d. byte_acts d (o + 1) (byte_of x 1)) (λ d _. ap (byte_acts d (o + 1)) f) t)
 
-pub low_place_few : (o : ℕ) → bit_and o 0x3 < 4
-low_place_few o = omega (arith, and_le_r o 0x3)
-
 -- ---- a Byte of a register
 
 pub byte_half : {wide : Bool} {l : Lines} {w : ℕ} {m : Lines} {u : ℕ} {b a : List ℕ} (k o v : ℕ) → o < 2 ^ 64 → map.in_byte_area o ≡ false → (r : Register) (h : Bool)
@@ -60,12 +57,6 @@ byte_half k o v lt out r h e x is {y} {z} f g s =
     (follows_same k (λ c. register_acts (register_view r) h z) (λ c. register_acts (register_view r) h (with_byte (half h x) (bit_and o 0x3) v)) (λ c _. ap (register_acts (register_view r) h) (g ∙ ap (λ q. with_byte q (bit_and o 0x3) v) f)) s)
 
 -- ---- a Byte or a Dword
-
-pub byte_put : (l : Lines) (r : map.Register) (h : Bool) (o x v : ℕ) {y low b z : ℕ} → ReadsAs l v r → y ≡ half h v → low ≡ half false x → b ≡ byte_of low 0 → z ≡ with_byte y (bit_and o 0x3) b → ByteIn l r h o x z
-byte_put l r h o x v {low = low} rd e f g q = record { value = v; reads = rd; is = q ∙ (λ i. with_byte (e i) (bit_and o 0x3) ((g ∙ low_byte) i)) }
-  where
-    low_byte : byte_of low 0 ≡ byte_of x 0
-    low_byte = omega (arith, f)
 
 module _ (l : Lines) (w : ℕ) (b : List ℕ) (k o x : ℕ) where
   pub piece_inside : {wide : Bool} (n : Bool) → (n && map.in_byte_area o) ≡ true → Follows wide l w l w b b k (λ c. write_acts c (piece_width n) o x)
@@ -132,10 +123,6 @@ Finishes wide l w b n o v m u c left at x k =
 pub sized_half : (i : ℕ) → Sized i → (i ≡ 1 → ⊥) → (i ≡ 4 → ⊥) → Sized (i / 2)
 sized_half i is one four =
     ⊎_elim (λ e. absurd (one e)) (λ r. ⊎_elim (λ e. inl (ap (λ z. z / 2) e)) (λ q. ⊎_elim (λ e. absurd (four e)) (λ e. inr (inr (inl (ap (λ z. z / 2) e)))) q) r) is
-
-pub sized_few : (i : ℕ) → Sized i → (0 < i) × (i ≤ 8)
-sized_few i is =
-    ⊎_elim (λ e. (omega (arith, e), omega (arith, e))) (λ r. ⊎_elim (λ e. (omega (arith, e), omega (arith, e))) (λ q. ⊎_elim (λ e. (omega (arith, e), omega (arith, e))) (λ e. (omega (arith, e), omega (arith, e))) q) r) is
 
 pub next_small : (i x : ℕ) → Sized i → x < 2 ^ 64 → x / 2 ^ (4 * i) < 2 ^ 64
 next_small i x is h = ⊎_elim (λ e. at 1 e (omega (arith, h))) (λ r. ⊎_elim (λ e. at 2 e (omega (arith, h))) (λ q. ⊎_elim (λ e. at 4 e (omega (arith, h))) (λ e. at 8 e (omega (arith, h))) q) r) is

@@ -1,14 +1,8 @@
 -- `pch_pic_reset`: 7 where the answer area is short; else what the call tells stands there.
-use mathlib.Core.Path.{sym}
 use Prim.Native.Nat.{zero-le}
-use Rattle.calls.proofs.laws.Outcomes.{answer_short}
 use Rattle.answer.proofs.fronts.Told.{told}
 use Rattle.calls.specs.Calls as asked
 use Rattle.pch_pic.proofs.pch_pic_reset.Goals as goal
 
-pub returns-then-answer-lt16 : goal.returns-then-answer-lt16
-returns-then-answer-lt16 c = let a = c.args in sym (answer_short asked.reset a.image.now a.answer.now c.if-answer-lt16.true)
-
 pub returns : goal.returns
-returns c = let t = c in let r = t in let h = r in let a = h.args in
-    told a.image.now a.answer.now h.if-answer-lt16.false r.reset-told.result t.tell.ensures asked.reset zero-le r.reset-told.ensures
+returns c = let a = c.args in told a.image.now a.answer.now c.if-answer-lt16.false c.reset-told.result c.tell.ensures (asked.reset) zero-le c.reset-told.ensures

@@ -1,12 +1,13 @@
 -- The loop that counts the inputs of a set, each by the vector that it carries.
-use Rattle.basics.proofs.Prelude.{one_less, and-true, and-false, swap, ◌≡◌, refl, sym, ap, ap₂, ◌∙◌, Bool, true, false, not, ◌&&◌, List, ◌++◌, ℕ, ◌+◌, ◌-◌, ◌^◌, ◌<◌, ◌≤◌, min, lt_of_le_of_lt, arith, bit_and, and_le_l, count_trailing_zeros, eqb, length, take, drop, set, get_or, replicate, length-set, length-append, length-drop, length-replicate, take-append-drop, get_or-replicate, List·getD-append, length-take-le, get_or-take, get_or-set_same, get_or-set_other, drop-set-lt, drop_at, eq-eqb, ne_eqb, eqb-true, eqb-false, put_mid, Bytes, part, on, inputs, only, test, on_none, on_without, lowest, lowest_dropped, no_inputs}
+use Rattle.std.proofs.Common.{Option, None}
+use Rattle.basics.proofs.Prelude.{one_less, and-true, and-false, swap, ◌≡◌, refl, sym, ap, ap₂, ◌∙◌, Bool, true, false, not, ◌&&◌, List, ◌++◌, ℕ, ◌+◌, ◌-◌, ◌^◌, ◌<◌, ◌≤◌, lt_of_le_of_lt, arith, bit_and, and_le_l, count_trailing_zeros, eqb, length, take, drop, set, get_or, replicate, length-set, length-append, length-drop, length-replicate, take-append-drop, get_or-replicate, List·getD-append, length-take-le, get_or-take, get_or-set_same, get_or-set_other, drop-set-lt, drop_at, eq-eqb, eqb-true, eqb-false, put_mid, Bytes, part, on, inputs, only, test, on_none, on_without, lowest, lowest_dropped, no_inputs}
 use Rattle.rules.specs.{Device.Device, Numbering.Numbers, Account.carries, Account.carrying}
 use Rattle.rules.proofs.laws.Counts.{one, split, size_ext, only_size}
 use Rattle.laws.proofs.laws.{Losses.from_few, Images.accepted_has}
 use Rattle.images.{specs.Form.unknown, specs.Form.known, specs.Form.form_of, specs.Image.image_test, specs.Image.accepted, specs.Image.decode, specs.Image.numbers_in, proofs.laws.Tests.form_found}
-use Rattle.image.specs.{Shown.form_known, declared.form.KnownForm.KnownForm, declared.form.KnownForm.TheVariants.Unknown}
+use Rattle.image.specs.{Shown.form_known, declared.form.Form.Form}
 use Rattle.fields.{specs.inplace.Held.Holds, specs.inplace.Held.Reads, proofs.inplace.Doing.held}
-use Rattle.boards.{specs.Boarding.recounted, specs.Boarding.board_after, specs.Boarding.heard_count, proofs.laws.Counts.counts_are}
+use Rattle.boards.{specs.Boarding.recounted, specs.Boarding.board_after, proofs.laws.Counts.counts_are}
 
 -- of a set those inputs that carry v in the vector bytes vs
 abbrev counted : ℕ → List ℕ → ℕ → ℕ
@@ -108,29 +109,16 @@ module _ {i b₀ b : List ℕ} {all x : ℕ} (q : Counting i b₀ b all x) where
       get_or-take 256 b v 0 l ∙ omega (arith, q.sofar d s g v l, none, whole)) in
       sym (take-append-drop 256 b) ∙ ap₂ ◌++◌ front (q.past ∙ r)
 
--- ---- an event
-
-pub heard_down : (f k : ℕ) → f ≡ 0 → k - 1 ≡ heard_count f k
-heard_down f k e = rw (eq-eqb f 0 e)
-
-pub heard_up : (f k : ℕ) → (f ≡ 0 → ⊥) → min (k + 1) 255 ≡ heard_count f k
-heard_up f k n = rw (ne_eqb f 0 n)
-
 -- ---- after a call
 
-module _ (n : ℕ) (i b : List ℕ) where
-  -- refused, the board stays
-  pub refused_stays : (n ≡ 0 → ⊥) → b ≡ board_after n i b
-  refused_stays h = rw (ne_eqb n 0 h)
+module _ (n : ℕ) (i b : List ℕ) (z : n ≡ 0) (good : n ≡ 0 → image_test i ≡ accepted) where
+  -- done, the image left is accepted: so it has a form, and holds the device that it loads
+  pub has_form : (k : Option Form) → form_known k ≡ form_of (length i) → k ≡ None → ⊥
+  has_form k e u =
+      let h = accepted_has i (good z) in
+      let no : unknown ≡ known h.form = sym (ap form_known u) ∙ e ∙ ap form_of h.has.sized ∙ form_found h.form in
+      let nothing : ◌≡◌ {A = ℕ} 0 1 = cc in
+      omega (arith, nothing)
 
-  module _ (z : n ≡ 0) (good : n ≡ 0 → image_test i ≡ accepted) where
-    -- done, the image left is accepted: so it has a form, and holds the device that it loads
-    pub has_form : (k : KnownForm) → form_known k ≡ form_of (length i) → k ≡ Unknown → ⊥
-    has_form k e u =
-        let h = accepted_has i (good z) in
-        let no : unknown ≡ known h.form = sym (ap form_known u) ∙ e ∙ ap form_of h.has.sized ∙ form_found h.form in
-        let nothing : ◌≡◌ {A = ℕ} 0 1 = cc in
-        omega (arith, nothing)
-
-    pub done_counts : {c : List ℕ} → Bytes i → Reads i c (λ d. recounted d.core b) → c ≡ board_after n i b
-    done_counts bytes r = rw (eq-eqb n 0 z) (r (decode i) (numbers_in i) (held i bytes (good z)))
+  pub done_counts : {c : List ℕ} → Bytes i → Reads i c (λ d. recounted d.core b) → c ≡ board_after n i b
+  done_counts bytes r = rw (eq-eqb n 0 z) (r (decode i) (numbers_in i) (held i bytes (good z)))

@@ -36,11 +36,7 @@ module _ (i : List ℕ) (o v : ℕ) where
       unfolding forbidden
       vectors_judged r p d s h = p d s h ∙ rw (no, r)
 
--- ---- the end of start-up
+-- ---- the end of start-up: an input is in service exactly where ISR is not 0
 
-module _ (i : List ℕ) (running : Bool) where
-  pub ended_before : running ≡ true → Reads i true (λ d. cannot_end running d)
-  ended_before e d s h = rw e
-
-  pub served_judged : running ≡ false → {isr : ℕ} → Reads i isr (λ d. d.core.lines.isr) → {b : Bool} → b ≡ not (eqb isr 0) → Reads i b (λ d. cannot_end running d)
-  served_judged e p f d s h = f ∙ ap (λ x. not (eqb x 0)) (p d s h) ∙ sym (served_is d h.well.isr) ∙ sym (rw e)
+pub served_judged : (i : List ℕ) (running : Bool) → running ≡ false → {isr : ℕ} → Reads i isr (λ d. d.core.lines.isr) → Reads i (not (eqb isr 0)) (λ d. cannot_end running d)
+served_judged i running e p d s h = ap (λ x. not (eqb x 0)) (p d s h) ∙ sym (served_is d h.well.isr) ∙ sym (rw e)

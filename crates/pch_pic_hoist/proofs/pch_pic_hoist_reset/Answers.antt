@@ -1,14 +1,11 @@
--- `pch_pic_hoist_reset`: 7 where the answer area is short or no phase is lent; else what the call tells stands there, and where it is done the phase is stored.
-use Rattle.basics.proofs.Prelude.{sym}
-use Rattle.pch_pic_hoist.proofs.{Told.room_short, Told.room_unlent, Told.no_reset, Told.reset_told}
+-- `pch_pic_hoist_reset`: with room what the call tells stands in the answer area, and where it is done the phase is stored.
+use Rattle.basics.proofs.Prelude.{◌≡◌, ap, ◌∙◌, arith, true}
+use Rattle.hoists.specs.Profile.{in_start_up}
+use Rattle.hoists.specs.HoistCalls.{hoist_room, phase_leaves, phase_settled, hoist_reset}
 use Rattle.pch_pic_hoist.proofs.pch_pic_hoist_reset.Goals as goal
 
-pub returns-then-answer-lt16 : goal.returns-then-answer-lt16
-returns-then-answer-lt16 c = let a = c.args in sym (no_reset a.image.now a.phase.now a.answer.now (room_short a.image.now a.phase.now a.answer.now c.if-answer-lt16.true))
-
-pub returns-then-phase-lt1 : goal.returns-then-phase-lt1
-returns-then-phase-lt1 c = let a = c.args in sym (no_reset a.image.now a.phase.now a.answer.now (room_unlent a.image.now a.phase.now a.answer.now c.if-phase-lt1.true))
-
 pub returns : goal.returns
-returns c = let t = c in let x = t in let r = x in let g = r in let h = g in let a = h.args in
-    reset_told a.image.now a.answer.now h.if-answer-lt16.false r.reset-told.result t.tell.ensures a.phase.now g.if-phase-lt1.false x.begin_startup.ensures r.reset-told.ensures
+unfolding hoist_reset
+returns c = let p = c.args.phase.now in let a = c.args.answer.now in
+    let room : hoist_room p a ≡ true = grind arith in
+    (λ s. phase_leaves (c.tell.ensures.0 s) c.reset-told.new.image (c.begin.ensures s) (c.tell.ensures.1 s)) ∙ ap (phase_settled p a (in_start_up p)) c.reset-told.ensures ∙ rw room

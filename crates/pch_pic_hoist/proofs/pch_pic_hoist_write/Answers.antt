@@ -1,16 +1,13 @@
--- `pch_pic_hoist_write`: 7 where the answer area is short or no phase is lent; else what the call tells stands there.
-use Rattle.basics.proofs.Prelude.{sym}
-use Rattle.pch_pic_hoist.proofs.{Told.room_short, Told.room_unlent, Told.no_write, Told.write_told}
+-- `pch_pic_hoist_write`: with room what the call tells stands in the answer area.
+use Rattle.basics.proofs.Prelude.{◌≡◌, ap, ◌∙◌, arith, true, []}
+use Rattle.calls.specs.Calls.{leaves, settled}
+use Rattle.hoists.specs.HoistCalls.{hoist_ending, hoist_room, hoist_write}
+use Rattle.calls.specs.Calls as asked
 use Rattle.pch_pic_hoist.proofs.pch_pic_hoist_write.Goals as goal
 
-pub returns-then-answer-lt16 : goal.returns-then-answer-lt16
-returns-then-answer-lt16 c = let a = c.args in
-    sym (no_write a.image.now a.phase.now a.answer.now (room_short a.image.now a.phase.now a.answer.now c.if-answer-lt16.true) a.base a.size a.address a.width a.value)
-
-pub returns-then-phase-lt1 : goal.returns-then-phase-lt1
-returns-then-phase-lt1 c = let a = c.args in
-    sym (no_write a.image.now a.phase.now a.answer.now (room_unlent a.image.now a.phase.now a.answer.now c.if-phase-lt1.true) a.base a.size a.address a.width a.value)
-
 pub returns : goal.returns
-returns c = let t = c in let r = t in let n = r in let g = n in let h = g in let a = h.args in
-    write_told a.image.now a.answer.now h.if-answer-lt16.false r.write-told.result t.tell.ensures a.phase.now g.if-phase-lt1.false a.base a.size a.address a.width a.value n.is_running-running.ensures r.write-told.ensures
+unfolding hoist_write
+returns c = let a = c.args in
+    let room : hoist_room a.phase.now a.answer.now ≡ true = grind arith in
+    (λ s. leaves (c.tell.ensures.0 s) c.write-told.new.image (c.tell.ensures.1 s) [])
+    ∙ ap (settled a.answer.now) (c.write-told.ensures ∙ ap (λ y. hoist_ending y (asked.write a.base a.size a.address a.width a.value) a.image.now) c.is_running-running.ensures) ∙ rw room

@@ -1,5 +1,5 @@
 -- Records copied, two words each.
-use Rattle.basics.proofs.Prelude.{◌≡◌, sym, ap, subst, ◌∙◌, List, ◌++◌, append-nil, ℕ, ◌+◌, ◌*◌, ◌≤◌, arith, length, take, drop, length-append, length-drop, drop_of_length-le, take-add, take_all, Bytes, bytes_of, part_number, Filled}
+use Rattle.basics.proofs.Prelude.{◌≡◌, sym, ap, subst, ◌∙◌, List, ◌++◌, append-nil, ℕ, ◌+◌, ◌*◌, ◌≤◌, arith, length, take, drop_of_length-le, take-add, take_all, Bytes, bytes_of, part_number, Filled}
 use Rattle.images.specs.Image.{register_at}
 use Rattle.traces.specs.Trace.{record_length}
 use Rattle.bits.{specs.bytes.Put.with_word, proofs.bytes.Putting.word_put}
@@ -17,10 +17,6 @@ module _ (src dst : List ℕ) (c : Bytes src) where
   record_next k h {l} {l₂} {m} f p q r s =
       let z : record_length * k + 8 + 8 ≡ record_length * (k + 1) = omega arith in
       subst (λ n. Filled m dst (take n src) n) z (word_next (omega arith) (word_next (omega arith) f p q) r s)
-
-  -- what is lent keeps its length, and at the end is the source
-  pub copied_long : {a : ℕ} {l : List ℕ} → Filled l dst (take a src) a → a ≤ length dst → length l ≡ length dst
-  copied_long {a} {l} f h = ap length f.is ∙ length-append (take a src) (drop a dst) ∙ simp length-drop (omega (arith, f.len, h))
 
   pub copied_all : {a : ℕ} {l : List ℕ} → Filled l dst (take a src) a → length dst ≡ a → length src ≡ a → l ≡ src
   copied_all {a} {l} f p q =

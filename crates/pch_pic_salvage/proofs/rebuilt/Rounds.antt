@@ -2,13 +2,12 @@
 use Rattle.basics.proofs.Prelude.{◌≡◌, refl, sym, ap, subst, ◌∙◌, true, false, List, [], ◌∷◌, ◌++◌, ℕ, ◌+◌, ◌-◌, ◌*◌, ◌<◌, ◌≤◌, arith, length, drop, put_mid, bytes_of}
 use Rattle.traces.specs.{Trace.record_length, Trace.listed_at, Trace.block_at, plays.Playing.in_front}
 use Rattle.traces.specs.salvages.Kept.{body_of, bodies_from, records_of, bad_in, all_good, kept, Dropped, dropped_from, two_numbers, listing, joined, entries}
-use Rattle.traces.proofs.laws.Contents.{contents_have}
-use Rattle.traces.proofs.salvages.laws.Chosen.{kept_or_dropped, length_listing, length_entries, length_joined, joined_none, joined_front}
-use Rattle.traces.proofs.salvages.laws.Taken.{length_bodies, next_kept, next_torn, next_undropped, next_dropped, none_kept, none_dropped_lem, all_left}
+use Rattle.traces.proofs.salvages.laws.Chosen.{length_listing, length_entries, length_joined, joined_none, joined_front}
+use Rattle.traces.proofs.salvages.laws.Taken.{next_kept, next_torn, next_undropped, next_dropped, none_kept, none_dropped_lem, all_left}
 use Rattle.bits.specs.bytes.Put.{with_bytes}
 use Rattle.pch_pic_salvage.specs.{torn.Found.Lists, torn.Found.left_of, rebuilt.Given.new_contents, rebuilt.Given.new_blocks, rebuilt.Given.new_list, rebuilt.Given.with_two}
 use Rattle.pch_pic_salvage.proofs.torn.Rounds.{size, records_are, few_left, few_records}
-use Rattle.pch_pic_salvage.proofs.rebuilt.Written.{Written, still, start, put_next, part_next, to_come, all_written, front_again}
+use Rattle.pch_pic_salvage.proofs.rebuilt.Written.{Written, still, put_next, part_next, to_come, all_written, front_again}
 
 -- ---- one entry more
 
@@ -105,9 +104,6 @@ module _ (l : List ℕ) {n : ℕ} (k : Lists l n) (l₀ : List ℕ) where
 
   -- ---- the blocks
 
-  pub joining_start : Joining l n l₀ 0 l₀ 0
-  joining_start = record { upto = omega arith; written = to_come (start (new_blocks n l) l₀) (ap (λ xs. joined (kept xs)) (sym (all_left l n))) }
-
   module _ {b : ℕ} (h : b < n) {out : List ℕ} {at : ℕ} (w : Joining l n l₀ b out at) where
     pub joining_fits : all_good (body_of b l) ≡ true → at + length (body_of b l) ≤ length (new_blocks n l)
     joining_fits t =
@@ -129,13 +125,6 @@ module _ (l : List ℕ) {n : ℕ} (k : Lists l n) (l₀ : List ℕ) where
   joining_all {b} w h = all_written w.written (ap joined (none_kept l n b h) ∙ joined_none)
 
   -- ---- the list
-
-  pub few_dropped : length (new_list n l) ≤ 256
-  few_dropped =
-      omega (arith, length_entries (dropped_from 0 (bodies_from n 0 l)), kept_or_dropped 0 (bodies_from n 0 l), length_bodies l n 0, k.count, (contents_have l k.contents).few)
-
-  pub dropping_start : Dropping l n l₀ 0 l₀ 0
-  dropping_start = record { upto = omega arith; written = to_come (start (new_list n l) l₀) (ap (λ xs. entries (dropped_from 0 xs)) (sym (all_left l n))) }
 
   module _ {b : ℕ} (h : b < n) {out : List ℕ} {at : ℕ} (w : Dropping l n l₀ b out at) where
     pub dropping_fits : all_good (body_of b l) ≡ false → at + 4 ≤ length (new_list n l)

@@ -1,6 +1,6 @@
 -- Bytes written from the front of a buffer, one part after another: what is written and what is still to come are the whole.
-use Rattle.basics.proofs.Prelude.{◌≡◌, refl, sym, ap, subst, ◌∙◌, List, [], ◌∷◌, ◌++◌, append_assoc, append-nil, ℕ, ◌+◌, ◌-◌, ◌*◌, ◌/◌, ◌%◌, ◌<◌, ◌≤◌, arith, length, take, drop, length-append, length-drop, drop-drop, drop-append-add, put_mid, bytes_of}
-use Rattle.traces.{specs.plays.Playing.in_front, specs.salvages.Kept.two_numbers, proofs.plays.laws.InFront.front_length, proofs.plays.laws.InFront.front_next}
+use Rattle.basics.proofs.Prelude.{◌≡◌, refl, sym, ap, subst, ◌∙◌, List, [], ◌++◌, append_assoc, append-nil, ℕ, ◌+◌, ◌-◌, ◌≤◌, arith, length, take, drop, length-append, length-drop, drop-drop, drop-append-add, put_mid}
+use Rattle.traces.{specs.plays.Playing.in_front, proofs.plays.laws.InFront.front_length, proofs.plays.laws.InFront.front_next}
 use Rattle.bits.specs.bytes.Put.{with_bytes}
 
 -- up to a place the goal is written, and the rest of it is to come
@@ -52,12 +52,3 @@ front_again xs ys l h =
     let d = length ys - length xs in
     let z : length ys ≡ length xs + d = omega arith in
     ap (λ k. ys ++ k) (ap (λ n. drop n (in_front xs l)) z ∙ drop-append-add xs (drop (length xs) l) d ∙ drop-drop d (length xs) l ∙ ap (λ n. drop n l) (sym z))
-
--- two numbers of two bytes as one of four
-pub two_in_four : (m n : ℕ) → m < 65536 → bytes_of 4 (m + 65536 * n) ≡ two_numbers m n
-two_in_four m n h =
-    let a : (m + 65536 * n) % 256 ≡ m % 256 = omega arith in
-    let d : (m + 65536 * n) / 256 ≡ m / 256 + 256 * n = omega arith in
-    let b : (m / 256 + 256 * n) % 256 ≡ m / 256 % 256 = omega arith in
-    let c : (m / 256 + 256 * n) / 256 ≡ n = omega arith in
-    (λ t. a t ∷ bytes_of 3 (d t)) ∙ (λ t. m % 256 ∷ b t ∷ bytes_of 2 (c t))

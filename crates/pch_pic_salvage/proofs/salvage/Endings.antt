@@ -1,40 +1,36 @@
 -- How a salvage ends, by the test that decides it: one law for each way; and the sizes that are tested.
-use Rattle.basics.proofs.Prelude.{◌≡◌, refl, sym, ap, ◌∙◌, Bool, true, false, ◌&&◌, and-false, List, [], ◌∷◌, ℕ, ◌+◌, ◌-◌, ◌*◌, ◌<◌, ◌≤◌, arith, OneOf, tag_of, leb, length, eq-eqb, ne_eqb, le-leb, lt-leb, put_mid, part}
-use Rattle.trace.specs.declared.contents.Contents.{TheVariants.Good, TheVariants.Wrong, Contents}
+use Rattle.basics.proofs.Prelude.{◌≡◌, refl, sym, ap, ◌∙◌, Bool, true, false, ◌&&◌, and-false, List, ℕ, ◌+◌, ◌-◌, ◌*◌, ◌<◌, ◌≤◌, arith, leb, length, eq-eqb, ne_eqb, le-leb, lt-leb, put_mid, part}
+use Rattle.std.proofs.Common.{Ok, Err, Some, None}
+use Rattle.trace.specs.declared.contents.Records.{Records}
 use Rattle.trace.specs.contents.Found.{contents_if, contents_as}
-use Rattle.trace.specs.contracts.contents.Contents.{the_type}
-use Rattle.rules.specs.Device.{Value, none, some}
-use Rattle.traces.specs.{Trace.first_place, Trace.record_count, Trace.contents_good, plays.Playing.in_front}
+use Rattle.rules.specs.Device.{some}
+use Rattle.traces.specs.{Trace.block_count, Trace.first_place, Trace.record_count, Trace.contents_good, plays.Playing.in_front}
 use Rattle.traces.specs.salvages.Kept.{bodies_from, bodies, kept, dropped_from, joined, trace_of, new_trace, drop_list}
-use Rattle.traces.specs.salvages.Salvaging.{is_empty, SalvageEnding, salvage_ends, salvage_ending}
+use Rattle.traces.specs.salvages.Salvaging.{is_empty, salvage_ends, salvage_ending}
 use Rattle.traces.proofs.{laws.Contents.contents_have, plays.laws.InFront.front_rest, salvages.laws.Chosen.kept_or_dropped, salvages.laws.Chosen.length_entries}
 use Rattle.traces.proofs.salvages.{laws.Built.length_contents, laws.Built.length_trace, laws.Taken.length_bodies, demands.Left.by_tests}
-use Rattle.answer.specs.{Given.Tells, declared.Told.Told}
-use Rattle.pch_pic_salvage.specs.{torn.Found.Lists, torn.Found.left_of, rebuilt.Given.new_contents, rebuilt.Given.new_blocks, rebuilt.Given.new_list, salvage.Ends.ends}
+use Rattle.answer.specs.declared.refusals.Refusal.TheVariants.{TraceContents, NothingLeft, NoRoom}
+use Rattle.pch_pic_salvage.proofs.torn.Rounds.{few_left, few_records}
+use Rattle.pch_pic_salvage.specs.{torn.Found.Lists, torn.Found.left_of, torn.Found.Counts, declared.torn.Left.Left, rebuilt.Given.new_contents, rebuilt.Given.new_blocks, rebuilt.Given.new_list, salvage.Ends.ends}
 
--- an ending with the number and the value that are told
-pub tells : (t : Told) {n : ℕ} {v : Value} → Tells t n v → {ks ds : List ℕ} {x : SalvageEnding} → record { number = n; value = v; second = ks; list = ds } ≡ x → ends t ks ds ≡ x
-tells t p {ks} {ds} d = (λ s. record { number = p.0 s; value = p.1 s; second = ks; list = ds }) ∙ d
+-- ---- the answer about the contents
 
--- ---- the answer about the contents taken apart
-
-abbrev are_good : Contents → Bool
-are_good (Good first n) = true
-are_good Wrong = false
-
-contents_told : (l : List ℕ) → are_good (contents_as l) ≡ contents_good l
-contents_told l = go (contents_good l)
+pub told_wrong : (l : List ℕ) → None ≡ contents_as l → contents_good l ≡ false
+told_wrong l = go (contents_good l)
   where
-    go : (t : Bool) → are_good (contents_if t (first_place l) (record_count l)) ≡ t
-    go true = refl
-    go false = refl
+    go : (t : Bool) → None ≡ contents_if t (first_place l) (record_count l) → t ≡ false
+    go true e = absurd (cc)
+    go false e = refl
 
-pub told_wrong : (l : List ℕ) (x : Contents) → x ≡ contents_as l → OneOf (1 ∷ []) (tag_of the_type x) → contents_good l ≡ false
-told_wrong l (Good first n) e o = absurd (let z : 0 ≡ 1 = o in omega arith)
-told_wrong l Wrong e o = sym (contents_told l) ∙ ap are_good (sym e)
+pub told_good : (l : List ℕ) {r : Records} → Some r ≡ contents_as l → contents_good l ≡ true
+told_good l {r} = go (contents_good l)
+  where
+    go : (t : Bool) → Some r ≡ contents_if t (first_place l) (record_count l) → t ≡ true
+    go true e = refl
+    go false e = absurd (cc)
 
-pub told_good : (l : List ℕ) {x : Contents} {first n : ℕ} → x ≡ contents_as l → x ≡ Good first n → contents_good l ≡ true
-told_good l e f = sym (contents_told l) ∙ ap are_good (sym e ∙ f)
+pub listed_by : (l : List ℕ) {r : Records} → Some r ≡ contents_as l → {n : ℕ} → n ≡ block_count l → Lists l n
+listed_by l e c = record { contents = told_good l e; count = c }
 
 pub has_count : (l : List ℕ) → contents_good l ≡ true → 2 ≤ length l
 has_count l g = omega (arith, (contents_have l g).ends)
@@ -71,17 +67,25 @@ module _ (l : List ℕ) {n : ℕ} (k : Lists l n) where
       ap (put_mid at m ks₁) f ∙ (λ t. put_mid (p t) m (e t) (in_front (new_blocks n l) (part (p t) m (e t))))
       ∙ front_rest (new_contents n l) ks (new_blocks n l) m (q ∙ (λ t. length (e t) - p t))
 
+  -- what is left, counted
+  module _ {r : Left} (q : Counts r l n) where
+    pub few : r.blocks ≤ 64
+    few = omega (arith, q.blocks, few_left l k)
+
+    pub short : 16 * r.records ≤ 64000
+    short = omega (arith, q.records, few_records l k)
+
+    pub its_length : 2 + 4 * r.blocks + 16 * r.records ≡ length (trace_of (left_of n l))
+    its_length = omega (arith, q.blocks, q.records, size_new)
+
 -- ---- the ways that it ends
 
 module _ (l ks ds : List ℕ) where
-  abbrev refused_with : ℕ → Value → SalvageEnding
-  refused_with m v = record { number = m; value = v; second = ks; list = ds }
-
-  pub no_contents : contents_good l ≡ false → refused_with 12 none ≡ salvage_ending l ks ds
+  pub no_contents : contents_good l ≡ false → ends (Err TraceContents) ks ds ≡ salvage_ending l ks ds
   no_contents g = sym (ap (λ t. salvage_ends t l ks ds) (by_tests l ks ds g refl refl))
 
   module _ {n : ℕ} (k : Lists l n) where
-    pub no_block : length (left_of n l) ≡ 0 → refused_with 16 none ≡ salvage_ending l ks ds
+    pub no_block : length (left_of n l) ≡ 0 → ends (Err NothingLeft) ks ds ≡ salvage_ending l ks ds
     no_block e = sym (ap (λ t. salvage_ends t l ks ds) (by_tests l ks ds k.contents (eq-eqb (length (kept (bodies l))) 0 (ap length (sym (same_left l k)) ∙ e)) refl))
 
     module _ (some_left : length (left_of n l) ≡ 0 → ⊥) where
@@ -94,18 +98,18 @@ module _ (l ks ds : List ℕ) where
       dropped : length (drop_list l) ≡ length (new_list n l)
       dropped = ap length (sym (same_list l k))
 
-      pub no_second : length ks < length (trace_of (left_of n l)) → refused_with 7 none ≡ salvage_ending l ks ds
+      pub no_second : length ks < length (trace_of (left_of n l)) → ends (Err NoRoom) ks ds ≡ salvage_ending l ks ds
       no_second h =
           let t : leb (length (new_trace l)) (length ks) ≡ false = lt-leb (length (new_trace l)) (length ks) (omega (arith, h, new)) in
           sym (ap (λ t. salvage_ends t l ks ds) (by_tests l ks ds k.contents any (ap (λ b. b && leb (length (drop_list l)) (length ds)) t)))
 
-      pub no_list : length ds < length (new_list n l) → refused_with 7 none ≡ salvage_ending l ks ds
+      pub no_list : length ds < length (new_list n l) → ends (Err NoRoom) ks ds ≡ salvage_ending l ks ds
       no_list h =
           let t : leb (length (drop_list l)) (length ds) ≡ false = lt-leb (length (drop_list l)) (length ds) (omega (arith, h, dropped)) in
           sym (ap (λ t. salvage_ends t l ks ds) (by_tests l ks ds k.contents any (ap (λ b. leb (length (new_trace l)) (length ks) && b) t ∙ and-false (leb (length (new_trace l)) (length ks)))))
 
       pub salvaged : length (trace_of (left_of n l)) ≤ length ks → length (new_list n l) ≤ length ds → {m : ℕ} → m ≡ length (trace_of (left_of n l))
-          → {ks₂ ds₂ : List ℕ} → ks₂ ≡ in_front (trace_of (left_of n l)) ks → ds₂ ≡ in_front (new_list n l) ds → record { number = 0; value = some m; second = ks₂; list = ds₂ } ≡ salvage_ending l ks ds
+          → {ks₂ ds₂ : List ℕ} → ks₂ ≡ in_front (trace_of (left_of n l)) ks → ds₂ ≡ in_front (new_list n l) ds → ends (Ok (Some m)) ks₂ ds₂ ≡ salvage_ending l ks ds
       salvaged h g e p q =
           (λ s. record {
             number = 0;

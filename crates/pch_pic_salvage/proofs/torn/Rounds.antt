@@ -1,11 +1,12 @@
 -- A block in each round: what is found of it, and what is counted.
-use Rattle.basics.proofs.Prelude.{◌≡◌, sym, ap, ◌∙◌, true, false, List, ℕ, ◌+◌, ◌-◌, ◌*◌, ◌<◌, ◌≤◌, arith, eqb, length, get_or, set, get_or-set_same, get_or-set_other, eqb-true, eqb-false, test}
+use Rattle.basics.proofs.Prelude.{◌≡◌, refl, sym, ap, ◌∙◌, Bool, true, false, false≢true, List, ℕ, ◌+◌, ◌-◌, ◌*◌, ◌<◌, ◌≤◌, arith, eqb, length, get_or, set, get_or-set_same, get_or-set_other, eqb-true, eqb-false, test}
 use Rattle.traces.specs.Trace.{most_blocks, most_records, record_length, block_count, listed_at, block_at, record_at, is_bad, first_bad}
 use Rattle.traces.specs.salvages.Kept.{body_of, bodies_from, bodies, records_of, bad_in, all_good, kept, joined}
 use Rattle.traces.proofs.laws.{Contents.contents_have, Firsts.first_found}
 use Rattle.traces.proofs.salvages.laws.Chosen.{kept_or_dropped, kept_shorter, joined_none, length_joined}
 use Rattle.traces.proofs.salvages.laws.Taken.{Within, within, entry_within, its_length, its_records, its_bad, next_kept, next_torn, none_kept, all_left, bodies_fit}
-use Rattle.pch_pic_salvage.specs.torn.Found.{Lists, BadIn, Seen, left_of}
+use Rattle.std.specs.Prelude.{Option, Some, is_some}
+use Rattle.pch_pic_salvage.specs.torn.Found.{Lists, BadIn, Seen, left_of, bad_unless}
 
 -- ---- a block that is listed
 
@@ -102,3 +103,17 @@ module _ (l : List ℕ) {n : ℕ} (k : Lists l n) (b : ℕ) (h : b < n) (left al
   torn_passed t =
       let e = next_torn l n b h t in
       record { upto = omega arith; blocks = omega (arith, c.blocks, ap length e); records = omega (arith, c.records, ap (λ xs. length (joined xs)) e) }
+
+-- ---- what is told of a block, if anything is bad in it
+
+pub none_bad : {o : Option ℕ} (t : Bool) (k : ℕ) → o ≡ bad_unless t k → is_some o ≡ false → t ≡ true
+none_bad true k e f = refl
+none_bad false k e f = absurd (false≢true (sym f ∙ ap is_some e))
+
+pub some_bad : {o : Option ℕ} (t : Bool) (k : ℕ) → o ≡ bad_unless t k → is_some o ≡ true → t ≡ false
+some_bad true k e f = absurd (false≢true (sym (ap is_some e) ∙ f))
+some_bad false k e f = refl
+
+pub bad_told : {m : ℕ} (t : Bool) (k : ℕ) → Some m ≡ bad_unless t k → (t ≡ false) × (m ≡ k)
+bad_told true k e = absurd (cc)
+bad_told false k e = (refl, cc)

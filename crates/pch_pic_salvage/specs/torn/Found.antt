@@ -1,5 +1,5 @@
 -- What is found of the blocks of a trace.
-use Rattle.std.specs.Prelude.{◌≡◌, true, List, ℕ, ◌+◌, ◌*◌, ◌<◌, ◌≤◌, length, get_or}
+use Rattle.std.specs.Prelude.{◌≡◌, Bool, true, false, Option, Some, None, List, ℕ, ◌+◌, ◌*◌, ◌<◌, ◌≤◌, length, get_or}
 use Rattle.traces.specs.Trace as traces
 use Rattle.traces.specs.Trace.{most_blocks, most_records, record_length, block_count, listed_at, block_at, contents_good}
 use Rattle.traces.specs.salvages.Kept.{body_of, bodies_from, records_of, bad_in, all_good, kept, joined}
@@ -33,12 +33,16 @@ pub record Seen (bads l : List ℕ) (b : ℕ) : Type 0 where
   pub bad : get_or bads b 0 ≡ bad_in (body_of b l)
   pub short : bad_in (body_of b l) ≤ most_records
 
+-- where not all of its records are good, the first bad one
+abbrev pub bad_unless : Bool → ℕ → Option ℕ
+bad_unless true k = None
+bad_unless false k = Some k
+
 -- and what is told of it
 pub record Looks (r : Looked) (l : List ℕ) (b : ℕ) : Type 0 where
   pub place : r.place ≡ (block_at b l).offset
   pub records : r.records ≡ (block_at b l).records
-  pub bad : r.bad ≡ bad_in (body_of b l)
-  pub good : r.good ≡ all_good (body_of b l)
+  pub bad : r.bad ≡ bad_unless (all_good (body_of b l)) (bad_in (body_of b l))
 
 -- the blocks that are left of n
 abbrev pub left_of : ℕ → List ℕ → List (List ℕ)

@@ -1,18 +1,18 @@
 -- What is made of a trace: a number and a value that are told, and the bytes of the sheet.
-use Rattle.std.specs.Prelude.{List, ℕ}
+use Rattle.std.specs.Prelude.{List, ℕ, Option, Result}
 use Rattle.rules.specs.Device.{Value, some}
 use Rattle.traces.specs.Trace.{TraceTest, good, wrong_contents, bad_record, trace_number, trace_value, trace_test}
 use Rattle.sheets.specs.Sheeting.{with_sheet}
-use Rattle.answer.specs.Given.{value_view}
-use Rattle.answer.specs.declared.Told.{Told}
+use Rattle.answer.specs.Given.{told_number, told_value}
+use Rattle.answer.specs.declared.refusals.Refusal.{Refusal}
 
 pub record Made : Type 0 where
   pub number : ℕ
   pub value : Value
   pub sheet : List ℕ
 
-abbrev pub told : Told → List ℕ → Made
-told t s = record { number = t.number; value = value_view t.value; sheet = s }
+abbrev pub told : Result (Option ℕ) Refusal → List ℕ → Made
+told t s = record { number = told_number t; value = told_value t; sheet = s }
 
 -- of a good trace the sheet, and the number of records; else what is wrong with it
 abbrev pub made_by : TraceTest → (trace sheet : List ℕ) → Made

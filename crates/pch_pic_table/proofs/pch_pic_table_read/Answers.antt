@@ -9,5 +9,5 @@ pub returns-then-answer-lt16 : goal.returns-then-answer-lt16
 returns-then-answer-lt16 c = let a = c.args in sym (answer_short (asked.read a.base a.size a.address a.width) a.image.now a.answer.now c.if-answer-lt16.true)
 
 pub returns : goal.returns
-returns c = let t = c in let r = t in let h = r in let a = h.args in
-    told a.image.now a.answer.now h.if-answer-lt16.false r.read-told.result t.tell.ensures (asked.read a.base a.size a.address a.width) zero-le r.read-told.ensures
+returns c = let a = c.args in
+    told a.image.now a.answer.now c.if-answer-lt16.false c.read-told.result c.tell.ensures (asked.read a.base a.size a.address a.width) zero-le c.read-told.ensures

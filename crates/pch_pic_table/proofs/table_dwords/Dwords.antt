@@ -4,7 +4,7 @@ use Rattle.rules.specs.{Core.Core, Core.CoreTurn, Core.Act, Core.turns, Map.Regi
 use Rattle.rules.specs.Access.{value_of, read_cell, read_dword, register_acts, entry_acts, cell_acts, dword_acts, byte_acts}
 use Rattle.rules.proofs.laws.Acts.{turns_append}
 use Rattle.laws.proofs.laws.{Losses.entry_quiet, Widths.dword_of, Writes.dword_acts_of, Writes.dword_acts_four}
-use Rattle.fields.specs.inplace.Held.{Reads, Writes}
+use Rattle.fields.specs.inplace.Held.{Writes}
 use Rattle.fields.proofs.inplace.Doing.{writes_quiet, writes_none, writes_same, writes_then}
 use Rattle.table.{specs.Meaning.part, specs.Meaning.route, specs.Meaning.vector, specs.Meaning.nothing, specs.Meaning.meant, proofs.Meant.cell_of, proofs.Meant.cell_of_lem}
 use Rattle.rules.specs.Map as map
@@ -15,41 +15,57 @@ past r h zero s n = absurd (n refl)
 past r h (suc k) s n = refl
 
 module _ (o : ℕ) where
-  pub lowest : (r : Register) (h : Bool) (k : ℕ) (s : Bool) → part r h k s ≡ meant o → k ≡ 0 → half_of r h ≡ cell_at o
-  lowest r h k s e z = sym (ap (λ (n : ℕ). cell_of (part r h n s)) z) ∙ ap cell_of e ∙ cell_of_lem o
+  lowest : {r : Register} {h : Bool} {k : ℕ} {s : Bool} → part r h k s ≡ meant o → k ≡ 0 → half_of r h ≡ cell_at o
+  lowest {r} {h} {s = s} e z = sym (ap (λ (n : ℕ). cell_of (part r h n s)) z) ∙ ap cell_of e ∙ cell_of_lem o
 
-  pub not_lowest : (r : Register) (h : Bool) (k : ℕ) (s : Bool) → part r h k s ≡ meant o → (k ≡ 0 → ⊥) → map.nothing ≡ cell_at o
-  not_lowest r h k s e n = sym (past r h k s n) ∙ ap cell_of e ∙ cell_of_lem o
+  not_lowest : {r : Register} {h : Bool} {k : ℕ} {s : Bool} → part r h k s ≡ meant o → (k ≡ 0 → ⊥) → map.nothing ≡ cell_at o
+  not_lowest {r} {h} {k} {s} e n = sym (past r h k s n) ∙ ap cell_of e ∙ cell_of_lem o
 
-  pub no_cell : nothing ≡ meant o → map.nothing ≡ cell_at o
+  no_cell : nothing ≡ meant o → map.nothing ≡ cell_at o
   no_cell e = ap cell_of e ∙ cell_of_lem o
 
-  module _ (i : List ℕ) where
-    pub half_reads : (r : Register) (h : Bool) → half_of r h ≡ cell_at o → {x y : ℕ} → Reads i x (λ d. value_of d.core r) → y ≡ half h x → Reads i y (λ d. read_dword d.core o)
+  -- among the route and vector bytes
+  pub route_bytes : {n : ℕ} → route n ≡ meant o → cell_at o ≡ bytes
+  route_bytes e = sym (cell_of_lem o) ∙ sym (ap cell_of e)
+
+  pub vector_bytes : {n : ℕ} → vector n ≡ meant o → cell_at o ≡ bytes
+  vector_bytes e = sym (cell_of_lem o) ∙ sym (ap cell_of e)
+
+  -- ---- a Dword that is read
+
+  module _ (c : Core) where
+    pub half_read : {r : Register} {h : Bool} {k : ℕ} {s : Bool} → part r h k s ≡ meant o → k ≡ 0 → read_dword c o ≡ half h (value_of c r)
     unfolding read_cell
-    half_reads r h e v p d ns g = p ∙ ap (half h) (v d ns g) ∙ dword_of d.core o e
+    half_read e z = sym (dword_of c o (lowest e z))
 
-    pub none_reads : map.nothing ≡ cell_at o → Reads i 0 (λ d. read_dword d.core o)
+    pub between_read : {r : Register} {h : Bool} {k : ℕ} {s : Bool} → part r h k s ≡ meant o → (k ≡ 0 → ⊥) → read_dword c o ≡ 0
     unfolding read_cell
-    none_reads e d ns g = dword_of d.core o e
+    between_read e n = sym (dword_of c o (not_lowest e n))
 
-    module _ (v : ℕ) where
-      pub half_writes : {j : List ℕ} {n : ℕ} (r : Register) (h : Bool) → half_of r h ≡ cell_at o → Writes i j n (λ c. register_acts r h v) → Writes i j n (λ c. dword_acts o v)
-      unfolding cell_acts
-      half_writes r h e w = writes_same (λ c. register_acts r h v) (λ c. dword_acts o v) w (λ d ns g. dword_acts_of o v e)
+    pub nothing_read : nothing ≡ meant o → read_dword c o ≡ 0
+    unfolding read_cell
+    nothing_read e = sym (dword_of c o (no_cell e))
 
-      pub none_writes : map.nothing ≡ cell_at o → Writes i i 0 (λ c. dword_acts o v)
-      unfolding cell_acts
-      none_writes e = writes_same (λ c. []) (λ c. dword_acts o v) (writes_none i) (λ d ns g. dword_acts_of o v e)
+  -- ---- a Dword that is written
 
--- ---- among the route and vector bytes
+  module _ (i : List ℕ) (v : ℕ) where
+    pub half_writes : {r : Register} {h : Bool} {k : ℕ} {s : Bool} → part r h k s ≡ meant o → k ≡ 0 → {j : List ℕ} {n : ℕ} → Writes i j n (λ c. register_acts r h v) → Writes i j n (λ c. dword_acts o v)
+    unfolding cell_acts
+    half_writes {r} {h} e z w = writes_same (λ c. register_acts r h v) (λ c. dword_acts o v) w (λ d ns g. dword_acts_of o v (lowest e z))
 
-module _ (o : ℕ) where
-  pub a_route : {n : ℕ} → route n ≡ meant o → cell_at o ≡ bytes
-  a_route e = sym (cell_of_lem o) ∙ sym (ap cell_of e)
+    no_writes : map.nothing ≡ cell_at o → Writes i i 0 (λ c. dword_acts o v)
+    unfolding cell_acts
+    no_writes e = writes_same (λ c. []) (λ c. dword_acts o v) (writes_none i) (λ d ns g. dword_acts_of o v e)
 
-  pub a_vector : {n : ℕ} → vector n ≡ meant o → cell_at o ≡ bytes
-  a_vector e = sym (cell_of_lem o) ∙ sym (ap cell_of e)
+    pub between_writes : {r : Register} {h : Bool} {k : ℕ} {s : Bool} → part r h k s ≡ meant o → (k ≡ 0 → ⊥) → Writes i i 0 (λ c. dword_acts o v)
+    between_writes e n = no_writes (not_lowest e n)
+
+    pub nothing_writes : nothing ≡ meant o → Writes i i 0 (λ c. dword_acts o v)
+    nothing_writes e = no_writes (no_cell e)
+
+pub ruleset dword_meant = (route_bytes, vector_bytes, half_read, between_read, nothing_read)
+
+-- ---- four Bytes
 
 -- acts after acts that make no event
 quiet_both : (xs ys : List Act) → ((c : Core) → (turns c xs).made ≡ []) → ((c : Core) → (turns c ys).made ≡ []) → (c : Core) → (turns c (xs ++ ys)).made ≡ []

@@ -11,9 +11,5 @@ returns-then-tally-lt-LENGTH c = let a = c.args in add_tally_short a.trace.now a
 
 pub returns : goal.returns
 returns c =
-    let at-tell = c in
-    let at-add = at-tell in
-    let g = at-add in
-    let h = g in
-    let a = h.args in
-    add_told a.trace.now a.image.now a.tally.now a.answer.now h.if-answer-lt16.false (omega (arith, g.if-tally-lt-LENGTH.false)) at-add.add-told.result at-add.add-told.ensures at-tell.tell.ensures
+    let a = c.args in
+    add_told a.trace.now a.image.now a.tally.now a.answer.now c.if-answer-lt16.false (omega (arith, c.if-tally-lt-LENGTH.false)) c.add-told.result c.add-told.ensures c.tell.ensures

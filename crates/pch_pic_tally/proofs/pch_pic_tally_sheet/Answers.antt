@@ -14,10 +14,5 @@ returns-then-sheet-lt-LENGTH c = let a = c.args in sum_sheet_short a.tally.now a
 
 pub returns : goal.returns
 returns c =
-    let at-tell = c in
-    let at_sum = at-tell in
-    let k = at_sum in
-    let g = k in
-    let h = g in
-    let a = h.args in
-    sum_told a.tally.now a.sheet.now a.answer.now h.if-answer-lt16.false (omega (arith, g.if-tally-lt-LENGTH.false)) (omega (arith, k.if-sheet-lt-LENGTH.false)) at_sum.sum-told.result at_sum.sum-told.ensures at-tell.tell.ensures
+    let a = c.args in
+    sum_told a.tally.now a.sheet.now a.answer.now c.if-answer-lt16.false (omega (arith, c.if-tally-lt-LENGTH.false)) (omega (arith, c.if-sheet-lt-LENGTH.false)) c.sum-told.result c.sum-told.ensures c.tell.ensures

@@ -1,14 +1,11 @@
 -- The rounds of the test: what is left to test finds what the whole test finds.
-use Rattle.basics.proofs.Prelude.{◌≡◌, refl, sym, ap, ◌∙◌, Bool, true, false, cond, List, ℕ, suc, ◌+◌, ◌-◌, ◌*◌, ◌<◌, ◌≤◌, arith, part, number_of}
-use Rattle.passes.specs.tallies.Tally.{number_at, counted_in, unsound, TallyTest, sound, wrong_at, first_unsound, tally_test}
+use Rattle.basics.proofs.Prelude.{◌≡◌, sym, ap, ◌∙◌, Bool, true, false, cond, List, ℕ, suc, ◌+◌, ◌-◌, ◌*◌, ◌<◌, ◌≤◌, arith}
+use Rattle.passes.specs.tallies.Tally.{number_at, counted_in, unsound, sound, wrong_at, first_unsound, tally_test}
 use Rattle.pch_pic_tally.specs.soundness.Found.{wrong_number}
 
 -- so far none was found
 abbrev pub Sofar : List ℕ → ℕ → Type 0
 Sofar t k = (k ≤ 650) × (first_unsound t (650 - k) k ≡ tally_test t)
-
-pub none_yet : (t : List ℕ) → Sofar t 0
-none_yet t = (omega arith, refl)
 
 module _ (t : List ℕ) (k : ℕ) (q : Sofar t k) where
   pub all_tested : 650 ≤ k → sound ≡ tally_test t

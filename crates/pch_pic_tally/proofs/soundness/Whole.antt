@@ -1,5 +1,5 @@
 -- Where no number is too great and no wait began behind all records, every number is sound.
-use Rattle.basics.proofs.Prelude.{◌≡◌, refl, sym, ap, ◌∙◌, subst, Bool, true, false, cond, ◌&&◌, ◌||◌, List, ℕ, zero, suc, ◌+◌, ◌-◌, ◌*◌, ◌/◌, ◌%◌, ◌^◌, ◌<◌, ◌≤◌, max, arith, bit_or, or_add_and, and_le_l, and_le_r, and-eq-true_iff, and-false, eqb, leb, ltb, eqb-true, ltb-true, ltb-false, lt-leb, le-ltb, lt-ltb, test}
+use Rattle.basics.proofs.Prelude.{◌≡◌, refl, sym, ap, ◌∙◌, subst, false, cond, ◌&&◌, ◌||◌, List, ℕ, zero, suc, ◌+◌, ◌*◌, ◌/◌, ◌%◌, ◌^◌, ◌<◌, ◌≤◌, arith, max, bit_or, or_add_and, and_le_l, and_le_r, and-eq-true_iff, and-false, eqb, ltb, eqb-true, ltb-true, ltb-false, lt-leb, le-ltb, test}
 use Rattle.passes.specs.tallies.Tally.{number_at, counted_in, of_open_wait, unsound, sound, wrong_at, first_unsound, tally_test}
 use Rattle.pch_pic_tally.specs.soundness.Found.{NoneAbove, NoneLater}
 

@@ -1,5 +1,5 @@
 -- How adding and summing end: a number and a value that are told, and the bytes that were lent to be written.
-use Rattle.std.specs.Prelude.{List, map, ◌≡◌, ℕ, ◌+◌}
+use Rattle.std.specs.Prelude.{List, map, ◌≡◌, ℕ, ◌+◌, Option, Result}
 use Rattle.rules.specs.Device.{Device, WellFormed, Value, none}
 use Rattle.rules.specs.Numbering.{Numbers}
 use Rattle.images.specs.Image.{decode}
@@ -13,8 +13,8 @@ use Rattle.passes.specs.tallies.Following.{Stands}
 use Rattle.passes.specs.tallies.Tally.{numbers_of, counted_in, tally_bytes, TallyTest, sound, wrong_at, tally_test, tally_number, tally_value}
 use Rattle.passes.specs.tallies.Tallying.{over_tally, tallied, AddTest, refused, adds, unless_tally, unless_trace, add_test, long_row}
 use Rattle.fields.specs.inplace.Held.{Holds}
-use Rattle.answer.specs.Given.{value_view}
-use Rattle.answer.specs.declared.Told.{Told}
+use Rattle.answer.specs.Given.{told_number, told_value}
+use Rattle.answer.specs.declared.refusals.Refusal.{Refusal}
 use Rattle.ledger.specs.watch.Kept.{lines_of}
 use Rattle.ledger.specs.declared.watch.Watched.{Watched}
 
@@ -23,8 +23,8 @@ pub record Ended : Type 0 where
   pub value : Value
   pub bytes : List ℕ
 
-abbrev pub ends_as : Told → List ℕ → Ended
-ends_as t b = record { number = t.number; value = value_view t.value; bytes = b }
+abbrev pub ends_as : Result (Option ℕ) Refusal → List ℕ → Ended
+ends_as t b = record { number = told_number t; value = told_value t; bytes = b }
 
 -- ---- adding
 

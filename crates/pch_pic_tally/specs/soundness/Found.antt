@@ -1,12 +1,11 @@
 -- What the test of a tally finds, as the rules see it, and one number tested.
-use Rattle.std.specs.Prelude.{Bool, ◌&&◌, ◌||◌, List, ℕ, ◌+◌, ◌*◌, ◌^◌, ◌<◌, ◌≤◌, leb, ltb}
+use Rattle.std.specs.Prelude.{Bool, ◌&&◌, ◌||◌, List, ℕ, ◌+◌, ◌*◌, ◌^◌, ◌<◌, ◌≤◌, leb, ltb, ⊤, Result, Ok, Err}
 use Rattle.passes.specs.tallies.Tally.{number_at, of_open_wait, TallyTest, sound, wrong_at}
-use Rattle.pch_pic_tally.specs.declared.soundness.Sound.{Sound}
-use Rattle.pch_pic_tally.specs.declared.soundness.Sound.TheVariants.{Whole, WrongAt}
+use Rattle.pch_pic_tally.specs.declared.soundness.WrongAt.{WrongAt}
 
-abbrev pub sound_view : Sound → TallyTest
-sound_view Whole = sound
-sound_view (WrongAt a) = wrong_at a
+abbrev pub sound_view : Result ⊤ WrongAt → TallyTest
+sound_view (Ok u) = sound
+sound_view (Err w) = wrong_at w.0
 
 -- the number x at place k, where so many records were counted
 abbrev pub wrong_number : ℕ → ℕ → ℕ → Bool

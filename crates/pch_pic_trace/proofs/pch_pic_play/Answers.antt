@@ -8,8 +8,5 @@ returns-then-answer-lt16 c = let a = c.args in
     answer_short (play_ending a.trace.now a.image.now a.answers.now a.events.now) a.image.now a.answers.now a.events.now a.answer.now (from_reset a.trace.now a.image.now a.answers.now a.events.now a.answer.now) c.if-answer-lt16.true
 
 pub returns : goal.returns
-returns c = let t = c in
-    let p = t in
-    let h = p in
-    let a = h.args in
-    told (play_ending a.trace.now a.image.now a.answers.now a.events.now) a.image.now a.answers.now a.events.now a.answer.now (from_reset a.trace.now a.image.now a.answers.now a.events.now a.answer.now) h.if-answer-lt16.false p.play-told.result p.play-told.ensures t.tell_late.ensures
+returns c = let a = c.args in
+    told (play_ending a.trace.now a.image.now a.answers.now a.events.now) a.image.now a.answers.now a.events.now a.answer.now (from_reset a.trace.now a.image.now a.answers.now a.events.now a.answer.now) c.if-answer-lt16.false c.play-told.result c.play-told.ensures c.tell_late.ensures

@@ -8,8 +8,5 @@ returns-then-answer-lt-ANSWER c = let a = c.args in
     answer_short (play_on_ending a.trace.now a.image.now a.answers.now a.events.now) a.image.now a.answers.now a.events.now a.answer.now (on_it a.trace.now a.image.now a.answers.now a.events.now a.answer.now) c.if-answer-lt-ANSWER.true
 
 pub returns : goal.returns
-returns c = let t = c in
-    let p = t in
-    let h = p in
-    let a = h.args in
-    told (play_on_ending a.trace.now a.image.now a.answers.now a.events.now) a.image.now a.answers.now a.events.now a.answer.now (on_it a.trace.now a.image.now a.answers.now a.events.now a.answer.now) h.if-answer-lt-ANSWER.false p.play-told.result p.play-told.ensures t.tell_late.ensures
+returns c = let a = c.args in
+    told (play_on_ending a.trace.now a.image.now a.answers.now a.events.now) a.image.now a.answers.now a.events.now a.answer.now (on_it a.trace.now a.image.now a.answers.now a.events.now a.answer.now) c.if-answer-lt-ANSWER.false c.play-told.result c.play-told.ensures c.tell_late.ensures

@@ -1,6 +1,6 @@
 -- The rounds of a play: what holds when k records are played, before the first of them and after one more.
 use Rattle.basics.proofs.Prelude.{◌≡◌, refl, sym, ap, subst, ◌∙◌, true, List, ℕ, suc, ◌+◌, ◌-◌, ◌*◌, ◌<◌, ◌≤◌, zero-le, zero-add, arith, length, length-append, put_mid, part, Bytes, length_part}
-use Rattle.images.specs.{Form.Form, Form.known, Form.form_of, Image.image_test}
+use Rattle.images.specs.{Form.Form, Form.form_of, Image.image_test}
 use Rattle.calls.specs.Calls.{answer_length, Outcome}
 use Rattle.fields.{specs.inplace.Passed.Passed, proofs.inplace.Passing.long}
 use Rattle.traces.specs.Trace.{Record, record_length, record_at, nth, is_good}

@@ -1,8 +1,9 @@
 -- The loop of a drain: at each turn the oldest event comes out of the ring and stands as a pair behind those before it.
 use Rattle.basics.proofs.Prelude.{◌≡◌, refl, sym, ap, ap₂, ◌∙◌, false, List, [], ◌∷◌, ◌++◌, append-nil, ℕ, suc, ◌+◌, ◌-◌, ◌*◌, ◌/◌, ◌<◌, ◌≤◌, min, arith, length, take, drop, get_or, set, length-set, length-take, take-append-drop, drop_of_length-le, drop-drop, drop-set-lt, drop-cons, take_all, leb, leb-true, leb-false, test, turn}
 use Rattle.rules.specs.Ring.{Event, Drawn, drawn, flag, pairs_of}
-use Rattle.device.{proofs.state.Slots.ring_of, specs.state.View.WellRing, specs.state.View.ring_view, specs.state.View.event_of, specs.declared.state.Ring.Ring}
-use Rattle.port.specs.{pop.Pops.Pops, pop.Pops.taken_of, declared.pop.Popped.Popped, declared.pop.Taken.Taken, declared.pop.Taken.TheVariants.Nothing, declared.pop.Taken.TheVariants.One}
+use Rattle.device.{proofs.state.Slots.ring_of, specs.state.View.WellRing, specs.state.View.ring_view, specs.state.View.event_of, specs.declared.state.Ring.Ring, specs.declared.state.PchPicOutputEvent.PchPicOutputEvent}
+use Rattle.port.specs.{pop.Pops.Pops, pop.Pops.taken_of, declared.pop.Popped.Popped}
+use Rattle.std.specs.Prelude.{Option, Some, None}
 use Rattle.port.specs.drain_output.Drains.{Drains, pair_put}
 use Rattle.rules.specs.Ring as ring
 
@@ -14,9 +15,6 @@ pub record Draining (before : ring.Ring) (n : ℕ) (entry buf : List ℕ) (out :
   pub pairs : take (2 * i) buf ++ pairs_of (take (n - i) (drop i before.waiting)) ≡ pairs_of (take n before.waiting)
   pub behind : drop (2 * i) buf ≡ drop (2 * i) entry
   pub size : length buf ≡ length entry
-
-pub drain_start : (r : Ring) (n : ℕ) (entry : List ℕ) → WellRing r → Draining (ring_view r) n entry entry r 0
-drain_start r n entry h = record { well = h; ring = refl; within = omega arith; pairs = let z : n - 0 ≡ n = omega arith in ap (λ (m : ℕ). pairs_of (take m (ring_view r).waiting)) z; behind = refl; size = refl }
 
 -- the next event, and those after it
 next_event : (w : List Event) (i n : ℕ) → i < n → i < length w
@@ -44,12 +42,12 @@ module _ (before : ring.Ring) (n : ℕ) (entry buf : List ℕ) (out : Ring) (i :
       ∙ ap (λ (l : List Event). record { after = ring_of (drop 1 l) before.drops; drained = take 1 l }) first
 
   -- and it is written
-  written : (t : Taken) → taken_of t ≡ get_or before.waiting i none_event ∷ []
+  written : (t : Option PchPicOutputEvent) → taken_of t ≡ get_or before.waiting i none_event ∷ []
       → (take (2 * (i + 1)) (pair_put buf i t) ++ pairs_of (take (n - (i + 1)) rest) ≡ pairs_of (take n before.waiting))
       × (drop (2 * (i + 1)) (pair_put buf i t) ≡ drop (2 * (i + 1)) entry)
       × (length (pair_put buf i t) ≡ length entry)
-  written Nothing e = absurd (let z : ◌≡◌ {A = ℕ} 0 1 = cc in omega arith)
-  written (One x) e =
+  written None e = absurd (let z : ◌≡◌ {A = ℕ} 0 1 = cc in omega arith)
+  written (Some x) e =
       let same : event_of x ≡ get_or before.waiting i none_event = cc in
       let two : 2 * (i + 1) ≡ 2 * i + 1 + 1 = omega arith in
       let more : 2 * (i + 1) ≡ 2 * i + 2 = omega arith in

@@ -2,7 +2,8 @@
 use Rattle.basics.proofs.Prelude.{◌≡◌, refl, sym, ap, subst, subst⁻¹, ◌∙◌, true, false, List, ℕ, ◌<◌, ◌-◌, ◌^◌, bit_and, bit_or, count_trailing_zeros, get_or, on, inputs, register, put_is, without_only_is, and_below, number_with_lt, first_below, first_input, no_input_lem}
 use Rattle.rules.specs.Lines.{with_isr, serve, pending_in}
 use Rattle.laws.proofs.laws.Sets.{unlatched_is}
-use Rattle.device.specs.{state.View.lines_view, declared.state.Lines.Lines, decide.Sets.waiting_of, declared.state.Answer.TheVariants.None, declared.state.Answer.TheVariants.Vector}
+use Rattle.device.specs.{state.View.lines_view, declared.state.Lines.Lines, decide.Sets.waiting_of}
+use Rattle.std.specs.Prelude.{Some, None}
 use Rattle.device.proofs.decide.Deciding.{inputs_of}
 use Rattle.port.specs.irq_level.Moves.{Answers, retire, updated}
 use Rattle.port.proofs.irq_level.Turns.{bit}
@@ -24,7 +25,7 @@ module _ (l : Lines) (m x : ℕ) (e : x ≡ register (waiting_of m l.intirr l.in
   module _ (vs : List ℕ) (hisr : l.intisr < 2 ^ 64) where
     -- the lowest goes into service
     pub pending_some : (x ≡ 0 → ⊥)
-        → Answers (record { lines = with_service l (bit_or l.intisr (bit (count_trailing_zeros 64 x))); answer = Vector (get_or vs (count_trailing_zeros 64 x) 0) }) (updated vs (lines_view l) m true)
+        → Answers (record { lines = with_service l (bit_or l.intisr (bit (count_trailing_zeros 64 x))); answer = Some (get_or vs (count_trailing_zeros 64 x) 0) }) (updated vs (lines_view l) m true)
     pending_some n =
         subst (Answers _) (sym (ap (serve vs false (lines_view l)) (sym waiting ∙ first_input x waiting_lt n)))
         (record { after = ap (with_isr (lines_view l)) (put_is l.intisr (count_trailing_zeros 64 x) hisr (pending_below n)); gives = refl })
@@ -47,7 +48,7 @@ module _ (l : Lines) (m : ℕ) (hm : m < 2 ^ 64) where
   module _ (vs : List ℕ) (hirr : l.intirr < 2 ^ 64) (hisr : l.intisr < 2 ^ 64) where
     -- the lowest that is in service and not latched leaves it
     pub inactive_some : (inactive ≡ 0 → ⊥)
-        → Answers (record { lines = with_service l (bit_and l.intisr ((2 ^ 64 - 1) - bit (count_trailing_zeros 64 inactive))); answer = Vector (get_or vs (count_trailing_zeros 64 inactive) 0) }) (updated vs (lines_view l) m false)
+        → Answers (record { lines = with_service l (bit_and l.intisr ((2 ^ 64 - 1) - bit (count_trailing_zeros 64 inactive))); answer = Some (get_or vs (count_trailing_zeros 64 inactive) 0) }) (updated vs (lines_view l) m false)
     inactive_some n =
         let first = sym (unlatched_is m (lines_view l) hirr) ∙ first_input inactive inactive_lt n in
         subst (Answers _) (sym (ap (retire vs (lines_view l)) first))

@@ -4,7 +4,8 @@ use Rattle.rules.specs.Lines.{Made, Turn, with_mask, with_isr, event, enter, lea
 use Rattle.rules.specs.Device.{offers, returned}
 use Rattle.laws.proofs.laws.{Sets.enter_ext, Sets.leave_ext, Losses.lost_few, Losses.enter_few}
 use Rattle.device.specs.{state.View.WellRing, state.View.lines_view, state.View.ring_view, state.View.answer_value, declared.state.Lines.Lines, declared.state.Ring.Ring, decide.Sets.served_of}
-use Rattle.device.{specs.declared.state.Answer.TheVariants.None, specs.declared.state.Answer.TheVariants.Vector, proofs.decide.Deciding.served_is, proofs.decide.Deciding.inputs_of}
+use Rattle.device.proofs.decide.Deciding.{served_is, inputs_of}
+use Rattle.std.specs.Prelude.{Some, None}
 use Rattle.port.specs.{declared.push.Pushed.Pushed, push.Pushes.Pushes, irq_level.Moves.Answers, events_for_mask.Offers.Offers, events_for_mask.Offers.events_of, mask_and_clear.Moves.Moves}
 use Rattle.port.specs.declared.irq_level.Routed.{Routed}
 use Rattle.port.proofs.irq_level.Turns.{serve_after, serve_isr, offers_one, offers_none, enter_none, leave_none}
@@ -39,7 +40,7 @@ module _ (vs : List ℕ) (l : Lines) (r : Ring) (new up : ℕ) (ups : (i : ℕ) 
     abbrev gave : returned (enter vs false (newly_unmasked l.int_mask new) begun).made ≡ answer_value a.answer
     gave = sym (answers.gives ∙ ap (λ (t : Turn). returned t.made) same)
 
-    pub entered_one : (v : ℕ) (p : Pushed) (n : ℕ) → a.answer ≡ Vector v → Pushes p (ring_view r) (record { vector = v; asserted = true }) → n ≡ cond p.kept 0 1 → Entered a.lines p.ring n
+    pub entered_one : (v : ℕ) (p : Pushed) (n : ℕ) → a.answer ≡ Some v → Pushes p (ring_view r) (record { vector = v; asserted = true }) → n ≡ cond p.kept 0 1 → Entered a.lines p.ring n
     entered_one v p n e pushes lost = record {
       lines = after_same answers.after;
       offers = one_offered p (ring_view r) n _ first.made pushes lost (offers_one vs begun (inputs (pending_in (newly_unmasked l.int_mask new) begun)) v (sym (gave ∙ ap answer_value e)));

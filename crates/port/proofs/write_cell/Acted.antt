@@ -1,21 +1,17 @@
 -- A state that shows a device after acts, and how many events were dropped: by what was put into it, and acts after acts.
-use Rattle.basics.proofs.Prelude.{◌≡◌, refl, sym, ap, ap₂, subst⁻¹, ◌∙◌, Bool, false, List, [], ◌∷◌, ◌++◌, ℕ, ◌+◌, ◌*◌, ◌^◌, ◌<◌, ◌≤◌, add-one, arith, bit_and, length, set, byte_of, with_byte, with_half}
+use Rattle.basics.proofs.Prelude.{◌≡◌, refl, sym, ap, ap₂, subst⁻¹, ◌∙◌, false, List, [], ◌∷◌, ◌++◌, ℕ, ◌+◌, ◌*◌, ◌^◌, ◌<◌, ◌≤◌, add-one, arith, bit_and, length, set, byte_of, with_byte}
 use Rattle.rules.specs.Ring.{dropped}
-use Rattle.rules.specs.Core.{Core, CoreTurn, Act, Move, Plain, plain, with_plain, move, moved, line_turn, turns, store, set_plain, set_route, set_vector}
+use Rattle.rules.specs.Core.{Core, CoreTurn, Act, Move, move, moved, line_turn, turns, store, set_route, set_vector}
 use Rattle.rules.specs.{Map.in_byte_area, Access.read_dword, Access.dword_acts, Access.byte_acts, Device.Device, Device.offers, Device.acted, Device.lost}
 use Rattle.rules.proofs.laws.{Acts.acted_none, Acts.acted_append, Steps.turns_one}
-use Rattle.laws.proofs.laws.Losses.{losses, lost_acts, lost_acts_few, dword_short, byte_short}
+use Rattle.laws.proofs.laws.Losses.{losses, lost_acts, lost_acts_few, dword_short, byte_short, isr_quiet, store_quiet}
 use Rattle.laws.proofs.laws.Writes.{byte_acts_outside, device_of, acted_move, acted_store, acted_vector}
-use Rattle.device.specs.declared.state.{PchPicState.PchPicState, Stored.Stored}
+use Rattle.device.specs.declared.state.{PchPicState.PchPicState}
 use Rattle.device.specs.state.View.{lines_view, stored_view, ring_view, view, Well, Is}
 use Rattle.port.specs.{declared.mask_and_clear.Moved.Moved, mask_and_clear.Moves.Moves, declared.write_cell.Written.Written, write_cell.Writes.Writes, write_cell.Writes.bytes_acts}
 use Rattle.port.proofs.write_cell.Bytes.{bytes_short}
-use Rattle.rules.specs.Core as core
 
 -- the same acts, said otherwise
-pub is_acts : (d : Device) {s : PchPicState} {xs ys : List Act} → xs ≡ ys → Is s (acted d ys) → Is s (acted d xs)
-is_acts d p r = record { well = r.well; shows = r.shows ∙ ap (acted d) (sym p) }
-
 pub writes_acts : (d : Device) {r : Written} {xs ys : List Act} → xs ≡ ys → Writes r d ys → Writes r d xs
 writes_acts d {r} p w = subst⁻¹ (Writes r d) p w
 
@@ -90,15 +86,7 @@ module _ (s : PchPicState) (w : Well s) where
       (acted (view s) (set_vector n v ∷ []))
   is_vector n v = record { well = record { ring = w.ring }; shows = sym (acted_vector (view s) n v) }
 
-  -- x, which is the plain register q with a half replaced, is put for the register p that q is
-  pub is_plain : (t : Stored) (p : Plain) {q : Plain} (h : Bool) (v : ℕ) {x y : ℕ} → stored_view t s.tables.route_entry ≡ with_plain (view s).core.stored p x
-      → q ≡ p → y ≡ plain (view s).core.stored q → x ≡ with_half h y v
-      → Is (record { lines = s.lines; stored = t; tables = s.tables; ring = s.ring }) (acted (view s) (store (set_plain q h v) ∷ []))
-  is_plain t p {q} h v {x} {y} shown e f g =
-      let new : x ≡ with_half h (plain (view s).core.stored p) v = g ∙ ap (λ (z : ℕ). with_half h z v) (f ∙ ap (plain (view s).core.stored) e) in
-      record {
-        well = record { ring = w.ring };
-        shows =
-            ap (λ (k : core.Stored). device_of (lines_view s.lines) s.tables.htmsi_vector k (ring_view s.ring)) (shown ∙ ap (with_plain (view s).core.stored p) new)
-            ∙ sym (acted_store (view s) (set_plain p h v)) ∙ ap (λ (z : Plain). acted (view s) (store (set_plain z h v) ∷ [])) (sym e);
-      }
+-- what the functions that write an entry and a register's half cite
+pub ruleset entry_written = (is_none, is_route, is_vector)
+
+pub ruleset half_written = (writes_none, writes_quiet, isr_quiet, store_quiet)

@@ -1,16 +1,15 @@
 -- What a drain promises, in the rules' terms: the ring after, how many events came out, and their pairs in the buffer.
-use Rattle.std.specs.Prelude.{◌≡◌, List, ◌++◌, ℕ, ◌+◌, ◌*◌, ◌/◌, length, drop, set}
+use Rattle.std.specs.Prelude.{◌≡◌, List, ◌++◌, ℕ, ◌+◌, ◌*◌, ◌/◌, length, drop, set, Option, Some, None}
 use Rattle.rules.specs.Ring as ring
 use Rattle.rules.specs.Ring.{drawn, flag, pairs_of}
-use Rattle.port.specs.declared.pop.Taken.{Taken}
-use Rattle.port.specs.declared.pop.Taken.TheVariants.{Nothing, One}
+use Rattle.device.specs.declared.state.PchPicOutputEvent.{PchPicOutputEvent}
 use Rattle.device.specs.state.View.{WellRing, ring_view}
 use Rattle.port.specs.declared.drain_output.Drained.{Drained}
 
 -- an event as a pair at its place; nothing where there is none
-abbrev pub pair_put : List ℕ → ℕ → Taken → List ℕ
-pair_put l i Nothing = l
-pair_put l i (One e) = set (set l (2 * i) e.vector) (2 * i + 1) (flag e.asserted)
+abbrev pub pair_put : List ℕ → ℕ → Option PchPicOutputEvent → List ℕ
+pair_put l i None = l
+pair_put l i (Some e) = set (set l (2 * i) e.vector) (2 * i + 1) (flag e.asserted)
 
 -- a drain into a buffer: what the ring draws for the room that there is, as pairs in front, and every other byte as it was
 pub record Drains (r : Drained) (before : ring.Ring) (entry exit : List ℕ) : Type 0 where

@@ -1,16 +1,15 @@
 -- What a pop promises, in the rules' terms.
-use Rattle.std.specs.Prelude.{◌≡◌, List, [], ◌∷◌}
+use Rattle.std.specs.Prelude.{◌≡◌, List, [], ◌∷◌, Option, Some, None}
 use Rattle.rules.specs.Ring as rules-ring
 use Rattle.rules.specs.Ring.{Event}
 use Rattle.device.specs.state.View.{event_of, ring_view, WellRing}
 use Rattle.port.specs.declared.pop.Popped.{Popped}
-use Rattle.port.specs.declared.pop.Taken.{Taken}
-use Rattle.port.specs.declared.pop.Taken.TheVariants.{Nothing, One}
+use Rattle.device.specs.declared.state.PchPicOutputEvent.{PchPicOutputEvent}
 
 -- what was taken out, as a list of at most one
-abbrev pub taken_of : Taken → List Event
-taken_of Nothing = []
-taken_of (One e) = event_of e ∷ []
+abbrev pub taken_of : Option PchPicOutputEvent → List Event
+taken_of None = []
+taken_of (Some e) = event_of e ∷ []
 
 -- a pop is a drain with room for one
 pub record Pops (p : Popped) (before : rules-ring.Ring) : Type 0 where

@@ -1,10 +1,15 @@
 -- A record of the recorded answers: what it says, what it lends, and when what a call left is what was recorded.
 -- The form of the file is told in tools/harness/records.rs.
-use Rattle.std.specs.Prelude.{◌≡◌, Bool, true, false, cond, List, [], ◌∷◌, ℕ, ◌+◌, ◌*◌, ◌%◌, eqb, ltb, get_or, replicate}
+use Rattle.std.specs.Prelude.{◌≡◌, Bool, true, false, cond, List, [], ◌∷◌, ℕ, ◌+◌, ◌*◌, ◌%◌, eqb, ltb, get_or, replicate, Result, Ok, Err}
 use Rattle.basics.specs.Numbers.{number_of, part}
 use Rattle.bits.specs.bytes.Put.{with_word}
-use Rattle.replay.specs.declared.records.Verdict.{Verdict}
-use Rattle.replay.specs.declared.records.Verdict.TheVariants.{Agrees, Nothing, Lent, Number, Answer, Image, Events, Whole, Cut, Kind}
+use Rattle.replay.specs.declared.records.Mismatch.{Mismatch}
+use Rattle.replay.specs.declared.records.Call.{Call}
+use Rattle.replay.specs.declared.records.Call.TheVariants as call
+use Rattle.replay.specs.declared.records.Kind.{Kind}
+use Rattle.replay.specs.declared.records.Kind.TheVariants as kind
+use Rattle.replay.specs.declared.records.Held.{Held}
+use Rattle.replay.specs.declared.records.Held.TheVariants.{Agrees, Nothing}
 
 -- ---- fields
 
@@ -37,6 +42,28 @@ image_sum r = number_of (part 4 4 r)
 abbrev pub event_sum : List ℕ → ℕ
 event_sum r = number_of (part 56 4 r)
 
+-- ---- kinds
+
+-- the first byte of a record, by its kind
+abbrev pub call_code : Call → ℕ
+call_code call.Reset = 1
+call_code call.Read = 2
+call_code call.Write = 3
+call_code call.Level = 4
+call_code call.Poll = 5
+call_code call.Drain = 6
+
+abbrev pub code_of : Kind → ℕ
+code_of (kind.Call c) = call_code c
+code_of kind.Image = 7
+code_of kind.Whole = 8
+code_of kind.Byte = 9
+
+-- a byte is the code of a kind, or of none
+abbrev pub Decodes : ℕ → Result Kind Mismatch → Type 0
+Decodes code (Ok k) = code_of k ≡ code
+Decodes code (Err m) = (k : Kind) → code_of k ≡ code → ⊥
+
 -- ---- the areas
 
 -- what stands in the answer area and in the event buffer before every call
@@ -65,14 +92,8 @@ pub record AsNoted (r : List ℕ) (number : ℕ) (image answer events : List ℕ
   pub kept : checksum_of 0 image ≡ image_sum r
   pub drained : kind_of r ≡ 6 → checksum_of 0 events ≡ event_sum r
 
-abbrev pub agreed : Verdict → Bool
-agreed Agrees = true
-agreed Nothing = false
-agreed Lent = false
-agreed Number = false
-agreed Answer = false
-agreed Image = false
-agreed Events = false
-agreed Whole = false
-agreed Cut = false
-agreed Kind = false
+-- a record agrees: there was something to compare, and nothing differs
+abbrev pub agreed : Result Held Mismatch → Bool
+agreed (Ok Agrees) = true
+agreed (Ok Nothing) = false
+agreed (Err m) = false

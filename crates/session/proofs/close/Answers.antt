@@ -1,5 +1,5 @@
 -- `close` is right since a line so far is the last line, and there is none where nothing is kept.
-use Rattle.basics.proofs.Prelude.{sym, subst, ◌+◌, ◌-◌, ◌<◌, ◌≤◌, arith, length, take, length-take-le}
+use Rattle.basics.proofs.Prelude.{subst, ◌+◌, ◌-◌, ◌<◌, ◌≤◌, arith, length, take, length-take-le}
 use Rattle.device.specs.state.View.{view}
 use Rattle.session.specs.reply.Says.{Says}
 use Rattle.session.proofs.{reply.Writing.filled, reply.Writing.put_part, reply.Writing.says, Feeding.none_kept, Feeding.last_line}
@@ -10,9 +10,6 @@ returns-then-kept-eq0 c = let t = c in
     let s = t.args in
     subst (Says c.end.result s.out.now c.end.new.out) (none_kept (view s.session.state) s.line.now s.session.kept t.if-kept-eq0.true)
     c.end.ensures.0
-
-pub slice_bounds-play_line-end : goal.slice_bounds-play_line-end
-slice_bounds-play_line-end c = let s = c in sym (length-take-le s.args.session.kept s.args.line.now s.requires.0.kept)
 
 pub returns : goal.returns
 returns c = let p = c in

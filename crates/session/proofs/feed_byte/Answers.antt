@@ -1,10 +1,7 @@
 -- `feed_byte` is right since an ending closes the line so far, and any other byte only makes it longer; a long line may lose it.
-use Rattle.basics.proofs.Prelude.{sym, arith, length-take-le}
+use Rattle.basics.proofs.Prelude.{arith}
 use Rattle.session.proofs.{Feeding.fed_ending, Feeding.fed_kept, Feeding.fed_lost}
 use Rattle.session.proofs.feed_byte.Goals as goal
-
-pub slice_bounds-play_line-end-then-byte-eq10 : goal.slice_bounds-play_line-end-then-byte-eq10
-slice_bounds-play_line-end-then-byte-eq10 c = let s = c in sym (length-take-le s.args.session.kept s.args.line.now s.requires.0.kept)
 
 pub returns-then-byte-eq10 : goal.returns-then-byte-eq10
 returns-then-byte-eq10 c = let p = c in

@@ -1,19 +1,13 @@
 -- Hex digits: which bytes are digits, a number read digit by digit from the front, and its digits written from the back.
-use Rattle.basics.proofs.Prelude.{◌≡◌, refl, sym, ap, ◌∙◌, List, ◌++◌, append_assoc, ℕ, zero, suc, ◌+◌, ◌-◌, ◌*◌, ◌/◌, ◌%◌, ◌^◌, ◌<◌, ◌≤◌, pow-succ', pow-le-pow_right, add-one, arith, length, take, drop, get_or, set, length-append, length-take-le, set_split, drop_at, test, next}
+use Rattle.basics.proofs.Prelude.{◌≡◌, refl, sym, ap, ◌∙◌, List, ℕ, zero, suc, ◌+◌, ◌-◌, ◌*◌, ◌/◌, ◌^◌, ◌<◌, ◌≤◌, pow-succ', pow-le-pow_right, add-one, arith, length, drop, get_or, length-append, test, next}
 use Rattle.rules.specs.{Map.within, Device.Value, Device.none, Device.some}
-use Rattle.sessions.specs.Session.{digit_of, digit, digits, if_some, digits_spell}
+use Rattle.sessions.specs.Session.{digit_of, digits, if_some, digits_spell}
 use Rattle.laws.proofs.laws.Maps.{inside, inside_from, outside}
 
 -- ---- a byte
 
-pub decimal : (b : ℕ) → 0x30 ≤ b → b < 0x3a → digit_of b ≡ some (b - 0x30)
-decimal b h k = rw (inside 0x30 0x3a b h k)
-
 pub letter : (b : ℕ) → 0x61 ≤ b → b < 0x67 → digit_of b ≡ some (b - 0x57)
 letter b h k = rw (outside 0x30 0x3a b (λ p q. omega arith), inside 0x61 0x67 b h k)
-
-pub no_digit : (b : ℕ) → (0x30 ≤ b → b < 0x3a → ⊥) → (0x61 ≤ b → b < 0x67 → ⊥) → digit_of b ≡ none
-no_digit b h k = rw (outside 0x30 0x3a b h, outside 0x61 0x67 b k)
 
 -- a digit is below 16
 digit_below : (b d : ℕ) → digit_of b ≡ some d → d < 16
@@ -74,11 +68,3 @@ reading_next l x i d r h k e =
 pub length_digits : (n x : ℕ) → length (digits n x) ≡ n
 length_digits zero x = refl
 length_digits (suc n) x = length-append (digits n (x / 16)) _ ∙ (rw (length_digits n (x / 16)) (omega arith))
-
--- the last digit of what is to come is stored, and the others are those of the rest
-pub digit_stored : (out : List ℕ) {goal : List ℕ} (left x : ℕ) → 0 < left → left ≤ length out → digits left x ++ drop left out ≡ goal
-    → digits (left - 1) (x / 16) ++ drop (left - 1) (set out (left - 1) (digit (x % 16))) ≡ goal
-digit_stored out zero x h k e = absurd (omega arith)
-digit_stored out (suc n) x h k e =
-    let s : suc n - 1 ≡ n = omega arith in
-    rw (s, set_split out n (digit (x % 16)), drop_at (take n out) _ n (length-take-le n out (omega arith))) (rw append_assoc at e)

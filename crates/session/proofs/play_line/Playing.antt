@@ -3,12 +3,12 @@ use Rattle.basics.proofs.Prelude.{◌≡◌, refl, sym, ap, subst, ◌∙◌, Bo
 use Rattle.rules.specs.{Ring.Event, Ring.capacity, Ring.drawn, Ring.flag, Ring.pairs_of, Access.Width, Access.read_at, Access.write_acts}
 use Rattle.rules.specs.{Device.Device, Device.Call, Device.level, Device.poll, Device.read, Device.write, Device.drain, Device.step, Device.acted, Lines.polled, Lines.levelled}
 use Rattle.rules.proofs.laws.Steps.{with_lines, with_ring, level_device, level_value, poll_device, poll_value, drain_device, drain_drained, read_device, write_device}
-use Rattle.calls.specs.Calls.{Tested, pass, refuse, no_width, outside, input_call, width_test, address_test, access_call}
-use Rattle.calls.proofs.laws.Outcomes.{input_refused, input_passed, width_refused, address_refused, access_passed}
+use Rattle.calls.specs.Calls.{Tested, pass, input_call, width_test, address_test, access_call}
+use Rattle.calls.proofs.laws.Outcomes.{input_passed, access_passed}
 use Rattle.sessions.specs.Session.{space, plus, minus, equals, letter_d, letter_k, letter_o, digits, asks, session_base, session_size, vector_said, events_said, said, played_line}
 use Rattle.device.specs.state.View.{ring_view}
 use Rattle.port.specs.{declared.irq_level.Routed.Routed, declared.drain_output.Drained.Drained, irq_level.Moves.Answers, drain_output.Drains.Drains}
-use Rattle.session.specs.{reply.Says.pair_said, reply.Says.pairs_said, play_line.Plays.Plays, play_line.Plays.refused_with, play_line.Plays.routed_with, declared.play_line.Played.Played}
+use Rattle.session.specs.{reply.Says.pair_said, reply.Says.pairs_said, play_line.Plays.Plays, play_line.Plays.routed_with, declared.play_line.Played.Played}
 use Rattle.sessions.specs.Session as session
 
 pub plays_as : {r : Played} {entry exit : List ℕ} {p q : session.Played} → Plays r entry exit p → p ≡ q → Plays r entry exit q
@@ -17,9 +17,6 @@ plays_as {r} {entry} {exit} h e = subst (Plays r entry exit) e h
 -- ---- calls on an input
 
 module _ (d : Device) (n : ℕ) where
-  pub input_refusal : (c : Call) → 64 ≤ n → refused_with d 3 ≡ played_line d (asks (input_call n c))
-  input_refusal c h = ap (λ (t : Tested Call). played_line d (asks t)) (sym (input_refused n c h))
-
   -- a call that was done
   passed : (c : Call) → n < 64 → record { after = (step d c).after; answer = said d c } ≡ played_line d (asks (input_call n c))
   passed c h = ap (λ (t : Tested Call). played_line d (asks t)) (sym (input_passed n c h))
@@ -46,13 +43,6 @@ module _ (d : Device) (n : ℕ) where
 -- ---- accesses
 
 module _ (d : Device) (width address : ℕ) (f : Width → ℕ → Call) where
-  pub width_refusal : width_test width ≡ refuse no_width → refused_with d 2 ≡ played_line d (asks (access_call session_base session_size address width f))
-  width_refusal e = ap (λ (t : Tested Call). played_line d (asks t)) (sym (width_refused session_base session_size address width f no_width e))
-
-  pub address_refusal : (w : Width) → width_test width ≡ pass w → address_test session_base session_size address width ≡ refuse (outside address)
-      → refused_with d 1 ≡ played_line d (asks (access_call session_base session_size address width f))
-  address_refusal w e g = ap (λ (t : Tested Call). played_line d (asks t)) (sym (address_refused session_base session_size address width f w (outside address) e g))
-
   access_done : (w : Width) (o : ℕ) → width_test width ≡ pass w → address_test session_base session_size address width ≡ pass o
       → record { after = (step d (f w o)).after; answer = said d (f w o) } ≡ played_line d (asks (access_call session_base session_size address width f))
   access_done w o e g = ap (λ (t : Tested Call). played_line d (asks t)) (sym (access_passed session_base session_size address width f w o e g))

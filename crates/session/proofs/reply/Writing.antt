@@ -1,5 +1,5 @@
 -- Bytes written to the front of a buffer, one after another (Filled, of the laws of parts), and what that says.
-use Rattle.basics.proofs.Prelude.{◌≡◌, refl, sym, ap, ◌∙◌, List, [], ◌∷◌, ◌++◌, append_assoc, ℕ, ◌+◌, ◌*◌, ◌<◌, ◌≤◌, add-one, arith, length, take, drop, get_or, set, length-append, length-drop, take-append-drop, length-take-le, take_at, drop_at, drop-append-le, drop-drop, set_at, put_mid, Filled, start, put_front, next}
+use Rattle.basics.proofs.Prelude.{◌≡◌, refl, sym, ap, ◌∙◌, List, [], ◌∷◌, ◌++◌, append_assoc, ℕ, ◌+◌, ◌*◌, ◌<◌, ◌≤◌, add-one, arith, length, take, drop, get_or, set, length-append, length-drop, take-append-drop, length-take-le, take_at, drop_at, drop-append-le, drop-drop, set_at, put_mid, Filled, put_front, next}
 use Rattle.sessions.specs.Session.{digits}
 use Rattle.session.specs.reply.Says.{Says, pair_said, pairs_said}
 use Rattle.session.proofs.hex.Digits.{length_digits}
@@ -58,11 +58,6 @@ put_part {l} {l₀} {front} {a} f k n ys said h j s =
 -- the same at the front
 pub in_front_lem : (k n : ℕ) (l ys said : List ℕ) → k ≤ length l → n ≤ k → Says n (take k l) ys said → Says n l (ys ++ drop k l) said
 in_front_lem k n l ys said h j s = record { len = s.len; out = ap (λ (m : List ℕ). m ++ drop k l) s.out ∙ from_front k n l said h j }
-
--- two bytes, and then digits
-pub two_and_number : (l : List ℕ) (x y n v : ℕ) (ys : List ℕ) → 2 + n ≤ length l → ys ≡ digits n v ++ drop n (take n (drop 2 (set (set l 0 x) 1 y)))
-    → Filled (put_mid 2 n (set (set l 0 x) 1 y) ys) l (x ∷ y ∷ digits n v) (2 + n)
-two_and_number l x y n v ys h e = put_number (put_byte (put_byte (start l) x (omega arith)) y (omega arith)) n v ys h e
 
 -- one pair more, said in the next four places
 pub pair_said_lem : (out out₀ l ys : List ℕ) (i k : ℕ) → Filled out out₀ (pairs_said i l) (4 * i) → k ≡ 4 → 4 * i + 4 ≤ length out₀

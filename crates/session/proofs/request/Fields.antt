@@ -1,8 +1,9 @@
 -- The fields of a line by their places, and the line's letter before them.
 use Rattle.basics.proofs.Prelude.{◌≡◌, refl, sym, ap, ◌∙◌, Bool, true, false, cond, ◌&&◌, List, [], ◌∷◌, ℕ, suc, ◌+◌, ◌<◌, ◌≤◌, arith, eqb, leb, length, take, drop, get_or, drop_of_length-le, drop-drop, next}
-use Rattle.rules.specs.Device.{Value, none, some}
+use Rattle.rules.specs.Device.{none}
 use Rattle.sessions.specs.Session.{space, letter_l, letter_p, letter_r, letter_w, letter_d, digits_spell, Fields, wrong, right, joined, fields, Line, unknown, if_right, level_line, poll_line, read_line, write_line, drain_line, line_of}
-use Rattle.session.specs.{hex.Reads.number_view, hex.Reads.field_of, declared.hex.Number.Number, declared.hex.Number.TheVariants.Is, declared.hex.Number.TheVariants.Wrong}
+use Rattle.session.specs.{hex.Reads.field_of, request.Requests.request_view, declared.request.Request.Request}
+use Rattle.std.specs.Prelude.{Option, None}
 
 -- ---- a run of fields
 
@@ -43,12 +44,9 @@ module _ (line : List ℕ) (at : ℕ) where
 pub asked : (line ns : List ℕ) (f : List ℕ → Line) {fs : Fields} → fields_at line 1 ns ≡ fs → if_right fs f ≡ if_right (fields ns (drop 1 line)) f
 asked line ns f e = ap (λ (fs : Fields). if_right fs f) (sym e ∙ sym (fields_at_lem line 1 ns))
 
--- what reading a field tells
-pub found : {r : Number} {v : Value} {x : ℕ} → number_view r ≡ v → r ≡ Is x → v ≡ some x
-found e f = sym e ∙ ap number_view f
-
-pub lost : {r : Number} {v : Value} → number_view r ≡ v → r ≡ Wrong → v ≡ none
-lost e f = sym e ∙ ap number_view f
+-- a line that asks for nothing
+pub none_asked : (line ns : List ℕ) (f : List ℕ → Line) {q : Option Request} → q ≡ None → fields_at line 1 ns ≡ wrong → request_view q ≡ if_right (fields ns (drop 1 line)) f
+none_asked line ns f e h = ap request_view e ∙ asked line ns f h
 
 -- ---- the letter
 

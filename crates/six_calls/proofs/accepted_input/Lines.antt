@@ -1,4 +1,5 @@
 -- How a call on an input of an accepted image ends: there is no such input, or the lines took its move.
+use Rattle.std.proofs.Common.{Err}
 use Rattle.basics.proofs.Prelude.{◌≡◌, refl, sym, ap, subst, ◌∙◌, Bool, true, false, cond, not, List, [], ◌∷◌, map, ℕ, ◌<◌, ◌≤◌, eqb, length, on, inputs, only, put, without}
 use Rattle.rules.specs.Lines.{Lines, Made, with_irr, event, pending_in, serve, polled, raised, lowered}
 use Rattle.rules.specs.Core.{Act, Move, move, poll, raise, lower, moved, turns}
@@ -10,6 +11,7 @@ use Rattle.calls.specs.Calls.{no_input, input_call, Request, calls, asked_by, bu
 use Rattle.calls.proofs.laws.Outcomes.{call_refused, call_done, no_events, input_refused, input_passed}
 use Rattle.laws.proofs.laws.{Sets.only_served, Images.encode_same}
 use Rattle.fields.{specs.inplace.Held.Returns, specs.inplace.Passed.Passed, proofs.inplace.Doing.same_numbers, proofs.inplace.Passing.long, proofs.inplace.Passing.here}
+use Rattle.answer.specs.{Given.ends, declared.refusals.Refusal.TheVariants.NoInput}
 use Rattle.six_calls.specs.accepted_input.Returned.{value_numbered, taken_for, TakesNumber}
 use Rattle.lines.specs.service.Offered.{level_move}
 use Rattle.rules.specs.Device as device
@@ -52,7 +54,7 @@ module _ (vs : List ℕ) (l : Lines) (n : ℕ) where
       by false = none_made
 
 module _ {f : Form} {i : List ℕ} (p : Passed f i) (n : ℕ) where
-  pub no_input_lem : (q : Request) (c : Call) → asked_by q ≡ calls (input_call n c) → 64 ≤ n → record { number = 3; value = none; image = i; events = buffer_of q } ≡ ending q i
+  pub no_input_lem : (q : Request) (c : Call) → asked_by q ≡ calls (input_call n c) → 64 ≤ n → ends (Err NoInput) i (buffer_of q) ≡ ending q i
   no_input_lem q c asks h = sym (call_refused q i _ asks p.good no_input (input_refused n c h))
 
   module _ (below : n < 64) {j k : List ℕ} (same : length j ≡ length i) (still : length k ≡ length i) {v w : Value} (t : TakesNumber j k v w) where

@@ -1,5 +1,5 @@
 -- Events in the slots of a ring, written as pairs of bytes.
-use Rattle.basics.proofs.Prelude.{◌≡◌, refl, sym, ap, ◌∙◌, Bool, false, List, ◌∷◌, ◌++◌, append-nil, ℕ, zero, suc, ◌+◌, ◌-◌, ◌*◌, ◌%◌, ◌<◌, ◌≤◌, add-zero, sub-zero, arith, length, take, drop, get_or, set, replicate, length-set, take-append-drop, drop-drop, drop-set-lt, take_all, turn}
+use Rattle.basics.proofs.Prelude.{◌≡◌, refl, sym, ap, ◌∙◌, Bool, false, List, ◌∷◌, ◌++◌, append-nil, ℕ, zero, suc, ◌+◌, ◌-◌, ◌*◌, ◌%◌, ◌<◌, ◌≤◌, sub-zero, arith, length, take, drop, get_or, set, replicate, length-set, take-append-drop, drop-drop, drop-set-lt, take_all, turn}
 use Rattle.rules.specs.Ring.{Event, capacity, flag, event_twos, pairs_of}
 use Rattle.images.specs.Image.{sixteen}
 use Rattle.device.specs.state.View.{slot, slots}
@@ -24,9 +24,6 @@ module _ (vs : List ℕ) (fs : List Bool) where
     pub size : length out ≡ length out₀
     pub front : take (2 * i) out ++ pairs_of (slots vs fs (h + i) (n - i)) ≡ pairs_of (slots vs fs h n)
     pub past : drop (2 * i) out ≡ drop (2 * i) out₀
-
-  pub written_none : (h n : ℕ) (out : List ℕ) → Written h n out out 0
-  written_none h n out = record { size = refl; front = (λ j. pairs_of (slots vs fs (add-zero h j) (sub-zero n j))); past = refl }
 
   module _ {h n i : ℕ} {out₀ out : List ℕ} (w : Written h n out₀ out i) where
     pub written_next : i < n → 2 * n ≤ length out₀ → (f : ℕ) → f ≡ flag (get_or fs ((h + i) % 16) false)

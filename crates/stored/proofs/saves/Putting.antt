@@ -106,24 +106,8 @@ put_two l u v a k n h e =
     (λ i. front i ++ (v ++ drop n (back i))) ∙ append_assoc (take a l) u (v ++ drop n rest)
     ∙ ap (λ x. take a l ++ x) (sym (append_assoc u v (drop n rest)) ∙ ap (λ x. (u ++ v) ++ x) (drop-drop n k (drop a l)))
 
--- a form has both fields of the fifth body or neither
-lacks_both : (f : Form) → has f numbers ≡ false → has f next ≡ false
-lacks_both one h = refl
-lacks_both two h = refl
-lacks_both numbered h = h
-
 module _ (f : Form) (d : Device) (s : Numbers) where
-  -- nothing is put where the form has no numbers
-  pub puts_none : (l : List ℕ) → has f numbers ≡ false → Puts f d s (numbers ∷ next ∷ []) l l
-  puts_none l h = puts_lacking f d s {ps = []} (numbers ∷ next ∷ []) neither (record { size = refl; head = refl; put = λ p k t. never (sym t); stays = λ p k t. refl })
-    where
-      other : (q p : Field) → has f q ≡ false → has f p ≡ true → is p q ≡ false
-      other q p n k = test (is p q) (λ u. absurd (false≢true (sym n ∙ ap (has f) (sym (is_sound p q u)) ∙ k))) (λ u. u)
-
-      neither : (p : Field) → has f p ≡ true → listed p (numbers ∷ next ∷ []) ≡ listed p []
-      neither p k = rw (other numbers p h k, other next p (lacks_both f h) k)
-
-  -- else the body's bytes are those of both fields
+  -- the body's bytes are those of both fields of the fifth body
   pub puts_numbers : {l m body : List ℕ} (a : ℕ) → length l ≡ form_length f → has f next ≡ true → has f numbers ≡ true → a ≡ place f next → length body ≡ number_body_length
       → number_body s ≡ body → m ≡ put_mid a (a + number_body_length - a) l body → Puts f d s (numbers ∷ next ∷ []) l m
   unfolding number_body
@@ -207,7 +191,7 @@ module _ (f : Form) (c : Contents) (o : ContentsOf f c) (l : List ℕ) where
       let joined : part 0 at k ++ part at 8 k ≡ part 0 (at + 8) k = ap (λ a. part 0 at k ++ part a 8 k) (sym (zero-add at)) ∙ part_add k 0 at 8 in
       g ∙ (λ i. front i ++ (spells i ++ back i)) ∙ sym (append_assoc (part 0 at k) (part at 8 k) (drop (at + 8) l)) ∙ ap (λ x. x ++ drop (at + 8) l) joined
 
-  -- three numbers, which are all where there are four bodies
+  -- the first three numbers
   three_put : {l₁ l₂ l₃ : List ℕ} → l₁ ≡ with_bytes 0 8 c.first l → l₂ ≡ with_bytes 8 8 c.second l₁ → l₃ ≡ with_bytes 14 8 c.third l₂ → Begun 22 l₃
   three_put g₁ g₂ g₃ =
       let long : length (contents_of f) ≡ c.last_at + 8 = length_contents f ∙ sym o.ends in

@@ -1,8 +1,9 @@
 -- Blocks looked at one after another: those before number b stand, and what is left decides.
 use Rattle.basics.proofs.Prelude.{◌≡◌, sym, ap, ◌∙◌, false, ◌&&◌, and-false, List, ℕ, suc, ◌+◌, ◌-◌, ◌*◌, ◌<◌, ◌≤◌, arith, eqb, leb, eq-eqb, ne_eqb, le-leb, lt-leb}
+use Rattle.std.specs.Prelude.{Some, None}
 use Rattle.traces.specs.Trace.{most_records, record_length, two_at, listed_at, block_at, blocks_from, records_in, back_to_back}
 use Rattle.traces.proofs.laws.Blocks.{records_none, records_front, stand_none, stand_next}
-use Rattle.trace.specs.{declared.blocks.Listed.TheVariants.Records, declared.blocks.Listed.TheVariants.Wrong, blocks.Found.listed_if, blocks.Found.standing, blocks.Found.listed_as}
+use Rattle.trace.specs.{blocks.Found.listed_if, blocks.Found.standing, blocks.Found.listed_as}
 
 -- of n blocks the first b stand and have r records
 pub record Looked (l : List ℕ) (n r b : ℕ) : Type 0 where
@@ -11,23 +12,12 @@ pub record Looked (l : List ℕ) (n r b : ℕ) : Type 0 where
   pub stand : back_to_back (listed_at n) (blocks_from n 0 l) ≡ back_to_back (listed_at n + record_length * r) (blocks_from (n - b) b l)
   pub count : records_in (blocks_from n 0 l) ≡ r + records_in (blocks_from (n - b) b l)
 
-pub looked_none : (l : List ℕ) (n : ℕ) → Looked l n 0 0
-looked_none l n =
-    let p : listed_at n ≡ listed_at n + record_length * 0 = omega arith in
-    let q : n ≡ n - 0 = omega arith in
-    record {
-      reach = omega arith;
-      most = omega arith;
-      stand = λ t. back_to_back (p t) (blocks_from (q t) 0 l);
-      count = ap (λ m. records_in (blocks_from m 0 l)) q ∙ omega arith;
-    }
-
 module _ (l : List ℕ) (n r b : ℕ) (w : Looked l n r b) where
-  wrong_if : standing n l ≡ false → Wrong ≡ listed_as n l
+  wrong_if : standing n l ≡ false → None ≡ listed_as n l
   wrong_if e = sym (ap (λ t. listed_if t (records_in (blocks_from n 0 l))) e)
 
   -- all have been looked at
-  pub looked_all : n ≤ b → Records r ≡ listed_as n l
+  pub looked_all : n ≤ b → Some r ≡ listed_as n l
   looked_all h =
       let z : n - b ≡ 0 = omega arith in
       let all : records_in (blocks_from n 0 l) ≡ r = w.count ∙ ap (λ m. r + records_in (blocks_from m b l)) z ∙ omega (arith, records_none l b) in
@@ -50,7 +40,7 @@ module _ (l : List ℕ) (n r b : ℕ) (w : Looked l n r b) where
     more = w.count ∙ ap (λ m. r + records_in (blocks_from m b l)) left ∙ ap (λ m. r + m) (records_front l (n - (b + 1)) b)
 
     -- it begins at another place
-    pub other_offset : {x : ℕ} → x ≡ two_at (listed_at b) l → (x ≡ further → ⊥) → Wrong ≡ listed_as n l
+    pub other_offset : {x : ℕ} → x ≡ two_at (listed_at b) l → (x ≡ further → ⊥) → None ≡ listed_as n l
     other_offset e k =
         wrong_if (ap (λ t. t && leb (records_in (blocks_from n 0 l)) most_records)
         (here ∙ ap (λ t. t && (leb 1 (block_at b l).records && back_to_back (further + record_length * (block_at b l).records) (blocks_from (n - (b + 1)) (suc b) l)))
@@ -58,7 +48,7 @@ module _ (l : List ℕ) (n r b : ℕ) (w : Looked l n r b) where
 
     module _ {y : ℕ} (e : y ≡ two_at (listed_at b + 2) l) where
       -- it is empty
-      pub no_record : y ≡ 0 → Wrong ≡ listed_as n l
+      pub no_record : y ≡ 0 → None ≡ listed_as n l
       no_record z =
           let none : (block_at b l).records < 1 = omega (arith, e) in
           wrong_if (ap (λ t. t && leb (records_in (blocks_from n 0 l)) most_records)
@@ -66,7 +56,7 @@ module _ (l : List ℕ) (n r b : ℕ) (w : Looked l n r b) where
           (lt-leb 1 (block_at b l).records none) ∙ and-false (eqb (block_at b l).offset further)))
 
       -- there are too many
-      pub too_many : most_records < r + y → Wrong ≡ listed_as n l
+      pub too_many : most_records < r + y → None ≡ listed_as n l
       too_many z =
           wrong_if (ap (λ t. back_to_back (listed_at n) (blocks_from n 0 l) && t) (lt-leb (records_in (blocks_from n 0 l)) most_records (omega (arith, e, more)))
           ∙ and-false (back_to_back (listed_at n) (blocks_from n 0 l)))

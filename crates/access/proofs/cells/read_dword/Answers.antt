@@ -1,12 +1,8 @@
-use Rattle.basics.proofs.Prelude.{sym, ap, ◌∙◌, ℕ, rules, half}
+use Rattle.basics.proofs.Prelude.{sym, ap, ◌∙◌, ℕ, half}
 use Rattle.rules.specs.Access.{read_cell}
 use Rattle.laws.proofs.laws.Widths.{dword_of}
 use Rattle.device.specs.map.Views.{cell_view}
 use Rattle.access.proofs.cells.read_dword.Goals as goal
-
-pub read_four-requires : goal.read_four-requires
-unfolding read_cell
-read_four-requires c = (search rules, sym c.decode_low.ensures ∙ ap cell_view c.in-Bytes.is)
 
 pub returns-in-Half : goal.returns-in-Half
 unfolding read_cell

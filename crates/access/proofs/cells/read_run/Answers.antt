@@ -1,13 +1,6 @@
 -- `read_run`: by the table that the run lies in.
-use Rattle.basics.proofs.Prelude.{rules}
 use Rattle.access.proofs.cells.{Entries.routes_run, Entries.vectors_run}
 use Rattle.access.proofs.cells.read_run.Goals as goal
-
-pub routes-requires : goal.routes-requires
-routes-requires c = (search rules, c.requires.1.fits, search rules)
-
-pub vectors-requires : goal.vectors-requires
-vectors-requires c = (search rules, c.requires.1.fits, search rules)
 
 pub returns-then-offset-lt512 : goal.returns-then-offset-lt512
 returns-then-offset-lt512 c = let s = c in routes_run s.args.image.now s.args.offset s.args.n s.requires.1 c.if-offset-lt512.true c.routes.ensures

@@ -1,14 +1,10 @@
 -- `write_dword`: by what stands at the offset.
-use Rattle.basics.proofs.Prelude.{sym, ap, ◌∙◌, [], arith, rules}
+use Rattle.basics.proofs.Prelude.{sym, ap, ◌∙◌, [], arith}
 use Rattle.rules.specs.{Map.bytes, Access.cell_acts, Access.dword_acts}
 use Rattle.laws.proofs.laws.Writes.{dword_acts_of}
 use Rattle.device.specs.map.Views.{cell_view}
 use Rattle.fields.proofs.inplace.Doing.{writes_none, writes_same}
 use Rattle.access.proofs.cells.write_dword.Goals as goal
-
-pub write_four-requires : goal.write_four-requires
-unfolding cell_acts
-write_four-requires c = (search rules, sym c.decode_low.ensures ∙ ap cell_view c.in-Bytes.is)
 
 pub returns-in-Half : goal.returns-in-Half
 unfolding cell_acts

@@ -14,4 +14,4 @@ returns-in-8 c = let p = c in
     entry_written a.image.now a.offset a.val (search rules) (vectors_acts a.image.now a.offset 1 a.val (omega arith) p.in-8.is p.put_vectors.ensures)
 
 pub returns-in_default : goal.returns-in_default
-returns-in_default c = none_written c.args.image.now c.args.offset c.args.val c.in_default.in_default-own.rest.0.1 c.in_default.in_default-own.rest.1
+returns-in_default c = none_written c.args.image.now c.args.offset c.args.val (omega arith) (omega arith)

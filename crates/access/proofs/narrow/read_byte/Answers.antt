@@ -1,12 +1,9 @@
-use Rattle.basics.proofs.Prelude.{sym, ap, ◌∙◌, ℕ, bit_and, mask_lt, rules, byte_of}
+use Rattle.basics.proofs.Prelude.{sym, ap, ◌∙◌, ℕ, bit_and, rules, byte_of}
 use Rattle.laws.proofs.laws.Widths.{byte_inside, byte_outside}
 use Rattle.access.proofs.narrow.read_byte.Goals as goal
 
 pub returns-then-in_byte_area : goal.returns-then-in_byte_area
 returns-then-in_byte_area c d ns h = c.read_entry.ensures d ns h ∙ sym (byte_inside d.core c.args.offset (sym c.in_byte_area.ensures ∙ c.if-in_byte_area.true))
-
-pub byte_of-requires : goal.byte_of-requires
-byte_of-requires c = mask_lt c.args.offset 2
 
 pub returns : goal.returns
 returns c d ns h = let s = c in

@@ -1,5 +1,5 @@
 -- `read_word`: both Bytes out of one Dword, or one after the other.
-use Rattle.basics.proofs.Prelude.{sym, ◌∙◌, ◌*◌, ◌/◌, ◌^◌, arith, eqb, bit_and, mask_lt, rules}
+use Rattle.basics.proofs.Prelude.{sym, ◌∙◌, arith, eqb, bit_and}
 use Rattle.rules.specs.Access.{read_at}
 use Rattle.access.proofs.narrow.{Bytes.neither_is, Bytes.word_in_dword}
 use Rattle.access.proofs.narrow.read_word.Goals as goal
@@ -12,22 +12,6 @@ returns-then-place-in_byte_area c d ns h =
     let o = s.args.offset in
     let n = neither_is (eqb (bit_and o 0x3) 3) a.in_byte_area.result t.if-place-in_byte_area.true in
     word_in_dword d.core o (omega (arith, s.requires.1)) n.0 (sym a.in_byte_area.ensures ∙ n.1) (c.read_dword-both.ensures d ns h)
-
-pub overflow_mul-result : goal.overflow_mul-result
-unfolding read_at
-overflow_mul-result c = search (rules, mask_lt c.args.offset 2)
-
-pub overflow_cast-result : goal.overflow_cast-result
-unfolding read_at
-overflow_cast-result c = search (rules, mask_lt c.args.offset 2)
-
-pub overflow_shr-result : goal.overflow_shr-result
-unfolding read_at
-overflow_shr-result c = search (rules, mask_lt c.args.offset 2)
-
-pub overflow_cast-result-then-place-in_byte_area : goal.overflow_cast-result-then-place-in_byte_area
-unfolding read_at
-overflow_cast-result-then-place-in_byte_area c = search (rules, mask_lt (c.read_dword-both.result / 2 ^ (bit_and c.args.offset 0x3 * 8)) 16)
 
 pub returns : goal.returns
 unfolding read_at

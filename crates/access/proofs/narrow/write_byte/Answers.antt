@@ -10,21 +10,6 @@ pub returns-then-in_byte_area : goal.returns-then-in_byte_area
 returns-then-in_byte_area c = let a = c.args in
     (omega arith, writes_same (λ k. entry_acts a.offset a.val) (λ k. byte_acts k a.offset a.val) c.write_entry.ensures (λ d ns h. sym (byte_acts_inside a.offset a.val d.core (sym c.in_byte_area.ensures ∙ c.if-in_byte_area.true))))
 
-pub overflow_mul-shift : goal.overflow_mul-shift
-overflow_mul-shift c = omega (arith, mask_lt c.args.offset 2)
-
-pub overflow_cast-others : goal.overflow_cast-others
-overflow_cast-others c = omega (arith, mask_lt c.args.offset 2)
-
-pub overflow_shl-others : goal.overflow_shl-others
-overflow_shl-others c = omega (arith, mask_lt c.args.offset 2)
-
-pub overflow_cast-placed-2 : goal.overflow_cast-placed-2
-overflow_cast-placed-2 c = omega (arith, mask_lt c.args.offset 2)
-
-pub overflow_shl-placed : goal.overflow_shl-placed
-overflow_shl-placed c = omega (arith, mask_lt c.args.offset 2)
-
 pub returns : goal.returns
 returns c = let w = c.write_dword.ensures in
     let r = c in

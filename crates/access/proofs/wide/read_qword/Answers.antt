@@ -1,11 +1,7 @@
 -- `read_qword`: eight bytes of a run at once; and else a Dword, and the next one.
-use Rattle.basics.proofs.Prelude.{arith, rules}
 use Rattle.laws.proofs.laws.Widths.{qword_both}
 use Rattle.access.proofs.cells.Entries.{eight_read}
 use Rattle.access.proofs.wide.read_qword.Goals as goal
-
-pub read_run-requires : goal.read_run-requires
-read_run-requires c = (search rules, c.eight_together.ensures c.if-eight_together.true, omega arith)
 
 pub returns-then-eight_together : goal.returns-then-eight_together
 returns-then-eight_together c = let t = c in

@@ -1,10 +1,7 @@
 -- `write_qword`: eight bytes of a run at once; and else a Dword, and the next one.
-use Rattle.basics.proofs.Prelude.{arith, rules}
+use Rattle.basics.proofs.Prelude.{arith}
 use Rattle.access.proofs.{cells.Entries.eight_together, wide.Dwords.qword_both}
 use Rattle.access.proofs.wide.write_qword.Goals as goal
-
-pub write_run-requires : goal.write_run-requires
-write_run-requires c = (search rules, c.eight_together.ensures c.if-eight_together.true)
 
 pub returns-then-eight_together : goal.returns-then-eight_together
 returns-then-eight_together c = let w = c in

@@ -1,5 +1,5 @@
 -- `number`: after i bytes x is the number that they spell. Moved up by 8 * i the next byte stands above them, so that `or` is the sum.
-use Rattle.basics.proofs.Prelude.{◌≡◌, refl, sym, ap, ◌∙◌, List, ℕ, zero, suc, ◌+◌, ◌-◌, ◌*◌, ◌%◌, ◌^◌, ◌≤◌, ◌<◌, pow-succ', arith, bit_or, or_shifted_r, length, take, get_or, pow-add, shl_exact, length-take-le, take_all, number_of, Bytes, bytes_take, number_of_below, number_of_next}
+use Rattle.basics.proofs.Prelude.{◌≡◌, refl, sym, ap, ◌∙◌, List, ℕ, zero, suc, ◌+◌, ◌*◌, ◌%◌, ◌^◌, ◌≤◌, ◌<◌, pow-succ', arith, bit_or, or_shifted_r, length, take, get_or, pow-add, shl_exact, length-take-le, number_of, Bytes, bytes_take, number_of_below, number_of_next}
 use Rattle.bits.proofs.bytes.number.Goals as goal
 
 -- a byte put above those that are read
@@ -18,16 +18,5 @@ put_above l i {x} {w} b h k e f =
     ap (bit_or x) (shl_exact 8 (8 * i) 64 byte (omega arith)) ∙ or_shifted_r w (8 * i) x room ∙ (λ j. f j * eights i j + e j)
     ∙ omega (arith, number_of_next l i k)
 
-pub loop-i-init : goal.loop-i-init
-loop-i-init c = (omega arith, refl)
-
-pub overflow_shl-x : goal.overflow_shl-x
-overflow_shl-x c = omega arith
-
 pub loop-i-preserved : goal.loop-i-preserved
-loop-i-preserved c = let r = c in
-    let l = c.loop-i in
-    (omega arith, put_above r.args.b.now l.i (λ k. omega (arith, r.shared_slice_known-1.given k)) (omega arith) (omega arith) l.invariant.1 c.wide.ensures)
-
-pub returns : goal.returns
-returns c = c.loop-i.invariant.1 ∙ ap number_of (take_all c.loop-i.i c.args.b.now (omega arith))
+loop-i-preserved c = let l = c.loop-i in put_above c.args.b.now l.i (λ k. omega (arith, c.type_inv.b k)) (omega arith) (omega arith) l.invariant c.from.ensures

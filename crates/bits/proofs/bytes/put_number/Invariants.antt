@@ -1,9 +1,6 @@
 -- `put_number`: what is written and then the bytes of y, what is left of x, are the bytes of x.
-use Rattle.basics.proofs.Prelude.{◌≡◌, ◌++◌, ◌-◌, ◌≤◌, length, take, bytes_of}
+use Rattle.basics.proofs.Prelude.{◌≡◌, ◌++◌, ◌-◌, length, take, bytes_of}
 use Rattle.bits.proofs.bytes.put_number.Given as goal
 
-abbrev pub invariant-loop-i : goal.invariant-loop-i
-invariant-loop-i l = (l.i ≤ length l.dst) × (length l.dst ≡ length l.initial.dst) × (take l.i l.dst ++ bytes_of (length l.initial.dst - l.i) l.y ≡ bytes_of (length l.initial.dst) l.x)
-
-abbrev pub decreases-loop-i : goal.decreases-loop-i
-decreases-loop-i l = length l.dst - l.i
+abbrev pub invariant-loop-byte : goal.invariant-loop-byte
+invariant-loop-byte l = take l.byte-index l.dst ++ bytes_of (length l.dst - l.byte-index) l.y ≡ bytes_of (length l.dst) l.x

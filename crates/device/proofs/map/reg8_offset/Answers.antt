@@ -1,12 +1,13 @@
 -- `reg8_offset` is right since its test is that of the range.
-use Rattle.basics.proofs.Prelude.{sym, ◌∙◌, ap}
+use Rattle.basics.proofs.Prelude.{◌≡◌, refl, Bool, true, false, ℕ}
+use Rattle.std.specs.Bool.{then_some}
 use Rattle.device.specs.map.Views.{index_if, byte_index}
 use Rattle.device.proofs.map.reg8_offset.Goals as goal
 
-pub returns-then-in_byte_area : goal.returns-then-in_byte_area
-unfolding byte_index
-returns-then-in_byte_area c = let o = c.args.offset in ap (λ b. index_if b o) (sym (sym c.in_byte_area.ensures ∙ c.if-in_byte_area.true))
+chosen : (b : Bool) (o : ℕ) → then_some b o ≡ index_if b o
+chosen true o = refl
+chosen false o = refl
 
-pub returns-else-in_byte_area : goal.returns-else-in_byte_area
+pub returns : goal.returns
 unfolding byte_index
-returns-else-in_byte_area c = let o = c.args.offset in ap (λ b. index_if b o) (sym (sym c.in_byte_area.ensures ∙ c.if-in_byte_area.false))
+returns c = rw (c.then_some.ensures, c.in_byte_area.ensures) (chosen _ _)

@@ -1,6 +1,6 @@
 -- `leave`: some things move to the front, or none is left.
 use Rattle.basics.proofs.Prelude.{arith}
-use Rattle.drain.proofs.move_up.{Rooms.length_room, Moving.some_leave, Moving.none_leave}
+use Rattle.drain.proofs.move_up.{Moving.some_leave, Moving.none_leave}
 use Rattle.drain.proofs.move_up.leave.Goals as goal
 
 pub returns-then-n-len : goal.returns-then-n-len
@@ -15,9 +15,3 @@ returns-else-n-len c =
     let z = c in
     let s = z in
     none_leave s.args.dst.now _ s.args.len s.args.n (omega arith) s.requires.1 s.requires.2 z.put_zeros.ensures
-
-pub slice_bounds-copy-end : goal.slice_bounds-copy-end
-slice_bounds-copy-end c =
-    let kept = c in
-    let s = kept in
-    omega (arith, s.requires.1, length_room s.args.dst.now kept.copy.new.dst s.requires.2 kept.copy.ensures)

@@ -1,8 +1,8 @@
 -- `leave_numbers`: the numbers' part of an image that has one.
 use Rattle.basics.proofs.Prelude.{◌≡◌, true, ◌+◌, ◌≤◌, arith, length}
 use Rattle.images.specs.Form.{numbers, has}
-use Rattle.image.{specs.Shown.form_view, proofs.Forms.field_within, proofs.Forms.has_numbers, proofs.Forms.among, proofs.Forms.no_numbers}
-use Rattle.drain.proofs.shifts.{Shifting.numbers_leave, Shifting.none_leave}
+use Rattle.image.{specs.Shown.form_view, proofs.Forms.field_within, proofs.Forms.has_numbers}
+use Rattle.drain.proofs.shifts.Shifting.{numbers_leave}
 use Rattle.drain.proofs.shifts.leave_numbers.Goals as goal
 use Rattle.drain.proofs.shifts.leave_numbers.Goals.{After-places_of-p}
 
@@ -13,9 +13,6 @@ within : (c : After-places_of-p) → c.places_of-p.result.numbers + 32 ≤ lengt
 within c =
     let s = c in
     field_within (form_view s.args.form) s.args.image.now s.requires.0 c.places_of-p.result c.places_of-p.ensures numbers (there c)
-
-pub returns-in_default : goal.returns-in_default
-returns-in_default c = none_leave (form_view c.args.form) _ _ _ (no_numbers c.args.form (among c.args.form c.in_default.not-Numbered))
 
 pub overflow_add-end : goal.overflow_add-end
 overflow_add-end c = record { fits = omega (arith, within c) }

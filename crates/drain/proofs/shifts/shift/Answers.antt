@@ -1,5 +1,5 @@
 -- `shift`: the pairs, the numbers and the count.
-use Rattle.basics.proofs.Prelude.{◌≡◌, refl, ◌∙◌, true, ◌+◌, ◌≤◌, arith, length, length-set, rules}
+use Rattle.basics.proofs.Prelude.{◌≡◌, refl, true, ◌+◌, ◌≤◌, arith, length, rules}
 use Rattle.images.{specs.Form.Field, specs.Form.count, specs.Form.pairs, specs.Form.size, proofs.laws.Layout.always}
 use Rattle.image.{specs.Shown.form_view, specs.Shown.place_in, proofs.Forms.placed, proofs.Forms.always_within}
 use Rattle.drain.proofs.shifts.Shifting.{shifts}
@@ -21,11 +21,6 @@ pub bounds-image-count : goal.bounds-image-count
 bounds-image-count c = let n = c in let p = n in let s = p in
     let same : length n.leave_numbers.new.image ≡ length s.args.image.now = search rules in
     omega (arith, same, within (goal.at.bounds-image-count c).After-places_of-p count refl)
-
-pub shape_of-image : goal.shape_of-image
-shape_of-image c = let n = c in let p = n in let s = p in
-    let same : length n.leave_numbers.new.image ≡ length s.args.image.now = search rules in
-    length-set n.leave_numbers.new.image p.places_of-p.result.count _ ∙ same
 
 pub returns : goal.returns
 returns c = let n = c in let l = n in let p = l in let s = p in

@@ -5,14 +5,11 @@ use Rattle.image.{specs.Shown.form_view, proofs.Forms.placed, proofs.Forms.alway
 use Rattle.fields.proofs.entries.Tables.{vectors_stored}
 use Rattle.fields.proofs.entries.put_vectors.Goals as goal
 
+pub returns : goal.returns
+returns c = vectors_stored (form_view c.args.form) c.args.image.now c.requires.0 c.args.input c.args.n c.args.x c.requires.1 c.put_bytes.ensures (placed c.places_of-p.ensures vectors refl)
+
 pub overflow_add-p : goal.overflow_add-p
-overflow_add-p c = (let p = c in omega (arith, placed p.places_of-p.ensures vectors refl, always_fits (form_view p.args.form) vectors refl))
+overflow_add-p c = omega (arith, placed c.places_of-p.ensures vectors refl, always_fits (form_view c.args.form) vectors refl)
 
 pub put_bytes-requires : goal.put_bytes-requires
-put_bytes-requires c = (let p = c in omega (arith, placed p.places_of-p.ensures vectors refl, always_fits (form_view p.args.form) vectors refl))
-
-pub returns : goal.returns
-returns c = let q = c in
-    let p = q in
-    let s = p in
-    vectors_stored (form_view s.args.form) s.args.image.now s.requires.0 s.args.input s.args.n s.args.x s.requires.1 q.put_bytes.ensures (placed p.places_of-p.ensures vectors refl)
+put_bytes-requires c = omega (arith, placed c.places_of-p.ensures vectors refl, always_fits (form_view c.args.form) vectors refl)

@@ -5,11 +5,11 @@ use Rattle.image.{specs.Shown.form_view, proofs.Forms.placed, proofs.Forms.alway
 use Rattle.fields.proofs.entries.Tables.{entry_read}
 use Rattle.fields.proofs.entries.vector.Goals as goal
 
+pub returns : goal.returns
+returns c = entry_read (form_view c.args.form) c.args.image.now c.requires.0 vectors refl refl (placed c.places_of-p.ensures vectors refl) c.args.input c.requires.1
+
 pub overflow_add-result : goal.overflow_add-result
-overflow_add-result c = (let p = c in omega (arith, placed p.places_of-p.ensures vectors refl, always_fits (form_view p.args.form) vectors refl))
+overflow_add-result c = omega (arith, placed c.places_of-p.ensures vectors refl, always_fits (form_view c.args.form) vectors refl)
 
 pub bounds-image-at : goal.bounds-image-at
-bounds-image-at c = (let p = c in omega (arith, placed p.places_of-p.ensures vectors refl, always_fits (form_view p.args.form) vectors refl))
-
-pub returns : goal.returns
-returns c = let s = c in entry_read (form_view s.args.form) s.args.image.now s.requires.0 vectors refl refl (placed c.places_of-p.ensures vectors refl) s.args.input s.requires.1
+bounds-image-at c = omega (arith, placed c.places_of-p.ensures vectors refl, always_fits (form_view c.args.form) vectors refl)

@@ -1,5 +1,5 @@
 -- `number_at`: the part that is handed on has the two bytes, and what they spell is a number of 16 bits.
-use Rattle.basics.proofs.Prelude.{◌≡◌, sym, ap, ◌∙◌, subst, ◌+◌, ◌-◌, ◌<◌, ◌^◌, arith, number_of, part, part_below}
+use Rattle.basics.proofs.Prelude.{◌≡◌, sym, ap, ◌∙◌, subst, ◌+◌, ◌-◌, ◌<◌, ◌^◌, arith, number_of, part, part_below, rules}
 use Rattle.fields.proofs.number_bytes.number_at.Goals as goal
 use Rattle.fields.proofs.number_bytes.number_at.Goals.{After-number}
 
@@ -10,9 +10,5 @@ two c =
     c.number.ensures ∙ ap (λ k. number_of (part a.at k a.image.now)) w
 
 pub overflow_cast-result : goal.overflow_cast-result
-overflow_cast-result c = let k = c in
-    let b = part_below k.args.image.now k.args.at 2 (λ i. omega (arith, k.shared_slice_known-1.given i)) k.requires in
+overflow_cast-result c = let b = part_below c.args.image.now c.args.at 2 (λ i. search rules) c.requires in
     record { fits = subst (λ n. n < 2 ^ 16) (sym (two (goal.at.overflow_cast-result c).After-number)) b }
-
-pub returns : goal.returns
-returns c = two (goal.at.returns c).After-number

@@ -1,19 +1,15 @@
-use Rattle.basics.proofs.Prelude.{refl, ◌∙◌, arith, length-set}
+-- `offer_to`: the event behind those that wait, or one drop more.
+use Rattle.basics.proofs.Prelude.{refl, ◌∙◌, arith, rules, part_below}
+use Rattle.image.proofs.Forms.{byte_flag}
 use Rattle.fields.proofs.ring.{Bodies.ring_kept, Bodies.ring_full}
 use Rattle.fields.proofs.ring.offer_to.Goals as goal
 
-pub overflow_cast-len : goal.overflow_cast-len
-overflow_cast-len c = record { fits = omega (arith, c.slice_known-2-1.given 0) }
+pub overflow_cast-drops : goal.overflow_cast-drops
+overflow_cast-drops c = record { fits = omega (arith, c.number-drops.ensures, part_below c.args.body.now 1 4 (λ i. search rules) (omega arith)) }
 
 pub returns-then-len-ge-CAPACITY : goal.returns-then-len-ge-CAPACITY
-returns-then-len-ge-CAPACITY c = let p = c in
-    let n = p in
-    let t = n in
-    let a = t.args in
-    (omega arith, λ r w d e. let f = ring_full r a.vector a.asserted _ e refl t.if-len-ge-CAPACITY.true d n.number-drops.ensures p.counted.ensures in (p.put_bytes.ensures ∙ f.0, f.1))
-
-pub bounds-body-at-2 : goal.bounds-body-at-2
-bounds-body-at-2 c = simp length-set (omega arith)
+returns-then-len-ge-CAPACITY c =
+    (omega arith, λ r w d e. ring_full r c.args.vector c.args.asserted _ e refl (omega arith) d c.number-drops.ensures c.put_bytes.ensures (omega arith))
 
 pub returns : goal.returns
-returns c = let s = c in (omega arith, λ r w d e. ring_kept r s.args.vector s.args.asserted _ e refl c.if-len-ge-CAPACITY.false c.flag_of.ensures)
+returns c = (omega arith, λ r w d e. ring_kept r c.args.vector c.args.asserted _ e refl (omega arith) (c.from.ensures ∙ byte_flag _))

@@ -6,11 +6,7 @@ use Rattle.fields.proofs.ring.Counts.{counted}
 use Rattle.fields.proofs.ring.waiting.Goals as goal
 
 pub bounds-image-at : goal.bounds-image-at
-bounds-image-at c = let p = c in
-    let s = p in
-    omega (arith, always_within (form_view s.args.form) s.args.image.now s.requires p.places_of-p.result p.places_of-p.ensures count refl)
+bounds-image-at c = omega (arith, always_within (form_view c.args.form) c.args.image.now c.requires c.places_of-p.result c.places_of-p.ensures count refl)
 
 pub returns : goal.returns
-returns c = let p = c in
-    let s = p in
-    counted (form_view s.args.form) s.args.image.now s.requires (placed p.places_of-p.ensures count refl) c.wide.ensures
+returns c = counted (form_view c.args.form) c.args.image.now c.requires (placed c.places_of-p.ensures count refl) c.from.ensures

@@ -5,11 +5,8 @@ use Rattle.image.{specs.Shown.form_view, proofs.Forms.placed}
 use Rattle.fields.proofs.words.{Registers.word_within, Registers.word_read}
 use Rattle.fields.proofs.words.irr.Goals as goal
 
-pub word_at-requires : goal.word_at-requires
-word_at-requires c = let a = c.args in
-    omega (arith, word_within (form_view a.form) irr (placed c.places_of-p.ensures (word irr) refl) refl)
-
 pub returns : goal.returns
-returns c = let p = c in
-    let s = p in
-    word_read (form_view s.args.form) s.args.image.now s.requires irr (placed p.places_of-p.ensures (word irr) refl) refl c.word_at.ensures
+returns c = word_read (form_view c.args.form) c.args.image.now c.requires irr (placed c.places_of-p.ensures (word irr) refl) refl c.word_at.ensures
+
+pub word_at-requires : goal.word_at-requires
+word_at-requires c = omega (arith, word_within (form_view c.args.form) irr (placed c.places_of-p.ensures (word irr) refl) refl)

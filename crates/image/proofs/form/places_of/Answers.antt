@@ -62,5 +62,4 @@ in_code f h c e g =
     })
 
 pub returns : goal.returns
-returns c = let h = c in
-    in_code (form_view h.args.form) h.contents_length-head.result c.copy_length.result h.contents_length-head.ensures.0 c.copy_length.ensures.0
+returns c = in_code (form_view c.args.form) c.contents_length-head.result c.copy_length.result c.contents_length-head.ensures.0 c.copy_length.ensures.0

@@ -1,60 +1,22 @@
 -- `few_odd`: nothing is gathered where at most three wait and all rules of the bodies hold.
-use Rattle.basics.proofs.Prelude.{refl, List, ℕ, ◌+◌, ◌≤◌, arith, length, Bytes}
-use Rattle.images.specs.Form.{Form, word, irr, count, pairs}
+use Rattle.basics.proofs.Prelude.{refl, arith}
+use Rattle.images.specs.Form.{word, irr, count, pairs}
 use Rattle.image.specs.Shown.{form_view}
-use Rattle.image.proofs.{Forms.always_within, Forms.copy_within, bodies.Rings.short, bodies.Rings.spare_fits, bodies.Rings.few_wait}
+use Rattle.image.proofs.{Forms.always_within, Forms.copy_within, bodies.Rings.few_wait}
 use Rattle.image.proofs.quick.few_odd.Goals as goal
-use Rattle.image.proofs.quick.few_odd.Goals.{After-places_of-p, After-spare_of-spare}
-
-abbrev image_of : After-places_of-p → List ℕ
-image_of p = p.args.image.now
-
-abbrev form_at : After-places_of-p → Form
-form_at p = form_view p.args.form
-
-bytes : (p : After-places_of-p) → Bytes (image_of p)
-bytes p j = omega (arith, p.shared_slice_known-1.given j)
-
-pairs_within : (p : After-places_of-p) → p.places_of-p.result.pairs + 32 ≤ length (image_of p)
-pairs_within p = always_within (form_at p) (image_of p) p.requires p.places_of-p.result p.places_of-p.ensures pairs refl
-
-spare_within : (s : After-spare_of-spare) → s.spare_of-spare.result + 32 ≤ length (image_of (record { before = s.before.before; type_inv = record { image = s.type_inv.image } }))
-spare_within s = let p = s in omega (arith, p.requires, s.spare_of-spare.ensures, spare_fits (form_at (record { before = s.before.before; type_inv = record { image = s.type_inv.image } })))
-
-pub overflow_add-end : goal.overflow_add-end
-overflow_add-end c = record { fits = omega (arith, pairs_within c, c.requires, short (form_at c)) }
-
-pub overflow_add-last : goal.overflow_add-last
-overflow_add-last c = let p = c in record { fits = omega (arith, spare_within c, p.requires, short (form_at (goal.at.overflow_add-last c).After-places_of-p)) }
-
-pub bounds-image-waiting : goal.bounds-image-waiting
-bounds-image-waiting c = let p = c in omega (arith, always_within (form_at (goal.at.bounds-image-waiting c).After-places_of-p) (image_of (goal.at.bounds-image-waiting c).After-places_of-p) p.requires p.places_of-p.result p.places_of-p.ensures count refl)
-
-pub overflow_cast-count : goal.overflow_cast-count
-overflow_cast-count c = omega (arith, c.shared_slice_known-2-1.given c.places_of-p.result.count)
-
-pub word_at-copy-requires : goal.word_at-copy-requires
-word_at-copy-requires c = let p = c in copy_within (form_at (goal.at.word_at-copy-requires c).After-places_of-p) (image_of (goal.at.word_at-copy-requires c).After-places_of-p) p.requires p.places_of-p.result p.places_of-p.ensures
-
-pub word_at-requires : goal.word_at-requires
-word_at-requires c = let p = c in always_within (form_at (goal.at.word_at-requires c).After-places_of-p) (image_of (goal.at.word_at-requires c).After-places_of-p) p.requires p.places_of-p.result p.places_of-p.ensures (word irr) refl
-
-pub slice_bounds-all_bits-end : goal.slice_bounds-all_bits-end
-slice_bounds-all_bits-end c = let p = c in omega (arith, pairs_within (goal.at.slice_bounds-all_bits-end c).After-places_of-p)
-
-pub slice_bounds-behind-end : goal.slice_bounds-behind-end
-slice_bounds-behind-end c = let p = c in omega (arith, pairs_within (goal.at.slice_bounds-behind-end c).After-places_of-p)
-
-pub slice_bounds-behind-end-2 : goal.slice_bounds-behind-end-2
-slice_bounds-behind-end-2 c = let s = c in omega (arith, pairs_within (goal.at.slice_bounds-behind-end-2 c).After-places_of-p, spare_within (goal.at.slice_bounds-behind-end-2 c).After-spare_of-spare)
 
 pub returns : goal.returns
-returns c = let first = c in
-    let bits = first in
-    let d = bits in
-    let y = d in
-    let x = y in
-    let s = x in
-    let p = s in
-    few_wait (form_at (goal.at.returns c).After-places_of-p) (image_of (goal.at.returns c).After-places_of-p) p.requires p.places_of-p.result p.places_of-p.ensures (bytes (goal.at.returns c).After-places_of-p) d.apart.result first.behind.result c.behind-2.result x.word_at-copy.ensures y.word_at.ensures
-    d.apart.ensures bits.all_bits.ensures first.behind.ensures s.spare_of-spare.ensures c.behind-2.ensures
+returns c = few_wait (form_view c.args.form) c.args.image.now c.requires c.places_of-p.result c.places_of-p.ensures (λ j. omega (arith, c.type_inv.image j)) c.apart.result c.behind.result c.behind-2.result c.word_at-copy.ensures c.word_at.ensures
+    c.apart.ensures c.all_bits.ensures c.behind.ensures c.spare_of-spare.ensures c.behind-2.ensures
+
+pub overflow_add-end : goal.overflow_add-end
+overflow_add-end c = omega (arith, always_within (form_view c.args.form) c.args.image.now c.requires c.places_of-p.result c.places_of-p.ensures pairs refl)
+
+pub bounds-image-waiting : goal.bounds-image-waiting
+bounds-image-waiting c = omega (arith, always_within (form_view c.args.form) c.args.image.now c.requires c.places_of-p.result c.places_of-p.ensures count refl)
+
+pub word_at-copy-requires : goal.word_at-copy-requires
+word_at-copy-requires c = copy_within (form_view c.args.form) c.args.image.now c.requires c.places_of-p.result c.places_of-p.ensures
+
+pub word_at-requires : goal.word_at-requires
+word_at-requires c = always_within (form_view c.args.form) c.args.image.now c.requires c.places_of-p.result c.places_of-p.ensures (word irr) refl

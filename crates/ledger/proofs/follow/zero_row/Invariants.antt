@@ -1,9 +1,5 @@
-use Rattle.basics.proofs.Prelude.{◌-◌, ◌≤◌, length, ◌≡◌}
 use Rattle.passes.specs.{Finish.row_cleared, tallies.Grid.Becomes}
 use Rattle.ledger.proofs.follow.zero_row.Given as goal
 
 abbrev pub invariant-loop-c : goal.invariant-loop-c
-invariant-loop-c l = (l.c ≤ 10) × Becomes l.wide l.initial.sheet l.sheet (λ f. row_cleared f l.n l.c) × (length l.sheet ≡ length l.initial.sheet)
-
-abbrev pub decreases-loop-c : goal.decreases-loop-c
-decreases-loop-c l = 10 - l.c
+invariant-loop-c l = Becomes l.wide l.initial.sheet l.sheet (λ f. row_cleared f l.n l.c)

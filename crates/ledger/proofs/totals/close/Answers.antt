@@ -1,10 +1,8 @@
 -- `close`: the last column becomes whether a wait is not over.
+use Rattle.basics.proofs.Prelude.{◌∙◌, arith}
+use Rattle.std.proofs.lemmas.Bool.Decides.{nat_tests}
 use Rattle.ledger.proofs.totals.Rows.{shuts}
 use Rattle.ledger.proofs.totals.close.Goals as goal
 
 pub returns : goal.returns
-returns c = let at-put-cell = c in
-    let at-is-on = at-put-cell in
-    let at-cell = at-is-on in
-    let s = at-cell in
-    shuts s.args.n s.requires.1 at-cell.cell-since.ensures at-is-on.is_on.ensures at-put-cell.put_cell.ensures
+returns c = shuts c.args.n c.requires.1 c.cell-since.ensures (c.from.ensures ∙ grind (arith, nat_tests)) c.put_cell.ensures

@@ -6,15 +6,9 @@ use Rattle.ledger.proofs.watch.{Moving.enter_one_none, Moving.enter_one_some}
 use Rattle.ledger.proofs.watch.enter_one.Goals as goal
 
 pub returns-then-pending-eq0 : goal.returns-then-pending-eq0
-returns-then-pending-eq0 c = let at-pending = c in
-    let s = at-pending in
-    let a = s.args in
-    enter_one_none a.n s.requires.1 (lines_of a.w) a.sheet.now a.k a.w.waiting at-pending.pending.ensures c.if-pending-eq0.true
+returns-then-pending-eq0 c = let a = c.args in
+    enter_one_none a.n c.requires.1 (lines_of a.w) a.sheet.now a.k a.w.waiting c.pending.ensures c.if-pending-eq0.true
 
 pub returns : goal.returns
-returns c = let at-event = c in
-    let h = at-event in
-    let at-pending = h in
-    let s = at-pending in
-    let a = s.args in
-    enter_one_some a.n s.requires.1 (lines_of a.w) a.sheet.now a.k a.w.waiting at-pending.pending.ensures h.if-pending-eq0.false (search rules) (offers_returned a.n a.k true a.w.waiting at-event.event.ensures)
+returns c = let a = c.args in
+    enter_one_some a.n c.requires.1 (lines_of a.w) a.sheet.now a.k a.w.waiting c.pending.ensures c.if-pending-eq0.false (search rules) (offers_returned a.n a.k true a.w.waiting c.event.ensures)

@@ -5,8 +5,5 @@ use Rattle.ledger.proofs.watch.Moving.{leave_all}
 use Rattle.ledger.proofs.watch.leave.Goals as goal
 
 pub returns : goal.returns
-returns c = let at-offer-each = c in
-    let at-served = at-offer-each in
-    let s = at-served in
-    let a = s.args in
-    leave_all (lines_of a.w) a.k a.set at-served.served-served.ensures (search rules) (search rules) at-offer-each.offer_each-waiting.ensures
+returns c = let a = c.args in
+    leave_all (lines_of a.w) a.k a.set c.served-served.ensures (search rules) (search rules) c.offer_each-waiting.ensures

@@ -6,15 +6,9 @@ use Rattle.ledger.proofs.watch.{Moving.leave_one_none, Moving.leave_one_some}
 use Rattle.ledger.proofs.watch.leave_one.Goals as goal
 
 pub returns-then-served-eq0 : goal.returns-then-served-eq0
-returns-then-served-eq0 c = let at-served = c in
-    let s = at-served in
-    let a = s.args in
-    leave_one_none a.n s.requires.1 (lines_of a.w) a.sheet.now a.k a.w.waiting at-served.served.ensures (search rules) c.if-served-eq0.true
+returns-then-served-eq0 c = let a = c.args in
+    leave_one_none a.n c.requires.1 (lines_of a.w) a.sheet.now a.k a.w.waiting c.served.ensures (search rules) c.if-served-eq0.true
 
 pub returns : goal.returns
-returns c = let at-event = c in
-    let h = at-event in
-    let at-served = h in
-    let s = at-served in
-    let a = s.args in
-    leave_one_some a.n s.requires.1 (lines_of a.w) a.sheet.now a.k a.w.waiting at-served.served.ensures (search rules) h.if-served-eq0.false (offers_returned a.n a.k false a.w.waiting at-event.event.ensures)
+returns c = let a = c.args in
+    leave_one_some a.n c.requires.1 (lines_of a.w) a.sheet.now a.k a.w.waiting c.served.ensures (search rules) c.if-served-eq0.false (offers_returned a.n a.k false a.w.waiting c.event.ensures)

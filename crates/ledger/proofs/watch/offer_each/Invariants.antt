@@ -1,10 +1,10 @@
 -- `offer_each`: after each turn, what was offered so far and then what is left is all.
-use Rattle.basics.proofs.Prelude.{length, ◌≡◌, on, inputs}
+use Rattle.basics.proofs.Prelude.{length, on, inputs}
 use Rattle.ledger.proofs.watch.Visiting.{Visiting, Deasserted}
 use Rattle.ledger.proofs.watch.offer_each.Given as goal
 
 abbrev pub invariant-loop-left : goal.invariant-loop-left
-invariant-loop-left l = Visiting (Deasserted l.wide l.initial.sheet l.sheet l.k l.waiting l.wait) l.set l.left × (length l.sheet ≡ length l.initial.sheet)
+invariant-loop-left l = Visiting (Deasserted l.wide l.initial.sheet l.sheet l.k l.waiting l.wait) l.set l.left
 
 abbrev pub decreases-loop-left : goal.decreases-loop-left
 decreases-loop-left l = length (inputs (on l.left))

@@ -5,8 +5,5 @@ use Rattle.ledger.proofs.watch.Moving.{clear_done}
 use Rattle.ledger.proofs.watch.write_clear.Goals as goal
 
 pub returns : goal.returns
-returns c = let at-leave = c in
-    let at-withdraw-each = at-leave in
-    let s = at-withdraw-each in
-    let a = s.args in
-    clear_done (lines_of a.w) a.bits (search rules) (search rules) a.k at-withdraw-each.withdraw_each.ensures at-leave.leave.ensures
+returns c = let a = c.args in
+    clear_done (lines_of a.w) a.bits (search rules) (search rules) a.k c.withdraw_each.ensures c.leave.ensures

@@ -1,5 +1,5 @@
 -- `enter`: the inputs that wait are those that `pending` tells of, and the lowest of them goes into service.
-use Rattle.basics.proofs.Prelude.{◌<◌, lt_of_le_of_lt, arith, count_trailing_zeros, trailing_le, rules, first_below}
+use Rattle.basics.proofs.Prelude.{◌<◌, count_trailing_zeros, rules, first_below}
 use Rattle.lines.proofs.enter_leave.{Moving.enter_none, Moving.enter_some}
 use Rattle.lines.proofs.enter_leave.enter.Goals as goal
 use Rattle.lines.proofs.enter_leave.enter.Goals.{Else-waiting-eq0}
@@ -14,15 +14,6 @@ returns-then-waiting-eq0 c = let p = c in
     let q = r in
     let a = q.args in
     enter_none a.image.now a.set r.irr.ensures w.mask.ensures q.isr-isr.ensures p.pending-waiting.ensures c.if-waiting-eq0.true
-
-pub overflow_cast-irq : goal.overflow_cast-irq
-overflow_cast-irq c = record { fits = lt_of_le_of_lt (trailing_le 64 _) (omega arith) }
-
-pub overflow_shl-irq : goal.overflow_shl-irq
-overflow_shl-irq c = irq_below (goal.at.overflow_shl-irq c).Else-waiting-eq0
-
-pub vector-requires : goal.vector-requires
-vector-requires c = (search rules, irq_below (goal.at.vector-requires c).Else-waiting-eq0)
 
 pub returns : goal.returns
 returns c = let v = c in

@@ -1,26 +1,11 @@
 -- `offer_each`: what was offered so far was kept, until one is dropped; what is left then is offered by `offer_rest`.
-use Rattle.basics.proofs.Prelude.{◌∙◌, ◌-◌, ◌<◌, zero-add, lt_of_le_of_lt, arith, bit_and, count_trailing_zeros, trailing_le, rules, first_below}
+use Rattle.basics.proofs.Prelude.{◌∙◌, ◌-◌, zero-add, arith, bit_and, rules}
 use Rattle.lines.proofs.events.Offering.{offering_starts, offering_done, offering_next, offering_told, offering_rest, less, inputs_few}
 use Rattle.lines.proofs.events.offer_each.Goals as goal
 use Rattle.lines.proofs.events.offer_each.Goals.{In-loop-left}
 
-below : (c : In-loop-left) → count_trailing_zeros 64 c.loop-left.left < 64
-below c = first_below c.loop-left.left c.loop-left.invariant.below c.loop-left-test.true
-
 pub loop-left-init : goal.loop-left-init
 loop-left-init c = offering_starts c.args.image.now c.args.set (search rules)
-
-pub overflow_cast-irq : goal.overflow_cast-irq
-overflow_cast-irq c = record { fits = lt_of_le_of_lt (trailing_le 64 _) (omega arith) }
-
-pub vector-vector-requires : goal.vector-vector-requires
-vector-vector-requires c = let l = c in (l.loop-left.invariant.sized ∙ l.requires, below (goal.at.vector-vector-requires c).In-loop-left)
-
-pub offer-dropped-requires : goal.offer-dropped-requires
-offer-dropped-requires c = let l = c in l.loop-left.invariant.sized ∙ l.requires
-
-pub overflow_sub-left : goal.overflow_sub-left
-overflow_sub-left c = let t = c in omega (arith, t.loop-left-test.true)
 
 pub overflow_add-result : goal.overflow_add-result
 overflow_add-result c = let x = c.loop-left.left in omega (arith, c.offer-dropped.ensures.0, c.offer_rest.ensures.0, inputs_few (bit_and x (x - 1)))
@@ -42,9 +27,6 @@ loop-left-preserved c = let o = c in
     let v = o in
     let t = v in
     offering_told (offering_next t.loop-left.invariant t.loop-left-test.true _ _ _ v.vector-vector.ensures o.offer-dropped.ensures.0 o.offer-dropped.ensures.1 (search rules)) (zero-add o.offer-dropped.result ∙ c.if-dropped-ne0.false)
-
-pub shape_of-image : goal.shape_of-image
-shape_of-image c = c.loop-left.invariant.sized
 
 pub returns : goal.returns
 returns c = let o = offering_done c.loop-left.invariant c.loop-left-test.false in (omega arith, o.1)

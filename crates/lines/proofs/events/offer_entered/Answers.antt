@@ -5,7 +5,3 @@ use Rattle.lines.proofs.events.offer_entered.Goals as goal
 
 pub returns-in-None : goal.returns-in-None
 returns-in-None c = (omega arith, rw c.in-None.is (offers_none c.args.image.now))
-
-pub returns-in-Vector : goal.returns-in-Vector
-returns-in-Vector c = let o = c in
-    (o.offer.ensures.0, rw o.in-Vector.is o.offer.ensures.1)

@@ -19,6 +19,3 @@ returns c =
     let r = p in
     let a = r.args in
     (omega (arith, l.leave.ensures.0), clear_done a.image.now r.irr-irr.ensures a.bits (search rules) p.put_irr.ensures l.leave.ensures.1)
-
-pub leave-requires : goal.leave-requires
-leave-requires c = (search rules, c.isr-isr.ensures)

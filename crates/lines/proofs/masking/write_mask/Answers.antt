@@ -33,6 +33,3 @@ returns c =
       mask_done a.image.now a.high a.val w.mask-old.ensures r.replace_u32-new.ensures (search rules) (search rules) (answer_value e.enter-entered.result)
           p.put_mask.ensures e.enter-entered.ensures o.offer_entered-first.ensures.1 l.leave.ensures.1,
     )
-
-pub leave-requires : goal.leave-requires
-leave-requires c = (search rules, c.isr-isr.ensures)

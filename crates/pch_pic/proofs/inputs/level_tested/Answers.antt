@@ -1,23 +1,11 @@
 -- `level_tested`: the bodies are tested; accepted, the call goes on, and else the first rule that is broken is told.
+use Rattle.std.proofs.Common.{Err}
 use Rattle.basics.proofs.Prelude.{refl}
 use Prim.Native.Nat.{zero-le}
-use Rattle.image.{specs.Shown.form_view, specs.declared.head.Head.TheVariants.Of, proofs.head.Orders.sized}
-use Rattle.answer.proofs.{refusals.Ends.goes_on, refusals.Ends.by_bodies, fronts.Told.told}
+use Rattle.answer.proofs.{refusals.Ends.by_refusal, fronts.Told.told}
 use Rattle.calls.specs.Calls as asked
 use Rattle.pch_pic.proofs.inputs.level_tested.Goals as goal
 
-pub test_waiting-requires : goal.test_waiting-requires
-test_waiting-requires c = let s = c in sized s.args.image.now (form_view s.args.form) s.requires.0.0
-
-pub of_bodies-requires : goal.of_bodies-requires
-of_bodies-requires c = let s = c in sized s.args.image.now (form_view s.args.form) s.requires.0.0
-
-pub returns-in_default : goal.returns-in_default
-returns-in_default c = let t = c in let o = t in let u = o in let b = u in let s = b in let a = s.args in
-    told a.image.now a.answer.now s.requires.1 o.of_bodies.result t.tell.ensures (asked.level a.input a.level) zero-le
-    (by_bodies a.image.now (Of a.form) a.form refl s.requires.0 b.test_waiting.result b.test_waiting.ensures (asked.level a.input a.level) refl u.in_default.is
-    o.of_bodies.result o.of_bodies.ensures)
-
-pub level_on-requires : goal.level_on-requires
-level_on-requires c = let g = c in let b = g in let s = b in let a = s.args in
-    (goes_on a.image.now (λ n. (b.slice_known-1.given n).fits) (Of a.form) a.form refl s.requires.0 b.test_waiting.result g.in-Good.is b.test_waiting.ensures, s.requires.1)
+pub returns-in-Err : goal.returns-in-Err
+returns-in-Err c = let a = c.args in let q = asked.level a.input a.level in
+    told a.image.now a.answer.now c.requires.1 (Err c.in-Err.refusal) c.tell.ensures q zero-le (by_refusal q a.image.now refl c.in-Err.refusal c.in-Err.ensures)

@@ -5,5 +5,4 @@ use Rattle.calls.specs.Calls as asked
 use Rattle.pch_pic.proofs.inputs.poll_on.Goals as goal
 
 pub returns : goal.returns
-returns c = let t = c in let r = t in let s = r in let a = s.args in
-    told a.image.now a.answer.now s.requires.1 r.poll-told.result t.tell.ensures (asked.poll a.input) zero-le r.poll-told.ensures
+returns c = let a = c.args in told a.image.now a.answer.now c.requires.1 c.poll-told.result c.tell.ensures (asked.poll a.input) zero-le c.poll-told.ensures

@@ -33,17 +33,16 @@ one_more n i h =
     ∙ ap (λ k. written number_twos (up_from 0 (i + 1)) ++ zeros k) left)
 
 pub loop-i-init : goal.loop-i-init
-loop-i-init c = unfold up_from in (omega arith, refl)
+loop-i-init c = unfold up_from in refl
 
 pub loop-i-preserved : goal.loop-i-preserved
-loop-i-preserved c = let l = c.loop-i in
-    (omega arith, ap (λ (b : List ℕ). set b (2 + 2 * l.i) l.i) l.invariant.1 ∙ one_more _ l.i (omega arith))
+loop-i-preserved c = let l = c.loop-i in ap (λ (b : List ℕ). set b (2 + 2 * l.i) l.i) l.invariant ∙ one_more _ l.i (omega arith)
 
 pub returns : goal.returns
 returns c = unfold number_body in let l = c.loop-i in
     let n = c.args.count in
-    let all : l.i ≡ n = omega (arith, l.invariant.0) in
+    let all : l.i ≡ n = omega arith in
     let small : n ≤ 16 = c.requires in
     let low : n ≡ n % 256 = omega (arith, small) in
     let high : 0 ≡ n / 256 % 256 = omega (arith, small) in
-    l.invariant.1 ∙ (λ t. low t ∷ high t ∷ sixteen number_twos (up_from 0 (all t)))
+    l.invariant ∙ (λ t. low t ∷ high t ∷ sixteen number_twos (up_from 0 (all t)))

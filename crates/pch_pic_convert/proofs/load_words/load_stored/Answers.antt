@@ -1,14 +1,14 @@
--- `load_stored`: each register is the number that its eight bytes spell.
+-- `load_stored`: the registers end within the image.
 use Rattle.basics.proofs.Prelude.{true, ◌≡◌, refl, ◌+◌, ◌≤◌, length}
-use Rattle.images.{specs.Form.stored, specs.Form.Field, specs.Form.word, specs.Form.routes, specs.Form.size, specs.Form.read, proofs.laws.Layout.always}
+use Rattle.images.{specs.Form.stored, specs.Form.Field, specs.Form.word, specs.Form.size, proofs.laws.Layout.always}
 use Rattle.rules.specs.Core.{htmsi_en, edge, pol, auto0, auto1}
-use Rattle.image.{specs.Shown.form_view, specs.Shown.place_in, proofs.Forms.always_within, proofs.Forms.always_word}
+use Rattle.image.{specs.Shown.form_view, specs.Shown.place_in, proofs.Forms.always_within}
 use Rattle.pch_pic_convert.proofs.load_words.load_stored.Goals as goal
 use Rattle.pch_pic_convert.proofs.load_words.load_stored.Goals.{After-places_of-p}
 
 -- a field ends within the image
 within : (c : After-places_of-p) (q : Field) → always q ≡ true → place_in c.places_of-p.result q + size q ≤ length c.args.image.now
-within c = let s = c in always_within (form_view s.args.form) s.args.image.now s.requires c.places_of-p.result c.places_of-p.ensures
+within c = always_within (form_view c.args.form) c.args.image.now c.requires c.places_of-p.result c.places_of-p.ensures
 
 pub word_at-htmsi_en-requires : goal.word_at-htmsi_en-requires
 word_at-htmsi_en-requires c = within c (word (stored htmsi_en)) refl
@@ -24,20 +24,3 @@ word_at-auto_ctrl0-requires c = within (goal.at.word_at-auto_ctrl0-requires c).A
 
 pub word_at-auto_ctrl1-requires : goal.word_at-auto_ctrl1-requires
 word_at-auto_ctrl1-requires c = within (goal.at.word_at-auto_ctrl1-requires c).After-places_of-p (word (stored auto1)) refl
-
-pub returns : goal.returns
-returns c = let four = c in
-    let three = four in
-    let two = three in
-    let one = two in
-    let p = one in
-    let s = p in
-    let word = always_word (form_view s.args.form) s.args.image.now s.requires p.places_of-p.result p.places_of-p.ensures in
-    λ i. record {
-      htmsi_en = word (stored htmsi_en) refl _ one.word_at-htmsi_en.ensures i;
-      edge = word (stored edge) refl _ two.word_at-intedge.ensures i;
-      pol = word (stored pol) refl _ three.word_at-int_polarity.ensures i;
-      auto0 = word (stored auto0) refl _ four.word_at-auto_ctrl0.ensures i;
-      auto1 = word (stored auto1) refl _ c.word_at-auto_ctrl1.ensures i;
-      routes = read (form_view s.args.form) s.args.image.now routes;
-    }

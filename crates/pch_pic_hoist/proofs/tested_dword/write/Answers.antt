@@ -1,42 +1,8 @@
 -- `write`: the image is refused where 01's order puts it; accepted, the call goes on.
-use Rattle.basics.proofs.Prelude.{◌≡◌, refl, length}
-use Rattle.images.specs.Form.{form_length}
-use Rattle.image.specs.Shown.{form_view}
-use Rattle.image.proofs.head.Orders.{head_left}
-use Rattle.fields.specs.inplace.Passed.{Passed}
-use Rattle.answer.proofs.refusals.Ends.{fitting, goes_on}
-use Rattle.pch_pic_hoist.proofs.tested_dword.{Tested.by_head, Tested.by_bodies}
+use Rattle.basics.proofs.Prelude.{refl}
+use Rattle.pch_pic_hoist.proofs.tested_dword.Tested.{by_image}
 use Rattle.calls.specs.Calls as asked
 use Rattle.pch_pic_hoist.proofs.tested_dword.write.Goals as goal
-use Rattle.pch_pic_hoist.proofs.tested_dword.write.Goals.{In-Good, In-Of}
 
--- the contents were good: the image is one of the form, and has its length
-fit : (k : In-Of) → length k.args.image.now ≡ form_length (form_view k.in-Of.form)
-fit k = fitting k.args.image.now k.test_head-told.result k.in-Of.form k.in-Of.is k.test_head-told.ensures
-
--- and the bodies were: it is accepted
-on : (t : In-Good) → Passed (form_view t.in-Of.form) t.args.image.now
-on t =
-    goes_on t.args.image.now (λ n. (t.slice_known-1.given n).fits) t.test_head-told.result t.in-Of.form t.in-Of.is t.test_head-told.ensures
-    t.test_bodies.result t.in-Good.is t.test_bodies.ensures
-
-pub returns-in_default : goal.returns-in_default
-returns-in_default c = let m = c in let h = m in let a = h.args in
-    by_head a.image.now h.test_head-told.result (head_left _ m.in_default.not-Of) h.test_head-told.ensures c.of_head.result c.of_head.ensures a.running (asked.write a.base a.size a.address a.width a.value) refl
-
-pub test_bodies-requires : goal.test_bodies-requires
-test_bodies-requires c = fit c
-
-pub of_bodies-requires : goal.of_bodies-requires
-of_bodies-requires c = fit (goal.at.of_bodies-requires c).In-Of
-
-pub returns-in_default-test_bodies : goal.returns-in_default-test_bodies
-returns-in_default-test_bodies c = let u = c in let b = u in let k = b in let e = k in let h = e in let a = h.args in
-    by_bodies a.image.now h.test_head-told.result e.in-Of.form e.in-Of.is h.test_head-told.ensures b.test_bodies.result b.test_bodies.ensures
-    u.in_default-test_bodies.is c.of_bodies.result c.of_bodies.ensures a.running (asked.write a.base a.size a.address a.width a.value) refl
-
-pub write-requires : goal.write-requires
-write-requires c = on (goal.at.write-requires c).In-Good
-
-pub returns : goal.returns
-returns c = c.write.ensures
+pub returns-in_err-form : goal.returns-in_err-form
+returns-in_err-form c = let a = c.args in by_image a.image.now c.from_residual.result c.from_residual.ensures.1 c.in_err-form.ensures a.running (asked.write a.base a.size a.address a.width a.value) refl

@@ -1,46 +1,32 @@
 -- `count`: those counted so far, and those among the blocks that are left.
-use Rattle.basics.proofs.Prelude.{sym, ◌∙◌, ⊎_elim, ◌-◌, arith}
-use Rattle.pch_pic_salvage.proofs.torn.Rounds.{lies, seen, none_counted, as_counted, all_counted, left_below, all_below_lem, kept_counted, torn_passed}
+use Rattle.basics.proofs.Prelude.{arith}
+use Rattle.pch_pic_salvage.proofs.torn.Rounds.{lies, seen, as_counted, all_counted, left_below, all_below_lem, kept_counted, torn_passed, none_bad, some_bad}
 use Rattle.pch_pic_salvage.proofs.torn.count.Goals as goal
-use Rattle.pch_pic_salvage.proofs.torn.count.Goals.{then-block, else-block}
-
-pub loop-b-init : goal.loop-b-init
-loop-b-init c = none_counted c.args.trace.now c.args.blocks
+use Rattle.pch_pic_salvage.proofs.torn.count.Goals.{then-is_none, else-is_none}
 
 pub look-block-requires : goal.look-block-requires
-look-block-requires c = let s = c in seen s.args.trace.now s.requires.lists c.loop-b.b (omega arith) s.args.bads.now s.requires.found
+look-block-requires c = seen c.args.trace.now c.requires.lists c.loop-b.b (omega arith) c.args.bads.now c.requires.found
 
 pub overflow_add-left : goal.overflow_add-left
-overflow_add-left c = let v = c in let l = v.loop-b in let s = v in
-    omega (arith, left_below s.args.trace.now s.requires.lists l.b (omega arith) l.left l.all l.invariant)
+overflow_add-left c = let l = c.loop-b in omega (arith, left_below c.args.trace.now c.requires.lists l.b (omega arith) l.left l.all l.invariant)
 
 pub overflow_add-all : goal.overflow_add-all
-overflow_add-all c = let v = c in
-    let l = v.loop-b in
-    let s = v in
+overflow_add-all c = let l = c.loop-b in
     omega (
       arith,
-      all_below_lem s.args.trace.now s.requires.lists l.b (omega arith) l.left l.all l.invariant,
-      (lies s.args.trace.now s.requires.lists l.b (omega arith)).few,
-      v.look-block.ensures.records,
+      all_below_lem c.args.trace.now c.requires.lists l.b (omega arith) l.left l.all l.invariant,
+      (lies c.args.trace.now c.requires.lists l.b (omega arith)).few,
+      c.look-block.ensures.records,
     )
 
-pub overflow_add-b : goal.overflow_add-b
-overflow_add-b c = omega arith
-
-pub loop-b-smaller : goal.loop-b-smaller
-loop-b-smaller c = omega arith
-
 pub loop-b-preserved : goal.loop-b-preserved
-loop-b-preserved c = let v = c in
-    let l = v.loop-b in
-    let s = v in
-    let t = s.args.trace.now in
-    let k = s.requires.lists in
-    let e = v.look-block.ensures in
-    elim c.if-block.branch [
-      | then-block w ↦ as_counted t s.args.blocks _ (kept_counted t k l.b (omega arith) l.left l.all l.invariant e.records (sym e.good ∙ w.if-block.true)) w.left-is w.all-is
-      | else-block w ↦ as_counted t s.args.blocks _ (torn_passed t k l.b (omega arith) l.left l.all l.invariant (sym e.good ∙ w.if-block.false)) w.left-is w.all-is
+loop-b-preserved c = let l = c.loop-b in
+    let t = c.args.trace.now in
+    let k = c.requires.lists in
+    let e = c.look-block.ensures in
+    elim c.if-is_none.branch [
+      | then-is_none w ↦ as_counted t c.args.blocks _ (kept_counted t k l.b (omega arith) l.left l.all l.invariant e.records (none_bad _ _ e.bad w.if-is_none.ensures)) w.left-is w.all-is
+      | else-is_none w ↦ as_counted t c.args.blocks _ (torn_passed t k l.b (omega arith) l.left l.all l.invariant (some_bad _ _ e.bad w.if-is_none.ensures)) w.left-is w.all-is
     ]
 
 pub returns : goal.returns

@@ -1,10 +1,6 @@
 -- `count`: those counted so far, and those among the blocks that are left.
-use Rattle.basics.proofs.Prelude.{◌-◌}
 use Rattle.pch_pic_salvage.proofs.torn.Rounds.{Counted}
 use Rattle.pch_pic_salvage.proofs.torn.count.Given as goal
 
 abbrev pub invariant-loop-b : goal.invariant-loop-b
 invariant-loop-b l = Counted l.trace l.blocks l.b l.left l.all
-
-abbrev pub decreases-loop-b : goal.decreases-loop-b
-decreases-loop-b l = l.blocks - l.b

@@ -4,7 +4,7 @@ use Rattle.access.proofs.wide.Dwords.{qword_both}
 use Rattle.pch_pic_table.proofs.table_widths.write_qword.Goals as goal
 
 pub returns : goal.returns
-returns c = let q = c in
-    let p = q in
-    let a = p.args in
-    (omega (arith, p.write_dword-first.ensures.0, q.write_dword.ensures.0), qword_both a.offset a.value p.half.ensures q.half-2.ensures p.write_dword-first.ensures.1 q.write_dword.ensures.1)
+returns c = let a = c.args in
+    let p = c.write_dword-first.ensures in
+    let q = c.write_dword.ensures in
+    (omega arith, qword_both a.offset a.value c.half.ensures c.half-2.ensures p.1 q.1)

@@ -1,5 +1,5 @@
 -- `count`: the records behind those that were counted, and then how many there are.
-use Rattle.basics.proofs.Prelude.{arith, true, ◌≡◌, drop, Bytes}
+use Rattle.basics.proofs.Prelude.{arith, rules, true, ◌≡◌, drop, Bytes}
 use Rattle.passes.specs.tallies.Tally.{counted_in}
 use Rattle.passes.proofs.tallies.laws.Sound.{counted_few}
 use Rattle.ledger.proofs.follow.Loops.{some_grid, holds_some}
@@ -10,30 +10,19 @@ use Rattle.pch_pic_tally.proofs.adding.count.Goals.{After-cell-base}
 -- the number read
 base_is : (c : After-cell-base) → c.cell-base.result ≡ counted_in c.args.tally.now
 base_is c =
-    let k = c in
-    let s = k in
-    let t = s.args.tally.now in
-    let bytes : Bytes t = λ n. omega (arith, k.slice_known-1.given n) in
-    so_far t bytes s.requires.1 (c.cell-base.ensures (some_grid true t) (drop 5200 t) (holds_some true t bytes s.requires.1))
+    let t = c.args.tally.now in
+    let bytes : Bytes t = search rules in
+    so_far t bytes c.requires.1 (c.cell-base.ensures (some_grid true t) (drop 5200 t) (holds_some true t bytes c.requires.1))
 
 pub follow-requires : goal.follow-requires
 follow-requires c =
-    let b = c in
-    let s = b in
-    (s.requires.0, s.requires.1, omega (arith, base_is (goal.at.follow-requires c).After-cell-base, counted_few s.args.tally.now s.requires.2, s.requires.0.few))
+    (c.requires.0, c.requires.1, omega (arith, base_is (goal.at.follow-requires c).After-cell-base, counted_few c.args.tally.now c.requires.2, c.requires.0.few))
 
 pub overflow_add-base : goal.overflow_add-base
 overflow_add-base c =
-    let b = c in
-    let s = b in
-    record { fits = omega (arith, base_is (goal.at.overflow_add-base c).After-cell-base, counted_few s.args.tally.now s.requires.2, s.requires.0.few) }
+    record { fits = omega (arith, base_is (goal.at.overflow_add-base c).After-cell-base, counted_few c.args.tally.now c.requires.2, c.requires.0.few) }
 
 pub returns : goal.returns
 returns c =
-    let at-put-cell = c in
-    let at-follow = at-put-cell in
-    let b = at-follow in
-    let k = b in
-    let s = k in
-    let a = s.args in
-    counts a.tally.now (λ n. omega (arith, k.slice_known-1.given n)) s.requires.1 a.trace.now a.records a.kept (base_is (goal.at.returns c).After-cell-base) at-follow.follow.ensures at-put-cell.put_cell.ensures
+    let a = c.args in
+    counts a.tally.now (search rules) c.requires.1 a.trace.now a.records a.kept (base_is (goal.at.returns c).After-cell-base) c.follow.ensures c.put_cell.ensures

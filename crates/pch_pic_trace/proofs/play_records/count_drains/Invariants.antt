@@ -1,10 +1,7 @@
 -- `count_drains`: of the records looked at so far so many drain.
-use Rattle.basics.proofs.Prelude.{◌≡◌, ◌-◌, ◌≤◌}
+use Rattle.basics.proofs.Prelude.{◌≡◌}
 use Rattle.traces.specs.{Played.records_from, plays.Playing.drains_in}
 use Rattle.pch_pic_trace.proofs.play_records.count_drains.Given as goal
 
 abbrev pub invariant-loop-k : goal.invariant-loop-k
-invariant-loop-k l = (l.k ≤ l.records) × (l.drains ≡ drains_in (records_from l.trace l.k 0))
-
-abbrev pub decreases-loop-k : goal.decreases-loop-k
-decreases-loop-k l = l.records - l.k
+invariant-loop-k l = l.drains ≡ drains_in (records_from l.trace l.k 0)

@@ -18,12 +18,7 @@ pub drain-count-requires : goal.drain-count-requires
 drain-count-requires c = let p = c.requires.passed in (long p, few p)
 
 pub overflow_mul-result : goal.overflow_mul-result
-overflow_mul-result c = let d = c in
-    let s = c in
-    omega (arith, four_each s.requires.passed (record_view s.args.r) s.requires.drain s.args.out.now s.requires.room (done (goal.at.overflow_mul-result c).After-drain-count))
+overflow_mul-result c = omega (arith, four_each c.requires.passed (record_view c.args.r) c.requires.drain c.args.out.now c.requires.room (done (goal.at.overflow_mul-result c).After-drain-count))
 
 pub returns : goal.returns
-returns c = let u = c in
-    let d = u in
-    let s = c in
-    drain_steps s.requires.passed (record_view s.args.r) s.requires.drain s.args.out.now s.requires.room (done (goal.at.returns c).After-drain-count) s.args.answer.now s.requires.answer u.put_answer.ensures
+returns c = drain_steps c.requires.passed (record_view c.args.r) c.requires.drain c.args.out.now c.requires.room (done (goal.at.returns c).After-drain-count) c.args.answer.now c.requires.answer c.put_answer.ensures

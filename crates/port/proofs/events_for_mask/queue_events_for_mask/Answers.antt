@@ -1,27 +1,10 @@
 -- `queue_events_for_mask` offers an event for each input of the mask, lowest first: at each turn, what was offered and what is left are all.
-use Rattle.basics.proofs.Prelude.{lt_of_le_of_lt, arith, and_le_l, trailing_le, rules, first_below, first_input, without_only_is}
-use Rattle.port.proofs.events_for_mask.{Offering.one_at_most, Queue.queue_start, Queue.queue_step, Queue.queue_done, Queue.queue_less}
+use Rattle.basics.proofs.Prelude.{lt_of_le_of_lt, and_le_l, rules, first_below, first_input, without_only_is}
+use Rattle.port.proofs.events_for_mask.{Queue.queue_start, Queue.queue_step, Queue.queue_done, Queue.queue_less}
 use Rattle.port.proofs.events_for_mask.queue_events_for_mask.Goals as goal
 
 pub loop-left-init : goal.loop-left-init
 loop-left-init c = queue_start c.args.vectors.now c.args.asserted c.args.ring c.args.mask (search rules) (search rules)
-
-pub overflow_cast-irq : goal.overflow_cast-irq
-overflow_cast-irq c = record { fits = lt_of_le_of_lt (trailing_le 64 _) (omega arith) }
-
-pub bounds-vectors-irq : goal.bounds-vectors-irq
-bounds-vectors-irq c = let l = c.loop-left in first_below l.left l.invariant.below c.loop-left-test.true
-
-pub push_output_event-pushed-requires : goal.push_output_event-pushed-requires
-push_output_event-pushed-requires c = c.loop-left.invariant.offers.well
-
-pub overflow_add-dropped : goal.overflow_add-dropped
-overflow_add-dropped c = record { fits = omega (arith, c.loop-left.invariant.few, one_at_most c.push_output_event-pushed.result.kept c.lost-dropped.ensures) }
-
-pub overflow_shl-left : goal.overflow_shl-left
-overflow_shl-left c =
-    let l = c.loop-left in
-    first_below l.left l.invariant.below c.loop-left-test.true
 
 pub loop-left-smaller : goal.loop-left-smaller
 loop-left-smaller c =

@@ -6,7 +6,7 @@ use Rattle.port.specs.{irq_level.Moves.Answers, declared.irq_level.Routed.Routed
 use Rattle.port.proofs.mask_and_clear.MaskWrite.{Entered, entered_one, entered_none, entered_skip, entered_few, left_some, left_none}
 use Rattle.port.proofs.events_for_mask.Offering.{events_lost}
 use Rattle.port.proofs.mask_and_clear.update_int_mask.Goals as goal
-use Rattle.port.proofs.mask_and_clear.update_int_mask.Goals.{Joined-newly_unmasked-ne0, then-newly_unmasked-ne0+in-Vector, then-newly_unmasked-ne0+in_default, else-newly_unmasked-ne0}
+use Rattle.port.proofs.mask_and_clear.update_int_mask.Goals.{Joined-newly_unmasked-ne0, then-newly_unmasked-ne0+in-Some, then-newly_unmasked-ne0+in_default, else-newly_unmasked-ne0}
 
 isr_fits : (c : Joined-newly_unmasked-ne0) → c.args.lines.intisr < 2 ^ 64
 isr_fits c = search rules
@@ -27,13 +27,10 @@ entered c =
     let answers : (a : Routed) → Answers a (enter vs false (on up) (with_mask (lines_view l) c.replace_u32.result)) → Answers a (enter vs false (on up) (with_mask (lines_view l) new))
     = λ a e. subst (λ (x : ℕ). Answers a (enter vs false (on up) (with_mask (lines_view l) x))) stored e in
     elim c.if-newly_unmasked-ne0.branch [
-      | then-newly_unmasked-ne0+in-Vector w ↦ simp (w.out-is, w.queue-is, w.dropped-is) (entered_one vs l r new up ups (isr_fits c) w.update_irq-routed.result (answers _ w.update_irq-routed.ensures) _ w.push_output_event-pushed.result w.lost-dropped.result w.in-Vector.is w.push_output_event-pushed.ensures w.lost-dropped.ensures)
+      | then-newly_unmasked-ne0+in-Some w ↦ simp (w.out-is, w.queue-is, w.dropped-is) (entered_one vs l r new up ups (isr_fits c) w.update_irq-routed.result (answers _ w.update_irq-routed.ensures) _ w.push_output_event-pushed.result w.lost-dropped.result w.in-Some.is w.push_output_event-pushed.ensures w.lost-dropped.ensures)
       | then-newly_unmasked-ne0+in_default w ↦ simp (w.out-is, w.queue-is, w.dropped-is) (entered_none vs l r new up ups (isr_fits c) w.update_irq-routed.result (answers _ w.update_irq-routed.ensures) w.in_default.is s.requires)
       | else-newly_unmasked-ne0 w ↦ simp (w.out-is, w.queue-is, w.dropped-is) (entered_skip vs l r new up ups (isr_fits c) _ w.if-newly_unmasked-ne0.false s.requires (ap (with_mask (lines_view l)) stored))
     ]
-
-pub queue_events_for_mask-queued-requires : goal.queue_events_for_mask-queued-requires
-queue_events_for_mask-queued-requires c = search (rules, (entered (goal.at.queue_events_for_mask-queued-requires c).Joined-newly_unmasked-ne0).offers.well)
 
 pub overflow_add-dropped : goal.overflow_add-dropped
 overflow_add-dropped c =

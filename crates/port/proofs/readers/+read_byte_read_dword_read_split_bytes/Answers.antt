@@ -8,9 +8,9 @@ use Rattle.port.specs.readers.Bytes.{bytes_read}
 use Rattle.port.proofs.readers.{Bytes.more, Bytes.more_lt, Bytes.four_read, Deep.four_deep}
 use Rattle.port.proofs.readers.+read_byte_read_dword_read_split_bytes.Goals as goal
 
-pub read_byte-returns-in-At : goal.read_byte-returns-in-At
-read_byte-returns-in-At t c =
-    let r = byte_came _ c.reg8_offset.ensures c.in-At.is in
+pub read_byte-returns-in-Some : goal.read_byte-returns-in-Some
+read_byte-returns-in-Some t c =
+    let r = byte_came _ c.reg8_offset.ensures c.in-Some.is in
     c.read_entry.ensures ∙ ap (entry (view c.args.state).core) (sym r.1) ∙ sym (byte_inside _ _ r.0)
 
 pub read_byte-overflow_sub-depth : goal.read_byte-overflow_sub-depth
@@ -50,7 +50,8 @@ read_split_bytes-loop-idx-init t c = (omega arith, refl, lit< tt)
 pub read_split_bytes-loop-idx-preserved : goal.read_split_bytes-loop-idx-preserved
 read_split_bytes-loop-idx-preserved t c =
     let i = c.loop-idx.idx in
-    let v = c.loop-idx.value in (
+    let v = c.loop-idx.value in
+    rw c.from.ensures (
       omega arith,
       more i v c.read_byte.result (omega (arith, c.requires.few)) c.loop-idx.invariant.2 c.read_byte.type_inv (view c.args.state).core c.args.offset c.loop-idx.invariant.1 c.read_byte.ensures,
       more_lt i v c.read_byte.result (omega (arith, c.requires.few)) c.loop-idx.invariant.2 c.read_byte.type_inv,

@@ -8,10 +8,10 @@ use Rattle.port.proofs.{readers.Deep.four_deep, write_cell.Bytes.four_bytes_lem}
 use Rattle.port.proofs.write_cell.Acted.{writes_acts, writes_quiet, writes_none, byte_few, bytes_few, writes_outside, writes_more}
 use Rattle.port.proofs.writers.+write_byte_write_dword_write_split_bytes.Goals as goal
 
-pub write_byte-returns-in-At : goal.write_byte-returns-in-At
-write_byte-returns-in-At t c =
-    let r = byte_came _ c.reg8_offset.ensures c.in-At.is in
-    writes_acts _ (byte_acts_inside _ _ _ r.0 ∙ ap (λ o. entry_acts o c.args.val) r.1) (writes_quiet (view c.args.state) _ _ (entry_quiet _ _ _) c.write_entry-out.ensures)
+pub write_byte-returns-in-Some : goal.write_byte-returns-in-Some
+write_byte-returns-in-Some t c =
+    let r = byte_came _ c.reg8_offset.ensures c.in-Some.is in
+    writes_acts _ (byte_acts_inside _ _ _ r.0 ∙ ap (λ o. entry_acts o c.args.val) r.1) (writes_quiet (view c.args.state) _ _ (entry_quiet _ _ _) c.write_entry.ensures)
 
 pub write_byte-read_dword-old-requires : goal.write_byte-read_dword-old-requires
 write_byte-read_dword-old-requires t c = λ e. aligned_no_bytes _ c.ranges.offset.fits (no_byte _ c.reg8_offset.ensures c.in_default.is) e

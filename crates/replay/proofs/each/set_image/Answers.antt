@@ -7,6 +7,6 @@ returns c = let z = c in
     let p = z in
     let s = p in
     let b = s.args.bytes.now in
-    let f = put_this (start s.args.image.now) 290 (take 290 b) p.copy.new.dst (length-take-le 290 b (omega (arith, s.requires.0))) p.copy.ensures in
-    let g = put_this f 10 (replicate 10 0) z.put_zeros.new.dst refl (z.put_zeros.ensures ∙ ap (λ (n : ℕ). replicate n 0) (length_next f 10 (omega (arith, s.requires.1)))) in
-    filled g s.requires.1
+    let f = put_this (start s.args.image.now) 290 (take 290 b) p.copy.new.dst (length-take-le 290 b (omega (arith, s.told-bytes))) p.copy.ensures in
+    let g = put_this f 10 (replicate 10 0) z.put_zeros.new.dst refl (z.put_zeros.ensures ∙ ap (λ (n : ℕ). replicate n 0) (length_next f 10 (omega (arith, s.told-image)))) in
+    filled g s.told-image

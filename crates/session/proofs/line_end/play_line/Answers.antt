@@ -31,9 +31,3 @@ play-played-requires c = (c.requires.0, rw (length-take-le 65 c.args.out.now (om
 pub bounds-out-len : goal.bounds-out-len
 bounds-out-len c = let p = c in
     rw (size (answered (goal.at.bounds-out-len c).After-play-played) (omega (arith, short (goal.at.bounds-out-len c).After-play-played))) (omega (arith, short (goal.at.bounds-out-len c).After-play-played))
-
-pub overflow_add-result : goal.overflow_add-result
-overflow_add-result c = omega (arith, short (goal.at.overflow_add-result c).After-play-played)
-
-pub shape_of-out : goal.shape_of-out
-shape_of-out c = size (returns c).0.says (omega (arith, short (goal.at.shape_of-out c).After-play-played))

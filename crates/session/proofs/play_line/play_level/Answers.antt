@@ -1,11 +1,7 @@
 -- `play_level` is right since an input of 64 or more is refused, and of any other the engine's answer is said.
 use Rattle.device.specs.state.View.{view}
-use Rattle.session.proofs.play_line.{Playing.plays_as, Playing.input_refusal, Playing.level_routed}
+use Rattle.session.proofs.play_line.{Playing.plays_as, Playing.level_routed}
 use Rattle.session.proofs.play_line.play_level.Goals as goal
-
-pub returns-then-input-ge64 : goal.returns-then-input-ge64
-returns-then-input-ge64 c = let t = c in
-    plays_as c.refused.ensures (input_refusal (view t.args.state) t.args.input _ t.if-input-ge64.true)
 
 pub returns : goal.returns
 returns c = let e = c in

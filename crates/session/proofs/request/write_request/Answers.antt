@@ -1,32 +1,32 @@
 -- `write_request` is right since it reads the three fields at their places, and asks for nothing where one is missing or more follows.
-use Rattle.basics.proofs.Prelude.{[], ◌∷◌}
+use Rattle.basics.proofs.Prelude.{sym, [], ◌∷◌}
 use Rattle.sessions.specs.Session.{joined, write_line}
-use Rattle.session.proofs.request.{Fields.fields_at, Fields.ends, Fields.goes_on, Fields.asked, Fields.found, Fields.lost}
+use Rattle.session.proofs.request.{Fields.fields_at, Fields.ends, Fields.goes_on, Fields.asked, Fields.none_asked}
 use Rattle.session.proofs.request.write_request.Goals as goal
 
-pub returns-in_default : goal.returns-in_default
-returns-in_default c =
+pub returns-in_err-width : goal.returns-in_err-width
+returns-in_err-width c =
     let l = c.args.line.now in
-    asked l (1 ∷ 4 ∷ 16 ∷ []) write_line (λ i. joined (lost c.field.ensures c.in_default.is i) (fields_at l 3 (4 ∷ 16 ∷ [])))
+    none_asked l (1 ∷ 4 ∷ 16 ∷ []) write_line c.from_residual.ensures (λ i. joined (sym c.in_err-width.ensures i) (fields_at l 3 (4 ∷ 16 ∷ [])))
 
-pub returns-in_default-field : goal.returns-in_default-field
-returns-in_default-field c =
+pub returns-in_err-address : goal.returns-in_err-address
+returns-in_err-address c =
     let l = c.args.line.now in
-    asked l (1 ∷ 4 ∷ 16 ∷ []) write_line
-    (λ i. joined (found c.field.ensures c.in-Is.is i) (joined (lost c.field-2.ensures c.in_default-field.is i) (fields_at l 8 (16 ∷ []))))
+    none_asked l (1 ∷ 4 ∷ 16 ∷ []) write_line c.from_residual-in_err-address.ensures
+    (λ i. joined (sym c.in_ok-width.ensures i) (joined (sym c.in_err-address.ensures i) (fields_at l 8 (16 ∷ []))))
 
-pub returns-in_default-field-2 : goal.returns-in_default-field-2
-returns-in_default-field-2 c =
+pub returns-in_err-value : goal.returns-in_err-value
+returns-in_err-value c =
     let l = c.args.line.now in
-    asked l (1 ∷ 4 ∷ 16 ∷ []) write_line
-    (λ i. joined (found c.field.ensures c.in-Is.is i) (joined (found c.field-2.ensures c.in-Is-field.is i) (joined (lost c.field-3.ensures c.in_default-field-2.is i) (fields_at l 25 []))))
+    none_asked l (1 ∷ 4 ∷ 16 ∷ []) write_line c.from_residual-in_err-value.ensures
+    (λ i. joined (sym c.in_ok-width.ensures i) (joined (sym c.in_ok-address.ensures i) (joined (sym c.in_err-value.ensures i) (fields_at l 25 []))))
 
 pub returns-then-line-gt25 : goal.returns-then-line-gt25
 returns-then-line-gt25 c =
     let l = c.args.line.now in
-    asked l (1 ∷ 4 ∷ 16 ∷ []) write_line (λ i. joined (found c.field.ensures c.in-Is.is i) (joined (found c.field-2.ensures c.in-Is-field.is i) (joined (found c.field-3.ensures c.in-Is-field-2.is i) (goes_on l 25 c.if-line-gt25.true i))))
+    asked l (1 ∷ 4 ∷ 16 ∷ []) write_line (λ i. joined (sym c.in_ok-width.ensures i) (joined (sym c.in_ok-address.ensures i) (joined (sym c.in_ok-value.ensures i) (goes_on l 25 c.if-line-gt25.true i))))
 
 pub returns : goal.returns
 returns c =
     let l = c.args.line.now in
-    asked l (1 ∷ 4 ∷ 16 ∷ []) write_line (λ i. joined (found c.field.ensures c.in-Is.is i) (joined (found c.field-2.ensures c.in-Is-field.is i) (joined (found c.field-3.ensures c.in-Is-field-2.is i) (ends l 25 c.if-line-gt25.false i))))
+    asked l (1 ∷ 4 ∷ 16 ∷ []) write_line (λ i. joined (sym c.in_ok-width.ensures i) (joined (sym c.in_ok-address.ensures i) (joined (sym c.in_ok-value.ensures i) (ends l 25 c.if-line-gt25.false i))))

@@ -1,5 +1,5 @@
 -- `one_fits`: only where the count is 1, there is room for one, and both parts of the test are passed.
-use Rattle.basics.proofs.Prelude.{refl, sym, ◌∙◌, and-eq-true_iff, bit_or, arith, false≢true, eqb, leb, leb-true, eq-eqb, eqb-true}
+use Rattle.basics.proofs.Prelude.{refl, sym, ◌∙◌, and-eq-true_iff, bit_or, arith, eqb, leb, leb-true, eq-eqb, eqb-true}
 use Rattle.images.specs.Form.{count}
 use Rattle.image.{specs.Shown.form_view, proofs.Forms.always_within, proofs.bodies.Rings.counts, proofs.bodies.Rings.nothing}
 use Rattle.six_calls.proofs.reset_drain.one_fits.Goals as goal
@@ -7,13 +7,6 @@ use Rattle.six_calls.proofs.reset_drain.one_fits.Goals as goal
 pub bounds-image-count : goal.bounds-image-count
 bounds-image-count c = let p = c in let s = p in
     omega (arith, always_within (form_view s.args.form) s.args.image.now s.requires p.places_of-p.result p.places_of-p.ensures count refl)
-
-pub returns-then-image-count-ne1 : goal.returns-then-image-count-ne1
-returns-then-image-count-ne1 c = (λ t. absurd (false≢true t), λ t. absurd (false≢true t))
-
-pub single_odd-requires : goal.single_odd-requires
-single_odd-requires c = let i = c in let p = i in let s = p in
-    (s.requires, sym (counts (form_view s.args.form) s.args.image.now s.requires p.places_of-p.result p.places_of-p.ensures) ∙ i.if-image-count-ne1.false)
 
 pub returns : goal.returns
 returns c = let h = c in let i = h in let p = i in let s = p in

@@ -4,9 +4,6 @@ use Rattle.stored.proofs.pairs.Written.{pairs_put}
 use Rattle.stored.proofs.pairs.put_pairs.Goals as goal
 
 pub returns : goal.returns
-returns c = let events = c in
-    let zeros = events in
-    let s = zeros in
-    let r = s.args.ring in
-    pairs_put (ring_view r).waiting r.output_len _ (slots_length r.output_vectors r.output_asserted r.output_head r.output_len) s.requires.0
-    zeros.put_zeros.ensures events.put_events.ensures
+returns c = let r = c.args.ring in
+    pairs_put (ring_view r).waiting r.output_len _ (slots_length r.output_vectors r.output_asserted r.output_head r.output_len) c.requires.0
+    c.put_zeros.ensures c.put_events.ensures

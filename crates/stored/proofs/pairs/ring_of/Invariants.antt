@@ -1,10 +1,6 @@
 -- `ring_of`: after i turns the first i slots hold the first i events; of all sixteen the first `len` wait.
-use Rattle.basics.proofs.Prelude.{◌-◌, ◌≤◌}
 use Rattle.stored.proofs.pairs.{Slots.SlotsFilled}
 use Rattle.stored.proofs.pairs.ring_of.Given as goal
 
 abbrev pub invariant-loop-i : goal.invariant-loop-i
-invariant-loop-i l = (l.i ≤ 16) × SlotsFilled l.pairs l.output_vectors l.output_asserted l.i
-
-abbrev pub decreases-loop-i : goal.decreases-loop-i
-decreases-loop-i l = 16 - l.i
+invariant-loop-i l = SlotsFilled l.pairs l.output_vectors l.output_asserted l.i

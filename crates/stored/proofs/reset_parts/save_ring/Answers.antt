@@ -8,14 +8,10 @@ use Rattle.stored.proofs.reset_parts.save_ring.Goals.{After-places_of-p}
 
 -- the body ends within the image
 within : (c : After-places_of-p) → c.places_of-p.result.count + ring_length ≤ length c.args.image.now
-within c = let s = c in ring_within (form_view s.args.form) s.args.image.now s.requires c.places_of-p.result c.places_of-p.ensures
+within c = ring_within (form_view c.args.form) c.args.image.now c.requires c.places_of-p.result c.places_of-p.ensures
 
 pub returns : goal.returns
-returns c d ns e =
-    let one = c in
-    let k = one in
-    let s = k in
-    puts_ring (form_view s.args.form) d ns k.places_of-p.result.count s.requires (placed k.places_of-p.ensures count refl) (ap length one.copy.ensures ∙ search rules) (e ∙ sym one.copy.ensures) refl
+returns c d ns e = puts_ring (form_view c.args.form) d ns c.places_of-p.result.count c.requires (placed c.places_of-p.ensures count refl) (ap length c.copy.ensures ∙ search rules) (e ∙ sym c.copy.ensures) refl
 
 pub overflow_add-end : goal.overflow_add-end
 overflow_add-end c = omega (arith, within c)

@@ -22,26 +22,21 @@ use Rattle.stored.proofs.save_parts.save_ring.Goals.{After-places_of-p}
 
 -- a field ends within the image
 within : (c : After-places_of-p) (q : Field) → always q ≡ true → place_in c.places_of-p.result q + size q ≤ length c.args.image.now
-within c = let s = c in always_within (form_view s.args.form) s.args.image.now s.requires.0 c.places_of-p.result c.places_of-p.ensures
+within c = always_within (form_view c.args.form) c.args.image.now c.requires.0 c.places_of-p.result c.places_of-p.ensures
 
 pub returns : goal.returns
 returns c d ns e =
-    let three = c in
-    let two = three in
-    let one = two in
-    let k = one in
-    let s = k in
-    let f = form_view s.args.form in
-    let r = s.args.ring in
-    let p = k.places_of-p.result in
-    let o = k.places_of-p.ensures in
+    let f = form_view c.args.form in
+    let r = c.args.ring in
+    let p = c.places_of-p.result in
+    let o = c.places_of-p.ensures in
     let many : length d.ring.waiting ≡ r.output_len = ap (λ x. length x.waiting) e ∙ slots_length r.output_vectors r.output_asserted r.output_head r.output_len in
-    let few : length d.ring.waiting ≤ capacity = omega (arith, s.requires.1.len) in
-    let small : r.output_len % 256 ≡ length d.ring.waiting = mod-eq_of_lt (omega (arith, s.requires.1.len)) ∙ sym many in
-    let spelled = three.put_pairs.ensures ∙ ap (λ x. sixteen event_twos x.waiting) (sym e) in
-    let first = puts_number f d ns p o count refl r.output_len s.requires.0 (ap (λ n. n ∷ []) small) one.put_bytes.ensures in
-    let both = puts_then f d ns first (puts_number f d ns p o drops refl r.output_drops (first.size ∙ s.requires.0) (ap (λ x. bytes_of 4 x.drops) (sym e)) two.put_bytes-2.ensures) in
-    puts_then f d ns both (puts_part f d ns p o pairs refl (both.size ∙ s.requires.0) spelled (ap length spelled ∙ length_sixteen event_twos d.ring.waiting few) refl)
+    let few : length d.ring.waiting ≤ capacity = omega (arith, c.requires.1.len) in
+    let small : r.output_len % 256 ≡ length d.ring.waiting = mod-eq_of_lt (omega (arith, c.requires.1.len)) ∙ sym many in
+    let spelled = c.put_pairs.ensures ∙ ap (λ x. sixteen event_twos x.waiting) (sym e) in
+    let first = puts_number f d ns p o count refl r.output_len c.requires.0 (ap (λ n. n ∷ []) small) c.put_bytes.ensures in
+    let both = puts_then f d ns first (puts_number f d ns p o drops refl r.output_drops (first.size ∙ c.requires.0) (ap (λ x. bytes_of 4 x.drops) (sym e)) c.put_bytes-2.ensures) in
+    puts_then f d ns both (puts_part f d ns p o pairs refl (both.size ∙ c.requires.0) spelled (ap length spelled ∙ length_sixteen event_twos d.ring.waiting few) refl)
 
 pub put_bytes-requires-2 : goal.put_bytes-requires-2
 put_bytes-requires-2 c = let h = within (goal.at.put_bytes-requires-2 c).After-places_of-p drops refl in search rules

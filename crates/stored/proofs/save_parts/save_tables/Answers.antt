@@ -8,7 +8,12 @@ use Rattle.stored.proofs.save_parts.save_tables.Goals.{After-places_of-p}
 
 -- a field ends within the image
 within : (c : After-places_of-p) (q : Field) → always q ≡ true → place_in c.places_of-p.result q + size q ≤ length c.args.image.now
-within c = let s = c in always_within (form_view s.args.form) s.args.image.now s.requires c.places_of-p.result c.places_of-p.ensures
+within c = always_within (form_view c.args.form) c.args.image.now c.requires c.places_of-p.result c.places_of-p.ensures
+
+pub returns : goal.returns
+returns c d ns r v = let f = form_view c.args.form in
+    let first = puts_part f d ns c.places_of-p.result c.places_of-p.ensures routes refl c.requires (c.copy.ensures ∙ sym r) (ap length c.copy.ensures ∙ search rules) refl in
+    puts_then f d ns first (puts_part f d ns c.places_of-p.result c.places_of-p.ensures vectors refl (first.size ∙ c.requires) (c.copy-2.ensures ∙ sym v) (ap length c.copy-2.ensures ∙ search rules) refl)
 
 pub overflow_add-routes_end : goal.overflow_add-routes_end
 overflow_add-routes_end c = record { fits = omega (arith, within c routes refl) }
@@ -21,12 +26,3 @@ overflow_add-vectors_end c = record { fits = omega (arith, within (goal.at.overf
 
 pub slice_bounds-copy-end-3 : goal.slice_bounds-copy-end-3
 slice_bounds-copy-end-3 c = let h = within (goal.at.slice_bounds-copy-end-3 c).After-places_of-p vectors refl in search rules
-
-pub returns : goal.returns
-returns c d ns r v = let two = c in
-    let one = two in
-    let k = one in
-    let s = k in
-    let f = form_view s.args.form in
-    let first = puts_part f d ns k.places_of-p.result k.places_of-p.ensures routes refl s.requires (one.copy.ensures ∙ sym r) (ap length one.copy.ensures ∙ search rules) refl in
-    puts_then f d ns first (puts_part f d ns k.places_of-p.result k.places_of-p.ensures vectors refl (first.size ∙ s.requires) (two.copy-2.ensures ∙ sym v) (ap length two.copy-2.ensures ∙ search rules) refl)

@@ -1,5 +1,5 @@
 -- `put_order`: what is written and then n, n + 1, .. is all of 0, 1, ..
-use Rattle.basics.proofs.Prelude.{◌≡◌, refl, [], ◌∷◌, ℕ, suc, ◌+◌, ◌-◌, ◌≤◌, ◌<◌, sub-zero, add-one, arith, rules, length, length-set, turn, done}
+use Rattle.basics.proofs.Prelude.{◌≡◌, ap, ◌∙◌, [], ◌∷◌, ℕ, suc, ◌+◌, ◌-◌, ◌≤◌, ◌<◌, add-one, arith, length, length-set, turn, done}
 use Rattle.rules.specs.Device.{up_from}
 use Rattle.stored.proofs.save_reset.put_order.Goals as goal
 
@@ -14,20 +14,9 @@ none_left_lem : (i n : ℕ) → n ≤ i → up_from i (n - i) ≡ []
 unfolding up_from
 none_left_lem i n h = let z : n - i ≡ 0 = omega arith in rw z
 
-pub loop-n-init : goal.loop-n-init
-loop-n-init c = (omega arith, refl, simp sub-zero)
-
-pub loop-n-smaller : goal.loop-n-smaller
-loop-n-smaller c = simp length-set (omega arith)
-
 pub loop-n-preserved : goal.loop-n-preserved
-loop-n-preserved c = let l = c.loop-n in
-    let n = length c.args.dst.now in (
-      simp length-set (omega arith),
-      simp length-set (search rules),
-      turn l.dst _ l.n l.n (omega arith) l.invariant.2 (next_up l.n n (omega arith)),
-    )
+loop-n-preserved c = let l = c.loop-n in simp length-set (turn l.dst _ l.n l.n (omega arith) l.invariant (next_up l.n (length l.dst) (omega arith)))
 
 pub returns : goal.returns
 returns c = let l = c.loop-n in
-    done l.dst _ l.n (omega arith) (none_left_lem l.n (length c.args.dst.now) (omega arith)) l.invariant.2
+    done l.dst _ l.n (omega arith) (none_left_lem l.n (length l.dst) (omega arith)) l.invariant ∙ ap (up_from 0) l.auto.dst

@@ -1,10 +1,7 @@
 -- `put_order`: what is written and then n, n + 1, .. is all of 0, 1, ..
-use Rattle.basics.proofs.Prelude.{◌≡◌, ◌++◌, ◌-◌, ◌≤◌, length, take}
+use Rattle.basics.proofs.Prelude.{◌≡◌, ◌++◌, ◌-◌, length, take}
 use Rattle.rules.specs.Device.{up_from}
 use Rattle.stored.proofs.save_reset.put_order.Given as goal
 
 abbrev pub invariant-loop-n : goal.invariant-loop-n
-invariant-loop-n l = (l.n ≤ length l.dst) × (length l.dst ≡ length l.initial.dst) × (take l.n l.dst ++ up_from l.n (length l.initial.dst - l.n) ≡ up_from 0 (length l.initial.dst))
-
-abbrev pub decreases-loop-n : goal.decreases-loop-n
-decreases-loop-n l = length l.dst - l.n
+invariant-loop-n l = take l.n l.dst ++ up_from l.n (length l.dst - l.n) ≡ up_from 0 (length l.dst)

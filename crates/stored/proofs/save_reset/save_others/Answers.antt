@@ -17,17 +17,10 @@ no_numbers = refl
 
 pub returns : goal.returns
 returns c =
-    let numbers = c in
-    let ring = numbers in
-    let routes = ring in
-    let stored = routes in
-    let lines = stored in
-    let s = lines in
-    let f = form_view s.args.form in
-    let d = reset in
+    let f = form_view c.args.form in
     let ns = from_zero 0 in
-    puts_then f d ns
-    (puts_then f d ns
-    (puts_then f d ns (puts_then f d ns (lines.save_lines.ensures d ns refl) (stored.save_stored.ensures d ns refl)) (routes.save_routes.ensures d ns refl))
-    (ring.save_ring.ensures d ns empty))
-    (numbers.save_numbers.ensures d ns no_numbers)
+    puts_then f reset ns
+    (puts_then f reset ns
+    (puts_then f reset ns (puts_then f reset ns (c.save_lines.ensures reset ns refl) (c.save_stored.ensures reset ns refl)) (c.save_routes.ensures reset ns refl))
+    (c.save_ring.ensures reset ns empty))
+    (c.save_numbers.ensures reset ns no_numbers)

@@ -7,20 +7,13 @@ use Rattle.stored.proofs.{saves.Putting.puts_then, saves.Putting.puts_all, saves
 use Rattle.stored.proofs.save_state.save.Goals as goal
 
 pub returns : goal.returns
-returns c ns e = let numbers = c in
-    let ring = numbers in
-    let tables = ring in
-    let stored = tables in
-    let lines = stored in
-    let contents = lines in
-    let s = contents in
-    let d = view s.args.state in
-    let f = form_view s.args.form in
-    let h = headed f s.args.image.now s.requires.0 contents.put_contents.ensures in
+returns c ns e = let d = view c.args.state in
+    let f = form_view c.args.form in
+    let h = headed f c.args.image.now c.requires.0 c.put_contents.ensures in
     puts_all f d ns h.0 h.1
     (by_field _ (by_word _ (λ h. refl) (λ h. refl) (λ h. refl) (λ h. refl) (by_plain _ (λ h. refl, λ h. refl, λ h. refl, λ h. refl, λ h. refl))) (λ h. refl) (λ h. refl) (λ h. refl, λ h. refl, λ h. refl) (λ h. refl, λ h. refl))
     (puts_then f d ns
     (puts_then f d ns
-    (puts_then f d ns (puts_then f d ns (lines.save_lines.ensures d ns refl) (stored.save_stored.ensures d ns refl)) (tables.save_tables.ensures d ns refl refl))
-    (ring.save_ring.ensures d ns refl))
-    (numbers.save_numbers.ensures d ns e))
+    (puts_then f d ns (puts_then f d ns (c.save_lines.ensures d ns refl) (c.save_stored.ensures d ns refl)) (c.save_tables.ensures d ns refl refl))
+    (c.save_ring.ensures d ns refl))
+    (c.save_numbers.ensures d ns e))

@@ -15,32 +15,23 @@ use Rattle.stored.proofs.save_words.save_lines.Goals.{After-places_of-p}
 
 -- a field ends within the image
 within : (c : After-places_of-p) (q : Field) → always q ≡ true → place_in c.places_of-p.result q + size q ≤ length c.args.image.now
-within c = let s = c in always_within (form_view s.args.form) s.args.image.now s.requires c.places_of-p.result c.places_of-p.ensures
+within c = always_within (form_view c.args.form) c.args.image.now c.requires c.places_of-p.result c.places_of-p.ensures
 
 pub returns : goal.returns
 returns c d ns e =
-    let four = c in
-    let three = four in
-    let two = three in
-    let one = two in
-    let k = one in
-    let s = k in
-    let n = s.args.lines in
-    let f = form_view s.args.form in
+    let n = c.args.lines in
+    let f = form_view c.args.form in
     let line = sym (ap (λ l. l.irr) e) in
-    let first = puts_number f d ns k.places_of-p.result k.places_of-p.ensures (word mask) refl n.int_mask s.requires (ap (bytes_of 8) (sym (ap (λ l. l.mask) e))) one.put_word.ensures in
-    let latched = puts_latched f d ns k.places_of-p.result k.places_of-p.ensures n.intirr (first.size ∙ s.requires) line two.put_word-2.ensures three.put_word-3.ensures in
+    let first = puts_number f d ns c.places_of-p.result c.places_of-p.ensures (word mask) refl n.int_mask c.requires (ap (bytes_of 8) (sym (ap (λ l. l.mask) e))) c.put_word.ensures in
+    let latched = puts_latched f d ns c.places_of-p.result c.places_of-p.ensures n.intirr (first.size ∙ c.requires) line c.put_word-2.ensures c.put_word-3.ensures in
     let both = puts_then f d ns first latched in
-    puts_then f d ns both (puts_number f d ns k.places_of-p.result k.places_of-p.ensures (word isr) refl n.intisr (both.size ∙ s.requires) (ap (bytes_of 8) (sym (ap (λ l. l.isr) e))) four.put_word-4.ensures)
+    puts_then f d ns both (puts_number f d ns c.places_of-p.result c.places_of-p.ensures (word isr) refl n.intisr (both.size ∙ c.requires) (ap (bytes_of 8) (sym (ap (λ l. l.isr) e))) c.put_word-4.ensures)
 
 pub put_word-requires : goal.put_word-requires
 put_word-requires c = within (goal.at.put_word-requires c).After-places_of-p (word mask) refl
 
 pub put_word-requires-2 : goal.put_word-requires-2
-put_word-requires-2 c =
-    let k = c in
-    let s = k in
-    let h = copy_within (form_view s.args.form) s.args.image.now s.requires k.places_of-p.result k.places_of-p.ensures in
+put_word-requires-2 c = let h = copy_within (form_view c.args.form) c.args.image.now c.requires c.places_of-p.result c.places_of-p.ensures in
     search rules
 
 pub put_word-requires-3 : goal.put_word-requires-3

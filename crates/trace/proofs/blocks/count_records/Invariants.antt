@@ -1,10 +1,6 @@
 -- `count_records`: the blocks looked at so far stand, and what is left of them decides.
-use Rattle.basics.proofs.Prelude.{◌-◌}
 use Rattle.trace.proofs.blocks.Standing.{Looked}
 use Rattle.trace.proofs.blocks.count_records.Given as goal
 
 abbrev pub invariant-loop-b : goal.invariant-loop-b
 invariant-loop-b l = Looked l.trace l.blocks l.records l.b
-
-abbrev pub decreases-loop-b : goal.decreases-loop-b
-decreases-loop-b l = l.blocks - l.b

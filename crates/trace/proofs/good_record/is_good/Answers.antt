@@ -5,30 +5,22 @@ use Rattle.trace.proofs.good_record.{Uses.zeros_set, Uses.value_set, Uses.offset
 use Rattle.trace.proofs.good_record.is_good.Goals as goal
 
 pub returns-then-r-ne0 : goal.returns-then-r-ne0
-returns-then-r-ne0 c = let r = c.args.r in
-    zeros_set (record_view r) (ne_eqb r.zeros 0 c.if-r-ne0.true)
+returns-then-r-ne0 c = let r = c.args.r in zeros_set (record_view r) (ne_eqb r.zeros 0 c.if-r-ne0.true)
 
 pub returns-then-r-ne0-2 : goal.returns-then-r-ne0-2
-returns-then-r-ne0-2 c = let s = c in
-    let r = s.args.r in
-    value_set (record_view r) (eq-eqb r.zeros 0 s.if-r-ne0.false) (ne_eqb r.value 0 c.if-r-ne0-2.true)
+returns-then-r-ne0-2 c = let r = c.args.r in value_set (record_view r) (eq-eqb r.zeros 0 c.if-r-ne0.false) (ne_eqb r.value 0 c.if-r-ne0-2.true)
 
 pub returns-then-r-ne0-3 : goal.returns-then-r-ne0-3
-returns-then-r-ne0-3 c = let t = c in
-    let s = t in
-    let r = s.args.r in
-    offset_set (record_view r) (eq-eqb r.zeros 0 s.if-r-ne0.false) (eq-eqb r.value 0 t.if-r-ne0-2.false) (ne_eqb r.offset 0 c.if-r-ne0-3.true)
+returns-then-r-ne0-3 c =
+    let r = c.args.r in
+    offset_set (record_view r) (eq-eqb r.zeros 0 c.if-r-ne0.false) (eq-eqb r.value 0 c.if-r-ne0-2.false) (ne_eqb r.offset 0 c.if-r-ne0-3.true)
 
 pub returns-then-r-ne0-4 : goal.returns-then-r-ne0-4
-returns-then-r-ne0-4 c = let u = c in
-    let t = u in
-    let s = t in
-    let r = s.args.r in
-    byte_set (record_view r) (eq-eqb r.zeros 0 s.if-r-ne0.false) (eq-eqb r.value 0 t.if-r-ne0-2.false) (eq-eqb r.offset 0 u.if-r-ne0-3.false) (ne_eqb r.byte 0 c.if-r-ne0-4.true)
+returns-then-r-ne0-4 c =
+    let r = c.args.r in
+    byte_set (record_view r) (eq-eqb r.zeros 0 c.if-r-ne0.false) (eq-eqb r.value 0 c.if-r-ne0-2.false) (eq-eqb r.offset 0 c.if-r-ne0-3.false) (ne_eqb r.byte 0 c.if-r-ne0-4.true)
 
 pub returns : goal.returns
-returns c = let u = c in
-    let t = u in
-    let s = t in
-    let r = s.args.r in
-    none_set (record_view r) (eq-eqb r.zeros 0 s.if-r-ne0.false) (eq-eqb r.value 0 t.if-r-ne0-2.false) (eq-eqb r.offset 0 u.if-r-ne0-3.false) (eq-eqb r.byte 0 c.if-r-ne0-4.false)
+returns c =
+    let r = c.args.r in
+    none_set (record_view r) (eq-eqb r.zeros 0 c.if-r-ne0.false) (eq-eqb r.value 0 c.if-r-ne0-2.false) (eq-eqb r.offset 0 c.if-r-ne0-3.false) (eq-eqb r.byte 0 c.if-r-ne0-4.false)

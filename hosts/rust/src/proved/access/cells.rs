@@ -14,7 +14,7 @@ use super::super::image::form::Form;
 use super::super::lines::halves::value_of;
 use super::super::lines::halves::write_half;
 
-// ---- route and vector bytes: 64 each, from offsets that 64 divides
+// ---- route and vector bytes: 64 each, from offsets that 64 divides. The two are told apart by number: an enum of them would be made here and taken apart at once.
 
 /// ```text
 /// requires { length image.now ≡ form_length (form_view form) }

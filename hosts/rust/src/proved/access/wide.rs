@@ -8,7 +8,7 @@ use super::cells::read_run;
 use super::cells::write_dword;
 use super::cells::write_run;
 
-/// Eight bytes from an offset on lie wholly among the route or the vector bytes, where one read or store serves them all.
+/// Eight bytes from an offset on lie wholly among the route or the vector bytes, where one read or store serves them all; by number, as in `cells`.
 ///
 /// ```text
 /// ensures { result ≡ true → Run offset 8 }

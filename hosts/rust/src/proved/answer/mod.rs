@@ -1,51 +1,16 @@
 // Made from crates/answer/src/lib.rt by tools/portable: do not change it here.
 //! The answer area: the refusal, whether a value is present, and the value.
 
+pub mod accepted;
 pub mod refusals;
 
+use self::refusals::Refusal;
+use self::refusals::NO_ROOM;
 use super::bits::bytes::put_word;
 use super::bits::bytes::put_zeros;
 
-/// What a call gives, if it gives something.
-#[derive(Clone, Copy)]
-pub enum Value {
-    Absent,
-    Present(u64),
-}
-
-/// How a call ends: the number that it hands back, 0 where it is done, and its value.
-#[derive(Clone, Copy)]
-pub struct Told {
-    pub number: u8,
-    pub value: Value,
-}
-
-/// ```text
-/// ensures { Tells result 0 (value_view value) }
-/// ```
-pub fn done(value: Value) -> Told {
-    Told { number: 0, value }
-}
-
-/// ```text
-/// ensures { result ≡ present (value_view value) }
-/// ```
-fn present_byte(value: Value) -> u8 {
-    match value {
-        Value::Absent => 0,
-        Value::Present(_) => 1,
-    }
-}
-
-/// ```text
-/// ensures { result ≡ amount (value_view value) }
-/// ```
-fn amount_of(value: Value) -> u64 {
-    match value {
-        Value::Absent => 0,
-        Value::Present(v) => v,
-    }
-}
+/// How a call ends: done, with what it gives, if it gives something; or refused.
+pub type Told = Result<Option<u64>, Refusal>;
 
 /// Sixteen bytes are written; those past them stay. The first eight become zeros before two of them are set: of bytes that are stored in order the compiler
 /// puts the last six together by themselves, and a call takes two instructions more.
@@ -54,38 +19,56 @@ fn amount_of(value: Value) -> u64 {
 /// requires { answer_length ≤ length answer.old }
 /// ensures { answer.new ≡ answered number (value_view value) answer.old }
 /// ```
-pub fn put_answer(answer: &mut [u8], number: u8, value: Value) {
+pub fn put_answer(answer: &mut [u8], number: u8, value: Option<u64>) {
     put_zeros(&mut answer[0..8]);
     answer[0] = number;
-    answer[1] = present_byte(value);
-    put_word(answer, 8, amount_of(value));
+    answer[1] = u8::from(value.is_some());
+    put_word(answer, 8, value.unwrap_or(0));
 }
 
-/// What a call tells goes into the answer area, and its number is handed back. Four ways, so that each has its own stores, of constants where it can:
+/// What a call tells goes into the answer area, and its number is handed back. Four ways, two of them in `refuse`, so that each has its own stores, of constants where it can:
 /// with one store for all of them a call takes up to seven instructions more.
 ///
 /// ```text
 /// requires { answer_length ≤ length answer.old }
-/// ensures { (result ≡ told.number) × (answer.new ≡ answered told.number (value_view told.value) answer.old) }
+/// ensures { (result ≡ told_number told) × (answer.new ≡ answered (told_number told) (told_value told) answer.old) }
 /// ```
 pub fn tell(answer: &mut [u8], told: Told) -> u8 {
-    let number = told.number;
-    let value = told.value;
-    match value {
-        Value::Absent => {
-            if number == 0 {
-                put_answer(answer, 0, Value::Absent);
-                return 0;
-            }
-            put_answer(answer, number, Value::Absent);
+    match told {
+        Ok(None) => {
+            put_answer(answer, 0, None);
+            0
         }
-        Value::Present(v) => {
-            if number == 0 {
-                put_answer(answer, 0, Value::Present(v));
-                return 0;
-            }
-            put_answer(answer, number, Value::Present(v));
+        Ok(Some(v)) => {
+            put_answer(answer, 0, Some(v));
+            0
         }
+        Err(refusal) => refuse(answer, refusal),
+    }
+}
+
+/// ```text
+/// requires { answer_length ≤ length answer.old }
+/// ensures { (result ≡ refusal_number refusal) × (answer.new ≡ answered (refusal_number refusal) (refusal_value refusal) answer.old) }
+/// ```
+fn refuse(answer: &mut [u8], refusal: Refusal) -> u8 {
+    let number = refusal.number();
+    match refusal.value() {
+        None => put_answer(answer, number, None),
+        Some(v) => put_answer(answer, number, Some(v)),
     }
     number
+}
+
+/// The same of a call that may find at its end that there is no room: 7 is handed back alone, and the area stays as it was.
+///
+/// ```text
+/// requires { answer_length ≤ length answer.old }
+/// ensures { (result ≡ told_number told) × (answer.new ≡ told_in (told_number told) (told_value told) answer.old) }
+/// ```
+pub fn tell_late(answer: &mut [u8], told: Told) -> u8 {
+    if let Err(Refusal::NoRoom) = told {
+        return NO_ROOM;
+    }
+    tell(answer, told)
 }

@@ -1,13 +1,6 @@
 // Made from crates/bits/src/bytes.rt by tools/portable: do not change it here.
 //! A number and its bytes, little end first, read and written where they stand; runs of bytes copied and zeroed.
 
-/// ```text
-/// ensures { result ≡ x }
-/// ```
-pub fn wide(x: u8) -> u64 {
-    x as u64
-}
-
 /// The number that at most eight bytes spell, the low one first. Read from the front, so that eight bytes become one load.
 ///
 /// ```text
@@ -16,10 +9,8 @@ pub fn wide(x: u8) -> u64 {
 /// ```
 pub fn number(b: &[u8]) -> u64 {
     let mut x = 0u64;
-    let mut i = 0;
-    while i < b.len() {
-        x |= wide(b[i]) << (8 * i);
-        i += 1;
+    for (i, byte) in b.iter().enumerate() {
+        x |= u64::from(*byte) << (8 * i);
     }
     x
 }
@@ -31,11 +22,9 @@ pub fn number(b: &[u8]) -> u64 {
 /// ```
 pub fn put_number(dst: &mut [u8], x: u64) {
     let mut y = x;
-    let mut i = 0;
-    while i < dst.len() {
-        dst[i] = (y % 256) as u8;
-        y = y / 256;
-        i += 1;
+    for byte in dst.iter_mut() {
+        *byte = (y % 256) as u8;
+        y /= 256;
     }
 }
 
@@ -46,8 +35,7 @@ pub fn put_number(dst: &mut [u8], x: u64) {
 /// ensures { result ≡ register_at at image.now }
 /// ```
 pub fn word_at(image: &[u8], at: usize) -> u64 {
-    let end = at + 8;
-    number(&image[at..end])
+    number(&image[at..at + 8])
 }
 
 /// The n low bytes of x from a place on; every other byte stays.
@@ -57,8 +45,7 @@ pub fn word_at(image: &[u8], at: usize) -> u64 {
 /// ensures { dst.new ≡ with_bytes at n x dst.old }
 /// ```
 pub fn put_bytes(dst: &mut [u8], at: usize, n: usize, x: u64) {
-    let end = at + n;
-    put_number(&mut dst[at..end], x);
+    put_number(&mut dst[at..at + n], x);
 }
 
 /// All eight bytes of x.
@@ -78,10 +65,8 @@ pub fn put_word(dst: &mut [u8], at: usize, x: u64) {
 /// ensures { dst.new ≡ src.now }
 /// ```
 pub fn copy(dst: &mut [u8], src: &[u8]) {
-    let mut i = 0;
-    while i < src.len() {
-        dst[i] = src[i];
-        i += 1;
+    for (i, byte) in src.iter().enumerate() {
+        dst[i] = *byte;
     }
 }
 
@@ -91,9 +76,7 @@ pub fn copy(dst: &mut [u8], src: &[u8]) {
 /// ensures { dst.new ≡ replicate (length dst.old) 0 }
 /// ```
 pub fn put_zeros(dst: &mut [u8]) {
-    let mut i = 0;
-    while i < dst.len() {
-        dst[i] = 0;
-        i += 1;
+    for byte in dst.iter_mut() {
+        *byte = 0;
     }
 }

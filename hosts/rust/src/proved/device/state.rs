@@ -2,6 +2,8 @@
 //! The state of the PCH-PIC and its reset, after loongarch_pch_pic.rs of axdevice 0.8.5.
 //! The Rust's fields stand in four parts, which mirror the Device of the rules, so that a function takes only the part that it changes.
 
+use core::array;
+
 /// The registers that move, of all 64 inputs.
 #[derive(Clone, Copy)]
 pub struct Lines {
@@ -27,7 +29,8 @@ pub struct Tables {
     pub htmsi_vector: [u8; PchPicState::IRQ_COUNT],
 }
 
-/// The output events that wait: output_len of them, from output_head on and round; and how many were dropped.
+/// The output events that wait: output_len of them, from output_head on and round; and how many were dropped. 01 asks for plain arrays of vectors and flags. That head and length fit is a clause
+/// (`WellRing`) and no invariant of the type, since the readers of `port` answer on any state.
 #[derive(Clone, Copy)]
 pub struct Ring {
     pub output_vectors: [u8; PchPicState::OUTPUT_QUEUE_CAPACITY],
@@ -108,15 +111,9 @@ impl PchPicState {
     /// ensures { Is result reset }
     /// ```
     pub fn reset() -> Self {
-        let mut vectors = [0u8; PchPicState::IRQ_COUNT];
-        let mut irq = 0;
-        while irq < PchPicState::IRQ_COUNT {
-            vectors[irq] = irq as u8;
-            irq += 1;
-        }
         PchPicState {
             lines: Lines {
-                int_mask: 0xffff_ffff_ffff_ffff,
+                int_mask: u64::MAX,
                 intirr: 0,
                 intisr: 0,
             },
@@ -129,7 +126,7 @@ impl PchPicState {
             },
             tables: Tables {
                 route_entry: [1u8; PchPicState::IRQ_COUNT],
-                htmsi_vector: vectors,
+                htmsi_vector: array::from_fn(|irq| irq as u8),
             },
             ring: Ring {
                 output_vectors: [0u8; PchPicState::OUTPUT_QUEUE_CAPACITY],
@@ -146,11 +143,4 @@ impl PchPicState {
 pub struct PchPicOutputEvent {
     pub vector: u8,
     pub asserted: bool,
-}
-
-/// What update_irq hands back: the vector of the input that went into service or left it, if one did.
-#[derive(Clone, Copy)]
-pub enum Answer {
-    None,
-    Vector(u8),
 }

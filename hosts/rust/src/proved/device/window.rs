@@ -3,23 +3,18 @@
 
 use super::map::Width;
 
-/// A width that is known, or not.
-#[derive(Clone, Copy)]
-pub enum Known {
-    As(Width),
-    Unknown,
-}
-
+/// A width that is known, or None.
+///
 /// ```text
 /// ensures { known_view result ≡ width_test width }
 /// ```
-pub fn width_of(width: u64) -> Known {
+pub fn width_of(width: u64) -> Option<Width> {
     match width {
-        1 => Known::As(Width::Byte),
-        2 => Known::As(Width::Word),
-        4 => Known::As(Width::Dword),
-        8 => Known::As(Width::Qword),
-        _ => Known::Unknown,
+        1 => Some(Width::Byte),
+        2 => Some(Width::Word),
+        4 => Some(Width::Dword),
+        8 => Some(Width::Qword),
+        _ => None,
     }
 }
 
@@ -29,31 +24,23 @@ pub fn width_of(width: u64) -> Known {
 /// ensures { base + result ≡ min (base + size) (2 ^ 64 - 1) }
 /// ```
 fn bytes_in(base: u64, size: u64) -> u64 {
-    let most = 0xffff_ffff_ffff_ffff - base;
-    if size < most { size } else { most }
+    size.min(u64::MAX - base)
 }
 
-/// An access inside the window as an offset, or outside.
-#[derive(Clone, Copy)]
-pub enum Located {
-    At(usize),
-    Outside,
-}
-
-/// All bytes of an access must be inside; so no offset within it passes 2^64 - 1. An address below the base wraps to an offset past every window's end.
+/// An access inside the window as an offset; None of one outside. All its bytes must be inside; so no offset within it passes 2^64 - 1. An address below the base wraps to an offset past every window's end.
 ///
 /// ```text
 /// ensures { (located_view address result ≡ address_test base size address width) × Ends result width }
 /// ```
-pub fn locate(base: u64, size: u64, address: u64, width: u64) -> Located {
+pub fn locate(base: u64, size: u64, address: u64, width: u64) -> Option<usize> {
     let bytes = bytes_in(base, size);
     if width <= bytes {
-        let offset = u64::wrapping_sub(address, base);
+        let offset = address.wrapping_sub(base);
         if offset <= bytes - width {
-            return Located::At(near(offset));
+            return Some(near(offset));
         }
     }
-    Located::Outside
+    None
 }
 
 /// A place of 64 bits as a usize. Where that has 32 bits, one of 2^31 and more is 2^31 and its own within eight bytes: nothing stands at either.

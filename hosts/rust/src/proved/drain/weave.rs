@@ -15,12 +15,10 @@ const BEHIND: u64 = 65536;
 /// ensures { out.new ≡ woven pairs.now numbers.now }
 /// ```
 pub fn put_events(out: &mut [u8], pairs: &[u8], numbers: &[u8], n: usize) {
-    let mut k = 0;
-    while k < n {
+    for k in 0..n {
         let from = form::PAIR * k;
         let last = from + form::PAIR;
         let event = number(&pairs[from..last]) + BEHIND * number(&numbers[from..last]);
         put_bytes(out, form::EVENT * k, form::EVENT, event);
-        k += 1;
     }
 }

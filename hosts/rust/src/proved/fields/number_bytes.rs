@@ -17,7 +17,7 @@ pub fn from_zero() -> [u8; 32] {
     ]
 }
 
-/// The number that two bytes from a place on spell.
+/// The number that two bytes from a place on spell. `drops_at` of pch_pic_convert does the same with four bytes: one function over the width would be longer than both.
 ///
 /// ```text
 /// requires { at + 2 ≤ length image.now }
@@ -36,11 +36,6 @@ fn number_at(image: &[u8], at: usize) -> u16 {
 /// ```
 pub fn take_next(image: &mut [u8], at: usize) -> u16 {
     let taken = number_at(image, at);
-    put_bytes(
-        image,
-        at,
-        form::NUMBER,
-        u16::wrapping_add(taken, 1) as u64,
-    );
+    put_bytes(image, at, form::NUMBER, taken.wrapping_add(1) as u64);
     taken
 }

@@ -11,12 +11,6 @@ use super::form::NUMBERS_LENGTH;
 use super::form::PAIRS_LENGTH;
 use super::unused;
 
-#[derive(Clone, Copy)]
-pub enum Bodies {
-    Broken,
-    Good,
-}
-
 /// Where the numbers stand; in a form without numbers, the pairs.
 ///
 /// ```text
@@ -35,17 +29,17 @@ pub fn spare_of(form: Form) -> usize {
 ///
 /// ```text
 /// requires { length image.now ≡ form_length (form_view form) }
-/// ensures { holds result ≡ bodies_good (form_view form) image.now }
+/// ensures { result ≡ bodies_good (form_view form) image.now }
 /// ```
-pub fn test_bodies(image: &[u8], form: Form) -> Bodies {
+pub fn test_bodies(image: &[u8], form: Form) -> bool {
     let p = places_of(form);
     if word_at(image, p.last_intirr) != word_at(image, p.intirr) {
-        return Bodies::Broken;
+        return false;
     }
     let place = p.count;
     let count = image[place] as usize;
     if count > CAPACITY {
-        return Bodies::Broken;
+        return false;
     }
     let at = p.pairs;
     let end = at + PAIRS_LENGTH;
@@ -54,47 +48,41 @@ pub fn test_bodies(image: &[u8], form: Form) -> Bodies {
     let found = unused::all_bits(&image[at..end]);
     // every pair and every number is zero: the commonest ring
     if found | unused::all_bits(&image[spare..last]) == 0 {
-        return Bodies::Good;
+        return true;
     }
     // a flag is over 1, of a waiting pair or of an unused one
     if found & 0xfe00_fe00_fe00_fe00 != 0 {
-        return Bodies::Broken;
+        return false;
     }
-    if !unused::unused_zero(count, &image[at..end], &image[spare..last]) {
-        return Bodies::Broken;
-    }
-    Bodies::Good
+    unused::unused_zero(count, &image[at..end], &image[spare..last])
 }
 
 /// The same, of an image in which something waits as a rule: that every pair is zero is not looked for first, and with sixteen that wait none is unused.
 ///
 /// ```text
 /// requires { length image.now ≡ form_length (form_view form) }
-/// ensures { holds result ≡ bodies_good (form_view form) image.now }
+/// ensures { result ≡ bodies_good (form_view form) image.now }
 /// ```
-pub fn test_waiting(image: &[u8], form: Form) -> Bodies {
+pub fn test_waiting(image: &[u8], form: Form) -> bool {
     let p = places_of(form);
     let copy = word_at(image, p.last_intirr);
     if copy != word_at(image, p.intirr) {
-        return Bodies::Broken;
+        return false;
     }
     let place = p.count;
     let count = image[place] as usize;
     if 16 < count {
-        return Bodies::Broken;
+        return false;
     }
     let at = p.pairs;
     let end = at + PAIRS_LENGTH;
     if unused::all_bits(&image[at..end]) & 0xfe00_fe00_fe00_fe00 != 0 {
-        return Bodies::Broken;
+        return false;
     }
     if count == 16 {
-        return Bodies::Good;
+        return true;
     }
     let spare = spare_of(form);
     let last = spare + NUMBERS_LENGTH;
-    if !unused::unused_zero(count, &image[at..end], &image[spare..last]) {
-        return Bodies::Broken;
-    }
-    Bodies::Good
+    unused::unused_zero(count, &image[at..end], &image[spare..last])
 }

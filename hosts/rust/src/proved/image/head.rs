@@ -3,17 +3,16 @@
 //! time.
 
 use super::super::bits::bytes::word_at;
+use super::form::by_form;
 use super::form::contents_of;
 use super::form::form_of;
 use super::form::Form;
-use super::form::KnownForm;
 
-/// What the length and the contents tell: an image of a form, or why it is none.
-#[derive(Clone, Copy)]
-pub enum Head {
+/// Why bytes are no image of a form.
+#[derive(Clone, Copy, PartialEq, Eq)]
+pub enum HeadFault {
     WrongLength,
     WrongContents,
-    Of(Form),
 }
 
 /// ```text
@@ -38,11 +37,11 @@ fn contents_good(image: &[u8], form: Form) -> bool {
 /// requires { form_of (length image.now) ≡ known (form_view form) }
 /// ensures { Headed result image.now }
 /// ```
-fn headed(image: &[u8], form: Form) -> Head {
+fn headed(image: &[u8], form: Form) -> Result<Form, HeadFault> {
     if contents_good(image, form) {
-        return Head::Of(form);
+        return Ok(form);
     }
-    Head::WrongContents
+    Err(HeadFault::WrongContents)
 }
 
 /// An arm for each form, so that each compares with constants.
@@ -50,13 +49,9 @@ fn headed(image: &[u8], form: Form) -> Head {
 /// ```text
 /// ensures { Headed result image.now }
 /// ```
-pub fn test_head(image: &[u8]) -> Head {
-    let KnownForm::As(form) = form_of(image.len()) else {
-        return Head::WrongLength;
+pub fn test_head(image: &[u8]) -> Result<Form, HeadFault> {
+    let Some(form) = form_of(image.len()) else {
+        return Err(HeadFault::WrongLength);
     };
-    match form {
-        Form::One => headed(image, Form::One),
-        Form::Two => headed(image, Form::Two),
-        Form::Numbered => headed(image, Form::Numbered),
-    }
+    by_form!(form, headed(image, form))
 }

@@ -2,7 +2,6 @@
 //! The quick test of an image: differences of words, and words that have to be zero, are gathered in one number, which is compared once. Where it is called with a form that is
 //! a constant, every place and every number of the contents is one too.
 
-use super::super::bits::bytes::wide;
 use super::super::bits::bytes::word_at;
 use super::bodies::spare_of;
 use super::form::contents_of;
@@ -23,7 +22,7 @@ const FLAGS: u64 = 0xfe00_fe00_fe00_fe00;
 /// ensures { (result == 0) ≡ (a == b) }
 /// ```
 fn apart(a: u64, b: u64) -> u64 {
-    u64::wrapping_sub(a, b)
+    a.wrapping_sub(b)
 }
 
 /// 0 exactly where the contents are those of the form.
@@ -54,7 +53,7 @@ fn bodies_odd(image: &[u8], form: Form) -> u64 {
     let spare = spare_of(form);
     let last = spare + NUMBERS_LENGTH;
     apart(word_at(image, p.last_intirr), word_at(image, p.intirr))
-        | wide(image[place])
+        | u64::from(image[place])
         | all_bits(&image[at..end])
         | all_bits(&image[spare..last])
 }
@@ -105,7 +104,7 @@ pub fn single_odd(image: &[u8], form: Form) -> u64 {
     let last = spare + NUMBERS_LENGTH;
     let copy = word_at(image, p.last_intirr);
     apart(copy, word_at(image, p.intirr))
-        | wide(image[pairs + FLAG] / 2)
+        | u64::from(image[pairs + FLAG] / 2)
         | behind(1, &image[pairs..end])
         | behind(1, &image[spare..last])
 }

@@ -16,10 +16,8 @@ const LAST_WORD: usize = 24;
 /// ```
 pub fn all_bits(pairs: &[u8]) -> u64 {
     let mut found = 0u64;
-    let mut i = 0;
-    while i < 4 {
+    for i in 0..4 {
         found |= word_at(pairs, 8 * i);
-        i += 1;
     }
     found
 }

@@ -83,7 +83,7 @@ pub fn put_cell(sheet: &mut [u8], wide: bool, row: usize, column: usize, x: u64)
 /// ```
 pub fn count(sheet: &mut [u8], wide: bool, row: usize, column: usize) {
     let x = cell(sheet, wide, row, column);
-    put_cell(sheet, wide, row, column, u64::wrapping_add(x, 1));
+    put_cell(sheet, wide, row, column, x.wrapping_add(1));
 }
 
 // ---- waits
@@ -95,14 +95,7 @@ pub fn count(sheet: &mut [u8], wide: bool, row: usize, column: usize) {
 /// ensures { result ≡ k + 1 - since }
 /// ```
 fn elapsed(k: u64, since: u64) -> u64 {
-    if since <= k { k + 1 - since } else { 0 }
-}
-
-/// ```text
-/// ensures { result ≡ max a b }
-/// ```
-pub fn greater(a: u64, b: u64) -> u64 {
-    if a < b { b } else { a }
+    (k + 1).saturating_sub(since)
 }
 
 /// A wait begins at the record k.
@@ -127,7 +120,7 @@ fn settle(sheet: &mut [u8], wide: bool, n: usize, k: u64) {
         return;
     }
     let most = cell(sheet, wide, n, GREATEST);
-    put_cell(sheet, wide, n, GREATEST, greater(most, elapsed(k, since)));
+    put_cell(sheet, wide, n, GREATEST, most.max(elapsed(k, since)));
     put_cell(sheet, wide, n, OPEN, 0);
 }
 

@@ -20,10 +20,8 @@ const ALL: u64 = 0xffff_ffff_ffff_ffff;
 /// ensures { Becomes wide sheet.old sheet.new (λ f. row_cleared f n 10) }
 /// ```
 pub fn zero_row(sheet: &mut [u8], wide: bool, n: usize) {
-    let mut c = 0;
-    while c < COLUMNS {
+    for c in 0..COLUMNS {
         put_cell(sheet, wide, n, c, 0);
-        c += 1;
     }
 }
 
@@ -51,11 +49,8 @@ pub fn zero(sheet: &mut [u8], wide: bool) {
 /// ensures { CopiesOf from.now sheet.old sheet.new (λ g f. row_from g f n 10) }
 /// ```
 fn copy_row(from: &[u8], sheet: &mut [u8], n: usize) {
-    let mut c = 0;
-    while c < COLUMNS {
-        let x = cell(from, true, n, c);
-        put_cell(sheet, true, n, c, x);
-        c += 1;
+    for c in 0..COLUMNS {
+        put_cell(sheet, true, n, c, cell(from, true, n, c));
     }
 }
 
@@ -93,11 +88,8 @@ pub fn follow(
     base: u64,
 ) {
     let mut w = kept;
-    let mut k = 0;
-    while k < records {
-        let place = first + LENGTH * k;
-        let r = record_at(trace, place);
+    for k in 0..records {
+        let r = record_at(trace, first + LENGTH * k);
         w = step(sheet, wide, w, base + k as u64, r);
-        k += 1;
     }
 }

@@ -3,7 +3,6 @@
 
 use super::super::bits::bytes::word_at;
 use super::cells::cell;
-use super::cells::greater;
 use super::cells::place;
 use super::cells::put_cell;
 use super::cells::GREATEST;
@@ -16,13 +15,6 @@ pub const COLUMNS: usize = 10;
 /// The row of the total.
 pub const TOTAL: usize = 64;
 
-/// ```text
-/// ensures { result ≡ is_on x }
-/// ```
-fn is_on(x: u64) -> u64 {
-    if x == 0 { 0 } else { 1 }
-}
-
 /// A wait that is not over is open.
 ///
 /// ```text
@@ -31,7 +23,7 @@ fn is_on(x: u64) -> u64 {
 /// ```
 fn close(sheet: &mut [u8], wide: bool, n: usize) {
     let since = cell(sheet, wide, n, OPEN);
-    put_cell(sheet, wide, n, OPEN, is_on(since));
+    put_cell(sheet, wide, n, OPEN, u64::from(since != 0));
 }
 
 /// The greater wait, and of all else the sum.
@@ -41,9 +33,9 @@ fn close(sheet: &mut [u8], wide: bool, n: usize) {
 /// ```
 fn join_with(column: usize, total: u64, x: u64) -> u64 {
     if column == GREATEST {
-        return greater(total, x);
+        return total.max(x);
     }
-    u64::wrapping_add(total, x)
+    total.wrapping_add(x)
 }
 
 /// ```text
@@ -61,10 +53,8 @@ fn join(sheet: &mut [u8], wide: bool, n: usize, column: usize) {
 /// ensures { Becomes wide sheet.old sheet.new (λ f. row_joined f n 10) }
 /// ```
 fn join_row(sheet: &mut [u8], wide: bool, n: usize) {
-    let mut c = 0;
-    while c < COLUMNS {
+    for c in 0..COLUMNS {
         join(sheet, wide, n, c);
-        c += 1;
     }
 }
 
@@ -114,9 +104,7 @@ fn finish_row(sheet: &mut [u8], wide: bool, n: usize) {
 /// ensures { Becomes wide sheet.old sheet.new (λ f. finished f 64) }
 /// ```
 pub fn join_all(sheet: &mut [u8], wide: bool) {
-    let mut n = 0;
-    while n < INPUTS {
+    for n in 0..INPUTS {
         finish_row(sheet, wide, n);
-        n += 1;
     }
 }

@@ -87,10 +87,9 @@ fn enter(sheet: &mut [u8], wide: bool, w: Watched, set: u64, k: u64) -> Watched 
     let n = u64::trailing_zeros(waits) as usize;
     let waiting = offer(sheet, wide, n, k, true, w.waiting);
     Watched {
-        mask: w.mask,
-        irr: w.irr,
         isr: w.isr | 1u64 << n,
         waiting,
+        ..w
     }
 }
 
@@ -104,10 +103,9 @@ fn leave(sheet: &mut [u8], wide: bool, w: Watched, set: u64, k: u64) -> Watched 
     let served = decide::served(set, w.isr);
     let waiting = offer_each(sheet, wide, served, k, w.waiting);
     Watched {
-        mask: w.mask,
-        irr: w.irr,
         isr: w.isr & !set,
         waiting,
+        ..w
     }
 }
 
@@ -125,10 +123,8 @@ fn enter_one(sheet: &mut [u8], wide: bool, w: Watched, n: usize, k: u64) -> Watc
     }
     event(sheet, wide, n, k, true, Fate::Returned);
     Watched {
-        mask: w.mask,
-        irr: w.irr,
         isr: w.isr | bit,
-        waiting: w.waiting,
+        ..w
     }
 }
 
@@ -146,10 +142,8 @@ fn leave_one(sheet: &mut [u8], wide: bool, w: Watched, n: usize, k: u64) -> Watc
     }
     event(sheet, wide, n, k, false, Fate::Returned);
     Watched {
-        mask: w.mask,
-        irr: w.irr,
         isr: w.isr & !bit,
-        waiting: w.waiting,
+        ..w
     }
 }
 
@@ -188,10 +182,8 @@ fn count_raise(sheet: &mut [u8], wide: bool, w: Watched, n: usize, k: u64) {
 pub fn raise(sheet: &mut [u8], wide: bool, w: Watched, n: usize, k: u64) -> Watched {
     count_raise(sheet, wide, w, n, k);
     let latched = Watched {
-        mask: w.mask,
         irr: w.irr | 1u64 << n,
-        isr: w.isr,
-        waiting: w.waiting,
+        ..w
     };
     enter_one(sheet, wide, latched, n, k)
 }
@@ -207,10 +199,8 @@ pub fn lower(sheet: &mut [u8], wide: bool, w: Watched, n: usize, k: u64) -> Watc
     count(sheet, wide, n, LOWERS);
     withdraw(sheet, wide, n);
     let unlatched = Watched {
-        mask: w.mask,
         irr: w.irr & !(1u64 << n),
-        isr: w.isr,
-        waiting: w.waiting,
+        ..w
     };
     leave_one(sheet, wide, unlatched, n, k)
 }
@@ -233,9 +223,7 @@ pub fn write_mask(
     let old = w.mask;
     let masked = Watched {
         mask: bits::replace_u32(old, val, high),
-        irr: w.irr,
-        isr: w.isr,
-        waiting: w.waiting,
+        ..w
     };
     let entered = enter(
         sheet,
@@ -261,10 +249,8 @@ pub fn write_mask(
 pub fn write_clear(sheet: &mut [u8], wide: bool, w: Watched, k: u64, bits: u64) -> Watched {
     withdraw_each(sheet, wide, bits);
     let cleared = Watched {
-        mask: w.mask,
         irr: w.irr & !bits,
-        isr: w.isr,
-        waiting: w.waiting,
+        ..w
     };
     leave(sheet, wide, cleared, bits, k)
 }

@@ -27,17 +27,13 @@ fn write_half(
     high: bool,
 ) -> Watched {
     match register {
-        Register::Id => w,
         Register::Mask => write_mask(sheet, wide, w, k, val, high),
         Register::Clear => write_clear(sheet, wide, w, k, bits::in_half(val, high)),
-        Register::Irr => w,
         Register::Isr => Watched {
-            mask: w.mask,
-            irr: w.irr,
             isr: bits::replace_u32(w.isr, val, high),
-            waiting: w.waiting,
+            ..w
         },
-        Register::Plain(_) => w,
+        Register::Id | Register::Irr | Register::Plain(_) => w,
     }
 }
 
@@ -48,12 +44,9 @@ fn write_half(
 /// ```
 fn value_of(w: Watched, register: Register) -> u64 {
     match register {
-        Register::Id => 0,
         Register::Mask => w.mask,
-        Register::Clear => 0,
-        Register::Irr => 0,
         Register::Isr => w.isr & !w.mask,
-        Register::Plain(_) => 0,
+        Register::Id | Register::Clear | Register::Irr | Register::Plain(_) => 0,
     }
 }
 
@@ -112,8 +105,7 @@ fn write_piece(
             let val = value_in(w, register, high, offset, narrow, x);
             write_half(sheet, wide, w, k, register, val, high)
         }
-        Cell::Bytes => w,
-        Cell::Nothing => w,
+        Cell::Bytes | Cell::Nothing => w,
     }
 }
 

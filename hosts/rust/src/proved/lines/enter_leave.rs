@@ -2,7 +2,6 @@
 //! An input goes into service or leaves it, in place on an image, as the rules say it. Of a set the lowest that waits enters. Module `decide` of crate `device` says which they are.
 
 use super::super::device::decide;
-use super::super::device::state::Answer;
 use super::super::fields::entries::vector;
 use super::super::fields::words;
 use super::super::image::form::Form;
@@ -13,15 +12,15 @@ use super::super::image::form::Form;
 /// requires { length image.old ≡ form_length (form_view form) }
 /// ensures { MovesIn image.old image.new (answer_value result) untaken given (λ vs. lines.enter vs false (on set)) }
 /// ```
-pub fn enter(image: &mut [u8], form: Form, set: u64) -> Answer {
+pub fn enter(image: &mut [u8], form: Form, set: u64) -> Option<u8> {
     let isr = words::isr(image, form);
     let waiting = decide::pending(set, words::irr(image, form), words::mask(image, form), isr);
     if waiting == 0 {
-        return Answer::None;
+        return None;
     }
-    let irq = u64::trailing_zeros(waiting) as usize;
+    let irq = waiting.trailing_zeros() as usize;
     words::put_isr(image, form, isr | 1u64 << irq);
-    Answer::Vector(vector(image, form, irq))
+    Some(vector(image, form, irq))
 }
 
 /// An input that is in service leaves it; the answer is its vector.
@@ -30,12 +29,12 @@ pub fn enter(image: &mut [u8], form: Form, set: u64) -> Answer {
 /// requires { (length image.old ≡ form_length (form_view form)) × (irq < 64) }
 /// ensures { MovesIn image.old image.new (answer_value result) untaken given (λ vs. lines.leave vs false (only irq)) }
 /// ```
-pub fn leave_one(image: &mut [u8], form: Form, irq: usize) -> Answer {
+pub fn leave_one(image: &mut [u8], form: Form, irq: usize) -> Option<u8> {
     let isr = words::isr(image, form);
     let bit = 1u64 << irq;
     if decide::served(bit, isr) == 0 {
-        return Answer::None;
+        return None;
     }
     words::put_isr(image, form, isr & !bit);
-    Answer::Vector(vector(image, form, irq))
+    Some(vector(image, form, irq))
 }

@@ -1,7 +1,6 @@
 // Made from crates/lines/src/events.rt by tools/portable: do not change it here.
 //! The events that a register write makes, offered to the ring.
 
-use super::super::device::state::Answer;
 use super::super::fields::entries::vector;
 use super::super::fields::ring::offer;
 use super::super::image::form::Form;
@@ -12,10 +11,10 @@ use super::super::image::form::Form;
 /// requires { length image.old ≡ form_length (form_view form) }
 /// ensures { (result ≤ 1) × Offers image.old image.new result (λ d. assert_of (answer_value entered)) }
 /// ```
-pub fn offer_entered(image: &mut [u8], form: Form, entered: Answer) -> u32 {
+pub fn offer_entered(image: &mut [u8], form: Form, entered: Option<u8>) -> u32 {
     match entered {
-        Answer::None => 0,
-        Answer::Vector(v) => offer(image, form, v, true),
+        None => 0,
+        Some(v) => offer(image, form, v, true),
     }
 }
 
@@ -29,7 +28,7 @@ fn offer_rest(image: &mut [u8], form: Form, set: u64) -> u32 {
     let mut left = set;
     let mut dropped = 0;
     while left != 0 {
-        let irq = u64::trailing_zeros(left) as usize;
+        let irq = left.trailing_zeros() as usize;
         let vector = vector(image, form, irq);
         dropped += offer(image, form, vector, false);
         left &= left - 1;
@@ -46,7 +45,7 @@ fn offer_rest(image: &mut [u8], form: Form, set: u64) -> u32 {
 pub fn offer_each(image: &mut [u8], form: Form, set: u64) -> u32 {
     let mut left = set;
     while left != 0 {
-        let irq = u64::trailing_zeros(left) as usize;
+        let irq = left.trailing_zeros() as usize;
         let vector = vector(image, form, irq);
         let dropped = offer(image, form, vector, false);
         left &= left - 1;

@@ -1,12 +1,10 @@
 // Made from crates/pch_pic/src/inputs.rt by tools/portable: do not change it here.
 //! The calls on an input, and who waits, behind what a front tests first. What they tell goes into the answer area.
+//! A level and a poll stand beside one another: of a closure that made the move nothing would be known of the image that it changed.
 
-use super::super::answer::done;
-use super::super::answer::refusals::of_bodies;
+use super::super::answer::accepted::bodies_accepted;
 use super::super::answer::tell;
-use super::super::answer::Value;
-use super::super::image::bodies::test_waiting;
-use super::super::image::bodies::Bodies;
+use super::super::image::form::by_form;
 use super::super::image::form::Form;
 use super::super::image::quick::few_odd;
 use super::super::six_calls::accepted_input;
@@ -26,13 +24,13 @@ pub fn level_on(image: &mut [u8], form: Form, input: u64, level: u64, answer: &m
 /// The contents are those of the form, and the bodies are still to be tested.
 ///
 /// ```text
-/// requires { Headed (Of form) image.old × (answer_length ≤ length answer.old) }
+/// requires { Headed (Ok form) image.old × (answer_length ≤ length answer.old) }
 /// ensures { leaves result image.new answer.new [] ≡ outcome (asked.level input level) image.old answer.old }
 /// ```
 fn level_tested(image: &mut [u8], form: Form, input: u64, level: u64, answer: &mut [u8]) -> u8 {
-    let Bodies::Good = test_waiting(image, form) else {
-        return tell(answer, of_bodies(image, form));
-    };
+    if let Err(refusal) = bodies_accepted(image, form) {
+        return tell(answer, Err(refusal));
+    }
     level_on(image, form, input, level, answer)
 }
 
@@ -46,18 +44,18 @@ pub fn poll_on(image: &mut [u8], form: Form, input: u64, answer: &mut [u8]) -> u
 }
 
 /// ```text
-/// requires { Headed (Of form) image.old × (answer_length ≤ length answer.old) }
+/// requires { Headed (Ok form) image.old × (answer_length ≤ length answer.old) }
 /// ensures { leaves result image.new answer.new [] ≡ outcome (asked.poll input) image.old answer.old }
 /// ```
 fn poll_tested(image: &mut [u8], form: Form, input: u64, answer: &mut [u8]) -> u8 {
-    let Bodies::Good = test_waiting(image, form) else {
-        return tell(answer, of_bodies(image, form));
-    };
+    if let Err(refusal) = bodies_accepted(image, form) {
+        return tell(answer, Err(refusal));
+    }
     poll_on(image, form, input, answer)
 }
 
 /// ```text
-/// requires { Headed (Of form) image.old × (answer_length ≤ length answer.old) }
+/// requires { Headed (Ok form) image.old × (answer_length ≤ length answer.old) }
 /// ensures { leaves result image.new answer.new [] ≡ outcome (asked.level input level) image.old answer.old }
 /// ```
 pub fn level_waiting(
@@ -67,53 +65,31 @@ pub fn level_waiting(
     level: u64,
     answer: &mut [u8],
 ) -> u8 {
-    match form {
-        Form::One => {
-            if few_odd(image, Form::One) == 0 {
-                return level_on(image, Form::One, input, level, answer);
+    by_form!(
+        form,
+        {
+            if few_odd(image, form) == 0 {
+                return level_on(image, form, input, level, answer);
             }
-            level_tested(image, Form::One, input, level, answer)
+            level_tested(image, form, input, level, answer)
         }
-        Form::Two => {
-            if few_odd(image, Form::Two) == 0 {
-                return level_on(image, Form::Two, input, level, answer);
-            }
-            level_tested(image, Form::Two, input, level, answer)
-        }
-        Form::Numbered => {
-            if few_odd(image, Form::Numbered) == 0 {
-                return level_on(image, Form::Numbered, input, level, answer);
-            }
-            level_tested(image, Form::Numbered, input, level, answer)
-        }
-    }
+    )
 }
 
 /// ```text
-/// requires { Headed (Of form) image.old × (answer_length ≤ length answer.old) }
+/// requires { Headed (Ok form) image.old × (answer_length ≤ length answer.old) }
 /// ensures { leaves result image.new answer.new [] ≡ outcome (asked.poll input) image.old answer.old }
 /// ```
 pub fn poll_waiting(image: &mut [u8], form: Form, input: u64, answer: &mut [u8]) -> u8 {
-    match form {
-        Form::One => {
-            if few_odd(image, Form::One) == 0 {
-                return poll_on(image, Form::One, input, answer);
+    by_form!(
+        form,
+        {
+            if few_odd(image, form) == 0 {
+                return poll_on(image, form, input, answer);
             }
-            poll_tested(image, Form::One, input, answer)
+            poll_tested(image, form, input, answer)
         }
-        Form::Two => {
-            if few_odd(image, Form::Two) == 0 {
-                return poll_on(image, Form::Two, input, answer);
-            }
-            poll_tested(image, Form::Two, input, answer)
-        }
-        Form::Numbered => {
-            if few_odd(image, Form::Numbered) == 0 {
-                return poll_on(image, Form::Numbered, input, answer);
-            }
-            poll_tested(image, Form::Numbered, input, answer)
-        }
-    }
+    )
 }
 
 /// Who waits, of an image that is accepted.
@@ -124,7 +100,7 @@ pub fn poll_waiting(image: &mut [u8], form: Form, input: u64, answer: &mut [u8])
 /// ```
 pub fn waiting_on(image: &[u8], form: Form, answer: &mut [u8]) -> u8 {
     let set = who_waits::set_of(&*image, form);
-    tell(answer, done(Value::Present(set)))
+    tell(answer, Ok(Some(set)))
 }
 
 /// Of any other one: it is tested the whole way.

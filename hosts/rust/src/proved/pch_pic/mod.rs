@@ -20,15 +20,12 @@ use self::inputs::poll_on;
 use self::inputs::poll_waiting;
 use self::inputs::waiting_on;
 use self::inputs::waiting_tested;
-use super::answer;
-use super::answer::done;
-use super::answer::refusals::of_head;
+use super::answer::refusals::Refusal;
+use super::answer::refusals::NO_ROOM;
 use super::answer::tell;
-use super::answer::Value;
+use super::image::form::by_form;
 use super::image::form::form_of;
 use super::image::form::Form;
-use super::image::form::KnownForm;
-use super::image::head::Head;
 use super::image::quick::contents_apart;
 use super::image::quick::odd;
 use super::six_calls::reset_drain;
@@ -38,10 +35,10 @@ use super::six_calls::reset_drain;
 /// ```
 pub fn pch_pic_reset(image: &mut [u8], answer: &mut [u8]) -> u8 {
     if answer.len() < 16 {
-        return 7;
+        return NO_ROOM;
     }
     let told = reset_drain::reset(image);
-    answer::tell(answer, told)
+    tell(answer, told)
 }
 
 /// ```text
@@ -57,7 +54,7 @@ pub fn pch_pic_read(
     answer: &mut [u8],
 ) -> u8 {
     if answer.len() < 16 {
-        return 7;
+        return NO_ROOM;
     }
     if width == 4 {
         return read_dword(&*image, base, size, address, answer);
@@ -79,7 +76,7 @@ pub fn pch_pic_write(
     answer: &mut [u8],
 ) -> u8 {
     if answer.len() < 16 {
-        return 7;
+        return NO_ROOM;
     }
     if width == 4 {
         return write_dword(image, base, size, address, value, answer);
@@ -92,40 +89,23 @@ pub fn pch_pic_write(
 /// ```
 pub fn pch_pic_level(image: &mut [u8], input: u64, level: u64, answer: &mut [u8]) -> u8 {
     if answer.len() < 16 {
-        return 7;
+        return NO_ROOM;
     }
-    let KnownForm::As(form) = form_of(image.len()) else {
-        return tell(answer, of_head(Head::WrongLength));
+    let Some(form) = form_of(image.len()) else {
+        return tell(answer, Err(Refusal::WrongLength));
     };
-    match form {
-        Form::One => {
-            if odd(image, Form::One) == 0 {
-                return level_on(image, Form::One, input, level, answer);
+    by_form!(
+        form,
+        {
+            if odd(image, form) == 0 {
+                return level_on(image, form, input, level, answer);
             }
-            if contents_apart(image, Form::One) == 0 {
-                return level_waiting(image, Form::One, input, level, answer);
+            if contents_apart(image, form) == 0 {
+                return level_waiting(image, form, input, level, answer);
             }
-            tell(answer, of_head(Head::WrongContents))
+            tell(answer, Err(Refusal::WrongContents))
         }
-        Form::Two => {
-            if odd(image, Form::Two) == 0 {
-                return level_on(image, Form::Two, input, level, answer);
-            }
-            if contents_apart(image, Form::Two) == 0 {
-                return level_waiting(image, Form::Two, input, level, answer);
-            }
-            tell(answer, of_head(Head::WrongContents))
-        }
-        Form::Numbered => {
-            if odd(image, Form::Numbered) == 0 {
-                return level_on(image, Form::Numbered, input, level, answer);
-            }
-            if contents_apart(image, Form::Numbered) == 0 {
-                return level_waiting(image, Form::Numbered, input, level, answer);
-            }
-            tell(answer, of_head(Head::WrongContents))
-        }
-    }
+    )
 }
 
 /// ```text
@@ -133,40 +113,23 @@ pub fn pch_pic_level(image: &mut [u8], input: u64, level: u64, answer: &mut [u8]
 /// ```
 pub fn pch_pic_poll(image: &mut [u8], input: u64, answer: &mut [u8]) -> u8 {
     if answer.len() < 16 {
-        return 7;
+        return NO_ROOM;
     }
-    let KnownForm::As(form) = form_of(image.len()) else {
-        return tell(answer, of_head(Head::WrongLength));
+    let Some(form) = form_of(image.len()) else {
+        return tell(answer, Err(Refusal::WrongLength));
     };
-    match form {
-        Form::One => {
-            if odd(image, Form::One) == 0 {
-                return poll_on(image, Form::One, input, answer);
+    by_form!(
+        form,
+        {
+            if odd(image, form) == 0 {
+                return poll_on(image, form, input, answer);
             }
-            if contents_apart(image, Form::One) == 0 {
-                return poll_waiting(image, Form::One, input, answer);
+            if contents_apart(image, form) == 0 {
+                return poll_waiting(image, form, input, answer);
             }
-            tell(answer, of_head(Head::WrongContents))
+            tell(answer, Err(Refusal::WrongContents))
         }
-        Form::Two => {
-            if odd(image, Form::Two) == 0 {
-                return poll_on(image, Form::Two, input, answer);
-            }
-            if contents_apart(image, Form::Two) == 0 {
-                return poll_waiting(image, Form::Two, input, answer);
-            }
-            tell(answer, of_head(Head::WrongContents))
-        }
-        Form::Numbered => {
-            if odd(image, Form::Numbered) == 0 {
-                return poll_on(image, Form::Numbered, input, answer);
-            }
-            if contents_apart(image, Form::Numbered) == 0 {
-                return poll_waiting(image, Form::Numbered, input, answer);
-            }
-            tell(answer, of_head(Head::WrongContents))
-        }
-    }
+    )
 }
 
 /// ```text
@@ -175,52 +138,29 @@ pub fn pch_pic_poll(image: &mut [u8], input: u64, answer: &mut [u8]) -> u8 {
 /// ```
 pub fn pch_pic_drain(image: &mut [u8], events: &mut [u8], place: usize, answer: &mut [u8]) -> u8 {
     if answer.len() < 16 {
-        return 7;
+        return NO_ROOM;
     }
     if events.len() < place {
-        return 7;
+        return NO_ROOM;
     }
-    let KnownForm::As(form) = form_of(image.len()) else {
-        return tell(answer, of_head(Head::WrongLength));
+    let Some(form) = form_of(image.len()) else {
+        return tell(answer, Err(Refusal::WrongLength));
     };
-    match form {
-        Form::One => {
-            if nothing_waits(image, Form::One) {
-                return tell(answer, done(Value::Present(0)));
+    by_form!(
+        form,
+        {
+            if nothing_waits(image, form) {
+                return tell(answer, Ok(Some(0)));
             }
-            if reset_drain::one_fits(image, Form::One, events.len() - place) {
-                return drain_one(image, Form::One, events, place, answer);
+            if reset_drain::one_fits(image, form, events.len() - place) {
+                return drain_one(image, form, events, place, answer);
             }
-            if contents_apart(image, Form::One) == 0 {
-                return drain_waiting(image, Form::One, events, place, answer);
+            if contents_apart(image, form) == 0 {
+                return drain_waiting(image, form, events, place, answer);
             }
-            tell(answer, of_head(Head::WrongContents))
+            tell(answer, Err(Refusal::WrongContents))
         }
-        Form::Two => {
-            if nothing_waits(image, Form::Two) {
-                return tell(answer, done(Value::Present(0)));
-            }
-            if reset_drain::one_fits(image, Form::Two, events.len() - place) {
-                return drain_one(image, Form::Two, events, place, answer);
-            }
-            if contents_apart(image, Form::Two) == 0 {
-                return drain_waiting(image, Form::Two, events, place, answer);
-            }
-            tell(answer, of_head(Head::WrongContents))
-        }
-        Form::Numbered => {
-            if nothing_waits(image, Form::Numbered) {
-                return tell(answer, done(Value::Present(0)));
-            }
-            if reset_drain::one_fits(image, Form::Numbered, events.len() - place) {
-                return drain_one(image, Form::Numbered, events, place, answer);
-            }
-            if contents_apart(image, Form::Numbered) == 0 {
-                return drain_waiting(image, Form::Numbered, events, place, answer);
-            }
-            tell(answer, of_head(Head::WrongContents))
-        }
-    }
+    )
 }
 
 /// ```text
@@ -229,29 +169,18 @@ pub fn pch_pic_drain(image: &mut [u8], events: &mut [u8], place: usize, answer: 
 pub fn pch_pic_waiting(image: &[u8], answer: &mut [u8]) -> u8 {
     let room = answer.len();
     if room < 16 {
-        return 7;
+        return NO_ROOM;
     }
-    let KnownForm::As(form) = form_of(image.len()) else {
+    let Some(form) = form_of(image.len()) else {
         return waiting_tested(&*image, answer);
     };
-    match form {
-        Form::One => {
-            if odd(&*image, Form::One) == 0 {
-                return waiting_on(&*image, Form::One, answer);
+    by_form!(
+        form,
+        {
+            if odd(&*image, form) == 0 {
+                return waiting_on(&*image, form, answer);
             }
             waiting_tested(&*image, answer)
         }
-        Form::Two => {
-            if odd(&*image, Form::Two) == 0 {
-                return waiting_on(&*image, Form::Two, answer);
-            }
-            waiting_tested(&*image, answer)
-        }
-        Form::Numbered => {
-            if odd(&*image, Form::Numbered) == 0 {
-                return waiting_on(&*image, Form::Numbered, answer);
-            }
-            waiting_tested(&*image, answer)
-        }
-    }
+    )
 }

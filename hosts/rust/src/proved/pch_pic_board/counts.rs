@@ -1,12 +1,12 @@
 // Made from crates/pch_pic_board/src/counts.rt by tools/portable: do not change it here.
 //! The counts of a board: counted afresh from an image, in place, and moved by an event.
 
+use super::super::answer::Told;
 use super::super::bits::bytes::put_zeros;
 use super::super::fields::entries::vector;
 use super::super::fields::words::isr;
 use super::super::image::form::form_of;
 use super::super::image::form::Form;
-use super::super::image::form::KnownForm;
 
 /// 256 zeros, and then one step for each input in service, masked or not.
 ///
@@ -18,28 +18,26 @@ pub fn recount(image: &[u8], form: Form, board: &mut [u8]) {
     put_zeros(&mut board[0..256]);
     let mut left = isr(image, form);
     while left != 0 {
-        let irq = u64::trailing_zeros(left) as usize;
+        let irq = left.trailing_zeros() as usize;
         let carried = vector(image, form, irq) as usize;
         board[carried] += 1;
         left &= left - 1;
     }
 }
 
-/// After a call that handed back the number: done, the counts are those of the image that it left; refused, the board stays.
+/// After a call: done, the counts are those of the image that it left; refused, the board stays.
 ///
 /// ```text
-/// requires { (number ≡ 0 → image_test image.now ≡ accepted) × (board_length ≤ length board.old) }
-/// ensures { board.new ≡ board_after number image.now board.old }
+/// requires { (told_number told ≡ 0 → image_test image.now ≡ accepted) × (board_length ≤ length board.old) }
+/// ensures { board.new ≡ board_after (told_number told) image.now board.old }
 /// ```
-pub fn bring(image: &[u8], board: &mut [u8], number: u8) {
-    if number != 0 {
+pub fn bring(image: &[u8], board: &mut [u8], told: Told) {
+    if told.is_err() {
         return;
     }
-    let length = image.len();
-    let KnownForm::As(form) = form_of(length) else {
-        return;
-    };
-    recount(image, form, board);
+    if let Some(form) = form_of(image.len()) {
+        recount(image, form, board);
+    }
 }
 
 /// The count after an event: one less for flag 0, one more for any other, within a byte.
@@ -49,15 +47,10 @@ pub fn bring(image: &[u8], board: &mut [u8], number: u8) {
 /// ```
 fn heard(flag: u8, count: u8) -> u8 {
     if flag == 0 {
-        if count == 0 {
-            return 0;
-        }
-        return count - 1;
+        count.saturating_sub(1)
+    } else {
+        count.saturating_add(1)
     }
-    if count == 255 {
-        return 255;
-    }
-    count + 1
 }
 
 /// An event moves the count of its vector, which is handed back.

@@ -4,10 +4,9 @@
 
 pub mod counts;
 
-use super::answer;
-use super::answer::done;
+use super::answer::refusals::NO_ROOM;
+use super::answer::tell;
 use super::answer::Told;
-use super::answer::Value;
 use super::bits::bytes::put_zeros;
 use super::six_calls::reset_drain;
 use super::six_calls::tested_access;
@@ -20,22 +19,20 @@ use super::six_calls::tested_input;
 /// ensures { Finished told image.now board.old answer.old result board.new answer.new }
 /// ```
 fn finish(image: &[u8], board: &mut [u8], answer: &mut [u8], told: Told) -> u8 {
-    let number = told.number;
-    counts::bring(image, board, number);
-    answer::tell(answer, told)
+    counts::bring(image, board, told);
+    tell(answer, told)
 }
 
-/// After a reset that handed back the number: done, no input is in service, so that nothing has to be counted; refused, the board stays.
+/// After a reset: done, no input is in service, so that nothing has to be counted; refused, the board stays.
 ///
 /// ```text
 /// requires { board_length ≤ length board.old }
-/// ensures { board.new ≡ cleared_after number board.old }
+/// ensures { board.new ≡ cleared_after (told_number told) board.old }
 /// ```
-fn clear(board: &mut [u8], number: u8) {
-    if number != 0 {
-        return;
+fn clear(board: &mut [u8], told: Told) {
+    if told.is_ok() {
+        put_zeros(&mut board[0..256]);
     }
-    put_zeros(&mut board[0..256]);
 }
 
 /// ```text
@@ -44,15 +41,14 @@ fn clear(board: &mut [u8], number: u8) {
 /// ```
 pub fn pch_pic_board_reset(image: &mut [u8], board: &mut [u8], answer: &mut [u8]) -> u8 {
     if answer.len() < 16 {
-        return 7;
+        return NO_ROOM;
     }
     if board.len() < 256 {
-        return 7;
+        return NO_ROOM;
     }
     let told = reset_drain::reset(image);
-    let number = told.number;
-    clear(board, number);
-    answer::tell(answer, told)
+    clear(board, told);
+    tell(answer, told)
 }
 
 /// ```text
@@ -69,10 +65,10 @@ pub fn pch_pic_board_read(
     answer: &mut [u8],
 ) -> u8 {
     if answer.len() < 16 {
-        return 7;
+        return NO_ROOM;
     }
     if board.len() < 256 {
-        return 7;
+        return NO_ROOM;
     }
     let told = tested_access::read(image, base, size, address, width);
     finish(image, board, answer, told)
@@ -93,10 +89,10 @@ pub fn pch_pic_board_write(
     answer: &mut [u8],
 ) -> u8 {
     if answer.len() < 16 {
-        return 7;
+        return NO_ROOM;
     }
     if board.len() < 256 {
-        return 7;
+        return NO_ROOM;
     }
     let told = tested_access::write(image, base, size, address, width, value);
     finish(image, board, answer, told)
@@ -114,10 +110,10 @@ pub fn pch_pic_board_level(
     answer: &mut [u8],
 ) -> u8 {
     if answer.len() < 16 {
-        return 7;
+        return NO_ROOM;
     }
     if board.len() < 256 {
-        return 7;
+        return NO_ROOM;
     }
     let told = tested_input::level(image, input, level);
     finish(image, board, answer, told)
@@ -129,10 +125,10 @@ pub fn pch_pic_board_level(
 /// ```
 pub fn pch_pic_board_poll(image: &mut [u8], board: &mut [u8], input: u64, answer: &mut [u8]) -> u8 {
     if answer.len() < 16 {
-        return 7;
+        return NO_ROOM;
     }
     if board.len() < 256 {
-        return 7;
+        return NO_ROOM;
     }
     let told = tested_input::poll(image, input);
     finish(image, board, answer, told)
@@ -150,13 +146,13 @@ pub fn pch_pic_board_drain(
     answer: &mut [u8],
 ) -> u8 {
     if answer.len() < 16 {
-        return 7;
+        return NO_ROOM;
     }
     if board.len() < 256 {
-        return 7;
+        return NO_ROOM;
     }
     if events.len() < place {
-        return 7;
+        return NO_ROOM;
     }
     let told = reset_drain::drain(image, &mut events[place..]);
     finish(image, board, answer, told)
@@ -169,12 +165,11 @@ pub fn pch_pic_board_drain(
 /// ```
 pub fn pch_pic_board_event(board: &mut [u8], vector: u8, flag: u8, answer: &mut [u8]) -> u8 {
     if answer.len() < 16 {
-        return 7;
+        return NO_ROOM;
     }
     if board.len() < 256 {
-        return 7;
+        return NO_ROOM;
     }
     let count = counts::hear(board, vector, flag);
-    let told = done(Value::Present(count as u64));
-    answer::tell(answer, told)
+    tell(answer, Ok(Some(u64::from(count))))
 }

@@ -2,18 +2,10 @@
 //! An image moved to the form of a target's length, by way of the whole state: what is told is handed back. The order of the tests is 4 of the image, 4 of the
 //! target, then 5 and 8 to 11.
 
-use super::super::answer::done;
-use super::super::answer::refusals::of_bodies;
-use super::super::answer::refusals::of_head;
-use super::super::answer::refusals::wrong_length;
+use super::super::answer::accepted::accepted;
+use super::super::answer::refusals::Refusal;
 use super::super::answer::Told;
-use super::super::answer::Value;
-use super::super::image::bodies::test_bodies;
-use super::super::image::bodies::Bodies;
 use super::super::image::form::form_of;
-use super::super::image::form::KnownForm;
-use super::super::image::head::test_head;
-use super::super::image::head::Head;
 use super::super::stored::save_state;
 use super::load_numbers;
 use super::load_state;
@@ -24,20 +16,14 @@ use super::load_state;
 /// ensures { ends result target.new [] ≡ convert_ending image.now target.old }
 /// ```
 pub fn convert(image: &[u8], target: &mut [u8]) -> Told {
-    let KnownForm::As(_) = form_of(image.len()) else {
-        return wrong_length();
+    let Some(_) = form_of(image.len()) else {
+        return Err(Refusal::WrongLength);
     };
-    let KnownForm::As(form) = form_of(target.len()) else {
-        return wrong_length();
+    let Some(form) = form_of(target.len()) else {
+        return Err(Refusal::WrongLength);
     };
-    let told = test_head(image);
-    let Head::Of(own) = told else {
-        return of_head(told);
-    };
-    let Bodies::Good = test_bodies(image, own) else {
-        return of_bodies(image, own);
-    };
+    let own = accepted(image)?;
     let numbers = load_numbers::load_numbers(image, own);
     save_state::save(target, form, load_state::load(image, own), &numbers);
-    done(Value::Absent)
+    Ok(None)
 }

@@ -8,7 +8,7 @@ use super::super::image::form::places_of;
 use super::super::image::form::Form;
 use super::super::stored::pairs::ring_of;
 
-/// The number that four bytes from a place on spell.
+/// The number that four bytes from a place on spell, as `number_at` of `fields` does with two: one function over the width would be longer than both.
 ///
 /// ```text
 /// requires { at + 4 ≤ length image.now }

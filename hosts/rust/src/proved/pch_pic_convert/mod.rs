@@ -9,7 +9,8 @@ pub mod load_state;
 pub mod load_tables;
 pub mod load_words;
 
-use super::answer;
+use super::answer::refusals::NO_ROOM;
+use super::answer::tell;
 
 /// The image goes into the target, in the form of the target's length.
 ///
@@ -18,8 +19,8 @@ use super::answer;
 /// ```
 pub fn pch_pic_convert(image: &[u8], target: &mut [u8], answer: &mut [u8]) -> u8 {
     if answer.len() < 16 {
-        return 7;
+        return NO_ROOM;
     }
     let told = convert::convert(image, target);
-    answer::tell(answer, told)
+    tell(answer, told)
 }

@@ -9,61 +9,43 @@ use super::profile::changes_served;
 use super::profile::in_vectors;
 use super::profile::is_isr;
 
-/// Whether it is for this guest.
-#[derive(Clone, Copy)]
-pub enum Fit {
-    Passes,
-    Refused,
-}
-
 /// A vector write in start-up, by the four bytes that it would replace.
 ///
 /// ```text
 /// requires { (length image.now ≡ form_length (form_view form)) × (0x200 ≤ offset) × (offset + 4 ≤ 0x240) }
-/// ensures { Reads image.now (refuses result) (λ d. changes_served d (write dword offset value)) }
+/// ensures { Reads image.now result (λ d. changes_served d (write dword offset value)) }
 /// ```
-fn judge_vectors(image: &[u8], form: Form, offset: usize, value: u64) -> Fit {
+fn forbidden_in_vectors(image: &[u8], form: Form, offset: usize, value: u64) -> bool {
     let isr = words::isr(image, form);
     let old = read_dword(image, form, offset);
-    if changes_served(isr, offset - 0x200, old, bits::half(value, false)) {
-        Fit::Refused
-    } else {
-        Fit::Passes
-    }
+    changes_served(isr, offset - 0x200, old, bits::half(value, false))
 }
 
 /// 15: to ISR, after start-up to the vectors, or where it would change a byte in service.
 ///
 /// ```text
 /// requires { (length image.now ≡ form_length (form_view form)) × (offset % 4 ≡ 0) }
-/// ensures { Reads image.now (refuses result) (λ d. forbidden running d offset value) }
+/// ensures { Reads image.now result (λ d. forbidden running d offset value) }
 /// ```
-pub fn judge(image: &[u8], form: Form, running: bool, offset: usize, value: u64) -> Fit {
+pub fn forbidden(image: &[u8], form: Form, running: bool, offset: usize, value: u64) -> bool {
     if is_isr(offset) {
-        return Fit::Refused;
+        return true;
     }
     if !in_vectors(offset) {
-        return Fit::Passes;
+        return false;
     }
     if running {
-        return Fit::Refused;
+        return true;
     }
-    judge_vectors(image, form, offset, value)
+    forbidden_in_vectors(image, form, offset, value)
 }
 
 /// Start-up can end once, and while no input is in service, masked or not.
 ///
 /// ```text
 /// requires { length image.now ≡ form_length (form_view form) }
-/// ensures { Reads image.now (refuses result) (λ d. cannot_end running d) }
+/// ensures { Reads image.now result (λ d. cannot_end running d) }
 /// ```
-pub fn judge_end(image: &[u8], form: Form, running: bool) -> Fit {
-    if running {
-        return Fit::Refused;
-    }
-    if words::isr(image, form) != 0 {
-        Fit::Refused
-    } else {
-        Fit::Passes
-    }
+pub fn cannot_end(image: &[u8], form: Form, running: bool) -> bool {
+    running || words::isr(image, form) != 0
 }

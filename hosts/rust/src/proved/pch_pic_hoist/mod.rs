@@ -9,7 +9,8 @@ pub mod phases;
 pub mod profile;
 pub mod tested_dword;
 
-use super::answer;
+use super::answer::refusals::NO_ROOM;
+use super::answer::tell;
 use super::six_calls::reset_drain;
 
 /// Starts the first phase.
@@ -20,15 +21,14 @@ use super::six_calls::reset_drain;
 /// ```
 pub fn pch_pic_hoist_reset(image: &mut [u8], phase: &mut [u8], answer: &mut [u8]) -> u8 {
     if answer.len() < 16 {
-        return 7;
+        return NO_ROOM;
     }
-    if phase.len() < 1 {
-        return 7;
+    if phase.is_empty() {
+        return NO_ROOM;
     }
     let told = reset_drain::reset(image);
-    let number = told.number;
-    phases::begin_startup(phase, number);
-    answer::tell(answer, told)
+    phases::begin(phase, phases::IN_START_UP, told);
+    tell(answer, told)
 }
 
 /// ```text
@@ -44,10 +44,10 @@ pub fn pch_pic_hoist_read(
     answer: &mut [u8],
 ) -> u8 {
     if answer.len() < 16 {
-        return 7;
+        return NO_ROOM;
     }
     let told = tested_dword::read(image, base, size, address, width);
-    answer::tell(answer, told)
+    tell(answer, told)
 }
 
 /// ```text
@@ -65,14 +65,14 @@ pub fn pch_pic_hoist_write(
     answer: &mut [u8],
 ) -> u8 {
     if answer.len() < 16 {
-        return 7;
+        return NO_ROOM;
     }
-    if phase.len() < 1 {
-        return 7;
+    if phase.is_empty() {
+        return NO_ROOM;
     }
     let running = phases::is_running(phase);
     let told = tested_dword::write(image, running, base, size, address, width, value);
-    answer::tell(answer, told)
+    tell(answer, told)
 }
 
 /// Starts the second phase.
@@ -83,14 +83,13 @@ pub fn pch_pic_hoist_write(
 /// ```
 pub fn pch_pic_hoist_end_startup(image: &[u8], phase: &mut [u8], answer: &mut [u8]) -> u8 {
     if answer.len() < 16 {
-        return 7;
+        return NO_ROOM;
     }
-    if phase.len() < 1 {
-        return 7;
+    if phase.is_empty() {
+        return NO_ROOM;
     }
     let running = phases::is_running(phase);
     let told = tested_dword::end_startup(image, running);
-    let number = told.number;
-    phases::end_startup(phase, number);
-    answer::tell(answer, told)
+    phases::begin(phase, phases::AFTER_START_UP, told);
+    tell(answer, told)
 }

@@ -7,7 +7,7 @@ pub mod salvage;
 pub mod torn;
 
 use super::answer;
-use super::trace::trace_refusals::NO_ROOM;
+use super::answer::refusals::NO_ROOM;
 
 /// The blocks whose records are all good, as a new trace; and of each dropped block the number and the first bad record in it.
 ///
@@ -20,9 +20,5 @@ pub fn pch_pic_salvage(trace: &[u8], kept: &mut [u8], list: &mut [u8], answer: &
         return NO_ROOM;
     }
     let told = salvage::salvage(trace, kept, list);
-    let number = told.number;
-    if number == NO_ROOM {
-        return NO_ROOM;
-    }
-    answer::tell(answer, told)
+    answer::tell_late(answer, told)
 }

@@ -6,7 +6,7 @@ pub mod sheet;
 
 use self::sheet::make;
 use super::answer;
-use super::trace::trace_refusals::NO_ROOM;
+use super::answer::refusals::NO_ROOM;
 
 /// How many bytes a sheet has: 65 rows of ten numbers of four bytes.
 const LENGTH: usize = 2600;

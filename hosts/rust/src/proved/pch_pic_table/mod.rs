@@ -6,7 +6,8 @@ pub mod table_dwords;
 pub mod table_widths;
 pub mod tested_access;
 
-use super::answer;
+use super::answer::refusals::NO_ROOM;
+use super::answer::tell;
 
 /// ```text
 /// ensures { leaves result image.now answer.new []
@@ -21,10 +22,10 @@ pub fn pch_pic_table_read(
     answer: &mut [u8],
 ) -> u8 {
     if answer.len() < 16 {
-        return 7;
+        return NO_ROOM;
     }
     let told = tested_access::read(image, base, size, address, width);
-    answer::tell(answer, told)
+    tell(answer, told)
 }
 
 /// ```text
@@ -41,8 +42,8 @@ pub fn pch_pic_table_write(
     answer: &mut [u8],
 ) -> u8 {
     if answer.len() < 16 {
-        return 7;
+        return NO_ROOM;
     }
     let told = tested_access::write(image, base, size, address, width, value);
-    answer::tell(answer, told)
+    tell(answer, told)
 }

@@ -18,7 +18,12 @@ use super::super::table::Place;
 /// ```
 pub fn read_byte(image: &[u8], form: Form, table: &[[u8; 32]; 32], offset: usize) -> u8 {
     match look(table, offset) {
-        Place::Part(register, high, byte, silent) => {
+        Place::Part {
+            register,
+            high,
+            byte,
+            silent,
+        } => {
             if silent {
                 return 0;
             }
@@ -42,7 +47,12 @@ pub fn write_byte(
     val: u8,
 ) -> u32 {
     match look(table, offset) {
-        Place::Part(register, high, byte, silent) => {
+        Place::Part {
+            register,
+            high,
+            byte,
+            silent,
+        } => {
             if silent {
                 return 0;
             }

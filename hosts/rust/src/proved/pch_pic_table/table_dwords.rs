@@ -28,14 +28,18 @@ fn read_four(image: &[u8], form: Form, table: &[[u8; 32]; 32], offset: usize) ->
 /// ```
 pub fn read_dword(image: &[u8], form: Form, table: &[[u8; 32]; 32], offset: usize) -> u32 {
     match look(table, offset) {
-        Place::Part(register, high, byte, _silent) => {
+        Place::Part {
+            register,
+            high,
+            byte,
+            ..
+        } => {
             if byte != 0 {
                 return 0;
             }
             bits::half(value_of(image, form, register), high)
         }
-        Place::Route(input) => read_four(image, form, table, offset),
-        Place::Vector(input) => read_four(image, form, table, offset),
+        Place::Route(_) | Place::Vector(_) => read_four(image, form, table, offset),
         Place::Nothing => 0,
     }
 }
@@ -65,17 +69,18 @@ pub fn write_dword(
     val: u32,
 ) -> u32 {
     match look(table, offset) {
-        Place::Part(register, high, byte, _silent) => {
+        Place::Part {
+            register,
+            high,
+            byte,
+            ..
+        } => {
             if byte != 0 {
                 return 0;
             }
             write_half(image, form, register, val, high)
         }
-        Place::Route(input) => {
-            write_four(image, form, table, offset, val);
-            0
-        }
-        Place::Vector(input) => {
+        Place::Route(_) | Place::Vector(_) => {
             write_four(image, form, table, offset, val);
             0
         }

@@ -1,28 +1,18 @@
 // Made from crates/pch_pic_tally/src/adding.rt by tools/portable: do not change it here.
 //! The records of a trace, counted in a tally, as the day goes on from an image. The tests come first, in their order: the image, the trace, the tally.
 
-use super::super::answer::done;
-use super::super::answer::refusals::of_bodies;
-use super::super::answer::refusals::of_head;
+use super::super::answer::accepted::accepted;
 use super::super::answer::Told;
-use super::super::answer::Value;
 use super::super::fields::ring;
 use super::super::fields::words;
-use super::super::image::bodies::test_bodies;
-use super::super::image::bodies::Bodies;
 use super::super::image::form::Form;
-use super::super::image::head::test_head;
-use super::super::image::head::Head;
 use super::super::ledger::cells::cell;
 use super::super::ledger::cells::put_cell;
 use super::super::ledger::follow::follow;
 use super::super::ledger::totals::TOTAL;
 use super::super::ledger::watch::Watched;
 use super::super::trace;
-use super::super::trace::trace_refusals::of_trace;
-use super::super::trace::Tested;
 use super::soundness;
-use super::soundness::Sound;
 
 /// What a pass keeps of the device that an image holds.
 ///
@@ -31,15 +21,11 @@ use super::soundness::Sound;
 /// ensures { Keeps image.now result }
 /// ```
 fn kept_of(image: &[u8], form: Form) -> Watched {
-    let mask = words::mask(image, form);
-    let irr = words::irr(image, form);
-    let isr = words::isr(image, form);
-    let waiting = ring::waiting(image, form);
     Watched {
-        mask,
-        irr,
-        isr,
-        waiting,
+        mask: words::mask(image, form),
+        irr: words::irr(image, form),
+        isr: words::isr(image, form),
+        waiting: ring::waiting(image, form),
     }
 }
 
@@ -62,17 +48,11 @@ fn count(trace: &[u8], first: usize, records: usize, kept: Watched, tally: &mut 
 /// ensures { ends_as result tally.new ≡ added_to trace.now image.now tally.old }
 /// ```
 fn add_on(trace: &[u8], image: &[u8], form: Form, tally: &mut [u8]) -> Told {
-    let tested = trace::test(trace);
-    let Tested::Good(first, records) = tested else {
-        return of_trace(tested);
-    };
-    let found = soundness::test(tally);
-    let Sound::Whole = found else {
-        return soundness::of_tally(found);
-    };
+    let records = trace::test(trace)?;
+    soundness::test(tally)?;
     let kept = kept_of(image, form);
-    count(trace, first, records, kept, tally);
-    done(Value::Absent)
+    count(trace, records.first, records.count, kept, tally);
+    Ok(None)
 }
 
 /// ```text
@@ -80,12 +60,6 @@ fn add_on(trace: &[u8], image: &[u8], form: Form, tally: &mut [u8]) -> Told {
 /// ensures { ends_as result tally.new ≡ added trace.now image.now tally.old }
 /// ```
 pub fn add(trace: &[u8], image: &[u8], tally: &mut [u8]) -> Told {
-    let told = test_head(image);
-    let Head::Of(form) = told else {
-        return of_head(told);
-    };
-    let Bodies::Good = test_bodies(image, form) else {
-        return of_bodies(image, form);
-    };
+    let form = accepted(image)?;
     add_on(trace, image, form, tally)
 }

@@ -7,12 +7,10 @@ pub mod soundness;
 pub mod summing;
 
 use super::answer;
-use super::answer::done;
-use super::answer::Value;
+use super::answer::refusals::NO_ROOM;
 use super::ledger::follow::zero;
 use super::ledger::follow::zero_row;
 use super::ledger::totals::TOTAL;
-use super::trace::trace_refusals::NO_ROOM;
 
 /// How many bytes a tally has, and the sheet of one: 65 rows of ten numbers of eight bytes.
 const LENGTH: usize = 5200;
@@ -31,7 +29,7 @@ pub fn pch_pic_tally_begin(tally: &mut [u8], answer: &mut [u8]) -> u8 {
     }
     zero(tally, true);
     zero_row(tally, true, TOTAL);
-    answer::tell(answer, done(Value::Absent))
+    answer::tell(answer, Ok(None))
 }
 
 /// The records of a trace are counted, as the day goes on from the image, which stays as it is.

@@ -2,10 +2,8 @@
 //! From which bytes can be counted on: no number of 2^63 or more, and no wait that began behind all records. So no number that an add makes passes 2^64.
 //! Two passes settle that a tally is whole. Only in one that is not the first wrong number is searched for.
 
-use super::super::answer::Told;
-use super::super::answer::Value;
+use super::super::answer::refusals::Refusal;
 use super::super::bits::bytes::word_at;
-use super::super::ledger::cells::greater;
 
 /// The numbers of a tally, those of its inputs, how many inputs there are, and the place of the number of records.
 const NUMBERS: usize = 650;
@@ -16,12 +14,17 @@ const INPUTS: usize = 64;
 
 const COUNTED: usize = 5120;
 
-const REFUSED: u8 = 17;
+/// No number is so great.
+const LIMIT: u64 = 0x8000_0000_0000_0000;
 
+/// Where the first wrong number stands.
 #[derive(Clone, Copy)]
-pub enum Sound {
-    Whole,
-    WrongAt(u64),
+pub struct WrongAt(pub u64);
+
+impl From<WrongAt> for Refusal {
+    fn from(wrong: WrongAt) -> Refusal {
+        Refusal::WrongTally(wrong.0)
+    }
 }
 
 /// ```text
@@ -35,10 +38,7 @@ fn of_open_wait(k: usize) -> bool {
 /// ensures { result ≡ wrong_number x k counted }
 /// ```
 fn is_wrong(x: u64, k: usize, counted: u64) -> bool {
-    if 0x8000_0000_0000_0000 <= x {
-        return true;
-    }
-    of_open_wait(k) & (counted < x)
+    (LIMIT <= x) | (of_open_wait(k) & (counted < x))
 }
 
 /// The bits that any number has: no number is greater.
@@ -48,11 +48,9 @@ fn is_wrong(x: u64, k: usize, counted: u64) -> bool {
 /// ensures { NoneAbove tally.now result }
 /// ```
 fn all_bits(tally: &[u8]) -> u64 {
-    let mut found = 0u64;
-    let mut k = 0;
-    while k < NUMBERS {
+    let mut found = 0;
+    for k in 0..NUMBERS {
         found |= word_at(tally, 8 * k);
-        k += 1;
     }
     found
 }
@@ -65,10 +63,9 @@ fn all_bits(tally: &[u8]) -> u64 {
 /// ```
 fn latest(tally: &[u8]) -> u64 {
     let mut most = 0u64;
-    let mut n = 0;
-    while n < INPUTS {
-        most = greater(most, word_at(tally, 80 * n + 72));
-        n += 1;
+    for n in 0..INPUTS {
+        // the word first: the other way round each takes an instruction more
+        most = word_at(tally, 80 * n + 72).max(most);
     }
     most
 }
@@ -79,47 +76,27 @@ fn latest(tally: &[u8]) -> u64 {
 /// requires { tally_length ≤ length tally.now }
 /// ensures { sound_view result ≡ tally_test tally.now }
 /// ```
-fn search(tally: &[u8]) -> Sound {
+fn search(tally: &[u8]) -> Result<(), WrongAt> {
     let counted = word_at(tally, COUNTED);
-    let mut k = 0;
-    while k < NUMBERS {
+    for k in 0..NUMBERS {
         let at = 8 * k;
         if is_wrong(word_at(tally, at), k, counted) {
-            return Sound::WrongAt(at as u64);
+            return Err(WrongAt(at as u64));
         }
-        k += 1;
     }
-    Sound::Whole
+    Ok(())
 }
 
 /// ```text
 /// requires { tally_length ≤ length tally.now }
 /// ensures { sound_view result ≡ tally_test tally.now }
 /// ```
-pub fn test(tally: &[u8]) -> Sound {
+pub fn test(tally: &[u8]) -> Result<(), WrongAt> {
     let bits = all_bits(&*tally);
     let last = latest(&*tally);
     let counted = word_at(tally, COUNTED);
-    if (bits < 0x8000_0000_0000_0000) & (last <= counted) {
-        return Sound::Whole;
+    if (bits < LIMIT) & (last <= counted) {
+        return Ok(());
     }
     search(tally)
-}
-
-/// The refusal, with the place of the first wrong number.
-///
-/// ```text
-/// ensures { Tells result (tally_number (sound_view found)) (tally_value (sound_view found)) }
-/// ```
-pub fn of_tally(found: Sound) -> Told {
-    match found {
-        Sound::Whole => Told {
-            number: 0,
-            value: Value::Absent,
-        },
-        Sound::WrongAt(at) => Told {
-            number: REFUSED,
-            value: Value::Present(at),
-        },
-    }
 }

@@ -1,15 +1,12 @@
 // Made from crates/pch_pic_tally/src/summing.rt by tools/portable: do not change it here.
 //! The sheet of a tally: its rows with the waits that are not over as open ones, and the total.
 
-use super::super::answer::done;
 use super::super::answer::Told;
-use super::super::answer::Value;
 use super::super::ledger::follow::copy_rows;
 use super::super::ledger::follow::zero_row;
 use super::super::ledger::totals::join_all;
 use super::super::ledger::totals::TOTAL;
 use super::soundness;
-use super::soundness::Sound;
 
 /// A tally that is refused leaves the sheet as it was.
 ///
@@ -18,12 +15,9 @@ use super::soundness::Sound;
 /// ensures { ends_as result sheet.new ≡ summed tally.now sheet.old }
 /// ```
 pub fn sum(tally: &[u8], sheet: &mut [u8]) -> Told {
-    let found = soundness::test(tally);
-    let Sound::Whole = found else {
-        return soundness::of_tally(found);
-    };
+    soundness::test(tally)?;
     copy_rows(tally, sheet);
     zero_row(sheet, true, TOTAL);
     join_all(sheet, true);
-    done(Value::Absent)
+    Ok(None)
 }

@@ -9,22 +9,7 @@ pub mod record_step;
 
 use self::play_records::ANSWER;
 use super::answer;
-use super::answer::Told;
-use super::trace::trace_refusals::NO_ROOM;
-
-/// What a play tells goes into the answer area; 7, which it may find at its end, is handed back alone.
-///
-/// ```text
-/// requires { answer_length ≤ length answer.old }
-/// ensures { (result ≡ told.number) × (answer.new ≡ told_in told.number (value_view told.value) answer.old) }
-/// ```
-fn tell_late(answer: &mut [u8], told: Told) -> u8 {
-    let number = told.number;
-    if number == NO_ROOM {
-        return NO_ROOM;
-    }
-    answer::tell(answer, told)
-}
+use super::answer::refusals::NO_ROOM;
 
 /// A trace played from reset on the image: each record's sixteen answer bytes, and the drained events back to back.
 ///
@@ -43,7 +28,7 @@ pub fn pch_pic_play(
         return NO_ROOM;
     }
     let told = play_trace::play(trace, image, answers, events);
-    tell_late(answer, told)
+    answer::tell_late(answer, told)
 }
 
 /// A trace played on from the image as it is: in all else as from reset.
@@ -63,5 +48,5 @@ pub fn pch_pic_play_on(
         return NO_ROOM;
     }
     let told = play_on::play(trace, image, answers, events);
-    tell_late(answer, told)
+    answer::tell_late(answer, told)
 }

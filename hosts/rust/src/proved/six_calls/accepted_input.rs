@@ -1,11 +1,9 @@
 // Made from crates/six_calls/src/accepted_input.rt by tools/portable: do not change it here.
 //! The calls on an input of an image that is accepted: 3, and then the move. What they tell is handed back.
+//! A level and a poll stand beside one another: of a closure that made the move nothing would be known of the image that it changed.
 
-use super::super::answer::done;
-use super::super::answer::refusals::no_input;
+use super::super::answer::refusals::Refusal;
 use super::super::answer::Told;
-use super::super::answer::Value;
-use super::super::device::state;
 use super::super::fields::event_numbers;
 use super::super::image::form::Form;
 use super::super::lines::service;
@@ -16,13 +14,13 @@ use super::super::lines::service;
 /// requires { length image.old ≡ form_length (form_view form) }
 /// ensures { TakesNumber image.old image.new (answer_value answer) (value_view result) }
 /// ```
-fn numbered(image: &mut [u8], form: Form, answer: state::Answer) -> Value {
+fn numbered(image: &mut [u8], form: Form, answer: Option<u8>) -> Option<u64> {
     match answer {
-        state::Answer::Vector(vector) => {
+        Some(vector) => {
             let number = event_numbers::take(image, form);
-            Value::Present(vector as u64 + 0x1_0000 * (number as u64))
+            Some(vector as u64 + 0x1_0000 * (number as u64))
         }
-        state::Answer::None => Value::Absent,
+        None => None,
     }
 }
 
@@ -32,10 +30,10 @@ fn numbered(image: &mut [u8], form: Form, answer: state::Answer) -> Value {
 /// ```
 pub fn level(image: &mut [u8], form: Form, input: u64, level: u64) -> Told {
     if 64 <= input {
-        return no_input();
+        return Err(Refusal::NoInput);
     }
     let returned = service::set_level(image, form, input as usize, level != 0);
-    done(numbered(image, form, returned))
+    Ok(numbered(image, form, returned))
 }
 
 /// ```text
@@ -44,8 +42,8 @@ pub fn level(image: &mut [u8], form: Form, input: u64, level: u64) -> Told {
 /// ```
 pub fn poll(image: &mut [u8], form: Form, input: u64) -> Told {
     if 64 <= input {
-        return no_input();
+        return Err(Refusal::NoInput);
     }
     let returned = service::poll(image, form, input as usize);
-    done(numbered(image, form, returned))
+    Ok(numbered(image, form, returned))
 }

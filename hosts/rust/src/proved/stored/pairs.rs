@@ -15,11 +15,9 @@ use super::super::image::form::PAIR;
 pub fn ring_of(pairs: &[u8], len: usize, drops: u32) -> Ring {
     let mut output_vectors = [0u8; 16];
     let mut output_asserted = [false; 16];
-    let mut i = 0;
-    while i < 16 {
+    for i in 0..16 {
         output_vectors[i] = pairs[PAIR * i];
         output_asserted[i] = pairs[PAIR * i + FLAG] == 1;
-        i += 1;
     }
     Ring {
         output_vectors,
@@ -30,13 +28,6 @@ pub fn ring_of(pairs: &[u8], len: usize, drops: u32) -> Ring {
     }
 }
 
-/// ```text
-/// ensures { result ≡ flag asserted }
-/// ```
-fn flag_byte(asserted: bool) -> u8 {
-    if asserted { 1 } else { 0 }
-}
-
 /// The n oldest events as pairs, from the front of dst; every other byte stays.
 ///
 /// ```text
@@ -44,12 +35,10 @@ fn flag_byte(asserted: bool) -> u8 {
 /// ensures { dst.new ≡ pairs_of (take n (ring_view ring).waiting) ++ drop (2 * n) dst.old }
 /// ```
 fn put_events(dst: &mut [u8], ring: Ring, n: usize) {
-    let mut i = 0;
-    while i < n {
+    for i in 0..n {
         let at = (ring.output_head + i) % 16;
         dst[PAIR * i] = ring.output_vectors[at];
-        dst[PAIR * i + FLAG] = flag_byte(ring.output_asserted[at]);
-        i += 1;
+        dst[PAIR * i + FLAG] = u8::from(ring.output_asserted[at]);
     }
 }
 

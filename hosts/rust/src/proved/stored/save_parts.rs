@@ -37,18 +37,18 @@ pub fn save_ring(image: &mut [u8], form: Form, ring: Ring) {
     put_pairs(&mut image[at..end], ring);
 }
 
-/// The numbers, as their body has them, in the form that has it.
+/// The numbers, as their body has them, in the form that has it. By value: a body that is lent could be the image's own, and would be copied byte by byte.
 ///
 /// ```text
 /// requires { length image.old ≡ form_length (form_view form) }
-/// ensures { SavesNumbers (form_view form) body.now image.old image.new }
+/// ensures { SavesNumbers (form_view form) body image.old image.new }
 /// ```
-pub fn save_numbers(image: &mut [u8], form: Form, body: &[u8; 34]) {
+pub fn save_numbers(image: &mut [u8], form: Form, body: [u8; 34]) {
     let Form::Numbered = form else {
         return;
     };
     let p = places_of(form);
     let at = p.next;
     let end = at + form::NUMBER_BODY_LENGTH;
-    copy(&mut image[at..end], body);
+    copy(&mut image[at..end], &body);
 }

@@ -8,12 +8,7 @@ use super::Place;
 /// ensures { result ≡ is_nothing (place_view place) }
 /// ```
 fn is_nothing(place: Place) -> bool {
-    match place {
-        Place::Part(register, high, byte, silent) => false,
-        Place::Route(input) => false,
-        Place::Vector(input) => false,
-        Place::Nothing => true,
-    }
+    matches!(place, Place::Nothing)
 }
 
 /// Whether a row begins at a place, behind a row that began at another.
@@ -23,9 +18,8 @@ fn is_nothing(place: Place) -> bool {
 /// ```
 fn begins(first: Place, next: Place) -> bool {
     match next {
-        Place::Part(register, high, byte, silent) => byte == 0,
-        Place::Route(input) => input == 0,
-        Place::Vector(input) => input == 0,
+        Place::Part { byte, .. } => byte == 0,
+        Place::Route(input) | Place::Vector(input) => input == 0,
         Place::Nothing => !is_nothing(first),
     }
 }
@@ -38,12 +32,10 @@ fn begins(first: Place, next: Place) -> bool {
 /// ```
 pub fn row_end(table: &[[u8; 32]; 32], start: usize) -> usize {
     let first = look(table, start);
-    let mut at = start + 1;
-    while at < 1024 {
+    for at in start + 1..1024 {
         if begins(first, look(table, at)) {
             return at;
         }
-        at += 1;
     }
-    at
+    1024
 }

@@ -7,11 +7,16 @@ pub mod table_rows;
 use super::device::map::Plain;
 use super::device::map::Register;
 
-/// What a byte belongs to: a register, its high (true) or low half, which byte of that, and whether it is silent to Byte and Word; the route or the
-/// vector byte of an input; nothing.
+/// What a byte belongs to: a register, its high or low half, which byte of that, and whether it is silent to Byte and Word; the route or the vector byte of an
+/// input; nothing.
 #[derive(Clone, Copy)]
 pub enum Place {
-    Part(Register, bool, usize, bool),
+    Part {
+        register: Register,
+        high: bool,
+        byte: usize,
+        silent: bool,
+    },
     Route(usize),
     Vector(usize),
     Nothing,
@@ -26,15 +31,15 @@ const SILENT: u8 = 0x70;
 /// ensures { place_view result ≡ part_of (register_view register) entry }
 /// ```
 fn part_of(register: Register, entry: u8) -> Place {
-    Place::Part(
+    Place::Part {
         register,
-        entry / 4 % 2 == 1,
-        (entry % 4) as usize,
-        entry >= SILENT,
-    )
+        high: entry / 4 % 2 == 1,
+        byte: (entry % 4) as usize,
+        silent: entry >= SILENT,
+    }
 }
 
-/// What a number of the table tells.
+/// What a number of the table tells: the numbers are the table's own bytes, and C-18 asks for the table.
 ///
 /// ```text
 /// ensures { place_view result ≡ reading entry }

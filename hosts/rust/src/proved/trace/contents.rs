@@ -3,41 +3,40 @@
 
 use super::blocks::count_records;
 use super::blocks::two_at;
-use super::blocks::Listed;
 use super::record_bytes::LENGTH;
 
 const MOST_BLOCKS: usize = 64;
 
-/// Good contents, with the place of the first record and how many there are.
+/// The records of a trace: the place of the first, and how many there are.
 #[derive(Clone, Copy)]
-pub enum Contents {
-    Good(usize, usize),
-    Wrong,
+pub struct Records {
+    pub first: usize,
+    pub count: usize,
 }
 
+/// Of good contents.
+///
 /// ```text
 /// ensures { result ≡ contents_as trace.now }
 /// ```
-pub fn contents_of(trace: &[u8]) -> Contents {
+pub fn contents_of(trace: &[u8]) -> Option<Records> {
     if trace.len() < 2 {
-        return Contents::Wrong;
+        return None;
     }
     let blocks = two_at(trace, 0);
     if blocks == 0 {
-        return Contents::Wrong;
+        return None;
     }
     if blocks > MOST_BLOCKS {
-        return Contents::Wrong;
+        return None;
     }
     let first = 2 + 4 * blocks;
     if trace.len() < first {
-        return Contents::Wrong;
+        return None;
     }
-    let Listed::Records(records) = count_records(trace, blocks) else {
-        return Contents::Wrong;
-    };
-    if trace.len() != first + LENGTH * records {
-        return Contents::Wrong;
+    let count = count_records(trace, blocks)?;
+    if trace.len() != first + LENGTH * count {
+        return None;
     }
-    Contents::Good(first, records)
+    Some(Records { first, count })
 }

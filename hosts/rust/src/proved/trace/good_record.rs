@@ -2,6 +2,10 @@
 //! Which records of a trace are good, by value.
 
 use super::record_bytes::Record;
+use super::record_bytes::DRAIN;
+use super::record_bytes::RAISE;
+use super::record_bytes::READ;
+use super::record_bytes::WRITE;
 
 /// A kind is 1 to 6, and what it does not use is zero, as the zero bytes are. What is not zero is looked for first: it says which kinds are left, in half the
 /// instructions of all tests in a row.
@@ -15,14 +19,14 @@ pub fn is_good(r: Record) -> bool {
         return false;
     }
     if r.value != 0 {
-        return kind == 5;
+        return kind == WRITE;
     }
     if r.offset != 0 {
-        return (kind == 4) | (kind == 5);
+        return (kind == READ) | (kind == WRITE);
     }
-    let known = (1 <= kind) & (kind <= 6);
+    let known = (RAISE <= kind) & (kind <= DRAIN);
     if r.byte != 0 {
-        return known & (kind != 6);
+        return known & (kind != DRAIN);
     }
     known
 }

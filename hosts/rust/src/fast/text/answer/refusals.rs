@@ -1,57 +1,74 @@
 // Made from crates/answer/src/refusals.rt by tools/portable: do not change it here.
-//! What a call tells that is refused: 01's and 02's numbers, and the value that goes with each. Which refusal comes first is known above.
+//! Why a call is refused: 01's and 02's numbers, and the value that goes with each. Which refusal comes first is known above.
 
-use super::super::image::faults::first_fault;
-use super::super::image::faults::Checked;
+use super::super::image::faults::Broken;
 use super::super::image::faults::Fault;
-use super::super::image::form::Form;
-use super::super::image::head::Head;
-use super::Told;
-use super::Value;
+use super::super::image::head::HeadFault;
 
-/// The access is not wholly inside the window.
-///
-/// ```text
-/// ensures { Tells result (refusal_number (asked.outside address)) (refusal_value (asked.outside address)) }
-/// ```
-#[inline]
-pub fn outside(address: u64) -> Told {
-    Told {
-        number: 1,
-        value: Value::Present(address),
-    }
+/// What an exported call hands back where what it was lent has no room: nothing is told then.
+pub const NO_ROOM: u8 = 7;
+
+/// In the order of their numbers.
+#[derive(Clone, Copy)]
+pub enum Refusal {
+    /// The access at this address is not wholly inside the window.
+    Outside(u64),
+    NoWidth,
+    NoInput,
+    WrongLength,
+    WrongContents,
+    NoRoom,
+    /// A body of the image breaks a rule: which, and where.
+    Body(Broken),
+    TraceContents,
+    /// The first bad record of a trace, counted from 0.
+    BadRecord(usize),
+    Unaligned,
+    Unfit,
+    NothingLeft,
+    /// Where the first wrong number of a tally stands.
+    WrongTally(u64),
 }
 
-/// ```text
-/// ensures { Tells result (refusal_number no_width) (refusal_value no_width) }
-/// ```
-#[inline]
-pub fn no_width() -> Told {
-    Told {
-        number: 2,
-        value: Value::Absent,
+impl Refusal {
+    /// The number that is handed back.
+    ///
+    /// ```text
+    /// ensures { result ≡ refusal_number self }
+    /// ```
+    #[inline]
+    pub fn number(self) -> u8 {
+        match self {
+            Refusal::Outside(_) => 1,
+            Refusal::NoWidth => 2,
+            Refusal::NoInput => 3,
+            Refusal::WrongLength => 4,
+            Refusal::WrongContents => 5,
+            Refusal::NoRoom => NO_ROOM,
+            Refusal::Body(broken) => fault_number(broken.rule),
+            Refusal::TraceContents => 12,
+            Refusal::BadRecord(_) => 13,
+            Refusal::Unaligned => 14,
+            Refusal::Unfit => 15,
+            Refusal::NothingLeft => 16,
+            Refusal::WrongTally(_) => 17,
+        }
     }
-}
 
-/// ```text
-/// ensures { Tells result (refusal_number no_input) (refusal_value no_input) }
-/// ```
-#[inline]
-pub fn no_input() -> Told {
-    Told {
-        number: 3,
-        value: Value::Absent,
-    }
-}
-
-/// ```text
-/// ensures { Tells result (refusal_number wrong_length) (refusal_value wrong_length) }
-/// ```
-#[inline]
-pub fn wrong_length() -> Told {
-    Told {
-        number: 4,
-        value: Value::Absent,
+    /// The value that goes with it.
+    ///
+    /// ```text
+    /// ensures { value_view result ≡ refusal_value self }
+    /// ```
+    #[inline]
+    pub fn value(self) -> Option<u64> {
+        match self {
+            Refusal::Outside(address) => Some(address),
+            Refusal::Body(broken) => Some(broken.place as u64),
+            Refusal::BadRecord(k) => Some(k as u64),
+            Refusal::WrongTally(at) => Some(at),
+            _ => None,
+        }
     }
 }
 
@@ -68,70 +85,19 @@ fn fault_number(fault: Fault) -> u8 {
     }
 }
 
-/// The number for what the test of an image found, and its value: the place of what is wrong in a body.
-///
-/// ```text
-/// ensures { result ≡ image_number (checked_view checked) }
-/// ```
-#[inline]
-fn image_number(checked: Checked) -> u8 {
-    match checked {
-        Checked::Accepted => 0,
-        Checked::WrongLength => 4,
-        Checked::WrongContents => 5,
-        Checked::Broken(fault, _) => fault_number(fault),
+impl From<HeadFault> for Refusal {
+    #[inline]
+    fn from(fault: HeadFault) -> Refusal {
+        match fault {
+            HeadFault::WrongLength => Refusal::WrongLength,
+            HeadFault::WrongContents => Refusal::WrongContents,
+        }
     }
 }
 
-/// ```text
-/// ensures { value_view result ≡ image_value (checked_view checked) }
-/// ```
-#[inline]
-fn image_value(checked: Checked) -> Value {
-    match checked {
-        Checked::Accepted => Value::Absent,
-        Checked::WrongLength => Value::Absent,
-        Checked::WrongContents => Value::Absent,
-        Checked::Broken(_, place) => Value::Present(place as u64),
-    }
-}
-
-/// ```text
-/// ensures { result ≡ image_number (head_test head) }
-/// ```
-#[inline]
-fn head_number(head: Head) -> u8 {
-    match head {
-        Head::WrongLength => 4,
-        Head::WrongContents => 5,
-        Head::Of(_) => 0,
-    }
-}
-
-/// By the length or the contents.
-///
-/// ```text
-/// ensures { Tells result (image_number (head_test head)) none }
-/// ```
-#[inline]
-pub fn of_head(head: Head) -> Told {
-    Told {
-        number: head_number(head),
-        value: Value::Absent,
-    }
-}
-
-/// By the first rule that a body breaks.
-///
-/// ```text
-/// requires { length image.now ≡ form_length (form_view form) }
-/// ensures { Tells result (image_number (bodies_test (form_view form) image.now)) (image_value (bodies_test (form_view form) image.now)) }
-/// ```
-#[inline]
-pub fn of_bodies<const N: usize>(image: &[u8; N]) -> Told {
-    let checked = first_fault(&*image);
-    Told {
-        number: image_number(checked),
-        value: image_value(checked),
+impl From<Broken> for Refusal {
+    #[inline]
+    fn from(broken: Broken) -> Refusal {
+        Refusal::Body(broken)
     }
 }

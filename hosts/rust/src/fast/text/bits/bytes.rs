@@ -1,14 +1,6 @@
 // Made from crates/bits/src/bytes.rt by tools/portable: do not change it here.
 //! A number and its bytes, little end first, read and written where they stand; runs of bytes copied and zeroed.
 
-/// ```text
-/// ensures { result ≡ x }
-/// ```
-#[inline]
-pub fn wide(x: u8) -> u64 {
-    x as u64
-}
-
 /// The number that at most eight bytes spell, the low one first. Read from the front, so that eight bytes become one load.
 ///
 /// ```text
@@ -19,10 +11,8 @@ pub fn wide(x: u8) -> u64 {
 pub fn number(b: &[u8]) -> u64 {
     assert!(b.len() <= 8);
     let mut x = 0u64;
-    let mut i = 0;
-    while i < b.len() {
-        x |= wide(b[i]) << (8 * i);
-        i += 1;
+    for (i, byte) in b.iter().enumerate() {
+        x |= u64::from(*byte) << (8 * i);
     }
     x
 }
@@ -35,11 +25,9 @@ pub fn number(b: &[u8]) -> u64 {
 #[inline]
 pub fn put_number(dst: &mut [u8], x: u64) {
     let mut y = x;
-    let mut i = 0;
-    while i < dst.len() {
-        dst[i] = (y % 256) as u8;
-        y = y / 256;
-        i += 1;
+    for byte in dst.iter_mut() {
+        *byte = (y % 256) as u8;
+        y /= 256;
     }
 }
 
@@ -67,8 +55,7 @@ pub fn word_at(image: &[u8], at: usize) -> u64 {
 #[inline]
 pub fn put_bytes(dst: &mut [u8], at: usize, n: usize, x: u64) {
     assert!(at <= dst.len() && n <= dst.len() - at);
-    let end = at + n;
-    put_number(&mut dst[at..end], x);
+    put_number(&mut dst[at..at + n], x);
 }
 
 /// All eight bytes of x.
@@ -104,9 +91,7 @@ pub fn copy(dst: &mut [u8], src: &[u8]) {
 /// ```
 #[inline]
 pub fn put_zeros(dst: &mut [u8]) {
-    let mut i = 0;
-    while i < dst.len() {
-        dst[i] = 0;
-        i += 1;
+    for byte in dst.iter_mut() {
+        *byte = 0;
     }
 }

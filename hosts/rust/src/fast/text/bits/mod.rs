@@ -15,9 +15,9 @@ const HALF: u64 = 0x1_0000_0000;
 #[inline]
 pub fn replace_u32(old: u64, val: u32, high: bool) -> u64 {
     if high {
-        (val as u64) * HALF + old % HALF
+        u64::from(val) * HALF + old % HALF
     } else {
-        old - old % HALF + (val as u64)
+        old - old % HALF + u64::from(val)
     }
 }
 
@@ -42,7 +42,11 @@ pub fn half(x: u64, high: bool) -> u32 {
 /// ```
 #[inline]
 pub fn in_half(v: u32, high: bool) -> u64 {
-    if high { (v as u64) << 32 } else { v as u64 }
+    if high {
+        u64::from(v) << 32
+    } else {
+        u64::from(v)
+    }
 }
 
 /// Byte k of x, the low one being 0.
@@ -68,5 +72,5 @@ pub fn byte_of(x: u32, k: usize) -> u8 {
 pub fn with_byte(old: u32, k: usize, val: u8) -> u32 {
     assert!(k < 4);
     let shift = k * 8;
-    (old & !(0xff << shift)) | ((val as u32) << shift)
+    (old & !(0xff << shift)) | (u32::from(val) << shift)
 }

@@ -3,13 +3,6 @@
 
 use super::state::PchPicState;
 
-/// An index, where there is one: the Rust's Option\<usize>.
-#[derive(Clone, Copy)]
-pub enum Index {
-    None,
-    At(usize),
-}
-
 /// The registers that are stored and change nothing else.
 #[derive(Clone, Copy)]
 pub enum Plain {
@@ -87,7 +80,7 @@ pub fn decode(offset: usize) -> Cell {
 /// ```
 #[inline]
 pub fn in_byte_area(offset: usize) -> bool {
-    PchPicState::ROUTE_ENTRY_BASE <= offset && offset < PchPicState::INT_ISR_LO
+    (PchPicState::ROUTE_ENTRY_BASE..PchPicState::INT_ISR_LO).contains(&offset)
 }
 
 /// The offset, where a Byte access meets only route and vector bytes.
@@ -96,10 +89,6 @@ pub fn in_byte_area(offset: usize) -> bool {
 /// ensures { result ≡ byte_index offset }
 /// ```
 #[inline]
-pub fn reg8_offset(offset: usize) -> Index {
-    if in_byte_area(offset) {
-        Index::At(offset)
-    } else {
-        Index::None
-    }
+pub fn reg8_offset(offset: usize) -> Option<usize> {
+    in_byte_area(offset).then_some(offset)
 }

@@ -7,17 +7,8 @@ use super::super::image::form::Form;
 use super::events_out::copy_out;
 use super::shifts::shift;
 
-/// As many events as wait or as fit, whichever is fewer.
+/// As many events go as wait or as fit, whichever is fewer.
 ///
-/// ```text
-/// ensures { result ≡ min waiting (bytes / 4) }
-/// ```
-#[inline]
-fn fitting(waiting: usize, bytes: usize) -> usize {
-    let events = bytes / form::EVENT;
-    if waiting < events { waiting } else { events }
-}
-
 /// ```text
 /// requires { (length image.old ≡ form_length (form_view form)) × (count_in (form_view form) image.old ≤ capacity) }
 /// ensures { Drains image.old image.new out.old out.new result }
@@ -28,7 +19,7 @@ pub fn drain<const N: usize>(image: &mut [u8; N], out: &mut [u8]) -> usize {
     let p = places_of(form);
     let count = p.count;
     let len = image[count] as usize;
-    let n = fitting(len, out.len());
+    let n = len.min(out.len() / form::EVENT);
     let room = form::EVENT * n;
     copy_out(image, &mut out[0..room], n);
     shift(image, n, len);

@@ -17,12 +17,10 @@ const BEHIND: u64 = 65536;
 #[inline]
 pub fn put_events(out: &mut [u8], pairs: &[u8], numbers: &[u8], n: usize) {
     assert!(out.len() == 4 * n && pairs.len() == 2 * n && numbers.len() == 2 * n);
-    let mut k = 0;
-    while k < n {
+    for k in 0..n {
         let from = form::PAIR * k;
         let last = from + form::PAIR;
         let event = number(&pairs[from..last]) + BEHIND * number(&numbers[from..last]);
         put_bytes(out, form::EVENT * k, form::EVENT, event);
-        k += 1;
     }
 }

@@ -3,7 +3,6 @@
 
 use super::super::bits::bytes::number;
 use super::super::bits::bytes::put_bytes;
-use super::super::bits::bytes::wide;
 use super::super::image::form;
 use super::super::image::form::places_of;
 use super::super::image::form::Form;
@@ -20,32 +19,10 @@ pub fn waiting<const N: usize>(image: &[u8; N]) -> u64 {
     let form = const { super::super::image::form::form_at(N) };
     let p = places_of(form);
     let at = p.count;
-    wide(image[at])
+    u64::from(image[at])
 }
 
-/// The drops with one more, up to their stop.
-///
-/// ```text
-/// ensures { result ≡ min (drops + 1) stop }
-/// ```
-#[inline]
-fn counted(drops: u64) -> u64 {
-    if drops < 0xffff_ffff {
-        drops + 1
-    } else {
-        0xffff_ffff
-    }
-}
-
-/// ```text
-/// ensures { result ≡ flag asserted }
-/// ```
-#[inline]
-fn flag_of(asserted: bool) -> u8 {
-    if asserted { 1 } else { 0 }
-}
-
-/// An event is offered to body 4; the answer is how many were dropped.
+/// An event is offered to body 4; the answer is how many were dropped. The drops are counted up to their stop.
 ///
 /// ```text
 /// requires { length body.old ≡ ring_length }
@@ -56,13 +33,18 @@ fn offer_to(body: &mut [u8], vector: u8, asserted: bool) -> u32 {
     assert!(body.len() == 37);
     let len = body[form::COUNT] as usize;
     if form::CAPACITY <= len {
-        let drops = number(&body[form::DROPS..form::PAIRS]);
-        put_bytes(body, form::DROPS, form::DROPS_LENGTH, counted(drops));
+        let drops = number(&body[form::DROPS..form::PAIRS]) as u32;
+        put_bytes(
+            body,
+            form::DROPS,
+            form::DROPS_LENGTH,
+            drops.saturating_add(1) as u64,
+        );
         return 1;
     }
     let at = form::PAIRS + form::PAIR * len;
     body[at] = vector;
-    body[at + form::FLAG] = flag_of(asserted);
+    body[at + form::FLAG] = u8::from(asserted);
     body[form::COUNT] = (len + 1) as u8;
     0
 }

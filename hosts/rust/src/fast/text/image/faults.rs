@@ -20,13 +20,11 @@ pub enum Fault {
     Unused,
 }
 
-/// What testing an image finds; of a broken rule what and at which place.
+/// The rule that is broken, and the place of the first byte that breaks it.
 #[derive(Clone, Copy)]
-pub enum Checked {
-    Accepted,
-    WrongLength,
-    WrongContents,
-    Broken(Fault, usize),
+pub struct Broken {
+    pub rule: Fault,
+    pub place: usize,
 }
 
 /// The rules of the pairs, which stand from `at` on.
@@ -35,19 +33,25 @@ pub enum Checked {
 /// requires { (at + 2 * capacity ≤ length image.now) × (count ≤ capacity) }
 /// ensures { checked_view result ≡ body_test (pair_fault at count (part at (2 * capacity) image.now)) }
 /// ```
-#[inline]
-fn pair_fault(image: &[u8], at: usize, count: usize) -> Checked {
+#[inline(never)]
+fn pair_fault(image: &[u8], at: usize, count: usize) -> Result<(), Broken> {
     assert!(32 <= image.len() && at <= image.len() - 32 && count <= 16);
     let end = at + PAIRS_LENGTH;
     let flag = bad_flag(count, &image[at..end]);
     let byte = used_byte(count, &image[at..end]);
     if flag < PAIRS_LENGTH {
-        return Checked::Broken(Fault::Flag, at + flag);
+        return Err(Broken {
+            rule: Fault::Flag,
+            place: at + flag,
+        });
     }
     if byte < PAIRS_LENGTH {
-        return Checked::Broken(Fault::Unused, at + byte);
+        return Err(Broken {
+            rule: Fault::Unused,
+            place: at + byte,
+        });
     }
-    Checked::Accepted
+    Ok(())
 }
 
 /// The rule of the numbers, in the form that has them.
@@ -56,21 +60,24 @@ fn pair_fault(image: &[u8], at: usize, count: usize) -> Checked {
 /// requires { (length image.now ≡ form_length (form_view form)) × (count ≤ capacity) }
 /// ensures { checked_view result ≡ body_test (finding (form_view form) image.now (unused_rule rules-form.numbers count)) }
 /// ```
-#[inline]
-fn number_fault<const N: usize>(image: &[u8; N], count: usize) -> Checked {
+#[inline(never)]
+fn number_fault<const N: usize>(image: &[u8; N], count: usize) -> Result<(), Broken> {
     let form = const { super::super::image::form::form_at(N) };
     assert!(count <= 16);
     let Form::Numbered = form else {
-        return Checked::Accepted;
+        return Ok(());
     };
     let p = places_of(form);
     let at = p.numbers;
     let end = at + NUMBERS_LENGTH;
     let byte = used_byte(count, &image[at..end]);
     if byte < NUMBERS_LENGTH {
-        return Checked::Broken(Fault::Unused, at + byte);
+        return Err(Broken {
+            rule: Fault::Unused,
+            place: at + byte,
+        });
     }
-    Checked::Accepted
+    Ok(())
 }
 
 /// A form without a copy of IRR has IRR's own place there.
@@ -79,22 +86,25 @@ fn number_fault<const N: usize>(image: &[u8; N], count: usize) -> Checked {
 /// requires { length image.now ≡ form_length (form_view form) }
 /// ensures { checked_view result ≡ body_test (first_fault (form_view form) image.now (rules (form_view form) image.now)) }
 /// ```
-#[inline]
-pub fn first_fault<const N: usize>(image: &[u8; N]) -> Checked {
+#[inline(never)]
+pub fn first_fault<const N: usize>(image: &[u8; N]) -> Result<(), Broken> {
     let form = const { super::super::image::form::form_at(N) };
     let p = places_of(form);
     let copy = p.last_intirr;
     if word_at(image, copy) != word_at(image, p.intirr) {
-        return Checked::Broken(Fault::Copy, copy);
+        return Err(Broken {
+            rule: Fault::Copy,
+            place: copy,
+        });
     }
     let place = p.count;
     let count = image[place] as usize;
     if count > CAPACITY {
-        return Checked::Broken(Fault::Count, place);
+        return Err(Broken {
+            rule: Fault::Count,
+            place,
+        });
     }
-    let pairs = pair_fault(&*image, p.pairs, count);
-    let Checked::Accepted = pairs else {
-        return pairs;
-    };
+    pair_fault(&*image, p.pairs, count)?;
     number_fault(&*image, count)
 }

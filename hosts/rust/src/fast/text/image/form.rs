@@ -9,22 +9,16 @@ pub enum Form {
     Numbered,
 }
 
-#[derive(Clone, Copy)]
-pub enum KnownForm {
-    Unknown,
-    As(Form),
-}
-
 /// ```text
 /// ensures { form_known result ≡ form_of length }
 /// ```
 #[inline]
-pub fn form_of(length: usize) -> KnownForm {
+pub fn form_of(length: usize) -> Option<Form> {
     match length {
-        259 => KnownForm::As(Form::One),
-        251 => KnownForm::As(Form::Two),
-        290 => KnownForm::As(Form::Numbered),
-        _ => KnownForm::Unknown,
+        259 => Some(Form::One),
+        251 => Some(Form::Two),
+        290 => Some(Form::Numbered),
+        _ => None,
     }
 }
 

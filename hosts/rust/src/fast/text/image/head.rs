@@ -6,14 +6,12 @@ use super::super::bits::bytes::word_at;
 use super::form::contents_of;
 use super::form::form_of;
 use super::form::Form;
-use super::form::KnownForm;
 
-/// What the length and the contents tell: an image of a form, or why it is none.
-#[derive(Clone, Copy)]
-pub enum Head {
+/// Why bytes are no image of a form.
+#[derive(Clone, Copy, PartialEq, Eq)]
+pub enum HeadFault {
     WrongLength,
     WrongContents,
-    Of(Form),
 }
 
 /// ```text
@@ -40,13 +38,13 @@ fn contents_good<const N: usize>(image: &[u8; N]) -> bool {
 /// requires { form_of (length image.now) ≡ known (form_view form) }
 /// ensures { Headed result image.now }
 /// ```
-#[inline]
-fn headed<const N: usize>(image: &[u8; N]) -> Head {
+#[inline(always)]
+fn headed<const N: usize>(image: &[u8; N]) -> Result<Form, HeadFault> {
     let form = const { super::super::image::form::form_at(N) };
     if contents_good(image) {
-        return Head::Of(form);
+        return Ok(form);
     }
-    Head::WrongContents
+    Err(HeadFault::WrongContents)
 }
 
 /// An arm for each form, so that each compares with constants.
@@ -54,14 +52,10 @@ fn headed<const N: usize>(image: &[u8; N]) -> Head {
 /// ```text
 /// ensures { Headed result image.now }
 /// ```
-#[inline]
-pub fn test_head<const N: usize>(image: &[u8; N]) -> Head {
-    let KnownForm::As(form) = form_of(image.len()) else {
-        return Head::WrongLength;
+#[inline(always)]
+pub fn test_head<const N: usize>(image: &[u8; N]) -> Result<Form, HeadFault> {
+    let Some(form) = form_of(image.len()) else {
+        return Err(HeadFault::WrongLength);
     };
-    match form {
-        Form::One => headed(image),
-        Form::Two => headed(image),
-        Form::Numbered => headed(image),
-    }
+    headed(image)
 }

@@ -22,10 +22,8 @@ const ALL: u64 = 0xffff_ffff_ffff_ffff;
 #[inline]
 pub fn zero_row(sheet: &mut [u8], wide: bool, n: usize) {
     assert!(n < 65);
-    let mut c = 0;
-    while c < COLUMNS {
+    for c in 0..COLUMNS {
         put_cell(sheet, wide, n, c, 0);
-        c += 1;
     }
 }
 
@@ -56,11 +54,8 @@ pub fn zero(sheet: &mut [u8], wide: bool) {
 #[inline]
 fn copy_row(from: &[u8], sheet: &mut [u8], n: usize) {
     assert!(n < 64);
-    let mut c = 0;
-    while c < COLUMNS {
-        let x = cell(from, true, n, c);
-        put_cell(sheet, true, n, c, x);
-        c += 1;
+    for c in 0..COLUMNS {
+        put_cell(sheet, true, n, c, cell(from, true, n, c));
     }
 }
 
@@ -101,11 +96,8 @@ pub fn follow(
 ) {
     assert!(records <= 4000 && first <= trace.len() && 16 * records <= trace.len() - first);
     let mut w = kept;
-    let mut k = 0;
-    while k < records {
-        let place = first + LENGTH * k;
-        let r = record_at(trace, place);
+    for k in 0..records {
+        let r = record_at(trace, first + LENGTH * k);
         w = step(sheet, wide, w, base + k as u64, r);
-        k += 1;
     }
 }

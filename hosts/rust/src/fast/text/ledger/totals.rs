@@ -3,7 +3,6 @@
 
 use super::super::bits::bytes::word_at;
 use super::cells::cell;
-use super::cells::greater;
 use super::cells::place;
 use super::cells::put_cell;
 use super::cells::GREATEST;
@@ -16,14 +15,6 @@ pub const COLUMNS: usize = 10;
 /// The row of the total.
 pub const TOTAL: usize = 64;
 
-/// ```text
-/// ensures { result ≡ is_on x }
-/// ```
-#[inline]
-fn is_on(x: u64) -> u64 {
-    if x == 0 { 0 } else { 1 }
-}
-
 /// A wait that is not over is open.
 ///
 /// ```text
@@ -34,7 +25,7 @@ fn is_on(x: u64) -> u64 {
 fn close(sheet: &mut [u8], wide: bool, n: usize) {
     assert!(n < 64);
     let since = cell(sheet, wide, n, OPEN);
-    put_cell(sheet, wide, n, OPEN, is_on(since));
+    put_cell(sheet, wide, n, OPEN, u64::from(since != 0));
 }
 
 /// The greater wait, and of all else the sum.
@@ -45,9 +36,9 @@ fn close(sheet: &mut [u8], wide: bool, n: usize) {
 #[inline]
 fn join_with(column: usize, total: u64, x: u64) -> u64 {
     if column == GREATEST {
-        return greater(total, x);
+        return total.max(x);
     }
-    u64::wrapping_add(total, x)
+    total.wrapping_add(x)
 }
 
 /// ```text
@@ -69,10 +60,8 @@ fn join(sheet: &mut [u8], wide: bool, n: usize, column: usize) {
 #[inline]
 fn join_row(sheet: &mut [u8], wide: bool, n: usize) {
     assert!(n < 64);
-    let mut c = 0;
-    while c < COLUMNS {
+    for c in 0..COLUMNS {
         join(sheet, wide, n, c);
-        c += 1;
     }
 }
 
@@ -129,9 +118,7 @@ fn finish_row(sheet: &mut [u8], wide: bool, n: usize) {
 /// ```
 #[inline]
 pub fn join_all(sheet: &mut [u8], wide: bool) {
-    let mut n = 0;
-    while n < INPUTS {
+    for n in 0..INPUTS {
         finish_row(sheet, wide, n);
-        n += 1;
     }
 }

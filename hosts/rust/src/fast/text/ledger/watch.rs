@@ -92,10 +92,9 @@ fn enter(sheet: &mut [u8], wide: bool, w: Watched, set: u64, k: u64) -> Watched 
     let n = u64::trailing_zeros(waits) as usize;
     let waiting = offer(sheet, wide, n, k, true, w.waiting);
     Watched {
-        mask: w.mask,
-        irr: w.irr,
         isr: w.isr | 1u64 << n,
         waiting,
+        ..w
     }
 }
 
@@ -110,10 +109,9 @@ fn leave(sheet: &mut [u8], wide: bool, w: Watched, set: u64, k: u64) -> Watched 
     let served = decide::served(set, w.isr);
     let waiting = offer_each(sheet, wide, served, k, w.waiting);
     Watched {
-        mask: w.mask,
-        irr: w.irr,
         isr: w.isr & !set,
         waiting,
+        ..w
     }
 }
 
@@ -133,10 +131,8 @@ fn enter_one(sheet: &mut [u8], wide: bool, w: Watched, n: usize, k: u64) -> Watc
     }
     event(sheet, wide, n, k, true, Fate::Returned);
     Watched {
-        mask: w.mask,
-        irr: w.irr,
         isr: w.isr | bit,
-        waiting: w.waiting,
+        ..w
     }
 }
 
@@ -156,10 +152,8 @@ fn leave_one(sheet: &mut [u8], wide: bool, w: Watched, n: usize, k: u64) -> Watc
     }
     event(sheet, wide, n, k, false, Fate::Returned);
     Watched {
-        mask: w.mask,
-        irr: w.irr,
         isr: w.isr & !bit,
-        waiting: w.waiting,
+        ..w
     }
 }
 
@@ -204,10 +198,8 @@ pub fn raise(sheet: &mut [u8], wide: bool, w: Watched, n: usize, k: u64) -> Watc
     assert!(n < 64);
     count_raise(sheet, wide, w, n, k);
     let latched = Watched {
-        mask: w.mask,
         irr: w.irr | 1u64 << n,
-        isr: w.isr,
-        waiting: w.waiting,
+        ..w
     };
     enter_one(sheet, wide, latched, n, k)
 }
@@ -225,10 +217,8 @@ pub fn lower(sheet: &mut [u8], wide: bool, w: Watched, n: usize, k: u64) -> Watc
     count(sheet, wide, n, LOWERS);
     withdraw(sheet, wide, n);
     let unlatched = Watched {
-        mask: w.mask,
         irr: w.irr & !(1u64 << n),
-        isr: w.isr,
-        waiting: w.waiting,
+        ..w
     };
     leave_one(sheet, wide, unlatched, n, k)
 }
@@ -252,9 +242,7 @@ pub fn write_mask(
     let old = w.mask;
     let masked = Watched {
         mask: bits::replace_u32(old, val, high),
-        irr: w.irr,
-        isr: w.isr,
-        waiting: w.waiting,
+        ..w
     };
     let entered = enter(
         sheet,
@@ -281,10 +269,8 @@ pub fn write_mask(
 pub fn write_clear(sheet: &mut [u8], wide: bool, w: Watched, k: u64, bits: u64) -> Watched {
     withdraw_each(sheet, wide, bits);
     let cleared = Watched {
-        mask: w.mask,
         irr: w.irr & !bits,
-        isr: w.isr,
-        waiting: w.waiting,
+        ..w
     };
     leave(sheet, wide, cleared, bits, k)
 }

@@ -2,9 +2,12 @@
 //! One record of a trace as a pass takes it: the call that it is, with base 0 and size 65,536. A refused call does nothing.
 
 use super::super::device::window;
-use super::super::device::window::Known;
-use super::super::device::window::Located;
 use super::super::trace::record_bytes::Record;
+use super::super::trace::record_bytes::LOWER;
+use super::super::trace::record_bytes::POLL;
+use super::super::trace::record_bytes::RAISE;
+use super::super::trace::record_bytes::READ;
+use super::super::trace::record_bytes::WRITE;
 use super::watch;
 use super::watch::Watched;
 use super::watch_write;
@@ -12,47 +15,6 @@ use super::watch_write;
 const INPUTS: u64 = 64;
 
 const SIZE: u64 = 0x1_0000;
-
-// ---- the calls on an input
-
-/// ```text
-/// requires { Roomy wide sheet.old × (k < record_limit wide) }
-/// ensures { FollowsItem wide (lines_of w) w.waiting (lines_of result) result.waiting sheet.old sheet.new k
-///     (as_item (calls (input_call n (device.level n true)))) }
-/// ```
-#[inline]
-fn raise(sheet: &mut [u8], wide: bool, w: Watched, k: u64, n: u64) -> Watched {
-    if n < INPUTS {
-        return watch::raise(sheet, wide, w, n as usize, k);
-    }
-    w
-}
-
-/// ```text
-/// requires { Roomy wide sheet.old × (k < record_limit wide) }
-/// ensures { FollowsItem wide (lines_of w) w.waiting (lines_of result) result.waiting sheet.old sheet.new k
-///     (as_item (calls (input_call n (device.level n false)))) }
-/// ```
-#[inline]
-fn lower(sheet: &mut [u8], wide: bool, w: Watched, k: u64, n: u64) -> Watched {
-    if n < INPUTS {
-        return watch::lower(sheet, wide, w, n as usize, k);
-    }
-    w
-}
-
-/// ```text
-/// requires { Roomy wide sheet.old × (k < record_limit wide) }
-/// ensures { FollowsItem wide (lines_of w) w.waiting (lines_of result) result.waiting sheet.old sheet.new k
-///     (as_item (calls (input_call n (device.poll n)))) }
-/// ```
-#[inline]
-fn poll(sheet: &mut [u8], wide: bool, w: Watched, k: u64, n: u64) -> Watched {
-    if n < INPUTS {
-        return watch::poll(sheet, wide, w, n as usize, k);
-    }
-    w
-}
 
 // ---- a write
 
@@ -71,10 +33,10 @@ fn write(
     width: u64,
     value: u64,
 ) -> Watched {
-    let Known::As(_) = window::width_of(width) else {
+    if window::width_of(width).is_none() {
         return w;
-    };
-    let Located::At(offset) = window::locate(0, SIZE, address, width) else {
+    }
+    let Some(offset) = window::locate(0, SIZE, address, width) else {
         return w;
     };
     watch_write::write(sheet, wide, w, k, offset, value, width)
@@ -82,7 +44,7 @@ fn write(
 
 // ---- a record
 
-/// A read changes nothing that is kept; after a drain of all nothing waits.
+/// A call on no input changes nothing, and a read nothing that is kept; after a drain of all nothing waits.
 ///
 /// ```text
 /// requires { Roomy wide sheet.old × (k < record_limit wide) }
@@ -90,19 +52,13 @@ fn write(
 /// ```
 #[inline]
 pub fn step(sheet: &mut [u8], wide: bool, w: Watched, k: u64, r: Record) -> Watched {
-    let kind = r.kind;
     let byte = r.byte as u64;
-    match kind {
-        1 => raise(sheet, wide, w, k, byte),
-        2 => lower(sheet, wide, w, k, byte),
-        3 => poll(sheet, wide, w, k, byte),
-        4 => w,
-        5 => write(sheet, wide, w, k, r.offset as u64, byte, r.value),
-        _ => Watched {
-            mask: w.mask,
-            irr: w.irr,
-            isr: w.isr,
-            waiting: 0,
-        },
+    match r.kind {
+        RAISE if byte < INPUTS => watch::raise(sheet, wide, w, byte as usize, k),
+        LOWER if byte < INPUTS => watch::lower(sheet, wide, w, byte as usize, k),
+        POLL if byte < INPUTS => watch::poll(sheet, wide, w, byte as usize, k),
+        RAISE | LOWER | POLL | READ => w,
+        WRITE => write(sheet, wide, w, k, r.offset as u64, byte, r.value),
+        _ => Watched { waiting: 0, ..w },
     }
 }

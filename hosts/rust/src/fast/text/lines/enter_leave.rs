@@ -2,7 +2,6 @@
 //! An input goes into service or leaves it, in place on an image, as the rules say it. Of a set the lowest that waits enters. Module `decide` of crate `device` says which they are.
 
 use super::super::device::decide;
-use super::super::device::state::Answer;
 use super::super::fields::entries::vector;
 use super::super::fields::words;
 use super::super::image::form::Form;
@@ -14,15 +13,15 @@ use super::super::image::form::Form;
 /// ensures { MovesIn image.old image.new (answer_value result) untaken given (λ vs. lines.enter vs false (on set)) }
 /// ```
 #[inline]
-pub fn enter<const N: usize>(image: &mut [u8; N], set: u64) -> Answer {
+pub fn enter<const N: usize>(image: &mut [u8; N], set: u64) -> Option<u8> {
     let isr = words::isr(image);
     let waiting = decide::pending(set, words::irr(image), words::mask(image), isr);
     if waiting == 0 {
-        return Answer::None;
+        return None;
     }
-    let irq = u64::trailing_zeros(waiting) as usize;
+    let irq = waiting.trailing_zeros() as usize;
     words::put_isr(image, isr | 1u64 << irq);
-    Answer::Vector(vector(image, irq))
+    Some(vector(image, irq))
 }
 
 /// An input that is in service leaves it; the answer is its vector.
@@ -32,13 +31,13 @@ pub fn enter<const N: usize>(image: &mut [u8; N], set: u64) -> Answer {
 /// ensures { MovesIn image.old image.new (answer_value result) untaken given (λ vs. lines.leave vs false (only irq)) }
 /// ```
 #[inline]
-pub fn leave_one<const N: usize>(image: &mut [u8; N], irq: usize) -> Answer {
+pub fn leave_one<const N: usize>(image: &mut [u8; N], irq: usize) -> Option<u8> {
     assert!(irq < 64);
     let isr = words::isr(image);
     let bit = 1u64 << irq;
     if decide::served(bit, isr) == 0 {
-        return Answer::None;
+        return None;
     }
     words::put_isr(image, isr & !bit);
-    Answer::Vector(vector(image, irq))
+    Some(vector(image, irq))
 }

@@ -1,7 +1,6 @@
 // Made from crates/lines/src/events.rt by tools/portable: do not change it here.
 //! The events that a register write makes, offered to the ring.
 
-use super::super::device::state::Answer;
 use super::super::fields::entries::vector;
 use super::super::fields::ring::offer;
 use super::super::image::form::Form;
@@ -13,10 +12,10 @@ use super::super::image::form::Form;
 /// ensures { (result ≤ 1) × Offers image.old image.new result (λ d. assert_of (answer_value entered)) }
 /// ```
 #[inline]
-pub fn offer_entered<const N: usize>(image: &mut [u8; N], entered: Answer) -> u32 {
+pub fn offer_entered<const N: usize>(image: &mut [u8; N], entered: Option<u8>) -> u32 {
     match entered {
-        Answer::None => 0,
-        Answer::Vector(v) => offer(image, v, true),
+        None => 0,
+        Some(v) => offer(image, v, true),
     }
 }
 
@@ -31,7 +30,7 @@ fn offer_rest<const N: usize>(image: &mut [u8; N], set: u64) -> u32 {
     let mut left = set;
     let mut dropped = 0;
     while left != 0 {
-        let irq = u64::trailing_zeros(left) as usize;
+        let irq = left.trailing_zeros() as usize;
         let vector = vector(image, irq);
         dropped += offer(image, vector, false);
         left &= left - 1;
@@ -49,7 +48,7 @@ fn offer_rest<const N: usize>(image: &mut [u8; N], set: u64) -> u32 {
 pub fn offer_each<const N: usize>(image: &mut [u8; N], set: u64) -> u32 {
     let mut left = set;
     while left != 0 {
-        let irq = u64::trailing_zeros(left) as usize;
+        let irq = left.trailing_zeros() as usize;
         let vector = vector(image, irq);
         let dropped = offer(image, vector, false);
         left &= left - 1;

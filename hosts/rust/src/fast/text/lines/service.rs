@@ -1,7 +1,6 @@
 // Made from crates/lines/src/service.rt by tools/portable: do not change it here.
 //! The calls on an input, in place on an image: its latch is stored, and then it goes into service or leaves it.
 
-use super::super::device::state::Answer;
 use super::super::fields::words;
 use super::super::image::form::Form;
 use super::enter_leave::enter;
@@ -12,7 +11,7 @@ use super::enter_leave::leave_one;
 /// ensures { Returns image.old image.new (answer_value result) (core.poll irq) }
 /// ```
 #[inline]
-pub fn poll<const N: usize>(image: &mut [u8; N], irq: usize) -> Answer {
+pub fn poll<const N: usize>(image: &mut [u8; N], irq: usize) -> Option<u8> {
     assert!(irq < 64);
     enter(image, 1u64 << irq)
 }
@@ -24,7 +23,7 @@ pub fn poll<const N: usize>(image: &mut [u8; N], irq: usize) -> Answer {
 /// ensures { Returns image.old image.new (answer_value result) (core.raise irq) }
 /// ```
 #[inline]
-fn raise<const N: usize>(image: &mut [u8; N], irq: usize) -> Answer {
+fn raise<const N: usize>(image: &mut [u8; N], irq: usize) -> Option<u8> {
     assert!(irq < 64);
     let irr = words::irr(image);
     let bit = 1u64 << irq;
@@ -39,7 +38,7 @@ fn raise<const N: usize>(image: &mut [u8; N], irq: usize) -> Answer {
 /// ensures { Returns image.old image.new (answer_value result) (core.lower irq) }
 /// ```
 #[inline]
-fn lower<const N: usize>(image: &mut [u8; N], irq: usize) -> Answer {
+fn lower<const N: usize>(image: &mut [u8; N], irq: usize) -> Option<u8> {
     assert!(irq < 64);
     let irr = words::irr(image);
     words::put_irr(image, irr & !(1u64 << irq));
@@ -51,7 +50,7 @@ fn lower<const N: usize>(image: &mut [u8; N], irq: usize) -> Answer {
 /// ensures { Returns image.old image.new (answer_value result) (level_move irq level) }
 /// ```
 #[inline]
-pub fn set_level<const N: usize>(image: &mut [u8; N], irq: usize, level: bool) -> Answer {
+pub fn set_level<const N: usize>(image: &mut [u8; N], irq: usize, level: bool) -> Option<u8> {
     assert!(irq < 64);
     if level {
         return raise(image, irq);

@@ -1,29 +1,22 @@
 // Made from crates/pch_pic/src/accesses.rt by tools/portable: do not change it here.
 //! Reads and writes through the window, where the answer area has room. What they tell goes into it. A Dword is what guests use: it has the quick test, and arms in which the form
 //! is a constant. All other widths go one way.
+//! A read and a write stand beside one another: of a closure that made the access nothing would be known of the image that it changed.
 
 use super::super::access::cells;
-use super::super::answer::done;
-use super::super::answer::refusals::of_bodies;
-use super::super::answer::refusals::of_head;
-use super::super::answer::refusals::outside;
+use super::super::answer::accepted::bodies_accepted;
+use super::super::answer::refusals::Refusal;
 use super::super::answer::tell;
-use super::super::answer::Value;
 use super::super::bits;
 use super::super::device::window;
-use super::super::device::window::Located;
-use super::super::image::bodies::test_waiting;
-use super::super::image::bodies::Bodies;
 use super::super::image::form::form_of;
 use super::super::image::form::Form;
-use super::super::image::form::KnownForm;
-use super::super::image::head::Head;
 use super::super::image::quick::contents_apart;
 use super::super::image::quick::few_odd;
 use super::super::image::quick::odd;
 use super::super::six_calls::tested_access;
 
-/// A read of any width: the image is tested the whole way.
+/// A read of any width: the image is tested the whole way. It stays a call: within `read_at_once`, that would be one too, and every Dword would take 30 instructions more.
 ///
 /// ```text
 /// requires { answer_length ≤ length answer.old }
@@ -60,17 +53,17 @@ fn read_on<const N: usize>(
     answer: &mut [u8],
 ) -> u8 {
     assert!(16 <= answer.len());
-    let Located::At(offset) = window::locate(base, size, address, 4) else {
-        return tell(answer, outside(address));
+    let Some(offset) = window::locate(base, size, address, 4) else {
+        return tell(answer, Err(Refusal::Outside(address)));
     };
     let value = cells::read_dword(&*image, offset) as u64;
-    tell(answer, done(Value::Present(value)))
+    tell(answer, Ok(Some(value)))
 }
 
 /// The contents are those of the form, and the bodies are tested in full.
 ///
 /// ```text
-/// requires { Headed (Of form) image.now × (answer_length ≤ length answer.old) }
+/// requires { Headed (Ok form) image.now × (answer_length ≤ length answer.old) }
 /// ensures { leaves result image.now answer.new []
 ///     ≡ outcome (asked.read base size address 4) image.now answer.old }
 /// ```
@@ -83,16 +76,16 @@ fn read_tested<const N: usize>(
     answer: &mut [u8],
 ) -> u8 {
     assert!(16 <= answer.len());
-    let Bodies::Good = test_waiting(&*image) else {
-        return tell(answer, of_bodies(&*image));
-    };
+    if let Err(refusal) = bodies_accepted(&*image) {
+        return tell(answer, Err(refusal));
+    }
     read_on(&*image, base, size, address, answer)
 }
 
 /// The contents are those of the form. Where few wait, the form is a constant here too.
 ///
 /// ```text
-/// requires { Headed (Of form) image.now × (answer_length ≤ length answer.old) }
+/// requires { Headed (Ok form) image.now × (answer_length ≤ length answer.old) }
 /// ensures { leaves result image.now answer.new []
 ///     ≡ outcome (asked.read base size address 4) image.now answer.old }
 /// ```
@@ -104,28 +97,11 @@ fn read_waiting<const N: usize>(
     address: u64,
     answer: &mut [u8],
 ) -> u8 {
-    let form = const { super::super::image::form::form_at(N) };
     assert!(16 <= answer.len());
-    match form {
-        Form::One => {
-            if few_odd(&*image) == 0 {
-                return read_on(&*image, base, size, address, answer);
-            }
-            read_tested(&*image, base, size, address, answer)
-        }
-        Form::Two => {
-            if few_odd(&*image) == 0 {
-                return read_on(&*image, base, size, address, answer);
-            }
-            read_tested(&*image, base, size, address, answer)
-        }
-        Form::Numbered => {
-            if few_odd(&*image) == 0 {
-                return read_on(&*image, base, size, address, answer);
-            }
-            read_tested(&*image, base, size, address, answer)
-        }
+    if few_odd(&*image) == 0 {
+        return read_on(&*image, base, size, address, answer);
     }
+    read_tested(&*image, base, size, address, answer)
 }
 
 /// Of an image that is accepted, behind the quick test. An access outside the window goes the way of any other width: a refusal that was told here would share its stores with
@@ -145,11 +121,11 @@ fn read_at_once<const N: usize>(
     answer: &mut [u8],
 ) -> u8 {
     assert!(16 <= answer.len());
-    let Located::At(offset) = window::locate(base, size, address, 4) else {
+    let Some(offset) = window::locate(base, size, address, 4) else {
         return read_any(&*image, base, size, address, 4, answer);
     };
     let read = cells::read_dword(&*image, offset) as u64;
-    tell(answer, done(Value::Present(read)))
+    tell(answer, Ok(Some(read)))
 }
 
 /// A Dword. The quick test comes first, in an arm for each form.
@@ -168,41 +144,19 @@ pub fn read_dword<const N: usize>(
     answer: &mut [u8],
 ) -> u8 {
     assert!(16 <= answer.len());
-    let KnownForm::As(form) = form_of(image.len()) else {
-        return tell(answer, of_head(Head::WrongLength));
+    let Some(form) = form_of(image.len()) else {
+        return tell(answer, Err(Refusal::WrongLength));
     };
-    match form {
-        Form::One => {
-            if odd(&*image) == 0 {
-                return read_at_once(&*image, base, size, address, answer);
-            }
-            if contents_apart(&*image) == 0 {
-                return read_waiting(&*image, base, size, address, answer);
-            }
-            tell(answer, of_head(Head::WrongContents))
-        }
-        Form::Two => {
-            if odd(&*image) == 0 {
-                return read_at_once(&*image, base, size, address, answer);
-            }
-            if contents_apart(&*image) == 0 {
-                return read_waiting(&*image, base, size, address, answer);
-            }
-            tell(answer, of_head(Head::WrongContents))
-        }
-        Form::Numbered => {
-            if odd(&*image) == 0 {
-                return read_at_once(&*image, base, size, address, answer);
-            }
-            if contents_apart(&*image) == 0 {
-                return read_waiting(&*image, base, size, address, answer);
-            }
-            tell(answer, of_head(Head::WrongContents))
-        }
+    if odd(&*image) == 0 {
+        return read_at_once(&*image, base, size, address, answer);
     }
+    if contents_apart(&*image) == 0 {
+        return read_waiting(&*image, base, size, address, answer);
+    }
+    tell(answer, Err(Refusal::WrongContents))
 }
 
-/// A write of any width: the image is tested the whole way.
+/// A write of any width: the image is tested the whole way. It stays a call, as a read does.
 ///
 /// ```text
 /// requires { answer_length ≤ length answer.old }
@@ -241,17 +195,17 @@ fn write_on<const N: usize>(
     answer: &mut [u8],
 ) -> u8 {
     assert!(16 <= answer.len());
-    let Located::At(offset) = window::locate(base, size, address, 4) else {
-        return tell(answer, outside(address));
+    let Some(offset) = window::locate(base, size, address, 4) else {
+        return tell(answer, Err(Refusal::Outside(address)));
     };
     let dropped = cells::write_dword(image, offset, bits::half(value, false)) as u64;
-    tell(answer, done(Value::Present(dropped)))
+    tell(answer, Ok(Some(dropped)))
 }
 
 /// The contents are those of the form, and the bodies are tested in full.
 ///
 /// ```text
-/// requires { Headed (Of form) image.old × (answer_length ≤ length answer.old) }
+/// requires { Headed (Ok form) image.old × (answer_length ≤ length answer.old) }
 /// ensures { leaves result image.new answer.new []
 ///     ≡ outcome (asked.write base size address 4 value) image.old answer.old }
 /// ```
@@ -265,16 +219,16 @@ fn write_tested<const N: usize>(
     answer: &mut [u8],
 ) -> u8 {
     assert!(16 <= answer.len());
-    let Bodies::Good = test_waiting(image) else {
-        return tell(answer, of_bodies(image));
-    };
+    if let Err(refusal) = bodies_accepted(image) {
+        return tell(answer, Err(refusal));
+    }
     write_on(image, base, size, address, value, answer)
 }
 
 /// The contents are those of the form. Where few wait, the form is a constant here too.
 ///
 /// ```text
-/// requires { Headed (Of form) image.old × (answer_length ≤ length answer.old) }
+/// requires { Headed (Ok form) image.old × (answer_length ≤ length answer.old) }
 /// ensures { leaves result image.new answer.new []
 ///     ≡ outcome (asked.write base size address 4 value) image.old answer.old }
 /// ```
@@ -287,28 +241,11 @@ fn write_waiting<const N: usize>(
     value: u64,
     answer: &mut [u8],
 ) -> u8 {
-    let form = const { super::super::image::form::form_at(N) };
     assert!(16 <= answer.len());
-    match form {
-        Form::One => {
-            if few_odd(image) == 0 {
-                return write_on(image, base, size, address, value, answer);
-            }
-            write_tested(image, base, size, address, value, answer)
-        }
-        Form::Two => {
-            if few_odd(image) == 0 {
-                return write_on(image, base, size, address, value, answer);
-            }
-            write_tested(image, base, size, address, value, answer)
-        }
-        Form::Numbered => {
-            if few_odd(image) == 0 {
-                return write_on(image, base, size, address, value, answer);
-            }
-            write_tested(image, base, size, address, value, answer)
-        }
+    if few_odd(image) == 0 {
+        return write_on(image, base, size, address, value, answer);
     }
+    write_tested(image, base, size, address, value, answer)
 }
 
 /// Of an image that is accepted, behind the quick test. An access outside the window goes the way of any other width: a refusal that was told here would share its stores with
@@ -329,11 +266,11 @@ fn write_at_once<const N: usize>(
     answer: &mut [u8],
 ) -> u8 {
     assert!(16 <= answer.len());
-    let Located::At(offset) = window::locate(base, size, address, 4) else {
+    let Some(offset) = window::locate(base, size, address, 4) else {
         return write_any(image, base, size, address, 4, value, answer);
     };
     let lost = cells::write_dword(image, offset, bits::half(value, false)) as u64;
-    tell(answer, done(Value::Present(lost)))
+    tell(answer, Ok(Some(lost)))
 }
 
 /// A Dword. The quick test comes first, in an arm for each form.
@@ -353,36 +290,14 @@ pub fn write_dword<const N: usize>(
     answer: &mut [u8],
 ) -> u8 {
     assert!(16 <= answer.len());
-    let KnownForm::As(form) = form_of(image.len()) else {
-        return tell(answer, of_head(Head::WrongLength));
+    let Some(form) = form_of(image.len()) else {
+        return tell(answer, Err(Refusal::WrongLength));
     };
-    match form {
-        Form::One => {
-            if odd(image) == 0 {
-                return write_at_once(image, base, size, address, value, answer);
-            }
-            if contents_apart(image) == 0 {
-                return write_waiting(image, base, size, address, value, answer);
-            }
-            tell(answer, of_head(Head::WrongContents))
-        }
-        Form::Two => {
-            if odd(image) == 0 {
-                return write_at_once(image, base, size, address, value, answer);
-            }
-            if contents_apart(image) == 0 {
-                return write_waiting(image, base, size, address, value, answer);
-            }
-            tell(answer, of_head(Head::WrongContents))
-        }
-        Form::Numbered => {
-            if odd(image) == 0 {
-                return write_at_once(image, base, size, address, value, answer);
-            }
-            if contents_apart(image) == 0 {
-                return write_waiting(image, base, size, address, value, answer);
-            }
-            tell(answer, of_head(Head::WrongContents))
-        }
+    if odd(image) == 0 {
+        return write_at_once(image, base, size, address, value, answer);
     }
+    if contents_apart(image) == 0 {
+        return write_waiting(image, base, size, address, value, answer);
+    }
+    tell(answer, Err(Refusal::WrongContents))
 }

@@ -1,13 +1,9 @@
 // Made from crates/pch_pic/src/draining.rt by tools/portable: do not change it here.
 //! A drain, behind what a front tests first. What it tells goes into the answer area.
 
-use super::super::answer::done;
-use super::super::answer::refusals::of_bodies;
+use super::super::answer::accepted::bodies_accepted;
 use super::super::answer::tell;
-use super::super::answer::Value;
 use super::super::drain::drains;
-use super::super::image::bodies::test_waiting;
-use super::super::image::bodies::Bodies;
 use super::super::image::form::places_of;
 use super::super::image::form::Form;
 use super::super::image::quick::odd;
@@ -45,13 +41,13 @@ pub fn drain_one<const N: usize>(
 ) -> u8 {
     assert!(16 <= answer.len() && 4 <= events.len() && place <= events.len() - 4);
     drains::one(image, &mut events[place..]);
-    tell(answer, done(Value::Present(1)))
+    tell(answer, Ok(Some(1)))
 }
 
 /// The contents are those of the form, and the bodies are still to be tested. The events go into the buffer from a place on.
 ///
 /// ```text
-/// requires { Headed (Of form) image.old × (answer_length ≤ length answer.old) × (place ≤ length events.old) }
+/// requires { Headed (Ok form) image.old × (answer_length ≤ length answer.old) × (place ≤ length events.old) }
 /// ensures { leaves result image.new answer.new events.new
 ///     ≡ outcome (asked.drain events.old place) image.old answer.old }
 /// ```
@@ -63,9 +59,9 @@ pub fn drain_waiting<const N: usize>(
     answer: &mut [u8],
 ) -> u8 {
     assert!(16 <= answer.len() && place <= events.len());
-    let Bodies::Good = test_waiting(image) else {
-        return tell(answer, of_bodies(image));
-    };
+    if let Err(refusal) = bodies_accepted(image) {
+        return tell(answer, Err(refusal));
+    }
     let count = drains::drain(image, &mut events[place..]);
-    tell(answer, done(Value::Present(count as u64)))
+    tell(answer, Ok(Some(count as u64)))
 }

@@ -1,12 +1,9 @@
 // Made from crates/pch_pic/src/inputs.rt by tools/portable: do not change it here.
 //! The calls on an input, and who waits, behind what a front tests first. What they tell goes into the answer area.
+//! A level and a poll stand beside one another: of a closure that made the move nothing would be known of the image that it changed.
 
-use super::super::answer::done;
-use super::super::answer::refusals::of_bodies;
+use super::super::answer::accepted::bodies_accepted;
 use super::super::answer::tell;
-use super::super::answer::Value;
-use super::super::image::bodies::test_waiting;
-use super::super::image::bodies::Bodies;
 use super::super::image::form::Form;
 use super::super::image::quick::few_odd;
 use super::super::six_calls::accepted_input;
@@ -33,7 +30,7 @@ pub fn level_on<const N: usize>(
 /// The contents are those of the form, and the bodies are still to be tested.
 ///
 /// ```text
-/// requires { Headed (Of form) image.old × (answer_length ≤ length answer.old) }
+/// requires { Headed (Ok form) image.old × (answer_length ≤ length answer.old) }
 /// ensures { leaves result image.new answer.new [] ≡ outcome (asked.level input level) image.old answer.old }
 /// ```
 #[inline(never)]
@@ -44,9 +41,9 @@ fn level_tested<const N: usize>(
     answer: &mut [u8],
 ) -> u8 {
     assert!(16 <= answer.len());
-    let Bodies::Good = test_waiting(image) else {
-        return tell(answer, of_bodies(image));
-    };
+    if let Err(refusal) = bodies_accepted(image) {
+        return tell(answer, Err(refusal));
+    }
     level_on(image, input, level, answer)
 }
 
@@ -62,20 +59,20 @@ pub fn poll_on<const N: usize>(image: &mut [u8; N], input: u64, answer: &mut [u8
 }
 
 /// ```text
-/// requires { Headed (Of form) image.old × (answer_length ≤ length answer.old) }
+/// requires { Headed (Ok form) image.old × (answer_length ≤ length answer.old) }
 /// ensures { leaves result image.new answer.new [] ≡ outcome (asked.poll input) image.old answer.old }
 /// ```
 #[inline(never)]
 fn poll_tested<const N: usize>(image: &mut [u8; N], input: u64, answer: &mut [u8]) -> u8 {
     assert!(16 <= answer.len());
-    let Bodies::Good = test_waiting(image) else {
-        return tell(answer, of_bodies(image));
-    };
+    if let Err(refusal) = bodies_accepted(image) {
+        return tell(answer, Err(refusal));
+    }
     poll_on(image, input, answer)
 }
 
 /// ```text
-/// requires { Headed (Of form) image.old × (answer_length ≤ length answer.old) }
+/// requires { Headed (Ok form) image.old × (answer_length ≤ length answer.old) }
 /// ensures { leaves result image.new answer.new [] ≡ outcome (asked.level input level) image.old answer.old }
 /// ```
 #[inline(never)]
@@ -85,58 +82,24 @@ pub fn level_waiting<const N: usize>(
     level: u64,
     answer: &mut [u8],
 ) -> u8 {
-    let form = const { super::super::image::form::form_at(N) };
     assert!(16 <= answer.len());
-    match form {
-        Form::One => {
-            if few_odd(image) == 0 {
-                return level_on(image, input, level, answer);
-            }
-            level_tested(image, input, level, answer)
-        }
-        Form::Two => {
-            if few_odd(image) == 0 {
-                return level_on(image, input, level, answer);
-            }
-            level_tested(image, input, level, answer)
-        }
-        Form::Numbered => {
-            if few_odd(image) == 0 {
-                return level_on(image, input, level, answer);
-            }
-            level_tested(image, input, level, answer)
-        }
+    if few_odd(image) == 0 {
+        return level_on(image, input, level, answer);
     }
+    level_tested(image, input, level, answer)
 }
 
 /// ```text
-/// requires { Headed (Of form) image.old × (answer_length ≤ length answer.old) }
+/// requires { Headed (Ok form) image.old × (answer_length ≤ length answer.old) }
 /// ensures { leaves result image.new answer.new [] ≡ outcome (asked.poll input) image.old answer.old }
 /// ```
 #[inline(never)]
 pub fn poll_waiting<const N: usize>(image: &mut [u8; N], input: u64, answer: &mut [u8]) -> u8 {
-    let form = const { super::super::image::form::form_at(N) };
     assert!(16 <= answer.len());
-    match form {
-        Form::One => {
-            if few_odd(image) == 0 {
-                return poll_on(image, input, answer);
-            }
-            poll_tested(image, input, answer)
-        }
-        Form::Two => {
-            if few_odd(image) == 0 {
-                return poll_on(image, input, answer);
-            }
-            poll_tested(image, input, answer)
-        }
-        Form::Numbered => {
-            if few_odd(image) == 0 {
-                return poll_on(image, input, answer);
-            }
-            poll_tested(image, input, answer)
-        }
+    if few_odd(image) == 0 {
+        return poll_on(image, input, answer);
     }
+    poll_tested(image, input, answer)
 }
 
 /// Who waits, of an image that is accepted.
@@ -149,7 +112,7 @@ pub fn poll_waiting<const N: usize>(image: &mut [u8; N], input: u64, answer: &mu
 pub fn waiting_on<const N: usize>(image: &[u8; N], answer: &mut [u8]) -> u8 {
     assert!(16 <= answer.len());
     let set = who_waits::set_of(&*image);
-    tell(answer, done(Value::Present(set)))
+    tell(answer, Ok(Some(set)))
 }
 
 /// Of any other one: it is tested the whole way.

@@ -20,15 +20,10 @@ use self::inputs::poll_on;
 use self::inputs::poll_waiting;
 use self::inputs::waiting_on;
 use self::inputs::waiting_tested;
-use super::answer;
-use super::answer::done;
-use super::answer::refusals::of_head;
+use super::answer::refusals::Refusal;
+use super::answer::refusals::NO_ROOM;
 use super::answer::tell;
-use super::answer::Value;
 use super::image::form::form_of;
-use super::image::form::Form;
-use super::image::form::KnownForm;
-use super::image::head::Head;
 use super::image::quick::contents_apart;
 use super::image::quick::odd;
 use super::six_calls::reset_drain;
@@ -38,7 +33,7 @@ use super::six_calls::reset_drain;
 /// ```
 pub fn pch_pic_reset(image: &mut [u8], answer: &mut [u8]) -> u8 {
     if answer.len() < 16 {
-        return 7;
+        return NO_ROOM;
     }
     if let Ok(image) = <&mut [u8; 259]>::try_from(&mut *image) {
         return pch_pic_reset_of(image, answer);
@@ -55,7 +50,7 @@ pub fn pch_pic_reset(image: &mut [u8], answer: &mut [u8]) -> u8 {
 #[inline]
 fn pch_pic_reset_of<const N: usize>(image: &mut [u8; N], answer: &mut [u8]) -> u8 {
     let told = reset_drain::reset(image);
-    answer::tell(answer, told)
+    tell(answer, told)
 }
 
 /// ```text
@@ -71,7 +66,7 @@ pub fn pch_pic_read(
     answer: &mut [u8],
 ) -> u8 {
     if answer.len() < 16 {
-        return 7;
+        return NO_ROOM;
     }
     if let Ok(image) = <&[u8; 259]>::try_from(image) {
         return pch_pic_read_of(image, base, size, address, width, answer);
@@ -114,7 +109,7 @@ pub fn pch_pic_write(
     answer: &mut [u8],
 ) -> u8 {
     if answer.len() < 16 {
-        return 7;
+        return NO_ROOM;
     }
     if let Ok(image) = <&mut [u8; 259]>::try_from(&mut *image) {
         return pch_pic_write_of(image, base, size, address, width, value, answer);
@@ -149,7 +144,7 @@ fn pch_pic_write_of<const N: usize>(
 /// ```
 pub fn pch_pic_level(image: &mut [u8], input: u64, level: u64, answer: &mut [u8]) -> u8 {
     if answer.len() < 16 {
-        return 7;
+        return NO_ROOM;
     }
     if let Ok(image) = <&mut [u8; 259]>::try_from(&mut *image) {
         return pch_pic_level_of(image, input, level, answer);
@@ -170,38 +165,16 @@ fn pch_pic_level_of<const N: usize>(
     level: u64,
     answer: &mut [u8],
 ) -> u8 {
-    let KnownForm::As(form) = form_of(image.len()) else {
-        return tell(answer, of_head(Head::WrongLength));
+    let Some(form) = form_of(image.len()) else {
+        return tell(answer, Err(Refusal::WrongLength));
     };
-    match form {
-        Form::One => {
-            if odd(image) == 0 {
-                return level_on(image, input, level, answer);
-            }
-            if contents_apart(image) == 0 {
-                return level_waiting(image, input, level, answer);
-            }
-            tell(answer, of_head(Head::WrongContents))
-        }
-        Form::Two => {
-            if odd(image) == 0 {
-                return level_on(image, input, level, answer);
-            }
-            if contents_apart(image) == 0 {
-                return level_waiting(image, input, level, answer);
-            }
-            tell(answer, of_head(Head::WrongContents))
-        }
-        Form::Numbered => {
-            if odd(image) == 0 {
-                return level_on(image, input, level, answer);
-            }
-            if contents_apart(image) == 0 {
-                return level_waiting(image, input, level, answer);
-            }
-            tell(answer, of_head(Head::WrongContents))
-        }
+    if odd(image) == 0 {
+        return level_on(image, input, level, answer);
     }
+    if contents_apart(image) == 0 {
+        return level_waiting(image, input, level, answer);
+    }
+    tell(answer, Err(Refusal::WrongContents))
 }
 
 /// ```text
@@ -209,7 +182,7 @@ fn pch_pic_level_of<const N: usize>(
 /// ```
 pub fn pch_pic_poll(image: &mut [u8], input: u64, answer: &mut [u8]) -> u8 {
     if answer.len() < 16 {
-        return 7;
+        return NO_ROOM;
     }
     if let Ok(image) = <&mut [u8; 259]>::try_from(&mut *image) {
         return pch_pic_poll_of(image, input, answer);
@@ -225,38 +198,16 @@ pub fn pch_pic_poll(image: &mut [u8], input: u64, answer: &mut [u8]) -> u8 {
 
 #[inline]
 fn pch_pic_poll_of<const N: usize>(image: &mut [u8; N], input: u64, answer: &mut [u8]) -> u8 {
-    let KnownForm::As(form) = form_of(image.len()) else {
-        return tell(answer, of_head(Head::WrongLength));
+    let Some(form) = form_of(image.len()) else {
+        return tell(answer, Err(Refusal::WrongLength));
     };
-    match form {
-        Form::One => {
-            if odd(image) == 0 {
-                return poll_on(image, input, answer);
-            }
-            if contents_apart(image) == 0 {
-                return poll_waiting(image, input, answer);
-            }
-            tell(answer, of_head(Head::WrongContents))
-        }
-        Form::Two => {
-            if odd(image) == 0 {
-                return poll_on(image, input, answer);
-            }
-            if contents_apart(image) == 0 {
-                return poll_waiting(image, input, answer);
-            }
-            tell(answer, of_head(Head::WrongContents))
-        }
-        Form::Numbered => {
-            if odd(image) == 0 {
-                return poll_on(image, input, answer);
-            }
-            if contents_apart(image) == 0 {
-                return poll_waiting(image, input, answer);
-            }
-            tell(answer, of_head(Head::WrongContents))
-        }
+    if odd(image) == 0 {
+        return poll_on(image, input, answer);
     }
+    if contents_apart(image) == 0 {
+        return poll_waiting(image, input, answer);
+    }
+    tell(answer, Err(Refusal::WrongContents))
 }
 
 /// ```text
@@ -265,10 +216,10 @@ fn pch_pic_poll_of<const N: usize>(image: &mut [u8; N], input: u64, answer: &mut
 /// ```
 pub fn pch_pic_drain(image: &mut [u8], events: &mut [u8], place: usize, answer: &mut [u8]) -> u8 {
     if answer.len() < 16 {
-        return 7;
+        return NO_ROOM;
     }
     if events.len() < place {
-        return 7;
+        return NO_ROOM;
     }
     if let Ok(image) = <&mut [u8; 259]>::try_from(&mut *image) {
         return pch_pic_drain_of(image, events, place, answer);
@@ -289,47 +240,19 @@ fn pch_pic_drain_of<const N: usize>(
     place: usize,
     answer: &mut [u8],
 ) -> u8 {
-    let KnownForm::As(form) = form_of(image.len()) else {
-        return tell(answer, of_head(Head::WrongLength));
+    let Some(form) = form_of(image.len()) else {
+        return tell(answer, Err(Refusal::WrongLength));
     };
-    match form {
-        Form::One => {
-            if nothing_waits(image) {
-                return tell(answer, done(Value::Present(0)));
-            }
-            if reset_drain::one_fits(image, events.len() - place) {
-                return drain_one(image, events, place, answer);
-            }
-            if contents_apart(image) == 0 {
-                return drain_waiting(image, events, place, answer);
-            }
-            tell(answer, of_head(Head::WrongContents))
-        }
-        Form::Two => {
-            if nothing_waits(image) {
-                return tell(answer, done(Value::Present(0)));
-            }
-            if reset_drain::one_fits(image, events.len() - place) {
-                return drain_one(image, events, place, answer);
-            }
-            if contents_apart(image) == 0 {
-                return drain_waiting(image, events, place, answer);
-            }
-            tell(answer, of_head(Head::WrongContents))
-        }
-        Form::Numbered => {
-            if nothing_waits(image) {
-                return tell(answer, done(Value::Present(0)));
-            }
-            if reset_drain::one_fits(image, events.len() - place) {
-                return drain_one(image, events, place, answer);
-            }
-            if contents_apart(image) == 0 {
-                return drain_waiting(image, events, place, answer);
-            }
-            tell(answer, of_head(Head::WrongContents))
-        }
+    if nothing_waits(image) {
+        return tell(answer, Ok(Some(0)));
     }
+    if reset_drain::one_fits(image, events.len() - place) {
+        return drain_one(image, events, place, answer);
+    }
+    if contents_apart(image) == 0 {
+        return drain_waiting(image, events, place, answer);
+    }
+    tell(answer, Err(Refusal::WrongContents))
 }
 
 /// ```text
@@ -352,29 +275,13 @@ pub fn pch_pic_waiting(image: &[u8], answer: &mut [u8]) -> u8 {
 fn pch_pic_waiting_of<const N: usize>(image: &[u8; N], answer: &mut [u8]) -> u8 {
     let room = answer.len();
     if room < 16 {
-        return 7;
+        return NO_ROOM;
     }
-    let KnownForm::As(form) = form_of(image.len()) else {
+    let Some(form) = form_of(image.len()) else {
         return waiting_tested(&*image, answer);
     };
-    match form {
-        Form::One => {
-            if odd(&*image) == 0 {
-                return waiting_on(&*image, answer);
-            }
-            waiting_tested(&*image, answer)
-        }
-        Form::Two => {
-            if odd(&*image) == 0 {
-                return waiting_on(&*image, answer);
-            }
-            waiting_tested(&*image, answer)
-        }
-        Form::Numbered => {
-            if odd(&*image) == 0 {
-                return waiting_on(&*image, answer);
-            }
-            waiting_tested(&*image, answer)
-        }
+    if odd(&*image) == 0 {
+        return waiting_on(&*image, answer);
     }
+    waiting_tested(&*image, answer)
 }

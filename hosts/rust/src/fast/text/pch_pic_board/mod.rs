@@ -4,10 +4,9 @@
 
 pub mod counts;
 
-use super::answer;
-use super::answer::done;
+use super::answer::refusals::NO_ROOM;
+use super::answer::tell;
 use super::answer::Told;
-use super::answer::Value;
 use super::bits::bytes::put_zeros;
 use super::six_calls::reset_drain;
 use super::six_calls::tested_access;
@@ -22,24 +21,22 @@ use super::six_calls::tested_input;
 #[inline]
 fn finish<const N: usize>(image: &[u8; N], board: &mut [u8], answer: &mut [u8], told: Told) -> u8 {
     assert!(256 <= board.len() && 16 <= answer.len());
-    let number = told.number;
-    counts::bring(image, board, number);
-    answer::tell(answer, told)
+    counts::bring(image, board, told);
+    tell(answer, told)
 }
 
-/// After a reset that handed back the number: done, no input is in service, so that nothing has to be counted; refused, the board stays.
+/// After a reset: done, no input is in service, so that nothing has to be counted; refused, the board stays.
 ///
 /// ```text
 /// requires { board_length ≤ length board.old }
-/// ensures { board.new ≡ cleared_after number board.old }
+/// ensures { board.new ≡ cleared_after (told_number told) board.old }
 /// ```
 #[inline]
-fn clear(board: &mut [u8], number: u8) {
+fn clear(board: &mut [u8], told: Told) {
     assert!(256 <= board.len());
-    if number != 0 {
-        return;
+    if told.is_ok() {
+        put_zeros(&mut board[0..256]);
     }
-    put_zeros(&mut board[0..256]);
 }
 
 /// ```text
@@ -48,10 +45,10 @@ fn clear(board: &mut [u8], number: u8) {
 /// ```
 pub fn pch_pic_board_reset(image: &mut [u8], board: &mut [u8], answer: &mut [u8]) -> u8 {
     if answer.len() < 16 {
-        return 7;
+        return NO_ROOM;
     }
     if board.len() < 256 {
-        return 7;
+        return NO_ROOM;
     }
     if let Ok(image) = <&mut [u8; 259]>::try_from(&mut *image) {
         return pch_pic_board_reset_of(image, board, answer);
@@ -72,9 +69,8 @@ fn pch_pic_board_reset_of<const N: usize>(
     answer: &mut [u8],
 ) -> u8 {
     let told = reset_drain::reset(image);
-    let number = told.number;
-    clear(board, number);
-    answer::tell(answer, told)
+    clear(board, told);
+    tell(answer, told)
 }
 
 /// ```text
@@ -91,10 +87,10 @@ pub fn pch_pic_board_read(
     answer: &mut [u8],
 ) -> u8 {
     if answer.len() < 16 {
-        return 7;
+        return NO_ROOM;
     }
     if board.len() < 256 {
-        return 7;
+        return NO_ROOM;
     }
     if let Ok(image) = <&[u8; 259]>::try_from(image) {
         return pch_pic_board_read_of(image, board, base, size, address, width, answer);
@@ -137,10 +133,10 @@ pub fn pch_pic_board_write(
     answer: &mut [u8],
 ) -> u8 {
     if answer.len() < 16 {
-        return 7;
+        return NO_ROOM;
     }
     if board.len() < 256 {
-        return 7;
+        return NO_ROOM;
     }
     if let Ok(image) = <&mut [u8; 259]>::try_from(&mut *image) {
         return pch_pic_board_write_of(image, board, base, size, address, width, value, answer);
@@ -181,10 +177,10 @@ pub fn pch_pic_board_level(
     answer: &mut [u8],
 ) -> u8 {
     if answer.len() < 16 {
-        return 7;
+        return NO_ROOM;
     }
     if board.len() < 256 {
-        return 7;
+        return NO_ROOM;
     }
     if let Ok(image) = <&mut [u8; 259]>::try_from(&mut *image) {
         return pch_pic_board_level_of(image, board, input, level, answer);
@@ -216,10 +212,10 @@ fn pch_pic_board_level_of<const N: usize>(
 /// ```
 pub fn pch_pic_board_poll(image: &mut [u8], board: &mut [u8], input: u64, answer: &mut [u8]) -> u8 {
     if answer.len() < 16 {
-        return 7;
+        return NO_ROOM;
     }
     if board.len() < 256 {
-        return 7;
+        return NO_ROOM;
     }
     if let Ok(image) = <&mut [u8; 259]>::try_from(&mut *image) {
         return pch_pic_board_poll_of(image, board, input, answer);
@@ -256,13 +252,13 @@ pub fn pch_pic_board_drain(
     answer: &mut [u8],
 ) -> u8 {
     if answer.len() < 16 {
-        return 7;
+        return NO_ROOM;
     }
     if board.len() < 256 {
-        return 7;
+        return NO_ROOM;
     }
     if events.len() < place {
-        return 7;
+        return NO_ROOM;
     }
     if let Ok(image) = <&mut [u8; 259]>::try_from(&mut *image) {
         return pch_pic_board_drain_of(image, board, events, place, answer);
@@ -295,12 +291,11 @@ fn pch_pic_board_drain_of<const N: usize>(
 /// ```
 pub fn pch_pic_board_event(board: &mut [u8], vector: u8, flag: u8, answer: &mut [u8]) -> u8 {
     if answer.len() < 16 {
-        return 7;
+        return NO_ROOM;
     }
     if board.len() < 256 {
-        return 7;
+        return NO_ROOM;
     }
     let count = counts::hear(board, vector, flag);
-    let told = done(Value::Present(count as u64));
-    answer::tell(answer, told)
+    tell(answer, Ok(Some(u64::from(count))))
 }

@@ -9,7 +9,8 @@ pub mod load_state;
 pub mod load_tables;
 pub mod load_words;
 
-use super::answer;
+use super::answer::refusals::NO_ROOM;
+use super::answer::tell;
 
 /// The image goes into the target, in the form of the target's length.
 ///
@@ -18,7 +19,7 @@ use super::answer;
 /// ```
 pub fn pch_pic_convert(image: &[u8], target: &mut [u8], answer: &mut [u8]) -> u8 {
     if answer.len() < 16 {
-        return 7;
+        return NO_ROOM;
     }
     if let Ok(image) = <&[u8; 259]>::try_from(image) {
         return pch_pic_convert_1(image, target, answer);
@@ -53,5 +54,5 @@ fn pch_pic_convert_of<const N: usize, const M: usize>(
     answer: &mut [u8],
 ) -> u8 {
     let told = convert::convert(image, target);
-    answer::tell(answer, told)
+    tell(answer, told)
 }

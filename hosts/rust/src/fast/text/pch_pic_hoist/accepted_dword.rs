@@ -3,22 +3,13 @@
 
 use super::super::access::cells::read_dword;
 use super::super::access::cells::write_dword;
-use super::super::answer::done;
-use super::super::answer::refusals::no_width;
-use super::super::answer::refusals::outside;
+use super::super::answer::refusals::Refusal;
 use super::super::answer::Told;
-use super::super::answer::Value;
 use super::super::bits;
 use super::super::device::window;
-use super::super::device::window::Known;
-use super::super::device::window::Located;
 use super::super::image::form::Form;
-use super::judge::judge;
-use super::judge::Fit;
-use super::profile::test_aligned;
-use super::profile::unaligned;
-use super::profile::unfit;
-use super::profile::Aligned;
+use super::judge::forbidden;
+use super::profile::is_aligned_dword;
 
 /// ```text
 /// requires { Passed (form_view form) image.now }
@@ -32,16 +23,16 @@ pub fn read<const N: usize>(
     address: u64,
     width: u64,
 ) -> Told {
-    let Known::As(known) = window::width_of(width) else {
-        return no_width();
+    let Some(known) = window::width_of(width) else {
+        return Err(Refusal::NoWidth);
     };
-    let Located::At(offset) = window::locate(base, size, address, width) else {
-        return outside(address);
+    let Some(offset) = window::locate(base, size, address, width) else {
+        return Err(Refusal::Outside(address));
     };
-    let Aligned::Dword = test_aligned(known, offset) else {
-        return unaligned();
-    };
-    done(Value::Present(read_dword(image, offset) as u64))
+    if !is_aligned_dword(known, offset) {
+        return Err(Refusal::Unaligned);
+    }
+    Ok(Some(read_dword(image, offset) as u64))
 }
 
 /// The value that is told is how many events were dropped.
@@ -60,18 +51,18 @@ pub fn write<const N: usize>(
     width: u64,
     value: u64,
 ) -> Told {
-    let Known::As(known) = window::width_of(width) else {
-        return no_width();
+    let Some(known) = window::width_of(width) else {
+        return Err(Refusal::NoWidth);
     };
-    let Located::At(offset) = window::locate(base, size, address, width) else {
-        return outside(address);
+    let Some(offset) = window::locate(base, size, address, width) else {
+        return Err(Refusal::Outside(address));
     };
-    let Aligned::Dword = test_aligned(known, offset) else {
-        return unaligned();
-    };
-    let Fit::Passes = judge(image, running, offset, value) else {
-        return unfit();
-    };
+    if !is_aligned_dword(known, offset) {
+        return Err(Refusal::Unaligned);
+    }
+    if forbidden(image, running, offset, value) {
+        return Err(Refusal::Unfit);
+    }
     let lost = write_dword(image, offset, bits::half(value, false));
-    done(Value::Present(lost as u64))
+    Ok(Some(lost as u64))
 }

@@ -9,7 +9,8 @@ pub mod phases;
 pub mod profile;
 pub mod tested_dword;
 
-use super::answer;
+use super::answer::refusals::NO_ROOM;
+use super::answer::tell;
 use super::six_calls::reset_drain;
 
 /// Starts the first phase.
@@ -20,10 +21,10 @@ use super::six_calls::reset_drain;
 /// ```
 pub fn pch_pic_hoist_reset(image: &mut [u8], phase: &mut [u8], answer: &mut [u8]) -> u8 {
     if answer.len() < 16 {
-        return 7;
+        return NO_ROOM;
     }
-    if phase.len() < 1 {
-        return 7;
+    if phase.is_empty() {
+        return NO_ROOM;
     }
     if let Ok(image) = <&mut [u8; 259]>::try_from(&mut *image) {
         return pch_pic_hoist_reset_of(image, phase, answer);
@@ -44,9 +45,8 @@ fn pch_pic_hoist_reset_of<const N: usize>(
     answer: &mut [u8],
 ) -> u8 {
     let told = reset_drain::reset(image);
-    let number = told.number;
-    phases::begin_startup(phase, number);
-    answer::tell(answer, told)
+    phases::begin(phase, phases::IN_START_UP, told);
+    tell(answer, told)
 }
 
 /// ```text
@@ -62,7 +62,7 @@ pub fn pch_pic_hoist_read(
     answer: &mut [u8],
 ) -> u8 {
     if answer.len() < 16 {
-        return 7;
+        return NO_ROOM;
     }
     if let Ok(image) = <&[u8; 259]>::try_from(image) {
         return pch_pic_hoist_read_of(image, base, size, address, width, answer);
@@ -86,7 +86,7 @@ fn pch_pic_hoist_read_of<const N: usize>(
     answer: &mut [u8],
 ) -> u8 {
     let told = tested_dword::read(image, base, size, address, width);
-    answer::tell(answer, told)
+    tell(answer, told)
 }
 
 /// ```text
@@ -104,10 +104,10 @@ pub fn pch_pic_hoist_write(
     answer: &mut [u8],
 ) -> u8 {
     if answer.len() < 16 {
-        return 7;
+        return NO_ROOM;
     }
-    if phase.len() < 1 {
-        return 7;
+    if phase.is_empty() {
+        return NO_ROOM;
     }
     if let Ok(image) = <&mut [u8; 259]>::try_from(&mut *image) {
         return pch_pic_hoist_write_of(image, phase, base, size, address, width, value, answer);
@@ -134,7 +134,7 @@ fn pch_pic_hoist_write_of<const N: usize>(
 ) -> u8 {
     let running = phases::is_running(phase);
     let told = tested_dword::write(image, running, base, size, address, width, value);
-    answer::tell(answer, told)
+    tell(answer, told)
 }
 
 /// Starts the second phase.
@@ -145,10 +145,10 @@ fn pch_pic_hoist_write_of<const N: usize>(
 /// ```
 pub fn pch_pic_hoist_end_startup(image: &[u8], phase: &mut [u8], answer: &mut [u8]) -> u8 {
     if answer.len() < 16 {
-        return 7;
+        return NO_ROOM;
     }
-    if phase.len() < 1 {
-        return 7;
+    if phase.is_empty() {
+        return NO_ROOM;
     }
     if let Ok(image) = <&[u8; 259]>::try_from(image) {
         return pch_pic_hoist_end_startup_of(image, phase, answer);
@@ -170,7 +170,6 @@ fn pch_pic_hoist_end_startup_of<const N: usize>(
 ) -> u8 {
     let running = phases::is_running(phase);
     let told = tested_dword::end_startup(image, running);
-    let number = told.number;
-    phases::end_startup(phase, number);
-    answer::tell(answer, told)
+    phases::begin(phase, phases::AFTER_START_UP, told);
+    tell(answer, told)
 }

@@ -1,59 +1,21 @@
 // Made from crates/pch_pic_hoist/src/profile.rt by tools/portable: do not change it here.
 //! The hoist profile's tests by value: which accesses are aligned Dwords, which offsets are ISR's or the vectors', and whether a Dword would change a vector byte
-//! whose input is in service. And its two refusals.
+//! whose input is in service.
 
-use super::super::answer::Told;
-use super::super::answer::Value;
 use super::super::bits;
 use super::super::device::map::Width;
 use super::super::device::state::PchPicState;
 
-// ---- refusals
-
-/// ```text
-/// ensures { Tells result unaligned_number none }
-/// ```
-#[inline]
-pub fn unaligned() -> Told {
-    Told {
-        number: 14,
-        value: Value::Absent,
-    }
-}
-
-/// ```text
-/// ensures { Tells result unfit_number none }
-/// ```
-#[inline]
-pub fn unfit() -> Told {
-    Told {
-        number: 15,
-        value: Value::Absent,
-    }
-}
-
 // ---- an access
 
-/// A Dword at an offset that 4 divides, or any other access.
-#[derive(Clone, Copy)]
-pub enum Aligned {
-    Dword,
-    Other,
-}
-
+/// A Dword at an offset that 4 divides.
+///
 /// ```text
-/// ensures { aligned_view result ≡ aligned_dword (width_view width) offset }
+/// ensures { result ≡ aligned_dword (width_view width) offset }
 /// ```
 #[inline]
-pub fn test_aligned(width: Width, offset: usize) -> Aligned {
-    let Width::Dword = width else {
-        return Aligned::Other;
-    };
-    if offset % 4 == 0 {
-        Aligned::Dword
-    } else {
-        Aligned::Other
-    }
+pub fn is_aligned_dword(width: Width, offset: usize) -> bool {
+    matches!(width, Width::Dword) && offset % 4 == 0
 }
 
 // ---- a write

@@ -1,20 +1,13 @@
 // Made from crates/pch_pic_hoist/src/tested_dword.rt by tools/portable: do not change it here.
 //! The hoist profile's reads and writes, and the end of start-up, on the image alone: what they tell is handed back. The image is tested here, 4, 5, 8 to 11; what
 //! comes after is `accepted_dword`.
+//! A read and a write stand beside one another: of a closure that made the access nothing would be known of the image that it changed.
 
-use super::super::answer::done;
-use super::super::answer::refusals::of_bodies;
-use super::super::answer::refusals::of_head;
+use super::super::answer::accepted::accepted;
+use super::super::answer::refusals::Refusal;
 use super::super::answer::Told;
-use super::super::answer::Value;
-use super::super::image::bodies::test_bodies;
-use super::super::image::bodies::Bodies;
-use super::super::image::head::test_head;
-use super::super::image::head::Head;
 use super::accepted_dword;
-use super::judge::judge_end;
-use super::judge::Fit;
-use super::profile::unfit;
+use super::judge::cannot_end;
 
 /// ```text
 /// ensures { ends result image.now [] ≡ hoist_ending false (asked.read base size address width) image.now }
@@ -27,13 +20,7 @@ pub fn read<const N: usize>(
     address: u64,
     width: u64,
 ) -> Told {
-    let told = test_head(image);
-    let Head::Of(form) = told else {
-        return of_head(told);
-    };
-    let Bodies::Good = test_bodies(image) else {
-        return of_bodies(image);
-    };
+    let form = accepted(image)?;
     accepted_dword::read(image, base, size, address, width)
 }
 
@@ -52,13 +39,7 @@ pub fn write<const N: usize>(
     width: u64,
     value: u64,
 ) -> Told {
-    let told = test_head(image);
-    let Head::Of(form) = told else {
-        return of_head(told);
-    };
-    let Bodies::Good = test_bodies(image) else {
-        return of_bodies(image);
-    };
+    let form = accepted(image)?;
     accepted_dword::write(image, running, base, size, address, width, value)
 }
 
@@ -69,15 +50,9 @@ pub fn write<const N: usize>(
 /// ```
 #[inline]
 pub fn end_startup<const N: usize>(image: &[u8; N], running: bool) -> Told {
-    let told = test_head(image);
-    let Head::Of(form) = told else {
-        return of_head(told);
-    };
-    let Bodies::Good = test_bodies(image) else {
-        return of_bodies(image);
-    };
-    let Fit::Passes = judge_end(image, running) else {
-        return unfit();
-    };
-    done(Value::Absent)
+    let form = accepted(image)?;
+    if cannot_end(image, running) {
+        return Err(Refusal::Unfit);
+    }
+    Ok(None)
 }

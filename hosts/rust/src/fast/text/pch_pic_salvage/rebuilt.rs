@@ -42,16 +42,13 @@ pub fn put_contents(trace: &[u8], blocks: usize, bads: &[u16; 64], left: usize, 
     put_bytes(out, 0, 2, left as u64);
     let mut at = 2;
     let mut place = 2 + 4 * left;
-    let mut b = 0;
-    while b < blocks {
+    for b in 0..blocks {
         let block = look(trace, bads, b);
-        let records = block.records;
-        if block.good {
-            put_two(out, at, place, records);
+        if block.bad.is_none() {
+            put_two(out, at, place, block.records);
             at += 4;
-            place += LENGTH * records;
+            place += LENGTH * block.records;
         }
-        b += 1;
     }
 }
 
@@ -64,18 +61,16 @@ pub fn put_contents(trace: &[u8], blocks: usize, bads: &[u16; 64], left: usize, 
 #[inline]
 pub fn put_blocks(trace: &[u8], blocks: usize, bads: &[u16; 64], out: &mut [u8]) {
     let mut at = 0;
-    let mut b = 0;
-    while b < blocks {
+    for b in 0..blocks {
         let block = look(trace, bads, b);
-        let records = block.records;
-        if block.good {
+        if block.bad.is_none() {
+            let records = block.records;
             let from = block.place;
             let until = from + LENGTH * records;
             let end = at + LENGTH * records;
             copy_records(&mut out[at..end], &trace[from..until], records);
             at = end;
         }
-        b += 1;
     }
 }
 
@@ -88,14 +83,10 @@ pub fn put_blocks(trace: &[u8], blocks: usize, bads: &[u16; 64], out: &mut [u8])
 #[inline]
 pub fn put_list(trace: &[u8], blocks: usize, bads: &[u16; 64], out: &mut [u8]) {
     let mut at = 0;
-    let mut b = 0;
-    while b < blocks {
-        let block = look(trace, bads, b);
-        let bad = block.bad;
-        if !block.good {
+    for b in 0..blocks {
+        if let Some(bad) = look(trace, bads, b).bad {
             put_two(out, at, b, bad);
             at += 4;
         }
-        b += 1;
     }
 }

@@ -1,9 +1,7 @@
 // Made from crates/pch_pic_sheet/src/sheet.rt by tools/portable: do not change it here.
 //! The sheet of a trace, made in one pass from reset: zeros, then record by record, then the end of the day. It stands in the bytes lent for it.
 
-use super::super::answer::done;
 use super::super::answer::Told;
-use super::super::answer::Value;
 use super::super::ledger::follow::follow;
 use super::super::ledger::follow::zero;
 use super::super::ledger::follow::zero_row;
@@ -11,8 +9,6 @@ use super::super::ledger::totals::join_all;
 use super::super::ledger::totals::TOTAL;
 use super::super::ledger::watch::Watched;
 use super::super::trace;
-use super::super::trace::trace_refusals::of_trace;
-use super::super::trace::Tested;
 
 /// A trace that is refused leaves the sheet as it was.
 ///
@@ -23,19 +19,16 @@ use super::super::trace::Tested;
 #[inline]
 pub fn make(trace: &[u8], sheet: &mut [u8]) -> Told {
     assert!(2600 <= sheet.len());
-    let tested = trace::test(trace);
-    let Tested::Good(first, records) = tested else {
-        return of_trace(tested);
-    };
+    let records = trace::test(trace)?;
     zero(sheet, false);
     let begun = Watched {
-        mask: 0xffff_ffff_ffff_ffff,
+        mask: u64::MAX,
         irr: 0,
         isr: 0,
         waiting: 0,
     };
-    follow(trace, first, records, sheet, false, begun, 0);
+    follow(trace, records.first, records.count, sheet, false, begun, 0);
     zero_row(sheet, false, TOTAL);
     join_all(sheet, false);
-    done(Value::Present(records as u64))
+    Ok(Some(records.count as u64))
 }

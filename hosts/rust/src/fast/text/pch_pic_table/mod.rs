@@ -6,7 +6,8 @@ pub mod table_dwords;
 pub mod table_widths;
 pub mod tested_access;
 
-use super::answer;
+use super::answer::refusals::NO_ROOM;
+use super::answer::tell;
 
 /// ```text
 /// ensures { leaves result image.now answer.new []
@@ -21,7 +22,7 @@ pub fn pch_pic_table_read(
     answer: &mut [u8],
 ) -> u8 {
     if answer.len() < 16 {
-        return 7;
+        return NO_ROOM;
     }
     if let Ok(image) = <&[u8; 259]>::try_from(image) {
         return pch_pic_table_read_of(image, base, size, address, width, answer);
@@ -45,7 +46,7 @@ fn pch_pic_table_read_of<const N: usize>(
     answer: &mut [u8],
 ) -> u8 {
     let told = tested_access::read(image, base, size, address, width);
-    answer::tell(answer, told)
+    tell(answer, told)
 }
 
 /// ```text
@@ -62,7 +63,7 @@ pub fn pch_pic_table_write(
     answer: &mut [u8],
 ) -> u8 {
     if answer.len() < 16 {
-        return 7;
+        return NO_ROOM;
     }
     if let Ok(image) = <&mut [u8; 259]>::try_from(&mut *image) {
         return pch_pic_table_write_of(image, base, size, address, width, value, answer);
@@ -87,5 +88,5 @@ fn pch_pic_table_write_of<const N: usize>(
     answer: &mut [u8],
 ) -> u8 {
     let told = tested_access::write(image, base, size, address, width, value);
-    answer::tell(answer, told)
+    tell(answer, told)
 }

@@ -19,7 +19,12 @@ use super::super::table::Place;
 #[inline]
 pub fn read_byte<const N: usize>(image: &[u8; N], table: &[[u8; 32]; 32], offset: usize) -> u8 {
     match look(table, offset) {
-        Place::Part(register, high, byte, silent) => {
+        Place::Part {
+            register,
+            high,
+            byte,
+            silent,
+        } => {
             if silent {
                 return 0;
             }
@@ -43,7 +48,12 @@ pub fn write_byte<const N: usize>(
     val: u8,
 ) -> u32 {
     match look(table, offset) {
-        Place::Part(register, high, byte, silent) => {
+        Place::Part {
+            register,
+            high,
+            byte,
+            silent,
+        } => {
             if silent {
                 return 0;
             }

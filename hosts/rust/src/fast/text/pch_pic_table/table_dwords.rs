@@ -30,14 +30,18 @@ fn read_four<const N: usize>(image: &[u8; N], table: &[[u8; 32]; 32], offset: us
 #[inline]
 pub fn read_dword<const N: usize>(image: &[u8; N], table: &[[u8; 32]; 32], offset: usize) -> u32 {
     match look(table, offset) {
-        Place::Part(register, high, byte, _silent) => {
+        Place::Part {
+            register,
+            high,
+            byte,
+            ..
+        } => {
             if byte != 0 {
                 return 0;
             }
             bits::half(value_of(image, register), high)
         }
-        Place::Route(input) => read_four(image, table, offset),
-        Place::Vector(input) => read_four(image, table, offset),
+        Place::Route(_) | Place::Vector(_) => read_four(image, table, offset),
         Place::Nothing => 0,
     }
 }
@@ -73,17 +77,18 @@ pub fn write_dword<const N: usize>(
     val: u32,
 ) -> u32 {
     match look(table, offset) {
-        Place::Part(register, high, byte, _silent) => {
+        Place::Part {
+            register,
+            high,
+            byte,
+            ..
+        } => {
             if byte != 0 {
                 return 0;
             }
             write_half(image, register, val, high)
         }
-        Place::Route(input) => {
-            write_four(image, table, offset, val);
-            0
-        }
-        Place::Vector(input) => {
+        Place::Route(_) | Place::Vector(_) => {
             write_four(image, table, offset, val);
             0
         }

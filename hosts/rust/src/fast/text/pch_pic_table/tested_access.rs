@@ -1,20 +1,11 @@
 // Made from crates/pch_pic_table/src/tested_access.rt by tools/portable: do not change it here.
 //! Reads and writes through the window that are decoded by the table, on the image alone: what they tell is handed back. The tests are those of accesses.
+//! A read and a write stand beside one another: of a closure that made the access nothing would be known of the image that it changed.
 
-use super::super::answer::done;
-use super::super::answer::refusals::no_width;
-use super::super::answer::refusals::of_bodies;
-use super::super::answer::refusals::of_head;
-use super::super::answer::refusals::outside;
+use super::super::answer::accepted::accepted;
+use super::super::answer::refusals::Refusal;
 use super::super::answer::Told;
-use super::super::answer::Value;
 use super::super::device::window;
-use super::super::device::window::Known;
-use super::super::device::window::Located;
-use super::super::image::bodies::test_bodies;
-use super::super::image::bodies::Bodies;
-use super::super::image::head::test_head;
-use super::super::image::head::Head;
 use super::super::table::table_rows;
 use super::table_widths;
 
@@ -29,22 +20,16 @@ pub fn read<const N: usize>(
     address: u64,
     width: u64,
 ) -> Told {
-    let told = test_head(image);
-    let Head::Of(form) = told else {
-        return of_head(told);
+    let form = accepted(image)?;
+    let Some(known) = window::width_of(width) else {
+        return Err(Refusal::NoWidth);
     };
-    let Bodies::Good = test_bodies(image) else {
-        return of_bodies(image);
-    };
-    let Known::As(known) = window::width_of(width) else {
-        return no_width();
-    };
-    let Located::At(offset) = window::locate(base, size, address, width) else {
-        return outside(address);
+    let Some(offset) = window::locate(base, size, address, width) else {
+        return Err(Refusal::Outside(address));
     };
     let table = table_rows::lent();
     let value = table_widths::read_access(image, table, known, offset);
-    done(Value::Present(value))
+    Ok(Some(value))
 }
 
 /// ```text
@@ -59,20 +44,14 @@ pub fn write<const N: usize>(
     width: u64,
     value: u64,
 ) -> Told {
-    let told = test_head(image);
-    let Head::Of(form) = told else {
-        return of_head(told);
+    let form = accepted(image)?;
+    let Some(known) = window::width_of(width) else {
+        return Err(Refusal::NoWidth);
     };
-    let Bodies::Good = test_bodies(image) else {
-        return of_bodies(image);
-    };
-    let Known::As(known) = window::width_of(width) else {
-        return no_width();
-    };
-    let Located::At(offset) = window::locate(base, size, address, width) else {
-        return outside(address);
+    let Some(offset) = window::locate(base, size, address, width) else {
+        return Err(Refusal::Outside(address));
     };
     let table = table_rows::lent();
     let dropped = table_widths::write_access(image, table, known, offset, value);
-    done(Value::Present(dropped as u64))
+    Ok(Some(dropped as u64))
 }

@@ -1,28 +1,18 @@
 // Made from crates/pch_pic_tally/src/adding.rt by tools/portable: do not change it here.
 //! The records of a trace, counted in a tally, as the day goes on from an image. The tests come first, in their order: the image, the trace, the tally.
 
-use super::super::answer::done;
-use super::super::answer::refusals::of_bodies;
-use super::super::answer::refusals::of_head;
+use super::super::answer::accepted::accepted;
 use super::super::answer::Told;
-use super::super::answer::Value;
 use super::super::fields::ring;
 use super::super::fields::words;
-use super::super::image::bodies::test_bodies;
-use super::super::image::bodies::Bodies;
 use super::super::image::form::Form;
-use super::super::image::head::test_head;
-use super::super::image::head::Head;
 use super::super::ledger::cells::cell;
 use super::super::ledger::cells::put_cell;
 use super::super::ledger::follow::follow;
 use super::super::ledger::totals::TOTAL;
 use super::super::ledger::watch::Watched;
 use super::super::trace;
-use super::super::trace::trace_refusals::of_trace;
-use super::super::trace::Tested;
 use super::soundness;
-use super::soundness::Sound;
 
 /// What a pass keeps of the device that an image holds.
 ///
@@ -32,15 +22,11 @@ use super::soundness::Sound;
 /// ```
 #[inline]
 fn kept_of<const N: usize>(image: &[u8; N]) -> Watched {
-    let mask = words::mask(image);
-    let irr = words::irr(image);
-    let isr = words::isr(image);
-    let waiting = ring::waiting(image);
     Watched {
-        mask,
-        irr,
-        isr,
-        waiting,
+        mask: words::mask(image),
+        irr: words::irr(image),
+        isr: words::isr(image),
+        waiting: ring::waiting(image),
     }
 }
 
@@ -67,17 +53,11 @@ fn count(trace: &[u8], first: usize, records: usize, kept: Watched, tally: &mut 
 #[inline]
 fn add_on<const N: usize>(trace: &[u8], image: &[u8; N], tally: &mut [u8]) -> Told {
     assert!(5200 <= tally.len());
-    let tested = trace::test(trace);
-    let Tested::Good(first, records) = tested else {
-        return of_trace(tested);
-    };
-    let found = soundness::test(tally);
-    let Sound::Whole = found else {
-        return soundness::of_tally(found);
-    };
+    let records = trace::test(trace)?;
+    soundness::test(tally)?;
     let kept = kept_of(image);
-    count(trace, first, records, kept, tally);
-    done(Value::Absent)
+    count(trace, records.first, records.count, kept, tally);
+    Ok(None)
 }
 
 /// ```text
@@ -87,12 +67,6 @@ fn add_on<const N: usize>(trace: &[u8], image: &[u8; N], tally: &mut [u8]) -> To
 #[inline]
 pub fn add<const N: usize>(trace: &[u8], image: &[u8; N], tally: &mut [u8]) -> Told {
     assert!(5200 <= tally.len());
-    let told = test_head(image);
-    let Head::Of(form) = told else {
-        return of_head(told);
-    };
-    let Bodies::Good = test_bodies(image) else {
-        return of_bodies(image);
-    };
+    let form = accepted(image)?;
     add_on(trace, image, tally)
 }

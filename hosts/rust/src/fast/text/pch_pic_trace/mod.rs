@@ -9,24 +9,7 @@ pub mod record_step;
 
 use self::play_records::ANSWER;
 use super::answer;
-use super::answer::Told;
-use super::trace::trace_refusals::NO_ROOM;
-
-/// What a play tells goes into the answer area; 7, which it may find at its end, is handed back alone.
-///
-/// ```text
-/// requires { answer_length ≤ length answer.old }
-/// ensures { (result ≡ told.number) × (answer.new ≡ told_in told.number (value_view told.value) answer.old) }
-/// ```
-#[inline]
-fn tell_late(answer: &mut [u8], told: Told) -> u8 {
-    assert!(16 <= answer.len());
-    let number = told.number;
-    if number == NO_ROOM {
-        return NO_ROOM;
-    }
-    answer::tell(answer, told)
-}
+use super::answer::refusals::NO_ROOM;
 
 /// A trace played from reset on the image: each record's sixteen answer bytes, and the drained events back to back.
 ///
@@ -65,7 +48,7 @@ fn pch_pic_play_of<const N: usize>(
     answer: &mut [u8],
 ) -> u8 {
     let told = play_trace::play(trace, image, answers, events);
-    tell_late(answer, told)
+    answer::tell_late(answer, told)
 }
 
 /// A trace played on from the image as it is: in all else as from reset.
@@ -105,5 +88,5 @@ fn pch_pic_play_on_of<const N: usize>(
     answer: &mut [u8],
 ) -> u8 {
     let told = play_on::play(trace, image, answers, events);
-    tell_late(answer, told)
+    answer::tell_late(answer, told)
 }

@@ -6,6 +6,10 @@ use super::super::image::form::Form;
 use super::super::six_calls::accepted_access;
 use super::super::six_calls::accepted_input;
 use super::super::trace::record_bytes::Record;
+use super::super::trace::record_bytes::LOWER;
+use super::super::trace::record_bytes::POLL;
+use super::super::trace::record_bytes::RAISE;
+use super::super::trace::record_bytes::READ;
 
 const SIZE: u64 = 0x1_0000;
 
@@ -17,13 +21,12 @@ const SIZE: u64 = 0x1_0000;
 /// ```
 #[inline]
 pub fn call<const N: usize>(image: &mut [u8; N], r: Record) -> Told {
-    let kind = r.kind;
     let byte = r.byte as u64;
-    match kind {
-        1 => accepted_input::level(image, byte, 1),
-        2 => accepted_input::level(image, byte, 0),
-        3 => accepted_input::poll(image, byte),
-        4 => accepted_access::read(image, 0, SIZE, r.offset as u64, byte),
+    match r.kind {
+        RAISE => accepted_input::level(image, byte, 1),
+        LOWER => accepted_input::level(image, byte, 0),
+        POLL => accepted_input::poll(image, byte),
+        READ => accepted_access::read(image, 0, SIZE, r.offset as u64, byte),
         _ => accepted_access::write(image, 0, SIZE, r.offset as u64, byte, r.value),
     }
 }

@@ -3,15 +3,12 @@
 
 use super::super::answer::put_answer;
 use super::super::answer::tell;
-use super::super::answer::Value;
 use super::super::drain::drains;
 use super::super::image::form;
 use super::super::image::form::Form;
 use super::super::trace::record_bytes::Record;
+use super::super::trace::record_bytes::DRAIN;
 use super::record_call::call;
-
-/// The kind of a record that drains.
-pub const DRAIN: u8 = 6;
 
 /// The room of a drain of all.
 pub const ROOM: usize = 64;
@@ -31,7 +28,7 @@ fn drain_all<const N: usize>(
 ) -> usize {
     assert!(answer.len() == 16 && out.len() == 64);
     let count = drains::drain(image, out);
-    put_answer(answer, 0, Value::Present(count as u64));
+    put_answer(answer, 0, Some(count as u64));
     form::EVENT * count
 }
 
@@ -49,8 +46,7 @@ pub fn step<const N: usize>(
     events: &mut [u8],
 ) -> usize {
     assert!(answer.len() == 16);
-    let kind = r.kind;
-    if kind == DRAIN {
+    if r.kind == DRAIN {
         return drain_all(image, r, answer, &mut events[0..ROOM]);
     }
     let told = call(image, r);

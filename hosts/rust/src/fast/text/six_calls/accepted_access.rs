@@ -10,27 +10,12 @@ use super::super::access::narrow::write_byte;
 use super::super::access::narrow::write_word;
 use super::super::access::wide::read_qword;
 use super::super::access::wide::write_qword;
-use super::super::answer::done;
-use super::super::answer::refusals::no_width;
-use super::super::answer::refusals::outside;
+use super::super::answer::refusals::Refusal;
 use super::super::answer::Told;
-use super::super::answer::Value;
 use super::super::bits;
 use super::super::device::map::Width;
 use super::super::device::window;
-use super::super::device::window::Known;
-use super::super::device::window::Located;
 use super::super::image::form::Form;
-
-/// It is done, and this number is its value.
-///
-/// ```text
-/// ensures { Tells result 0 (some number) }
-/// ```
-#[inline]
-fn gives(number: u64) -> Told {
-    done(Value::Present(number))
-}
 
 /// ```text
 /// requires { Passed (form_view form) image.now }
@@ -44,17 +29,17 @@ pub fn read<const N: usize>(
     address: u64,
     width: u64,
 ) -> Told {
-    let Known::As(known) = window::width_of(width) else {
-        return no_width();
+    let Some(known) = window::width_of(width) else {
+        return Err(Refusal::NoWidth);
     };
-    let Located::At(offset) = window::locate(base, size, address, width) else {
-        return outside(address);
+    let Some(offset) = window::locate(base, size, address, width) else {
+        return Err(Refusal::Outside(address));
     };
     match known {
-        Width::Byte => gives(read_byte(image, offset) as u64),
-        Width::Word => gives(read_word(image, offset)),
-        Width::Dword => gives(read_dword(image, offset) as u64),
-        Width::Qword => gives(read_qword(image, offset)),
+        Width::Byte => Ok(Some(read_byte(image, offset) as u64)),
+        Width::Word => Ok(Some(read_word(image, offset))),
+        Width::Dword => Ok(Some(read_dword(image, offset) as u64)),
+        Width::Qword => Ok(Some(read_qword(image, offset))),
     }
 }
 
@@ -73,17 +58,17 @@ pub fn write<const N: usize>(
     width: u64,
     value: u64,
 ) -> Told {
-    let Known::As(known) = window::width_of(width) else {
-        return no_width();
+    let Some(known) = window::width_of(width) else {
+        return Err(Refusal::NoWidth);
     };
-    let Located::At(offset) = window::locate(base, size, address, width) else {
-        return outside(address);
+    let Some(offset) = window::locate(base, size, address, width) else {
+        return Err(Refusal::Outside(address));
     };
     let low = bits::half(value, false);
     match known {
-        Width::Byte => gives(write_byte(image, offset, bits::byte_of(low, 0)) as u64),
-        Width::Word => gives(write_word(image, offset, low) as u64),
-        Width::Dword => gives(write_dword(image, offset, low) as u64),
-        Width::Qword => gives(write_qword(image, offset, value) as u64),
+        Width::Byte => Ok(Some(write_byte(image, offset, bits::byte_of(low, 0)) as u64)),
+        Width::Word => Ok(Some(write_word(image, offset, low) as u64)),
+        Width::Dword => Ok(Some(write_dword(image, offset, low) as u64)),
+        Width::Qword => Ok(Some(write_qword(image, offset, value) as u64)),
     }
 }

@@ -1,11 +1,9 @@
 // Made from crates/six_calls/src/accepted_input.rt by tools/portable: do not change it here.
 //! The calls on an input of an image that is accepted: 3, and then the move. What they tell is handed back.
+//! A level and a poll stand beside one another: of a closure that made the move nothing would be known of the image that it changed.
 
-use super::super::answer::done;
-use super::super::answer::refusals::no_input;
+use super::super::answer::refusals::Refusal;
 use super::super::answer::Told;
-use super::super::answer::Value;
-use super::super::device::state;
 use super::super::fields::event_numbers;
 use super::super::image::form::Form;
 use super::super::lines::service;
@@ -17,13 +15,13 @@ use super::super::lines::service;
 /// ensures { TakesNumber image.old image.new (answer_value answer) (value_view result) }
 /// ```
 #[inline]
-fn numbered<const N: usize>(image: &mut [u8; N], answer: state::Answer) -> Value {
+fn numbered<const N: usize>(image: &mut [u8; N], answer: Option<u8>) -> Option<u64> {
     match answer {
-        state::Answer::Vector(vector) => {
+        Some(vector) => {
             let number = event_numbers::take(image);
-            Value::Present(vector as u64 + 0x1_0000 * (number as u64))
+            Some(vector as u64 + 0x1_0000 * (number as u64))
         }
-        state::Answer::None => Value::Absent,
+        None => None,
     }
 }
 
@@ -34,10 +32,10 @@ fn numbered<const N: usize>(image: &mut [u8; N], answer: state::Answer) -> Value
 #[inline]
 pub fn level<const N: usize>(image: &mut [u8; N], input: u64, level: u64) -> Told {
     if 64 <= input {
-        return no_input();
+        return Err(Refusal::NoInput);
     }
     let returned = service::set_level(image, input as usize, level != 0);
-    done(numbered(image, returned))
+    Ok(numbered(image, returned))
 }
 
 /// ```text
@@ -47,8 +45,8 @@ pub fn level<const N: usize>(image: &mut [u8; N], input: u64, level: u64) -> Tol
 #[inline]
 pub fn poll<const N: usize>(image: &mut [u8; N], input: u64) -> Told {
     if 64 <= input {
-        return no_input();
+        return Err(Refusal::NoInput);
     }
     let returned = service::poll(image, input as usize);
-    done(numbered(image, returned))
+    Ok(numbered(image, returned))
 }

@@ -1,22 +1,14 @@
 // Made from crates/six_calls/src/reset_drain.rt by tools/portable: do not change it here.
 //! The calls on the device as a whole, on the image and a drain's buffer: what they tell is handed back.
 
-use super::super::answer::done;
-use super::super::answer::refusals::of_bodies;
-use super::super::answer::refusals::of_head;
-use super::super::answer::refusals::wrong_length;
+use super::super::answer::accepted::accepted;
+use super::super::answer::refusals::Refusal;
 use super::super::answer::Told;
-use super::super::answer::Value;
 use super::super::drain::drains;
-use super::super::image::bodies::test_bodies;
-use super::super::image::bodies::Bodies;
 use super::super::image::form::form_of;
 use super::super::image::form::places_of;
 use super::super::image::form::Form;
-use super::super::image::form::KnownForm;
 use super::super::image::form::EVENT;
-use super::super::image::head::test_head;
-use super::super::image::head::Head;
 use super::super::image::quick::contents_apart;
 use super::super::image::quick::single_odd;
 use super::super::stored::save_reset;
@@ -29,11 +21,11 @@ use super::super::stored::save_reset;
 #[inline]
 pub fn reset<const N: usize>(image: &mut [u8; N]) -> Told {
     let length = image.len();
-    let KnownForm::As(form) = form_of(length) else {
-        return wrong_length();
+    let Some(form) = form_of(length) else {
+        return Err(Refusal::WrongLength);
     };
     save_reset::save_reset(image);
-    done(Value::Absent)
+    Ok(None)
 }
 
 /// The events go to the front of the buffer. The image is tested in full.
@@ -43,15 +35,9 @@ pub fn reset<const N: usize>(image: &mut [u8; N]) -> Told {
 /// ```
 #[inline(never)]
 fn drain_tested<const N: usize>(image: &mut [u8; N], events: &mut [u8]) -> Told {
-    let told = test_head(image);
-    let Head::Of(form) = told else {
-        return of_head(told);
-    };
-    let Bodies::Good = test_bodies(image) else {
-        return of_bodies(image);
-    };
+    let form = accepted(image)?;
     let count = drains::drain(image, events);
-    done(Value::Present(count as u64))
+    Ok(Some(count as u64))
 }
 
 /// True only where the image is accepted, one waits in it, and there is room for it: the commonest drain. False tells nothing.
@@ -79,30 +65,12 @@ pub fn one_fits<const N: usize>(image: &[u8; N], room: usize) -> bool {
 /// ```
 #[inline]
 pub fn drain<const N: usize>(image: &mut [u8; N], events: &mut [u8]) -> Told {
-    let KnownForm::As(form) = form_of(image.len()) else {
+    let Some(form) = form_of(image.len()) else {
         return drain_tested(image, events);
     };
-    match form {
-        Form::One => {
-            if one_fits(image, events.len()) {
-                drains::one(image, events);
-                return done(Value::Present(1));
-            }
-            drain_tested(image, events)
-        }
-        Form::Two => {
-            if one_fits(image, events.len()) {
-                drains::one(image, events);
-                return done(Value::Present(1));
-            }
-            drain_tested(image, events)
-        }
-        Form::Numbered => {
-            if one_fits(image, events.len()) {
-                drains::one(image, events);
-                return done(Value::Present(1));
-            }
-            drain_tested(image, events)
-        }
+    if one_fits(image, events.len()) {
+        drains::one(image, events);
+        return Ok(Some(1));
     }
+    drain_tested(image, events)
 }

@@ -1,13 +1,9 @@
 // Made from crates/six_calls/src/tested_access.rt by tools/portable: do not change it here.
 //! Reads and writes through the window, on the image alone: what they tell is handed back. The image is tested here, 4, 5, 8 to 11; what comes after is `accepted_access`.
+//! A read and a write stand beside one another: of a closure that made the access nothing would be known of the image that it changed.
 
-use super::super::answer::refusals::of_bodies;
-use super::super::answer::refusals::of_head;
+use super::super::answer::accepted::accepted;
 use super::super::answer::Told;
-use super::super::image::bodies::test_bodies;
-use super::super::image::bodies::Bodies;
-use super::super::image::head::test_head;
-use super::super::image::head::Head;
 use super::accepted_access;
 
 /// ```text
@@ -21,13 +17,7 @@ pub fn read<const N: usize>(
     address: u64,
     width: u64,
 ) -> Told {
-    let told = test_head(image);
-    let Head::Of(form) = told else {
-        return of_head(told);
-    };
-    let Bodies::Good = test_bodies(image) else {
-        return of_bodies(image);
-    };
+    let form = accepted(image)?;
     accepted_access::read(image, base, size, address, width)
 }
 
@@ -45,12 +35,6 @@ pub fn write<const N: usize>(
     width: u64,
     value: u64,
 ) -> Told {
-    let told = test_head(image);
-    let Head::Of(form) = told else {
-        return of_head(told);
-    };
-    let Bodies::Good = test_bodies(image) else {
-        return of_bodies(image);
-    };
+    let form = accepted(image)?;
     accepted_access::write(image, base, size, address, width, value)
 }

@@ -1,17 +1,11 @@
 // Made from crates/six_calls/src/tested_input.rt by tools/portable: do not change it here.
 //! The calls on an input, on the image alone: what they tell is handed back. The image is tested here, 4, 5, 8 to 11; what comes after is `accepted_input`. The quick test comes first, in
 //! an arm for each form.
+//! A level and a poll stand beside one another: of a closure that made the move nothing would be known of the image that it changed.
 
-use super::super::answer::refusals::of_bodies;
-use super::super::answer::refusals::of_head;
+use super::super::answer::accepted::accepted;
 use super::super::answer::Told;
-use super::super::image::bodies::test_bodies;
-use super::super::image::bodies::Bodies;
 use super::super::image::form::form_of;
-use super::super::image::form::Form;
-use super::super::image::form::KnownForm;
-use super::super::image::head::test_head;
-use super::super::image::head::Head;
 use super::super::image::quick::odd;
 use super::accepted_input;
 
@@ -20,13 +14,7 @@ use super::accepted_input;
 /// ```
 #[inline(never)]
 fn level_tested<const N: usize>(image: &mut [u8; N], input: u64, level: u64) -> Told {
-    let told = test_head(image);
-    let Head::Of(form) = told else {
-        return of_head(told);
-    };
-    let Bodies::Good = test_bodies(image) else {
-        return of_bodies(image);
-    };
+    let form = accepted(image)?;
     accepted_input::level(image, input, level)
 }
 
@@ -35,13 +23,7 @@ fn level_tested<const N: usize>(image: &mut [u8; N], input: u64, level: u64) -> 
 /// ```
 #[inline(never)]
 fn poll_tested<const N: usize>(image: &mut [u8; N], input: u64) -> Told {
-    let told = test_head(image);
-    let Head::Of(form) = told else {
-        return of_head(told);
-    };
-    let Bodies::Good = test_bodies(image) else {
-        return of_bodies(image);
-    };
+    let form = accepted(image)?;
     accepted_input::poll(image, input)
 }
 
@@ -50,29 +32,13 @@ fn poll_tested<const N: usize>(image: &mut [u8; N], input: u64) -> Told {
 /// ```
 #[inline]
 pub fn level<const N: usize>(image: &mut [u8; N], input: u64, level: u64) -> Told {
-    let KnownForm::As(form) = form_of(image.len()) else {
+    let Some(form) = form_of(image.len()) else {
         return level_tested(image, input, level);
     };
-    match form {
-        Form::One => {
-            if odd(image) == 0 {
-                return accepted_input::level(image, input, level);
-            }
-            level_tested(image, input, level)
-        }
-        Form::Two => {
-            if odd(image) == 0 {
-                return accepted_input::level(image, input, level);
-            }
-            level_tested(image, input, level)
-        }
-        Form::Numbered => {
-            if odd(image) == 0 {
-                return accepted_input::level(image, input, level);
-            }
-            level_tested(image, input, level)
-        }
+    if odd(image) == 0 {
+        return accepted_input::level(image, input, level);
     }
+    level_tested(image, input, level)
 }
 
 /// ```text
@@ -80,27 +46,11 @@ pub fn level<const N: usize>(image: &mut [u8; N], input: u64, level: u64) -> Tol
 /// ```
 #[inline]
 pub fn poll<const N: usize>(image: &mut [u8; N], input: u64) -> Told {
-    let KnownForm::As(form) = form_of(image.len()) else {
+    let Some(form) = form_of(image.len()) else {
         return poll_tested(image, input);
     };
-    match form {
-        Form::One => {
-            if odd(image) == 0 {
-                return accepted_input::poll(image, input);
-            }
-            poll_tested(image, input)
-        }
-        Form::Two => {
-            if odd(image) == 0 {
-                return accepted_input::poll(image, input);
-            }
-            poll_tested(image, input)
-        }
-        Form::Numbered => {
-            if odd(image) == 0 {
-                return accepted_input::poll(image, input);
-            }
-            poll_tested(image, input)
-        }
+    if odd(image) == 0 {
+        return accepted_input::poll(image, input);
     }
+    poll_tested(image, input)
 }

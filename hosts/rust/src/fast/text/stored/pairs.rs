@@ -17,11 +17,9 @@ pub fn ring_of(pairs: &[u8], len: usize, drops: u32) -> Ring {
     assert!(pairs.len() == 32 && len <= 16);
     let mut output_vectors = [0u8; 16];
     let mut output_asserted = [false; 16];
-    let mut i = 0;
-    while i < 16 {
+    for i in 0..16 {
         output_vectors[i] = pairs[PAIR * i];
         output_asserted[i] = pairs[PAIR * i + FLAG] == 1;
-        i += 1;
     }
     Ring {
         output_vectors,
@@ -30,14 +28,6 @@ pub fn ring_of(pairs: &[u8], len: usize, drops: u32) -> Ring {
         output_len: len,
         output_drops: drops,
     }
-}
-
-/// ```text
-/// ensures { result ≡ flag asserted }
-/// ```
-#[inline]
-fn flag_byte(asserted: bool) -> u8 {
-    if asserted { 1 } else { 0 }
 }
 
 /// The n oldest events as pairs, from the front of dst; every other byte stays.
@@ -49,12 +39,10 @@ fn flag_byte(asserted: bool) -> u8 {
 #[inline(always)]
 fn put_events(dst: &mut [u8], ring: Ring, n: usize) {
     assert!(2 * n <= dst.len());
-    let mut i = 0;
-    while i < n {
+    for i in 0..n {
         let at = (ring.output_head + i) % 16;
         dst[PAIR * i] = ring.output_vectors[at];
-        dst[PAIR * i + FLAG] = flag_byte(ring.output_asserted[at]);
-        i += 1;
+        dst[PAIR * i + FLAG] = u8::from(ring.output_asserted[at]);
     }
 }
 

@@ -1,5 +1,5 @@
 // Made from crates/stored/src/reset_parts.rt by tools/portable: do not change it here.
-//! What a reset saves, part by part, each by value: route bytes, the ring's body, the numbers' body. A part that is lent could be the image's own, and would be copied byte by byte.
+//! What a reset saves, part by part, each by value: route bytes and the ring's body. A part that is lent could be the image's own, and would be copied byte by byte.
 
 use super::super::bits::bytes::copy;
 use super::super::image::form;
@@ -31,23 +31,5 @@ pub fn save_ring<const N: usize>(image: &mut [u8; N], body: [u8; 37]) {
     let p = places_of(form);
     let at = p.count;
     let end = at + form::RING_LENGTH;
-    copy(&mut image[at..end], &body);
-}
-
-/// The numbers, as their body has them, in the form that has it.
-///
-/// ```text
-/// requires { length image.old ≡ form_length (form_view form) }
-/// ensures { SavesNumbers (form_view form) body image.old image.new }
-/// ```
-#[inline(always)]
-pub fn save_numbers<const N: usize>(image: &mut [u8; N], body: [u8; 34]) {
-    let form = const { super::super::image::form::form_at(N) };
-    let Form::Numbered = form else {
-        return;
-    };
-    let p = places_of(form);
-    let at = p.next;
-    let end = at + form::NUMBER_BODY_LENGTH;
     copy(&mut image[at..end], &body);
 }

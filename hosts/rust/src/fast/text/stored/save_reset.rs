@@ -4,9 +4,9 @@
 use super::super::device::state::Lines;
 use super::super::device::state::Stored;
 use super::super::image::form::Form;
-use super::reset_parts::save_numbers;
 use super::reset_parts::save_ring;
 use super::reset_parts::save_routes;
+use super::save_parts::save_numbers;
 use super::save_words::put_contents;
 use super::save_words::save_lines;
 use super::save_words::save_stored;
@@ -20,10 +20,8 @@ use super::save_words::save_stored;
 #[inline]
 fn put_order(dst: &mut [u8]) {
     assert!(dst.len() <= 256);
-    let mut n = 0;
-    while n < dst.len() {
+    for n in 0..dst.len() {
         dst[n] = n as u8;
-        n += 1;
     }
 }
 

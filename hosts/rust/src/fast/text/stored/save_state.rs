@@ -19,5 +19,5 @@ pub fn save<const N: usize>(image: &mut [u8; N], state: PchPicState, numbers: &[
     save_words::save_stored(image, state.stored);
     save_parts::save_tables(image, state.tables);
     save_parts::save_ring(image, state.ring);
-    save_parts::save_numbers(image, numbers);
+    save_parts::save_numbers(image, *numbers);
 }

@@ -9,12 +9,7 @@ use super::Place;
 /// ```
 #[inline]
 fn is_nothing(place: Place) -> bool {
-    match place {
-        Place::Part(register, high, byte, silent) => false,
-        Place::Route(input) => false,
-        Place::Vector(input) => false,
-        Place::Nothing => true,
-    }
+    matches!(place, Place::Nothing)
 }
 
 /// Whether a row begins at a place, behind a row that began at another.
@@ -25,9 +20,8 @@ fn is_nothing(place: Place) -> bool {
 #[inline]
 fn begins(first: Place, next: Place) -> bool {
     match next {
-        Place::Part(register, high, byte, silent) => byte == 0,
-        Place::Route(input) => input == 0,
-        Place::Vector(input) => input == 0,
+        Place::Part { byte, .. } => byte == 0,
+        Place::Route(input) | Place::Vector(input) => input == 0,
         Place::Nothing => !is_nothing(first),
     }
 }
@@ -42,12 +36,10 @@ fn begins(first: Place, next: Place) -> bool {
 pub fn row_end(table: &[[u8; 32]; 32], start: usize) -> usize {
     assert!(start < 1024);
     let first = look(table, start);
-    let mut at = start + 1;
-    while at < 1024 {
+    for at in start + 1..1024 {
         if begins(first, look(table, at)) {
             return at;
         }
-        at += 1;
     }
-    at
+    1024
 }

@@ -6,6 +6,20 @@ use super::super::bits::bytes::number;
 /// How many bytes a record has.
 pub const LENGTH: usize = 16;
 
+/// The kinds of records. They are numbers, since a record may have any byte there: it is good or not by what `is_good` says.
+pub const RAISE: u8 = 1;
+
+pub const LOWER: u8 = 2;
+
+pub const POLL: u8 = 3;
+
+pub const READ: u8 = 4;
+
+pub const WRITE: u8 = 5;
+
+/// A drain of all.
+pub const DRAIN: u8 = 6;
+
 /// A record by value: kind, input or width, offset, the four zero bytes as a number, value.
 #[derive(Clone, Copy)]
 pub struct Record {

@@ -1,0 +1,2 @@
+-- The laws that the proofs of this module cite.
+pub mod Refused

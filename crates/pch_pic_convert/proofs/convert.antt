@@ -1,1 +1,0 @@
--- The laws that the proof of this module cites are those of rules and refusals.

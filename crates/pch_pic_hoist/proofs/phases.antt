@@ -1,1 +1,0 @@
--- Each function is proved by itself.

@@ -1,2 +1,0 @@
--- What a write is judged to be.
-pub mod Judged

@@ -1,2 +1,0 @@
--- The tests' answers as the rules see them.
-pub mod Tests

@@ -1,1 +1,0 @@
--- The laws that the proofs of this module cite are those of `play_trace`.

@@ -1,1 +1,0 @@
--- The proofs of this module cite no law of their own.
