@@ -173,13 +173,13 @@
  *
  * THE STACK. Nothing is on the heap. Below its caller a call of the proved archive uses so many bytes of stack, the return address included, as tools/bench
  * --stack measured them (docs/PERFORMANCE.md says on what; leave some room above them); a difference uses the return address alone:
- *     pch_pic_reset 8, pch_pic_read 184, pch_pic_write 240, pch_pic_level 120, pch_pic_poll 80, pch_pic_drain 240, pch_pic_waiting 80,
- *     pch_pic_convert 480, pch_pic_play 448, pch_pic_play_on 512, pch_pic_salvage 224, pch_pic_sheet 120,
+ *     pch_pic_reset 8, pch_pic_read 184, pch_pic_write 256, pch_pic_level 104, pch_pic_poll 96, pch_pic_drain 208, pch_pic_waiting 80,
+ *     pch_pic_convert 469, pch_pic_play 448, pch_pic_play_on 528, pch_pic_salvage 224, pch_pic_sheet 128,
  *     pch_pic_tally_begin 8, pch_pic_tally_add 184, pch_pic_tally_sheet 40,
- *     pch_pic_board_reset 40, pch_pic_board_read 136, pch_pic_board_write 208, pch_pic_board_level 248, pch_pic_board_poll 224, pch_pic_board_drain 368,
+ *     pch_pic_board_reset 40, pch_pic_board_read 136, pch_pic_board_write 192, pch_pic_board_level 121, pch_pic_board_poll 128, pch_pic_board_drain 226,
  *     pch_pic_board_event 8,
- *     pch_pic_hoist_reset 40, pch_pic_hoist_read 88, pch_pic_hoist_write 128, pch_pic_hoist_end_startup 80,
- *     pch_pic_table_read 216, pch_pic_table_write 216
+ *     pch_pic_hoist_reset 40, pch_pic_hoist_read 104, pch_pic_hoist_write 176, pch_pic_hoist_end_startup 80,
+ *     pch_pic_table_read 232, pch_pic_table_write 232
  *
  * WHAT A HOST MUST DO. hosts/c/pic.c and crate pch-pic in hosts/rust do all of this (pic_settle, pic_line, pic_resume):
  *     - After each write of the guest, drain, and pass the events on in their order. Then ask who waits (pch_pic_waiting), poll each of these inputs, in any

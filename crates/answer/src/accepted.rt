@@ -10,6 +10,7 @@ use image::form::Form;
 use image::head::test_head;
 
 // The form of an accepted image. What is wrong in a body is searched for only in one that is not.
+#[inline(always)]
 pub fn accepted(image: &[u8]) -> Result<Form, Refusal>
     ensures { Accepts result image.now }
 {
@@ -21,6 +22,7 @@ pub fn accepted(image: &[u8]) -> Result<Form, Refusal>
 }
 
 // The bodies alone, of an image whose contents are those of its form, and in which something waits as a rule.
+#[inline(always)]
 pub fn bodies_accepted(image: &[u8], form: Form) -> Result<(), Refusal>
     requires { Headed (Ok form) image.now }
     ensures { AcceptsBodies result form image.now }

@@ -4,11 +4,9 @@ ghost use Rattle.images.specs.Form.{form_length};
 ghost use Rattle.images.specs.Image.{image_test, accepted};
 ghost use Rattle.image.specs.Shown.{form_view};
 ghost use Rattle.fields.specs.inplace.Held.{Reads};
-ghost use Rattle.answer.specs.Given.{told_number};
 ghost use Rattle.boards.specs.Board.{board_length};
 ghost use Rattle.boards.specs.Boarding.{recounted, board_after, heard_count};
 
-use answer::Told;
 use bits::bytes::put_zeros;
 use fields::entries::vector;
 use fields::words::isr;
@@ -29,12 +27,12 @@ pub fn recount(image: &[u8], form: Form, board: &mut [u8])
     }
 }
 
-// After a call: done, the counts are those of the image that it left; refused, the board stays.
-pub fn bring(image: &[u8], board: &mut [u8], told: Told)
-    requires { (told_number told ≡ 0 → image_test image.now ≡ accepted) × (board_length ≤ length board.old) }
-    ensures { board.new ≡ board_after (told_number told) image.now board.old }
+// After a call that handed back the number: done, the counts are those of the image that it left; refused, the board stays.
+pub fn bring(image: &[u8], board: &mut [u8], number: u8)
+    requires { (number ≡ 0 → image_test image.now ≡ accepted) × (board_length ≤ length board.old) }
+    ensures { board.new ≡ board_after number image.now board.old }
 {
-    if told.is_err() {
+    if number != 0 {
         return;
     }
     if let Some(form) = form_of(image.len()) {

@@ -16,13 +16,14 @@ use answer::{Told, tell};
 use bits::bytes::put_zeros;
 use six_calls::{reset_drain, tested_access, tested_input};
 
-// What a call told goes into the answer area; before that, if it was done, the board is brought up to date with the image that it left.
+// What a call told goes into the answer area; if it was done, the board is then brought up to date with the image that it left.
 fn finish(image: &[u8], board: &mut [u8], answer: &mut [u8], told: Told) -> u8
     requires { Finishing told image.now board.old answer.old }
     ensures { Finished told image.now board.old answer.old result board.new answer.new }
 {
-    counts::bring(image, board, told);
-    tell(answer, told)
+    let number = tell(answer, told);
+    counts::bring(image, board, number);
+    number
 }
 
 // After a reset: done, no input is in service, so that nothing has to be counted; refused, the board stays.

@@ -31,8 +31,9 @@ pub extern "C" fn pch_pic_hoist_reset(image: &mut [u8], phase: &mut [u8], answer
         return NO_ROOM;
     }
     let told = reset_drain::reset(image);
-    phases::begin(phase, phases::IN_START_UP, told);
-    tell(answer, told)
+    let number = tell(answer, told);
+    phases::begin(phase, phases::IN_START_UP, number);
+    number
 }
 
 #[unsafe(no_mangle)]
@@ -96,6 +97,7 @@ pub extern "C" fn pch_pic_hoist_end_startup(image: &[u8], phase: &mut [u8], answ
     }
     let running = phases::is_running(phase);
     let told = tested_dword::end_startup(image, running);
-    phases::begin(phase, phases::AFTER_START_UP, told);
-    tell(answer, told)
+    let number = tell(answer, told);
+    phases::begin(phase, phases::AFTER_START_UP, number);
+    number
 }

@@ -56,17 +56,16 @@ pub fn one_fits(image: &[u8], form: Form, room: usize) -> bool
 pub fn drain(image: &mut [u8], events: &mut [u8]) -> Told
     ensures { ends result image.new events.new ≡ ending (asked.drain events.old 0) image.old }
 {
-    let Some(form) = form_of(image.len()) else {
-        return drain_tested(image, events);
-    };
-    by_form!(
-        form,
-        {
-            if one_fits(image, form, events.len()) {
-                drains::one(image, form, events);
-                return Ok(Some(1));
+    if let Some(form) = form_of(image.len()) {
+        by_form!(
+            form,
+            {
+                if one_fits(image, form, events.len()) {
+                    drains::one(image, form, events);
+                    return Ok(Some(1));
+                }
             }
-            drain_tested(image, events)
-        }
-    )
+        );
+    }
+    drain_tested(image, events)
 }

@@ -10,8 +10,8 @@ poll-requires c = let i = c.args.image.now in
 
 pub poll-requires-then-odd-eq0-2 : goal.poll-requires-then-odd-eq0-2
 poll-requires-then-odd-eq0-2 c = let i = c.args.image.now in
-    quick_passed i (search rules) (form_view Two) (formed i c.form_of.result c.in-Some.form c.in-Some.is c.form_of.ensures Two c.in-Two-by_form.is) c.odd-2.result c.odd-2.ensures c.if-odd-eq0-2.true
+    quick_passed i (search rules) (form_view Two) (formed i c.form_of.result c.in-Some.form c.in-Some.is c.form_of.ensures Two c.in-Two-by_form.is) c.odd-in-Some.result c.odd-in-Some.ensures c.if-odd-eq0-2.true
 
 pub poll-requires-then-odd-eq0-3 : goal.poll-requires-then-odd-eq0-3
 poll-requires-then-odd-eq0-3 c = let i = c.args.image.now in
-    quick_passed i (search rules) (form_view Numbered) (formed i c.form_of.result c.in-Some.form c.in-Some.is c.form_of.ensures Numbered c.in-Numbered-by_form.is) c.odd-3.result c.odd-3.ensures c.if-odd-eq0-3.true
+    quick_passed i (search rules) (form_view Numbered) (formed i c.form_of.result c.in-Some.form c.in-Some.is c.form_of.ensures Numbered c.in-Numbered-by_form.is) c.odd-in-Some-2.result c.odd-in-Some-2.ensures c.if-odd-eq0-3.true

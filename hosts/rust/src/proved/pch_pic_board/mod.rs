@@ -12,15 +12,16 @@ use super::six_calls::reset_drain;
 use super::six_calls::tested_access;
 use super::six_calls::tested_input;
 
-/// What a call told goes into the answer area; before that, if it was done, the board is brought up to date with the image that it left.
+/// What a call told goes into the answer area; if it was done, the board is then brought up to date with the image that it left.
 ///
 /// ```text
 /// requires { Finishing told image.now board.old answer.old }
 /// ensures { Finished told image.now board.old answer.old result board.new answer.new }
 /// ```
 fn finish(image: &[u8], board: &mut [u8], answer: &mut [u8], told: Told) -> u8 {
-    counts::bring(image, board, told);
-    tell(answer, told)
+    let number = tell(answer, told);
+    counts::bring(image, board, number);
+    number
 }
 
 /// After a reset: done, no input is in service, so that nothing has to be counted; refused, the board stays.

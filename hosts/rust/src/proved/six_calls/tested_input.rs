@@ -31,34 +31,32 @@ fn poll_tested(image: &mut [u8], input: u64) -> Told {
 /// ensures { ends result image.new [] ≡ ending (asked.level input level) image.old }
 /// ```
 pub fn level(image: &mut [u8], input: u64, level: u64) -> Told {
-    let Some(form) = form_of(image.len()) else {
-        return level_tested(image, input, level);
-    };
-    by_form!(
-        form,
-        {
-            if odd(image, form) == 0 {
-                return accepted_input::level(image, form, input, level);
+    if let Some(form) = form_of(image.len()) {
+        by_form!(
+            form,
+            {
+                if odd(image, form) == 0 {
+                    return accepted_input::level(image, form, input, level);
+                }
             }
-            level_tested(image, input, level)
-        }
-    )
+        );
+    }
+    level_tested(image, input, level)
 }
 
 /// ```text
 /// ensures { ends result image.new [] ≡ ending (asked.poll input) image.old }
 /// ```
 pub fn poll(image: &mut [u8], input: u64) -> Told {
-    let Some(form) = form_of(image.len()) else {
-        return poll_tested(image, input);
-    };
-    by_form!(
-        form,
-        {
-            if odd(image, form) == 0 {
-                return accepted_input::poll(image, form, input);
+    if let Some(form) = form_of(image.len()) {
+        by_form!(
+            form,
+            {
+                if odd(image, form) == 0 {
+                    return accepted_input::poll(image, form, input);
+                }
             }
-            poll_tested(image, input)
-        }
-    )
+        );
+    }
+    poll_tested(image, input)
 }

@@ -1,7 +1,6 @@
 // Made from crates/pch_pic_board/src/counts.rt by tools/portable: do not change it here.
 //! The counts of a board: counted afresh from an image, in place, and moved by an event.
 
-use super::super::answer::Told;
 use super::super::bits::bytes::put_zeros;
 use super::super::fields::entries::vector;
 use super::super::fields::words::isr;
@@ -27,16 +26,16 @@ pub fn recount<const N: usize>(image: &[u8; N], board: &mut [u8]) {
     }
 }
 
-/// After a call: done, the counts are those of the image that it left; refused, the board stays.
+/// After a call that handed back the number: done, the counts are those of the image that it left; refused, the board stays.
 ///
 /// ```text
-/// requires { (told_number told ≡ 0 → image_test image.now ≡ accepted) × (board_length ≤ length board.old) }
-/// ensures { board.new ≡ board_after (told_number told) image.now board.old }
+/// requires { (number ≡ 0 → image_test image.now ≡ accepted) × (board_length ≤ length board.old) }
+/// ensures { board.new ≡ board_after number image.now board.old }
 /// ```
 #[inline]
-pub fn bring<const N: usize>(image: &[u8; N], board: &mut [u8], told: Told) {
+pub fn bring<const N: usize>(image: &[u8; N], board: &mut [u8], number: u8) {
     assert!(256 <= board.len());
-    if told.is_err() {
+    if number != 0 {
         return;
     }
     if let Some(form) = form_of(image.len()) {

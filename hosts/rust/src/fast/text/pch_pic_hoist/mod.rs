@@ -45,8 +45,9 @@ fn pch_pic_hoist_reset_of<const N: usize>(
     answer: &mut [u8],
 ) -> u8 {
     let told = reset_drain::reset(image);
-    phases::begin(phase, phases::IN_START_UP, told);
-    tell(answer, told)
+    let number = tell(answer, told);
+    phases::begin(phase, phases::IN_START_UP, number);
+    number
 }
 
 /// ```text
@@ -170,6 +171,7 @@ fn pch_pic_hoist_end_startup_of<const N: usize>(
 ) -> u8 {
     let running = phases::is_running(phase);
     let told = tested_dword::end_startup(image, running);
-    phases::begin(phase, phases::AFTER_START_UP, told);
-    tell(answer, told)
+    let number = tell(answer, told);
+    phases::begin(phase, phases::AFTER_START_UP, number);
+    number
 }

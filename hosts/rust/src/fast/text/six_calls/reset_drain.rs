@@ -65,12 +65,13 @@ pub fn one_fits<const N: usize>(image: &[u8; N], room: usize) -> bool {
 /// ```
 #[inline]
 pub fn drain<const N: usize>(image: &mut [u8; N], events: &mut [u8]) -> Told {
-    let Some(form) = form_of(image.len()) else {
-        return drain_tested(image, events);
-    };
-    if one_fits(image, events.len()) {
-        drains::one(image, events);
-        return Ok(Some(1));
+    if let Some(form) = form_of(image.len()) {
+        {
+            if one_fits(image, events.len()) {
+                drains::one(image, events);
+                return Ok(Some(1));
+            }
+        };
     }
     drain_tested(image, events)
 }

@@ -32,11 +32,12 @@ fn poll_tested<const N: usize>(image: &mut [u8; N], input: u64) -> Told {
 /// ```
 #[inline]
 pub fn level<const N: usize>(image: &mut [u8; N], input: u64, level: u64) -> Told {
-    let Some(form) = form_of(image.len()) else {
-        return level_tested(image, input, level);
-    };
-    if odd(image) == 0 {
-        return accepted_input::level(image, input, level);
+    if let Some(form) = form_of(image.len()) {
+        {
+            if odd(image) == 0 {
+                return accepted_input::level(image, input, level);
+            }
+        };
     }
     level_tested(image, input, level)
 }
@@ -46,11 +47,12 @@ pub fn level<const N: usize>(image: &mut [u8; N], input: u64, level: u64) -> Tol
 /// ```
 #[inline]
 pub fn poll<const N: usize>(image: &mut [u8; N], input: u64) -> Told {
-    let Some(form) = form_of(image.len()) else {
-        return poll_tested(image, input);
-    };
-    if odd(image) == 0 {
-        return accepted_input::poll(image, input);
+    if let Some(form) = form_of(image.len()) {
+        {
+            if odd(image) == 0 {
+                return accepted_input::poll(image, input);
+            }
+        };
     }
     poll_tested(image, input)
 }
