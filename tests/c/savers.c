@@ -221,11 +221,28 @@ static void side_by_side(void)
     expect("and nothing is left beside it", unlink(path) == 0 && left_over(false) == 0);
 }
 
+/* Whether the day of two records that stands at the path, if one does, is as long as planned and of one recorder alone. A load that is held up between the two
+ * records may find the second without the first. Read before the first, the second never is without it, since it was written after it. */
+static bool of_one_recorder(const char *path)
+{
+    enum { AT = PCH_PIC_TRACE_ENTRIES + PCH_PIC_BLOCK_LEN, LEN = AT + 2 * PCH_PIC_RECORD_LEN, FIRST = AT + PCH_PIC_RECORD_BYTE, SECOND = FIRST + PCH_PIC_RECORD_LEN };
+    static uint8_t trace[PCH_PIC_TRACE_MAX];
+    uint8_t first = 0, second = 0;
+    size_t len = 0;
+    bool one = pic_trace_load(path, trace, &len) != PCH_PIC_DONE ||
+               (len == LEN && (trace[FIRST] == trace[SECOND] || trace[FIRST] == 0 || trace[SECOND] == 0));
+    int file = open(path, O_RDONLY);
+    if (file >= 0) {
+        one = one && pread(file, &second, 1, SECOND) == 1 && pread(file, &first, 1, FIRST) == 1 && (first == second || second == 0);
+        close(file);
+    }
+    return one;
+}
+
 /* Two that keep a day of two records under one name, each with an input of its own: no file ever has a record of both. */
 static void keepers(void)
 {
     const char *path = in_folder("day");
-    static uint8_t trace[PCH_PIC_TRACE_MAX];
     bool right = true, apart = true;
     unsigned running = 2;
     for (unsigned who = 1; who <= 2; who++) {
@@ -243,11 +260,7 @@ static void keepers(void)
     }
     while (running > 0) {
         int status = 0;
-        size_t len = 0;
-        if (pic_trace_load(path, trace, &len) == PCH_PIC_DONE && len == 6 + 2 * PCH_PIC_RECORD_LEN) {
-            unsigned first = trace[6 + PCH_PIC_RECORD_BYTE], second = trace[6 + PCH_PIC_RECORD_LEN + PCH_PIC_RECORD_BYTE];
-            apart = apart && (first == second || second == 0);
-        }
+        apart = apart && of_one_recorder(path);
         if (waitpid(-1, &status, WNOHANG) > 0) {
             running--;
             right = right && WIFEXITED(status) && WEXITSTATUS(status) == 0;
